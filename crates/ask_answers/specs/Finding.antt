@@ -4,7 +4,7 @@ use Rattle.job_bodies.specs.Plan.{Plan}
 use Rattle.cert_text.specs.Cert.{Cert}
 use Rattle.soundness.specs.Accepted.{accepted}
 use Rattle.size_search.specs.Steady.{steady_cert}
-use Rattle.plan_witnesses.specs.Witness.{IsWitness}
+use Rattle.counterexample.specs.Witness.{IsWitness}
 use Rattle.size_search.specs.Sized.{IsFound}
 use Rattle.size_search.specs.Decided.{IsDecided}
 use Rattle.size_search.specs.declared.found.SizesFound.{SizesFound}

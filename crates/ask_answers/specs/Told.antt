@@ -2,8 +2,8 @@
 use Rattle.std.specs.Prelude.{◌≡◌, List, ℕ, [], ◌∷◌, ◌++◌, codes}
 use Rattle.job_bodies.specs.Plan.{Plan}
 use Rattle.cert_text.specs.Cert.{Cert}
-use Rattle.plan_witnesses.specs.declared.witness.Witness.{Witness}
-use Rattle.witness_lines.specs.Told.{IsTold}
+use Rattle.counterexample.specs.declared.witness.Witness.{Witness}
+use Rattle.counterexample.specs.Told.{IsTold}
 use Rattle.size_search.specs.declared.found.SizesFound.{SizesFound}
 use Rattle.size_search.specs.declared.found.SizesFound.TheVariants.{Found, NotFound}
 use Rattle.size_lines.specs.Sizes.{sizes_text}

@@ -1,7 +1,7 @@
 //! The finding about a plan on which an answer rests.
 
 use cert_text::Cert;
-use plan_witnesses::Witness;
+use counterexample::Witness;
 use size_search::SizesFound;
 
 /// A finding about a plan with its declared sizes.

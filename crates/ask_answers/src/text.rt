@@ -8,8 +8,8 @@ use crate::finding::PlanFinding;
 use crate::safe::push_safe;
 use crate::unsafe_sizes::{push_advice, push_open};
 use cert_text::Cert;
+use counterexample::Witness;
 use job_bodies::Plan;
-use plan_witnesses::Witness;
 use size_lines::{push_no_sizes, push_sizes};
 use size_search::SizesFound;
 use std::alloc::{AllocError, Global};
@@ -47,7 +47,7 @@ fn not_safe(
     ensures { IfOk result
         (λ text. spec.TellsNotSafe plan.now witness.now sizes.now (string_bytes text)) }
 {
-    let story = witness_lines::told(alloc, plan, witness)?;
+    let story = counterexample::told(alloc, plan, witness)?;
     let mut text = String::from_str(alloc, "NOT SAFE\n")?;
     text.push_str(&story)?;
     push_found(&mut text, plan, sizes)?;

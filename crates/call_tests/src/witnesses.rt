@@ -1,7 +1,7 @@
 //! Lists of events that are witnesses, and their ends.
 
+use counterexample::{Event, Vector, Witness, confirmed};
 use plan_text::read_plan;
-use plan_witnesses::{Event, Vector, Witness, confirmed};
 use std::alloc::{AllocError, Global};
 use std::test::*;
 

@@ -1,10 +1,9 @@
 //! A witness as JSON.
 
+use counterexample::{Ending, Witness, push_event_lines};
 use job_bodies::Plan;
-use plan_witnesses::{Ending, Witness};
 use serde_json::{Value, json};
 use std::alloc::{AllocError, Global};
-use witness_lines::push_event_lines;
 
 /// Converts a witness: how it ends, the lines of its story, and the lines of its events as `replay`
 /// reads them.
@@ -16,7 +15,7 @@ pub(crate) fn witness_value(
     let mut events = String::new(alloc);
     push_event_lines(&mut events, plan, witness)?;
     let events = lines_value(alloc, &events)?;
-    let story = witness_lines::told(alloc, plan, witness)?;
+    let story = counterexample::told(alloc, plan, witness)?;
     let story = lines_value(alloc, &story)?;
     let ending = match &witness.ending {
         Ending::Refused(_) => "refused",

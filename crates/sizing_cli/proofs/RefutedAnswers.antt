@@ -1,7 +1,7 @@
 -- What status 0 of `refute` means, for a story and for a bundle.
 use Rattle.std.proofs.Common.{◌≡◌, ◌≤◌, ℕ, inl, inr, ⊎_elim, Bool, true, false, List, length, Result, Ok, Err, refl, sym, ap, ◌∙◌}
 use Rattle.std.specs.Prelude.{MatchBool, nat_lt, Option, Some, None, IfSome, IfNone}
-use Rattle.plan_witnesses.specs.declared.witness.Witness.{Witness}
+use Rattle.counterexample.specs.declared.witness.Witness.{Witness}
 use Rattle.command_line.specs.declared.command.Shown.{Shown}
 use Rattle.job_bodies.specs.Plan.{Plan}
 use Rattle.job_bodies.specs.declared.fault.PlanFault.{PlanFault}

@@ -8,10 +8,10 @@ use Rattle.plan_text.specs.PlanOf.{plan_of}
 use Rattle.cert_text.specs.Cert.{Cert}
 use Rattle.soundness.specs.Accepted.{accepted}
 use Rattle.event_lines.specs.LineText.{lines_text}
-use Rattle.plan_witnesses.specs.declared.witness.Witness.{Witness}
-use Rattle.plan_witnesses.specs.Witness.{IsWitness}
-use Rattle.witness_lines.specs.EventLines.{witness_lines}
-use Rattle.witness_lines.specs.Told.{IsTold}
+use Rattle.counterexample.specs.declared.witness.Witness.{Witness}
+use Rattle.counterexample.specs.Witness.{IsWitness}
+use Rattle.counterexample.specs.EventLines.{witness_lines}
+use Rattle.counterexample.specs.Told.{IsTold}
 use Rattle.command_line.specs.declared.command.Shown.{Shown}
 use Rattle.command_line.specs.declared.command.Shown.TheVariants.{Story, Bundle}
 use Rattle.job_bodies.specs.declared.limits.TheConstants.{MAX_INPUT_BYTES, MAX_EVENT_BYTES}

@@ -13,12 +13,11 @@ use crate::texts::plan_in;
 use crate::witness::{Sought, witness_of};
 use crate::{ServeFault, Status};
 use command_line::Shown;
+use counterexample::{Witness, push_event_lines, told};
 use job_bodies::{MAX_EVENT_BYTES, MAX_INPUT_BYTES, Plan};
-use plan_witnesses::Witness;
 use std::alloc::{AllocError, Global};
 use std::sync::Wait;
 use std::thread::Threads;
-use witness_lines::{push_event_lines, told};
 
 /// Returns that the plan is safe if a certificate is found; otherwise a witness, as a story or as a
 /// bundle with its events; otherwise that it is undecided, with the number of states searched,

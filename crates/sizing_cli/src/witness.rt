@@ -3,12 +3,11 @@
 ghost use Rattle.std.specs.Prelude.{◌≤◌, IfOk, IfSome};
 ghost use Rattle.sizing_cli.specs.Refute.{IsWitnessOf};
 
+use counterexample::{SupposedWitness, Witness, confirmed, search_witness};
 use job_bodies::Plan;
 use least_vectors::{Levels, pool_bound};
-use plan_witnesses::{Witness, confirmed};
 use std::alloc::{AllocError, Global};
 use weights::{Bound, Vector};
-use witness_search::{SupposedWitness, search_witness};
 
 /// The result of a search for a witness.
 #[derive(Drop)]

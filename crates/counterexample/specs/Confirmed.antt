@@ -1,0 +1,64 @@
+-- The result of the call that confirms a witness.
+use Rattle.std.specs.Prelude.{◌≡◌, ◌⊎◌, ℕ, IsTrue, List, ◌++◌, Option, Some, None, slice_get}
+use Rattle.job_bodies.specs.Plan.{Plan}
+use Rattle.written_machine.specs.declared.event.Event.{Event}
+use Rattle.written_machine.specs.State.{State}
+use Rattle.written_machine.specs.Waiting.{IsWaitingSet}
+use Rattle.written_machine.specs.FullWaitingSets.{WhereMembersQueue, IsFull}
+use Rattle.weights.specs.Row.{AllHold}
+use Rattle.weights.specs.Vector.{Vector, vector_fits}
+use Rattle.weights.specs.Standing.{standing_rows}
+use Rattle.counterexample.specs.declared.ending.Ending.{Ending}
+use Rattle.counterexample.specs.declared.ending.Ending.TheVariants.{Refused, StuckForEver, StuckNow}
+use Rattle.counterexample.specs.declared.ending.Reason.{Reason}
+use Rattle.counterexample.specs.declared.ending.Reason.TheVariants.{PoolsAreFull, PoolsStayAtCore}
+use Rattle.counterexample.specs.declared.witness.Witness.{Witness}
+use Rattle.counterexample.specs.Rising.{are_rising}
+use Rattle.counterexample.specs.Witness.{LeadsTo, NoneRefused, EndsRefused}
+
+-- ---- the reasons for a permanent wait
+
+-- the vector given for the pool is a standing vector whose conditions hold
+pub record GivenStanding (plan : Plan) (standing : List Vector) (p : ℕ) : Type 0 where
+  pub vector : Vector
+  pub given : slice_get standing p ≡ Some vector
+  pub fits : IsTrue (vector_fits plan vector)
+  pub hold : AllHold (standing_rows plan p vector)
+
+-- each pool with a queued member is full
+abbrev pub AreFull : Plan → State → List ℕ → Type 0
+AreFull plan s members = WhereMembersQueue plan s members (IsFull plan s)
+
+-- each pool with a queued member is full, or a standing vector is given for it
+abbrev pub AreShown : Plan → State → List ℕ → List Vector → Type 0
+AreShown plan s members standing = WhereMembersQueue plan s members (λ p. IsFull plan s p ⊎ GivenStanding plan standing p)
+
+-- the first reason that holds
+abbrev pub IsReason : Plan → List ℕ → List Vector → State → Option Reason → Type 0
+IsReason plan members standing s (Some PoolsAreFull) = AreFull plan s members
+IsReason plan members standing s (Some PoolsStayAtCore) = (¬ AreFull plan s members) × AreShown plan s members standing
+IsReason plan members standing s None = ¬ AreShown plan s members standing
+
+-- ---- the result
+
+-- after all the events, none of which is rejected, the members wait only for each other, for this reason
+pub record IsStuck (plan : Plan) (events : List Event) (members : List ℕ) (standing : List Vector) (reason : Option Reason) : Type 0 where
+  pub rising : IsTrue (are_rising members)
+  pub none_refused : NoneRefused plan events
+  pub leads : LeadsTo plan events (λ s. IsWaitingSet plan s members × IsReason plan members standing s reason)
+
+-- the list begins with these events
+abbrev pub BeginsWith : List Event → List Event → Type 0
+BeginsWith events front = (rest : List Event) × (events ≡ front ++ rest)
+
+-- these events of the list have this ending
+abbrev pub EndsSo : Plan → List Event → List ℕ → List Vector → List Event → Ending → Type 0
+EndsSo plan events members standing front (Refused p) = BeginsWith events front × EndsRefused plan front p
+EndsSo plan events members standing front (StuckForEver stuck reason) = (front ≡ events) × (stuck.items ≡ members) × IsStuck plan events members standing (Some reason)
+EndsSo plan events members standing front (StuckNow stuck) = (front ≡ events) × (stuck.items ≡ members) × IsStuck plan events members standing None
+
+-- there is no witness exactly if none of the events is rejected and they do not lead to members, in ascending order, that
+-- wait only for each other
+abbrev pub IsAnswer : Plan → List Event → List ℕ → List Vector → Option Witness → Type 0
+IsAnswer plan events members standing None = NoneRefused plan events × (IsTrue (are_rising members) → ¬ LeadsTo plan events (λ s. IsWaitingSet plan s members))
+IsAnswer plan events members standing (Some witness) = EndsSo plan events members standing witness.events.items witness.ending

@@ -1,0 +1,45 @@
+//! The replay of a list of events.
+
+ghost use Rattle.std.specs.Prelude.{◌≡◌, IfOk};
+ghost use Rattle.written_machine.specs.Reach.{start};
+ghost use Rattle.interleaving.specs.LiveView.{live_view};
+ghost use Rattle.counterexample.specs.Replayed.{Finds};
+
+use interleaving::{Event, Outcome, World};
+use job_bodies::Plan;
+use std::alloc::AllocError;
+
+/// The result of the replay of a list.
+pub(crate) enum Replayed {
+    /// The last of this many events is rejected by the pool with this number, and no earlier one
+    /// is.
+    Refused(usize, usize),
+    /// An event is not possible, and no earlier one is a rejected submit.
+    NotPossible,
+    /// Each event is possible, and none is a rejected submit.
+    Whole,
+}
+
+/// Replays the events in a new world of the plan, up to the first that is rejected or not possible.
+///
+/// # Errors
+///
+/// Returns `AllocError` if there is not enough memory for an event.
+pub(crate) fn replay(
+    plan: &Plan,
+    world: &mut World,
+    events: &[Event],
+) -> Result<Replayed, AllocError>
+    requires { world.old.view ≡ live_view plan.now (start plan.now) }
+    ensures { IfOk result (Finds plan.now events.now world.new.view) }
+{
+    for (index, event) in events.iter().enumerate() {
+        let Some(outcome) = world.step(plan, *event)? else {
+            return Ok(Replayed::NotPossible);
+        };
+        if let Outcome::Refused(pool) = outcome {
+            return Ok(Replayed::Refused(index + 1, pool));
+        }
+    }
+    Ok(Replayed::Whole)
+}

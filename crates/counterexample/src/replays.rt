@@ -1,0 +1,114 @@
+//! Replays of selected events of a script. Events that are no longer possible are skipped.
+
+use crate::machine::{Came, Machine};
+use crate::scripts::Script;
+use crate::waiting_sets::JobSet;
+use crate::walks::Bad;
+use job_bodies::Plan;
+use std::alloc::{AllocError, Global};
+use written_machine::{Event, Parent};
+
+/// The state of a replay.
+#[derive(Drop)]
+pub(crate) struct Replay<'a> {
+    pub(crate) machine: Machine<'a>,
+    pub(crate) script: Script,
+    pub(crate) is_refused: bool,
+    /// The actor of the replay for each client and each job of the script.
+    clients: Vec<Option<Parent>>,
+    jobs: Vec<Option<Parent>>,
+}
+
+impl<'a> Replay<'a> {
+    /// Replays the events of the script whose entry in `kept` is `true`, up to the first rejected
+    /// submit.
+    pub(crate) fn of(
+        alloc: Global,
+        plan: &'a Plan,
+        script: &Script,
+        kept: &[bool],
+    ) -> Result<Replay<'a>, AllocError> {
+        let mut replay = Replay {
+            machine: Machine::start(alloc, plan)?,
+            script: Script::nothing(alloc),
+            is_refused: false,
+            clients: vec![in alloc; None; script.kinds.len()]?,
+            jobs: vec![in alloc; None; script.acts.len()]?,
+        };
+        for (act, kept) in script.acts.iter().zip(kept) {
+            if *kept {
+                replay.add(script, act.event, act.made)?;
+                if replay.is_refused {
+                    break;
+                }
+            }
+        }
+        Ok(replay)
+    }
+
+    /// Returns `true` if the replay ended in this violation.
+    pub(crate) fn is_bad(&self, alloc: Global, wanted: Bad) -> Result<bool, AllocError> {
+        if self.is_refused {
+            return Ok(true);
+        }
+        if wanted == Bad::Refused {
+            return Ok(false);
+        }
+        let for_ever = wanted == Bad::StuckForEver;
+        let members = JobSet::greatest(alloc, &self.machine, for_ever)?;
+        Ok(!members.is_empty())
+    }
+
+    fn add(
+        &mut self,
+        script: &Script,
+        event: Event,
+        made: Option<usize>,
+    ) -> Result<(), AllocError> {
+        let actor = match event {
+            Event::Client(client) => self.client(script, client)?,
+            Event::Job(job) => self.jobs.get(job).copied().unwrap_or(None),
+            Event::Take(pool) => {
+                if self.machine.take(pool).is_some() {
+                    self.script.add_take(pool)?;
+                }
+                None
+            }
+            Event::Retire(_) => None,
+        };
+        match actor {
+            Some(actor) => self.act(actor, made),
+            None => Ok(()),
+        }
+    }
+
+    /// Returns the actor for the client. Adds the client if it has not moved yet.
+    fn client(&mut self, script: &Script, client: usize) -> Result<Option<Parent>, AllocError> {
+        if let Some(actor) = self.clients.get(client).copied().unwrap_or(None) {
+            return Ok(Some(actor));
+        }
+        let Some(kind) = script.kinds.get(client).copied() else {
+            return Ok(None);
+        };
+        let actor = self.script.begin(&mut self.machine, kind)?;
+        if let Some(place) = self.clients.get_mut(client) {
+            *place = Some(actor);
+        }
+        Ok(Some(actor))
+    }
+
+    fn act(&mut self, actor: Parent, made: Option<usize>) -> Result<(), AllocError> {
+        let came = self.machine.act(actor)?;
+        if came == Came::Nothing {
+            return Ok(());
+        }
+        self.script.add(actor, came)?;
+        self.is_refused = came == Came::Refused;
+        if let Came::Made { job, .. } = came {
+            if let Some(place) = made.and_then(|made| self.jobs.get_mut(made)) {
+                *place = Some(Parent::Job(job));
+            }
+        }
+        Ok(())
+    }
+}

@@ -1,0 +1,348 @@
+//! Walks. A walk repeatedly makes the first possible choice of an order, or the possible choice
+//! that loses least of a vector.
+
+use crate::kinds::{Choice, Choices};
+use crate::losses::Losses;
+use crate::machine::{Came, Machine};
+use crate::missed::Scale;
+use crate::orders::{Chance, shuffle};
+use crate::scripts::Script;
+use crate::waiting_sets::JobSet;
+use job_bodies::{Action, Plan};
+use std::alloc::{AllocError, Global};
+use written_machine::Parent;
+
+/// A factor greater than every key: a choice that loses less of a vector comes first.
+const FOR_A_LOSS: u64 = 10_000_000_000_000;
+
+/// A violation at the end of some events.
+#[derive(Clone, Copy, PartialEq, Eq)]
+pub(crate) enum Bad {
+    /// The last event is a rejected submit.
+    Refused,
+    /// Some jobs wait for each other, and the pools in whose queues they wait have all their
+    /// threads.
+    StuckForEver,
+    /// Some jobs wait for each other.
+    StuckNow,
+}
+
+/// The rules of a walk.
+#[derive(Drop)]
+pub(crate) struct Rules {
+    /// The key of each choice. The least key comes first.
+    pub(crate) keys: Vec<u64>,
+    /// The maximum number of clients that move.
+    pub(crate) most_movers: usize,
+    /// The maximum number of states that the walk visits, its start included.
+    pub(crate) most_states: usize,
+    /// Whether the keys change during the walk.
+    pub(crate) changing: bool,
+}
+
+/// The result of a walk.
+#[derive(Drop)]
+pub(crate) struct Walked {
+    pub(crate) script: Script,
+    pub(crate) bad: Option<Bad>,
+    /// The number of visited states, the start included.
+    pub(crate) states: usize,
+}
+
+/// The outcome of a choice.
+#[derive(Clone, Copy, PartialEq, Eq)]
+pub(crate) enum Stepped {
+    Went,
+    Refused,
+    Nothing,
+}
+
+/// The state of a walk.
+#[derive(Drop)]
+pub(crate) struct Walk<'a> {
+    pub(crate) machine: Machine<'a>,
+    pub(crate) choices: &'a Choices,
+    pub(crate) script: Script,
+    /// For each choice, the actors that are ready for it.
+    pub(crate) ready: Vec<Vec<Parent>>,
+    /// For each kind, the number of its clients that have moved.
+    pub(crate) begun: Vec<u64>,
+    /// Whether an actor has been blocked at a get since the flag was last cleared.
+    pub(crate) has_blocked: bool,
+}
+
+/// Performs a walk by these rules. Each step makes a possible choice, and then performs all work,
+/// gets of finished jobs, ends and loops that follow.
+pub(crate) fn walk_by<'a>(
+    alloc: Global,
+    plan: &'a Plan,
+    choices: &'a Choices,
+    rules: Rules,
+    scale: Option<&Scale>,
+    chance: &mut Chance,
+) -> Result<Walked, AllocError> {
+    let mut walk = Walk::start(alloc, plan, choices)?;
+    let mut rules = rules;
+    let mut stuck_now = None;
+    let mut due = 8;
+    let mut states = 1usize;
+    for step in 1..rules.most_states {
+        if rules.changing && chance.next_number() % 16 == 0 {
+            shuffle(&mut rules.keys, chance);
+        }
+        match walk.step(&rules, scale)? {
+            Stepped::Went => states = states.saturating_add(1),
+            Stepped::Refused => return Ok(walk.ended(Some(Bad::Refused), states)),
+            Stepped::Nothing => break,
+        }
+        if walk.has_blocked && step >= due {
+            walk.has_blocked = false;
+            let jobs = walk.machine.jobs.len();
+            due = step.saturating_add(8).saturating_add(jobs / 4);
+            match walk.stuck(alloc, stuck_now.is_none())? {
+                Some(Bad::StuckNow) => stuck_now = Some(walk.script.acts.len()),
+                None => {}
+                bad => return Ok(walk.ended(bad, states)),
+            }
+        }
+    }
+    let mut bad = walk.stuck(alloc, true)?;
+    if bad.is_none() {
+        if let Some(length) = stuck_now {
+            walk.script.acts.truncate(length);
+            bad = Some(Bad::StuckNow);
+        }
+    }
+    Ok(walk.ended(bad, states))
+}
+
+impl<'a> Walk<'a> {
+    pub(crate) fn start(
+        alloc: Global,
+        plan: &'a Plan,
+        choices: &'a Choices,
+    ) -> Result<Walk<'a>, AllocError> {
+        let mut ready = Vec::with_capacity(alloc, choices.all.len())?;
+        for _ in &choices.all {
+            ready.push(Vec::new(alloc))?;
+        }
+        Ok(Walk {
+            machine: Machine::start(alloc, plan)?,
+            choices,
+            script: Script::nothing(alloc),
+            ready,
+            begun: vec![in alloc; 0; plan.clients().len()]?,
+            has_blocked: false,
+        })
+    }
+
+    fn ended(self, bad: Option<Bad>, states: usize) -> Walked {
+        Walked {
+            script: self.script,
+            bad,
+            states,
+        }
+    }
+
+    /// Returns the violation if jobs wait for each other. Without `now`, returns only permanent
+    /// ones.
+    pub(crate) fn stuck(&self, alloc: Global, now: bool) -> Result<Option<Bad>, AllocError> {
+        let members = JobSet::greatest(alloc, &self.machine, false)?;
+        if members.is_empty() {
+            return Ok(None);
+        }
+        let members = JobSet::greatest(alloc, &self.machine, true)?;
+        if !members.is_empty() {
+            return Ok(Some(Bad::StuckForEver));
+        }
+        Ok(if now { Some(Bad::StuckNow) } else { None })
+    }
+
+    /// Makes the first possible choice.
+    fn step(&mut self, rules: &Rules, scale: Option<&Scale>) -> Result<Stepped, AllocError> {
+        match self.first_possible(rules, scale) {
+            Some(place) => self.choose(place, 0),
+            None => Ok(Stepped::Nothing),
+        }
+    }
+
+    /// Makes the choice with this index. `behind` selects the actor: the number of actors that
+    /// became ready after it.
+    pub(crate) fn choose(&mut self, place: usize, behind: usize) -> Result<Stepped, AllocError> {
+        match self.choices.all.get(place).copied() {
+            Some(Choice::Begin(kind)) => {
+                let client = self.script.begin(&mut self.machine, kind)?;
+                if let Some(begun) = self.begun.get_mut(kind) {
+                    *begun = begun.saturating_add(1);
+                }
+                self.settle(client)?;
+                self.submit_of(client)
+            }
+            Some(Choice::Take(class)) => self.take(class),
+            Some(_) => match self.called(place, behind) {
+                Some(actor) => self.submit(actor),
+                None => Ok(Stepped::Nothing),
+            },
+            None => Ok(Stepped::Nothing),
+        }
+    }
+
+    /// Removes and returns the actor that `behind` selects from those that are ready for this
+    /// choice.
+    fn called(&mut self, place: usize, behind: usize) -> Option<Parent> {
+        let ready = self.ready.get_mut(place)?;
+        let at = ready.len().checked_sub(1)?.checked_sub(behind)?;
+        if at < ready.len() {
+            Some(ready.remove(at))
+        } else {
+            None
+        }
+    }
+
+    /// Returns the possible choice that loses least of the vector. If there are several, returns
+    /// the one with the least key.
+    fn first_possible(&self, rules: &Rules, scale: Option<&Scale>) -> Option<usize> {
+        let mut best = None;
+        let mut least = u64::MAX;
+        let choices = self.choices.all.iter().zip(&rules.keys).zip(&self.ready);
+        for (place, ((choice, key), ready)) in choices.enumerate() {
+            if !self.is_possible(rules, *choice, ready) {
+                continue;
+            }
+            let lost = match scale {
+                Some(scale) => Losses::new(&self.machine, scale).of(*choice, ready.last().copied()),
+                None => 0,
+            };
+            let key = lost.saturating_mul(FOR_A_LOSS).saturating_add(*key);
+            if key < least {
+                least = key;
+                best = Some(place);
+            }
+        }
+        best
+    }
+
+    fn is_possible(&self, rules: &Rules, choice: Choice, ready: &[Parent]) -> bool {
+        match choice {
+            Choice::Begin(kind) => {
+                self.machine.movers() < rules.most_movers && self.has_more(kind)
+            }
+            Choice::Take(class) => self.would_take(class),
+            _ => !ready.is_empty(),
+        }
+    }
+
+    /// Returns `true` if a client of the kind has not moved and its body has a submit.
+    pub(crate) fn has_more(&self, kind: usize) -> bool {
+        let Some(client) = self.machine.plan.client_at(kind) else {
+            return false;
+        };
+        let begun = self.begun.get(kind).copied().unwrap_or(0);
+        begun < client.count
+            && client
+                .body
+                .iter()
+                .any(|action| matches!(action, Action::Submit(_)))
+    }
+
+    /// Returns `true` if an idle thread would take a job of the class.
+    pub(crate) fn would_take(&self, class: usize) -> bool {
+        let Some(pool) = self.pool_of(class) else {
+            return false;
+        };
+        let Some(pool) = self.machine.pools.get(pool) else {
+            return false;
+        };
+        let Some(job) = pool.next_to_take() else {
+            return false;
+        };
+        self.machine
+            .jobs
+            .get(job)
+            .is_some_and(|job| job.class == class)
+    }
+
+    fn pool_of(&self, class: usize) -> Option<usize> {
+        Some(self.machine.plan.class_at(class)?.pool)
+    }
+
+    fn take(&mut self, class: usize) -> Result<Stepped, AllocError> {
+        let Some(pool) = self.pool_of(class) else {
+            return Ok(Stepped::Nothing);
+        };
+        let Some(job) = self.machine.take(pool) else {
+            return Ok(Stepped::Nothing);
+        };
+        self.script.add_take(pool)?;
+        self.settle(Parent::Job(job))?;
+        Ok(Stepped::Went)
+    }
+
+    /// Makes the first submit of a new client, which is at that submit.
+    fn submit_of(&mut self, client: Parent) -> Result<Stepped, AllocError> {
+        let place = match self.machine.point(client) {
+            Some((position, _)) => self.choices.place_of(&self.machine, client, position),
+            None => None,
+        };
+        if let Some(ready) = place.and_then(|place| self.ready.get_mut(place)) {
+            ready.pop();
+        }
+        self.submit(client)
+    }
+
+    fn submit(&mut self, actor: Parent) -> Result<Stepped, AllocError> {
+        let came = self.machine.act(actor)?;
+        if came == Came::Nothing {
+            return Ok(Stepped::Nothing);
+        }
+        self.script.add(actor, came)?;
+        if came == Came::Refused {
+            return Ok(Stepped::Refused);
+        }
+        self.settle(actor)?;
+        if let Came::Made { job, started: true } = came {
+            self.settle(Parent::Job(job))?;
+        }
+        Ok(Stepped::Went)
+    }
+
+    /// Performs all steps of the actor up to its next submit, and then those of an actor that
+    /// waited for it.
+    fn settle(&mut self, actor: Parent) -> Result<(), AllocError> {
+        let mut actor = actor;
+        for _ in 0..u64::MAX {
+            let Some((position, action)) = self.machine.point(actor) else {
+                break;
+            };
+            if let Some(Action::Submit(_)) = action {
+                self.stand(actor, position)?;
+                break;
+            }
+            let came = self.machine.act(actor)?;
+            if came == Came::Nothing {
+                self.has_blocked = true;
+                break;
+            }
+            self.script.add(actor, came)?;
+            if let Came::Finished(parent) = came {
+                let Parent::Job(child) = actor else {
+                    break;
+                };
+                if self.machine.waits_for(parent) != Some(child) {
+                    break;
+                }
+                actor = parent;
+            }
+        }
+        Ok(())
+    }
+
+    /// Adds the actor, which is at a submit, to those that are ready for that submit.
+    fn stand(&mut self, actor: Parent, position: usize) -> Result<(), AllocError> {
+        let place = self.choices.place_of(&self.machine, actor, position);
+        if let Some(ready) = place.and_then(|place| self.ready.get_mut(place)) {
+            ready.push(actor)?;
+        }
+        Ok(())
+    }
+}

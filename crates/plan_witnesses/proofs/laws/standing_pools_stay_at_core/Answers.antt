@@ -1,5 +1,0 @@
-use Rattle.plan_witnesses.proofs.Standing.{stays_at_core}
-use Rattle.plan_witnesses.proofs.laws.standing_pools_stay_at_core.Goals as goal
-
-pub returns : goal.returns
-returns c = stays_at_core

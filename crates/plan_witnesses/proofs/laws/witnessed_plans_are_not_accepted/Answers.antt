@@ -1,5 +1,0 @@
-use Rattle.plan_witnesses.proofs.Accepted.{not_accepted}
-use Rattle.plan_witnesses.proofs.laws.witnessed_plans_are_not_accepted.Goals as goal
-
-pub returns : goal.returns
-returns c = not_accepted

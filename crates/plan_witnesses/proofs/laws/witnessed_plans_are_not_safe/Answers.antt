@@ -1,5 +1,0 @@
-use Rattle.plan_witnesses.proofs.Accepted.{not_safe}
-use Rattle.plan_witnesses.proofs.laws.witnessed_plans_are_not_safe.Goals as goal
-
-pub returns : goal.returns
-returns c = not_safe

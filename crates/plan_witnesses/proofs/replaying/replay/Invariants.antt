@@ -1,6 +1,0 @@
-use Rattle.std.proofs.Common.{take}
-use Rattle.plan_witnesses.specs.Replayed.{ComesTo}
-use Rattle.plan_witnesses.proofs.replaying.replay.Given as goal
-
-abbrev pub invariant-loop-index : goal.invariant-loop-index
-invariant-loop-index l = ComesTo l.plan (take l.index l.events) l.world.view

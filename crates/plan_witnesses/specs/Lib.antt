@@ -1,6 +1,0 @@
-pub mod Rising
-pub mod Lasting
-pub mod Witness
-pub mod Replayed
-pub mod StartingNone
-pub mod Confirmed
