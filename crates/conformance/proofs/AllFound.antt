@@ -2,9 +2,9 @@
 use Rattle.std.proofs.Common.{◌≡◌, ℕ, Bool, List, [], ◌∷◌, filter, Option, ap, sym, subst, ◌∙◌}
 use Rattle.std.specs.List.Sorted.{IsPermutation}
 use Rattle.job_bodies.specs.Plan.{Plan}
-use Rattle.recording_lines.specs.RecordingLine.{RecordedLine}
+use Rattle.recordings.specs.RecordingLine.{RecordedLine}
 use Rattle.recorded_classes.specs.declared.settled.Settled.{Settled}
-use Rattle.recorded_notes.specs.Voids.{voids_of}
+use Rattle.recordings.specs.Voids.{voids_of}
 use Rattle.plan_differences.specs.declared.round_watch.RoundExcess.{RoundExcess}
 use Rattle.plan_differences.specs.RoundExcesses.{excesses_by_lines}
 use Rattle.conformance.specs.declared.described.JobDeed.{JobDeed}

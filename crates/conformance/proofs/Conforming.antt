@@ -9,20 +9,20 @@ use Rattle.std.proofs.lemmas.Bool.{eqb-true}
 use Rattle.std.specs.List.Sorted.{IsPermutation}
 use Rattle.std.proofs.lemmas.List.Sorted.{length_permutation}
 use Rattle.job_bodies.specs.Plan.{Plan}
-use Rattle.recording_lines.specs.declared.recording_line.RecordedActor.{RecordedActor}
-use Rattle.recording_lines.specs.declared.recording_line.RecordedActor.TheVariants.{Job, Round}
-use Rattle.recording_lines.specs.RecordingLine.{RecordedLine}
-use Rattle.recorded_rules.specs.Before.{is_begun}
-use Rattle.recorded_rules.specs.LineParts.{is_same_actor}
-use Rattle.recorded_paths.specs.LineDeeds.{is_submitted}
+use Rattle.recordings.specs.declared.recording_line.RecordedActor.{RecordedActor}
+use Rattle.recordings.specs.declared.recording_line.RecordedActor.TheVariants.{Job, Round}
+use Rattle.recordings.specs.RecordingLine.{RecordedLine}
+use Rattle.recordings.specs.Before.{is_begun}
+use Rattle.recordings.specs.LineParts.{is_same_actor}
+use Rattle.recordings.specs.LineDeeds.{is_submitted}
 use Rattle.plan_differences.specs.declared.pool_watch.PoolDeviation.{PoolDeviation}
 use Rattle.plan_differences.specs.declared.round_watch.RoundExcess.{RoundExcess}
 use Rattle.plan_differences.specs.PoolDeviations.{deviation_seen, deviations_by_lines, deviations_at_end}
 use Rattle.plan_differences.specs.RoundExcesses.{excesses_by_lines}
 use Rattle.plan_differences.specs.WatchLaws.{PoolsAreAsPlanned, PoolsAreRecorded, RoundsAreWithinPlan}
-use Rattle.recorded_notes.specs.declared.foreign_get.ForeignGet.{ForeignGet}
-use Rattle.recorded_notes.specs.declared.voiding.Void.{Void}
-use Rattle.recorded_notes.specs.Voids.{voids_of}
+use Rattle.recordings.specs.declared.foreign_get.ForeignGet.{ForeignGet}
+use Rattle.recordings.specs.declared.voiding.Void.{Void}
+use Rattle.recordings.specs.Voids.{voids_of}
 use Rattle.recorded_classes.specs.declared.settled.Settled.{Settled}
 use Rattle.recorded_classes.specs.Settled.{IsTold, AreAllTold, CanBe, is_told}
 use Rattle.conformance.specs.declared.finding.Finding.{Finding}

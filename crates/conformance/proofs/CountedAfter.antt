@@ -2,8 +2,8 @@
 use Rattle.std.proofs.Common.{◌≡◌, ℕ, false, List, [], ◌∷◌, ◌++◌, Option, Some, None, ap, sym, subst, ◌∙◌}
 use Rattle.support.specs.Numbered.{value_at}
 use Rattle.job_bodies.specs.Plan.{Plan}
-use Rattle.recording_lines.specs.RecordingLine.{RecordedLine}
-use Rattle.recorded_paths.specs.StandsFor.{KeepsRules}
+use Rattle.recordings.specs.RecordingLine.{RecordedLine}
+use Rattle.recordings.specs.PathsOfLines.{KeepsRules}
 use Rattle.recorded_classes.specs.Label.{kind_of}
 use Rattle.recorded_classes.proofs.Labels.{kind_more, kind_stays}
 use Rattle.conformance.specs.declared.counted.Counted.{Counted}

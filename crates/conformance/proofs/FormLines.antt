@@ -1,6 +1,6 @@
 -- Well-formed lines among others.
 use Rattle.std.proofs.Common.{◌≤◌, List, [], ◌∷◌, length, Option, Some, None, arith}
-use Rattle.recording_lines.specs.RecordingLine.{RecordedLine}
+use Rattle.recordings.specs.RecordingLine.{RecordedLine}
 use Rattle.conformance.specs.Lines.{with_form}
 
 pub with_form_few : (lines : List (Option RecordedLine)) → length (with_form lines) ≤ length lines

@@ -1,11 +1,11 @@
 -- Valid recordings.
 use Rattle.std.proofs.Common.{◌≡◌, ℕ, suc, List, [], ◌∷◌, ◌++◌, length, take, drop, map, slice_get, Option, Some, None, refl, ap, sym, ◌∙◌, append_assoc, arith}
 use Rattle.std.specs.Option.{option_map, option_and_then}
-use Rattle.recording_lines.specs.RecordingLine.{RecordedLine, lines_read}
-use Rattle.recorded_rules.specs.declared.fault.Breach.TheVariants as breach
-use Rattle.recorded_rules.specs.Faults.{IsFirstFault, breach_of, lines_before, breach_behind}
-use Rattle.recorded_rules.specs.Rules.{broken_of}
-use Rattle.recorded_paths.specs.StandsFor.{KeepsRules}
+use Rattle.recordings.specs.RecordingLine.{RecordedLine, lines_read}
+use Rattle.recordings.specs.declared.fault.Breach.TheVariants as breach
+use Rattle.recordings.specs.Faults.{IsFirstFault, breach_of, lines_before, breach_behind}
+use Rattle.recordings.specs.Rules.{broken_of}
+use Rattle.recordings.specs.PathsOfLines.{KeepsRules}
 use Rattle.conformance.specs.Lines.{with_form, lines_of}
 use Rattle.conformance.proofs.Steps.{both_next}
 

@@ -4,14 +4,14 @@ use Rattle.std.specs.Prelude.{◌⊎◌}
 use Rattle.std.specs.List.{filter_map, cons_option}
 use Rattle.std.proofs.lemmas.Bool.{eqb-true}
 use Rattle.std.proofs.lemmas.List.Elements.{filter_map-append}
-use Rattle.recording_lines.specs.RecordingLine.{RecordedLine, RoundBegins}
-use Rattle.recorded_rules.specs.declared.rule.LineRule.{LineRule}
-use Rattle.recorded_rules.specs.declared.rule.LineRule.TheVariants as rule
-use Rattle.recorded_rules.specs.LineParts.{is_begin}
-use Rattle.recorded_rules.specs.Before.{begins}
-use Rattle.recorded_rules.specs.Rules.{keeps_frame, keeps_pools, keeps_numbers, has_next_number}
-use Rattle.recorded_paths.specs.StandsFor.{KeepsRules}
-use Rattle.recorded_paths.proofs.ByLast.{by_last, keeps_before}
+use Rattle.recordings.specs.RecordingLine.{RecordedLine, RoundBegins}
+use Rattle.recordings.specs.declared.rule.LineRule.{LineRule}
+use Rattle.recordings.specs.declared.rule.LineRule.TheVariants as rule
+use Rattle.recordings.specs.LineParts.{is_begin}
+use Rattle.recordings.specs.Before.{begins}
+use Rattle.recordings.specs.Rules.{keeps_frame, keeps_pools, keeps_numbers, has_next_number}
+use Rattle.recordings.specs.PathsOfLines.{KeepsRules}
+use Rattle.recordings.proofs.ByLast.{by_last, keeps_before}
 use Rattle.job_bodies.specs.Plan.{Plan}
 use Rattle.plan_families.specs.Family.{client_family}
 use Rattle.recorded_classes.specs.declared.settled.Settled.{Settled}

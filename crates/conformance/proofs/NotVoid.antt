@@ -4,11 +4,11 @@ use Rattle.std.specs.Prelude.{◌⊎◌, filter}
 use Rattle.std.specs.List.{cons_option}
 use Rattle.std.specs.Str.{bytes_eq}
 use Rattle.std.proofs.lemmas.Slice.Eq.{bytes_eq-Decides}
-use Rattle.recording_lines.specs.RecordingLine.{RecordedLine, Refused, Cancels, InvokesAny, Removed, JobThrew, Unseen}
-use Rattle.recorded_notes.specs.declared.voiding.Void.{Void}
-use Rattle.recorded_notes.specs.declared.voiding.Voiding.{Voiding}
-use Rattle.recorded_notes.specs.declared.voiding.Voiding.TheVariants as what
-use Rattle.recorded_notes.specs.Voids.{word_of, is_same_word, has_word, void_of, voids_from, first_of_each, voids_of}
+use Rattle.recordings.specs.RecordingLine.{RecordedLine, Refused, Cancels, InvokesAny, Removed, JobThrew, Unseen}
+use Rattle.recordings.specs.declared.voiding.Void.{Void}
+use Rattle.recordings.specs.declared.voiding.Voiding.{Voiding}
+use Rattle.recordings.specs.declared.voiding.Voiding.TheVariants as what
+use Rattle.recordings.specs.Voids.{word_of, is_same_word, has_word, void_of, voids_from, first_of_each, voids_of}
 use Rattle.conformance.specs.Conforms.{is_void, IsNotVoid}
 use Rattle.conformance.specs.Gathered.{lasts, is_lasting}
 use Rattle.conformance.proofs.Among.{here, later, head_or_later, is_among_none, stays}

@@ -3,14 +3,14 @@ use Rattle.std.proofs.Common.{◌≡◌, ℕ, ◌==◌, ◌&&◌, ◌||◌, not,
 use Rattle.std.specs.Option.{option_and_then}
 use Rattle.std.proofs.lemmas.Bool.{eqb-true, eq-eqb}
 use Rattle.support.specs.Numbered.{value_at}
-use Rattle.recording_lines.specs.declared.recording_line.RecordedActor.TheVariants.{Round}
-use Rattle.recording_lines.specs.RecordingLine.{RecordedLine, RoundBegins, RoundEnds}
-use Rattle.recorded_rules.specs.LineParts.{begins_round, ends_round}
-use Rattle.recorded_rules.specs.Before.{is_begun, is_ended}
-use Rattle.recorded_rules.proofs.Appended.{is_begun_more, is_ended_more}
-use Rattle.recorded_paths.specs.StandsFor.{KeepsRules, is_about}
-use Rattle.recorded_paths.proofs.ByLast.{keeps_before, keeps_last}
-use Rattle.recorded_paths.proofs.Fresh.{next_round, ended_fresh}
+use Rattle.recordings.specs.declared.recording_line.RecordedActor.TheVariants.{Round}
+use Rattle.recordings.specs.RecordingLine.{RecordedLine, RoundBegins, RoundEnds}
+use Rattle.recordings.specs.LineParts.{begins_round, ends_round}
+use Rattle.recordings.specs.Before.{is_begun, is_ended}
+use Rattle.recordings.proofs.Appended.{is_begun_more, is_ended_more}
+use Rattle.recordings.specs.PathsOfLines.{KeepsRules, is_about}
+use Rattle.recordings.proofs.ByLast.{keeps_before, keeps_last}
+use Rattle.recordings.proofs.Fresh.{next_round, ended_fresh}
 use Rattle.job_bodies.specs.Plan.{Plan}
 use Rattle.plan_differences.specs.RoundExcesses.{kind_of, kind_at}
 use Rattle.recorded_classes.specs.Label as labels

@@ -8,13 +8,13 @@ use Rattle.std.specs.declared.string.String.{String}
 use Rattle.std.proofs.lemmas.List.Elements.{All-push, All-weaker, Contains-push_cases}
 use Rattle.std.proofs.lemmas.Slice.Eq.{bytes_eq-Decides}
 use Rattle.job_bodies.specs.Plan.{Plan}
-use Rattle.recording_lines.specs.declared.recording_line.RecordedActor.{RecordedActor}
-use Rattle.recording_lines.specs.declared.recording_line.Line.{Line}
-use Rattle.recording_lines.specs.declared.recording_line.Line.TheVariants as read
-use Rattle.recording_lines.specs.RecordingLine.{line_seen}
+use Rattle.recordings.specs.declared.recording_line.RecordedActor.{RecordedActor}
+use Rattle.recordings.specs.declared.recording_line.Line.{Line}
+use Rattle.recordings.specs.declared.recording_line.Line.TheVariants as read
+use Rattle.recordings.specs.RecordingLine.{line_seen}
 use Rattle.std.proofs.Common.{Bor}
 use Rattle.conformance.specs.Verdicts.{is_empty}
-use Rattle.recording_lines.specs.RecordingLine.{RecordedLine, Submits, RoundBegins}
+use Rattle.recordings.specs.RecordingLine.{RecordedLine, Submits, RoundBegins}
 use Rattle.plan_families.specs.Family.{class_family, client_family}
 use Rattle.conformance.specs.declared.unplanned.NotPlanned.{NotPlanned}
 use Rattle.conformance.specs.declared.unplanned.NotPlanned.TheVariants as code

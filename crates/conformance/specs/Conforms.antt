@@ -1,12 +1,12 @@
 -- When a service conforms to its plan, by the lines of a valid recording.
 use Rattle.std.specs.Prelude.{◌≡◌, ◌<◌, ◌++◌, ◌∷◌, ℕ, Bool, true, false, not, List, length, Contains, Option, Some, None}
-use Rattle.recording_lines.specs.declared.pool_sizes.PoolSizes.{PoolSizes}
-use Rattle.recording_lines.specs.RecordingLine.{RecordedLine, Pool, Refused, Cancels, InvokesAny, Removed, JobThrew, Unseen}
-use Rattle.recorded_rules.specs.Before.{has_pool, is_closed, is_begun}
-use Rattle.recorded_paths.specs.LineDeeds.{is_submitted}
+use Rattle.recordings.specs.declared.pool_sizes.PoolSizes.{PoolSizes}
+use Rattle.recordings.specs.RecordingLine.{RecordedLine, Pool, Refused, Cancels, InvokesAny, Removed, JobThrew, Unseen}
+use Rattle.recordings.specs.Before.{has_pool, is_closed, is_begun}
+use Rattle.recordings.specs.LineDeeds.{is_submitted}
 use Rattle.job_bodies.specs.Plan.{Plan, pool_at}
 use Rattle.recorded_classes.specs.Classes.{AreClassesOf, AreKindsOf}
-use Rattle.recorded_notes.specs.ForeignGets.{first_foreign_get}
+use Rattle.recordings.specs.ForeignGets.{first_foreign_get}
 use Rattle.plan_differences.specs.Rounds.{IsWithinPlan}
 use Rattle.plan_differences.specs.RoundExcesses as rounds
 use Rattle.plan_differences.specs.WatchLaws.{IsPlannedPool}

@@ -1,7 +1,7 @@
 -- The counts of rounds, as a function of the lines read.
 use Rattle.std.specs.Prelude.{◌≡◌, ℕ, false, List, Option}
 use Rattle.job_bodies.specs.Plan.{Plan}
-use Rattle.recording_lines.specs.RecordingLine.{RecordedLine}
+use Rattle.recordings.specs.RecordingLine.{RecordedLine}
 use Rattle.plan_differences.specs.RoundExcesses.{excesses_by_lines}
 use Rattle.plan_differences.specs.RoundWatch.{IsRoundWatchOf}
 use Rattle.conformance.specs.declared.counted.Counted.{Counted}

@@ -3,11 +3,11 @@ use Rattle.std.specs.Prelude.{◌≡◌, ℕ, zero, suc, Bool, true, false, List
 use Rattle.std.specs.Option.{option_and_then}
 use Rattle.std.specs.declared.alloc.Global.{Global}
 use Rattle.std.specs.declared.string.String.{String}
-use Rattle.recording_lines.specs.RecordingLine.{RecordedLine}
-use Rattle.recording_lines.specs.declared.recording_line.RecordedActor.TheVariants.{Job}
-use Rattle.recording_lines.specs.declared.recording_line.RecordedActor.{RecordedActor}
-use Rattle.recorded_paths.specs.declared.deed.RecordedDeed.{RecordedDeed}
-use Rattle.recorded_paths.specs.declared.deed.RecordedDeed.TheVariants as recorded
+use Rattle.recordings.specs.RecordingLine.{RecordedLine}
+use Rattle.recordings.specs.declared.recording_line.RecordedActor.TheVariants.{Job}
+use Rattle.recordings.specs.declared.recording_line.RecordedActor.{RecordedActor}
+use Rattle.recordings.specs.declared.deed.RecordedDeed.{RecordedDeed}
+use Rattle.recordings.specs.declared.deed.RecordedDeed.TheVariants as recorded
 use Rattle.recorded_classes.specs.declared.settled.Settled.{Settled}
 use Rattle.conformance.specs.declared.described.JobDeed.{JobDeed}
 use Rattle.conformance.specs.declared.described.JobDeed.TheVariants as deed

@@ -7,9 +7,9 @@ use Rattle.plan_differences.specs.declared.pool_watch.PoolDeviation.TheVariants 
 use Rattle.plan_differences.specs.declared.round_watch.RoundExcess.{RoundExcess}
 use Rattle.plan_differences.specs.Difference.{difference_text}
 use Rattle.plan_differences.specs.Excess.{excess_text}
-use Rattle.recorded_notes.specs.declared.foreign_get.ForeignGet.{ForeignGet}
-use Rattle.recorded_notes.specs.declared.voiding.Void.{Void}
-use Rattle.recorded_notes.specs.VoidText.{void_text}
+use Rattle.recordings.specs.declared.foreign_get.ForeignGet.{ForeignGet}
+use Rattle.recordings.specs.declared.voiding.Void.{Void}
+use Rattle.recordings.specs.VoidText.{void_text}
 use Rattle.conformance.specs.declared.finding.Finding.{Finding}
 use Rattle.conformance.specs.declared.finding.Finding.TheVariants as finding
 use Rattle.conformance.specs.declared.unplanned.NotPlanned.{NotPlanned}

@@ -1,8 +1,8 @@
 -- The actor with the smallest number of each label.
 use Rattle.std.specs.Prelude.{◌≡◌, ◌≤◌, ℕ, Bool, true, false, ◌&&◌, List, string_bytes, All, Any, Contains, count_by}
 use Rattle.std.specs.Str.{bytes_eq}
-use Rattle.recording_lines.specs.declared.recording_line.RecordedActor.{RecordedActor}
-use Rattle.recording_lines.specs.declared.recording_line.RecordedActor.TheVariants.{Job, Round}
+use Rattle.recordings.specs.declared.recording_line.RecordedActor.{RecordedActor}
+use Rattle.recordings.specs.declared.recording_line.RecordedActor.TheVariants.{Job, Round}
 use Rattle.recorded_classes.specs.declared.settled.Settled.{Settled}
 
 abbrev pub is_same_sort : RecordedActor → RecordedActor → Bool

@@ -3,16 +3,16 @@ use Rattle.std.specs.Prelude.{◌≡◌, ◌++◌, ℕ, Bool, true, false, List,
 use Rattle.std.specs.List.{AllZip}
 use Rattle.std.specs.declared.alloc.Global.{Global}
 use Rattle.std.specs.declared.string.String.{String}
-use Rattle.recording_lines.specs.RecordingLine.{RecordedLine}
+use Rattle.recordings.specs.RecordingLine.{RecordedLine}
 use Rattle.plan_differences.specs.declared.pool_watch.PoolDeviation.{PoolDeviation}
 use Rattle.plan_differences.specs.declared.round_watch.RoundExcess.{RoundExcess}
 use Rattle.recorded_classes.specs.declared.settled.Settled.{Settled}
-use Rattle.recorded_notes.specs.declared.foreign_get.ForeignGet.{ForeignGet}
-use Rattle.recorded_notes.specs.declared.voiding.Void.{Void}
-use Rattle.recorded_notes.specs.declared.voiding.Voiding.{Voiding}
-use Rattle.recorded_notes.specs.declared.voiding.Voiding.TheVariants as what
-use Rattle.recorded_notes.specs.ForeignGets.{first_foreign_get}
-use Rattle.recorded_notes.specs.Voids.{voids_of}
+use Rattle.recordings.specs.declared.foreign_get.ForeignGet.{ForeignGet}
+use Rattle.recordings.specs.declared.voiding.Void.{Void}
+use Rattle.recordings.specs.declared.voiding.Voiding.{Voiding}
+use Rattle.recordings.specs.declared.voiding.Voiding.TheVariants as what
+use Rattle.recordings.specs.ForeignGets.{first_foreign_get}
+use Rattle.recordings.specs.Voids.{voids_of}
 use Rattle.conformance.specs.declared.finding.Finding.{Finding}
 use Rattle.conformance.specs.declared.finding.Finding.TheVariants as finding
 use Rattle.conformance.specs.declared.stray.Stray.{Stray}

@@ -1,7 +1,7 @@
 -- The well-formed lines of a recording.
 use Rattle.std.specs.Prelude.{ℕ, List, Option}
 use Rattle.std.specs.List.{filter_map}
-use Rattle.recording_lines.specs.RecordingLine.{RecordedLine, lines_read}
+use Rattle.recordings.specs.RecordingLine.{RecordedLine, lines_read}
 
 -- The lines that have one of the forms.
 abbrev pub with_form : List (Option RecordedLine) → List RecordedLine

@@ -2,9 +2,9 @@
 use Rattle.std.specs.Prelude.{◌≡◌, ℕ, ◌==◌, if◌then◌else◌, List, Option, Some, None}
 use Rattle.std.specs.Option.{option_and_then}
 use Rattle.support.specs.Numbered.{value_at}
-use Rattle.recording_lines.specs.declared.recording_line.RecordedActor.TheVariants.{Round}
-use Rattle.recording_lines.specs.RecordingLine.{RecordedLine, RoundBegins, RoundEnds}
-use Rattle.recorded_paths.specs.StandsFor.{is_about}
+use Rattle.recordings.specs.declared.recording_line.RecordedActor.TheVariants.{Round}
+use Rattle.recordings.specs.RecordingLine.{RecordedLine, RoundBegins, RoundEnds}
+use Rattle.recordings.specs.PathsOfLines.{is_about}
 use Rattle.job_bodies.specs.Plan.{Plan}
 use Rattle.plan_differences.specs.RoundExcesses.{kind_of}
 use Rattle.conformance.specs.declared.open_rounds.OpenRounds.{OpenRounds}

@@ -1,7 +1,7 @@
 -- The rounds that belong to another kind than the first of their label.
 use Rattle.std.specs.Prelude.{◌≡◌, ℕ, true, false, if◌then◌else◌, List, slice_get, string_bytes, Contains, is_some, Option, Some, None}
 use Rattle.support.specs.Numbered.{value_at}
-use Rattle.recording_lines.specs.RecordingLine.{RecordedLine}
+use Rattle.recordings.specs.RecordingLine.{RecordedLine}
 use Rattle.job_bodies.specs.Plan.{Plan}
 use Rattle.plan_families.specs.Family.{client_family}
 use Rattle.plan_differences.specs.RoundExcesses as rounds

@@ -1,7 +1,7 @@
 -- The result of a comparison.
 use Rattle.std.specs.Prelude.{List, ⊤, Option, Some, None}
 use Rattle.std.specs.List.Sorted.{IsNonDecreasingBy}
-use Rattle.recorded_rules.specs.declared.fault.RecordingFault.{RecordingFault}
+use Rattle.recordings.specs.declared.fault.RecordingFault.{RecordingFault}
 use Rattle.conformance.specs.declared.comparison.Conformance.{Conformance}
 use Rattle.conformance.specs.declared.comparison.Conformance.TheVariants.{Bad, Compared}
 use Rattle.conformance.specs.declared.finding.Finding.{Finding}

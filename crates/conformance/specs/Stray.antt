@@ -1,7 +1,7 @@
 -- The description of an actor whose path matches no body of the plan.
 use Rattle.std.specs.Prelude.{ℕ, ◌++◌, List, codes, decimal, string_bytes, Option, Some, None}
-use Rattle.recording_lines.specs.declared.recording_line.RecordedActor.{RecordedActor}
-use Rattle.recording_lines.specs.declared.recording_line.RecordedActor.TheVariants.{Job, Round}
+use Rattle.recordings.specs.declared.recording_line.RecordedActor.{RecordedActor}
+use Rattle.recordings.specs.declared.recording_line.RecordedActor.TheVariants.{Job, Round}
 use Rattle.conformance.specs.declared.stray.Stray.{Stray}
 use Rattle.conformance.specs.declared.stray.StrayDeed.{StrayDeed}
 use Rattle.conformance.specs.declared.stray.StrayDeed.TheVariants.{Deed, SubmitsStray, Ends}

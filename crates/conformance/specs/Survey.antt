@@ -1,13 +1,13 @@
 -- The state of a survey, as a function of the lines read.
 use Rattle.std.specs.Prelude.{◌≡◌, ℕ, List, ◌++◌, map, Option, Some, None, [], Result, Ok, Err}
 use Rattle.job_bodies.specs.Plan.{Plan}
-use Rattle.recording_lines.specs.RecordingLine.{RecordedLine, lines_read}
-use Rattle.recorded_rules.specs.declared.fault.RecordingFault.{RecordingFault}
-use Rattle.recorded_rules.specs.Faults.{IsFirstFault}
+use Rattle.recordings.specs.RecordingLine.{RecordedLine, lines_read}
+use Rattle.recordings.specs.declared.fault.RecordingFault.{RecordingFault}
+use Rattle.recordings.specs.Faults.{IsFirstFault}
 use Rattle.plan_differences.specs.PoolDeviations.{deviation_seen, deviations_by_lines, deviations_at_end}
 use Rattle.plan_differences.specs.PoolWatch.{IsPoolWatchOf}
-use Rattle.recorded_notes.specs.StandsFor.{IsNotesOf}
-use Rattle.recorded_paths.specs.StandsFor.{KeepsRules}
+use Rattle.recordings.specs.NotesOfLines.{IsNotesOf}
+use Rattle.recordings.specs.PathsOfLines.{KeepsRules}
 use Rattle.recorded_classes.specs.declared.classes.Classes.{Classes}
 use Rattle.recorded_classes.specs.declared.settled.Settled.{Settled}
 use Rattle.recorded_classes.specs.Settled.{AreTold, AreAllTold}

@@ -2,8 +2,8 @@
 use Rattle.std.specs.Prelude.{◌≡◌, ℕ, Bool, true, false, ◌==◌, ◌&&◌, ◌||◌, not, if◌then◌else◌, List, [], ◌∷◌, ◌++◌, filter, string_bytes}
 use Rattle.std.specs.List.{list_any}
 use Rattle.conformance.specs.JobSet.{has_job}
-use Rattle.recording_lines.specs.declared.recording_line.RecordedActor.{RecordedActor}
-use Rattle.recording_lines.specs.declared.recording_line.RecordedActor.TheVariants.{Job, Round}
+use Rattle.recordings.specs.declared.recording_line.RecordedActor.{RecordedActor}
+use Rattle.recordings.specs.declared.recording_line.RecordedActor.TheVariants.{Job, Round}
 use Rattle.job_bodies.specs.Plan.{Plan}
 use Rattle.plan_families.specs.Family.{class_family, client_family}
 use Rattle.recorded_classes.specs.declared.settled.Settled.{Settled}

@@ -1,13 +1,13 @@
 -- A search for the first line of a recording that meets a condition.
 use Rattle.std.specs.Prelude.{◌≡◌, ◌+◌, ℕ, Bool, false, true, List, [], slice_get, take, Option, Some, None}
 use Rattle.std.specs.List.{list_any}
-use Rattle.recording_lines.specs.declared.recording_line.RecordedActor.{RecordedActor}
-use Rattle.recording_lines.specs.declared.recording_line.RecordedActor.TheVariants.{Job, Round}
-use Rattle.recording_lines.specs.declared.recording_line.Line.{Line}
-use Rattle.recording_lines.specs.RecordingLine.{RecordedLine, Submits, RoundBegins, line_seen}
-use Rattle.recorded_rules.specs.LineParts as parts
-use Rattle.recorded_rules.specs.LineParts.{submits_job, begins_round, ends_round, finishes_job}
-use Rattle.recorded_paths.specs.LineDeeds.{gets_by}
+use Rattle.recordings.specs.declared.recording_line.RecordedActor.{RecordedActor}
+use Rattle.recordings.specs.declared.recording_line.RecordedActor.TheVariants.{Job, Round}
+use Rattle.recordings.specs.declared.recording_line.Line.{Line}
+use Rattle.recordings.specs.RecordingLine.{RecordedLine, Submits, RoundBegins, line_seen}
+use Rattle.recordings.specs.LineParts as parts
+use Rattle.recordings.specs.LineParts.{submits_job, begins_round, ends_round, finishes_job}
+use Rattle.recordings.specs.LineDeeds.{gets_by}
 use Rattle.conformance.specs.declared.wanted.Wanted.{Wanted}
 use Rattle.conformance.specs.declared.wanted.Wanted.TheVariants as wanted
 

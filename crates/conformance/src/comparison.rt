@@ -2,9 +2,9 @@
 
 ghost use Rattle.std.specs.Prelude.{◌≡◌, [], ℕ, false, List, Option, IfOk};
 ghost use Rattle.std.specs.List.{list_any};
-ghost use Rattle.recording_lines.specs.RecordingLine.{lines_read};
-ghost use Rattle.recorded_rules.specs.Faults.{IsFirstFault};
-ghost use Rattle.recorded_paths.specs.StandsFor.{KeepsRules};
+ghost use Rattle.recordings.specs.RecordingLine.{lines_read};
+ghost use Rattle.recordings.specs.Faults.{IsFirstFault};
+ghost use Rattle.recordings.specs.PathsOfLines.{KeepsRules};
 ghost use Rattle.plan_differences.specs.RoundExcesses.{excesses_by_lines};
 ghost use Rattle.conformance.specs.Lines.{lines_of};
 ghost use Rattle.conformance.specs.Conforms.{Conforms, DoAsPlanned, IsNotVoid};
@@ -19,7 +19,7 @@ use crate::gathered::gathered;
 use crate::survey::{Survey, surveyed};
 use job_bodies::Plan;
 use plan_differences::{RoundExcess, pools_are_as_planned, rounds_are_within_plan};
-use recorded_rules::RecordingFault;
+use recordings::RecordingFault;
 use std::alloc::{AllocError, Global};
 
 /// The result of comparing a recording with a plan.

@@ -1,8 +1,8 @@
 //! The number of rounds of each client kind.
 
 ghost use Rattle.std.specs.Prelude.{◌≡◌, ◌++◌, ◌∷◌, [], ℕ, List, Option, OnOk, IfOk};
-ghost use Rattle.recording_lines.specs.RecordingLine.{RecordedLine, line_seen};
-ghost use Rattle.recorded_paths.specs.StandsFor.{KeepsRules};
+ghost use Rattle.recordings.specs.RecordingLine.{RecordedLine, line_seen};
+ghost use Rattle.recordings.specs.PathsOfLines.{KeepsRules};
 ghost use Rattle.plan_differences.specs.RoundExcesses.{excesses_by_lines};
 ghost use Rattle.conformance.specs.Counted.{IsCountedOf};
 ghost use Rattle.conformance.specs.Lines.{lines_of};
@@ -14,7 +14,7 @@ use crate::open_rounds::OpenRounds;
 use crate::other_kinds::OtherKinds;
 use job_bodies::Plan;
 use plan_differences::{RoundExcess, RoundWatch, rounds_are_within_plan};
-use recording_lines::Line;
+use recordings::Line;
 use std::alloc::{AllocError, Global};
 
 /// The first line at which each kind has more rounds than the plan allows, for the lines read so

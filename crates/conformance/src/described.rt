@@ -1,7 +1,7 @@
 //! The first deviating step of an actor, looked up in the text of the recording.
 
 ghost use Rattle.std.specs.Prelude.{◌≡◌, IfOk, string_bytes};
-ghost use Rattle.recording_lines.specs.declared.recording_line.RecordedActor.TheVariants.{Job};
+ghost use Rattle.recordings.specs.declared.recording_line.RecordedActor.TheVariants.{Job};
 ghost use Rattle.conformance.specs.JobSet.{has_job};
 ghost use Rattle.conformance.specs.Lines.{lines_of};
 ghost use Rattle.conformance.specs.Wanted.{IsLabelOf, found_seen};
@@ -11,8 +11,7 @@ use crate::job_set::JobSet;
 use crate::stray::{NamedDeed, Stray, StrayDeed};
 use crate::wanted::{Wanted, first_line, label_in};
 use recorded_classes::Settled;
-use recorded_paths::RecordedDeed;
-use recording_lines::{Line, RecordedActor};
+use recordings::{Line, RecordedActor, RecordedDeed};
 use std::alloc::{AllocError, Global};
 
 /// Describes the actor by the step after the longest prefix of its path that a body explains.

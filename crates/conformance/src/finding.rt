@@ -6,8 +6,7 @@ ghost use Rattle.conformance.specs.Finding as spec;
 use crate::stray::Stray;
 use crate::unplanned::NotPlanned;
 use plan_differences::{PoolDeviation, RoundExcess};
-use recorded_notes::{ForeignGet, Void};
-use recording_lines::RecordedActor;
+use recordings::{ForeignGet, RecordedActor, Void};
 
 /// A difference between a recording and a plan, or an event that invalidates a SAFE answer. Lines
 /// are numbered from 1.

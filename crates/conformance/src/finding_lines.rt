@@ -9,7 +9,7 @@ use crate::stray::{push_actor, push_stray};
 use crate::unplanned::NotPlanned;
 use job_bodies::Plan;
 use plan_differences::{Difference, PoolDeviation, RoundExcess};
-use recorded_notes::{ForeignGet, Void};
+use recordings::{ForeignGet, Void};
 use std::alloc::AllocError;
 
 /// Appends each finding as a line, such as `line 3: pool db: max 20, plan 10`. Appends nothing if

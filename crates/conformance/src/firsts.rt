@@ -5,7 +5,7 @@ ghost use Rattle.recorded_classes.specs.declared.settled.Settled as settleds;
 ghost use Rattle.conformance.specs.Firsts as spec;
 
 use recorded_classes::Settled;
-use recording_lines::RecordedActor;
+use recordings::RecordedActor;
 use std::alloc::{AllocError, Global};
 
 /// A set of actors that keeps, for each label, the one with the smallest number.

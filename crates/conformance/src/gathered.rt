@@ -1,10 +1,10 @@
 //! All findings, collected from the parts of a survey.
 
 ghost use Rattle.std.specs.Prelude.{◌≡◌, ◌++◌, ◌∷◌, [], ℕ, List, All, map, filter, OnOk, IfOk};
-ghost use Rattle.recording_lines.specs.RecordingLine.{RecordedLine};
-ghost use Rattle.recorded_notes.specs.StandsFor.{IsNotesOf};
-ghost use Rattle.recorded_notes.specs.ForeignGets.{first_foreign_get};
-ghost use Rattle.recorded_notes.specs.Voids.{voids_of};
+ghost use Rattle.recordings.specs.RecordingLine.{RecordedLine};
+ghost use Rattle.recordings.specs.NotesOfLines.{IsNotesOf};
+ghost use Rattle.recordings.specs.ForeignGets.{first_foreign_get};
+ghost use Rattle.recordings.specs.Voids.{voids_of};
 ghost use Rattle.conformance.specs.Gathered as spec;
 ghost use Rattle.conformance.specs.JobSet.{has_job};
 ghost use Rattle.conformance.specs.Lines.{lines_of};
@@ -18,7 +18,7 @@ use crate::unplanned::{NotPlanned, Unplanned};
 use crate::verdicts::Verdicts;
 use plan_differences::{PoolDeviation, RoundExcess};
 use recorded_classes::Settled;
-use recorded_notes::{RecordedNotes, Void, Voiding};
+use recordings::{RecordedNotes, Void, Voiding};
 use std::alloc::{AllocError, Global};
 
 /// Returns all findings, unsorted.

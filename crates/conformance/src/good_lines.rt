@@ -1,10 +1,10 @@
 //! An iterator over the well-formed lines of a text.
 
 ghost use Rattle.std.specs.Prelude.{◌≡◌, ◌≤◌, ◌∷◌, [], length, MatchOption};
-ghost use Rattle.recording_lines.specs.RecordingLine.{line_seen};
+ghost use Rattle.recordings.specs.RecordingLine.{line_seen};
 ghost use Rattle.conformance.specs.Lines.{lines_of};
 
-use recording_lines::{Line, RecordingLines};
+use recordings::{Line, RecordingLines};
 use std::marker::Model;
 
 /// An iterator over the lines of a recording that skips malformed lines.
@@ -15,7 +15,7 @@ pub(crate) struct GoodLines<'a> {
 
 impl<'a> Model for GoodLines<'a> {
     ghost use Rattle.std.specs.Prelude.{List};
-    ghost use Rattle.recording_lines.specs.RecordingLine.{RecordedLine};
+    ghost use Rattle.recordings.specs.RecordingLine.{RecordedLine};
     ghost use Rattle.conformance.specs.Lines.{with_form};
 
     ghost Value = { List RecordedLine };

@@ -12,7 +12,7 @@
 //!
 //! [`conform`] reads the text once. It reads it again if a round belongs to another kind than the
 //! first of its label, to look up the first mismatch of each label, and to look up a get of another
-//! actor's job. Memory holds the state of [`recorded_classes`], [`recorded_notes`] and
+//! actor's job. Memory holds the state of [`recorded_classes`], [`recordings`] and
 //! [`plan_differences`], the kind of each open round and of each round of another kind than the
 //! first of its label, the labels that are not in the plan, and the jobs whose path matches no
 //! class. No contract states these costs.

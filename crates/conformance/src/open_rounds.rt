@@ -2,15 +2,15 @@
 
 ghost use Rattle.std.specs.Prelude.{◌≡◌, ◌++◌, ◌∷◌, [], ℕ, List, Option, OnOk, IfOk};
 ghost use Rattle.support.specs.Numbered.{value_at};
-ghost use Rattle.recording_lines.specs.RecordingLine.{RecordedLine, line_seen};
-ghost use Rattle.recorded_paths.specs.StandsFor.{KeepsRules};
+ghost use Rattle.recordings.specs.RecordingLine.{RecordedLine, line_seen};
+ghost use Rattle.recordings.specs.PathsOfLines.{KeepsRules};
 ghost use Rattle.plan_differences.specs.RoundExcesses.{kind_at};
 ghost use Rattle.conformance.specs.OtherKinds.{AreGiven};
 ghost use Rattle.conformance.specs.OpenRounds as spec;
 
 use crate::other_kinds::OtherKinds;
 use job_bodies::Plan;
-use recording_lines::Line;
+use recordings::Line;
 use std::alloc::{AllocError, Global};
 use support::NumberTable;
 

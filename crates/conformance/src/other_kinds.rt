@@ -9,7 +9,7 @@ ghost use Rattle.conformance.specs.OtherKinds as spec;
 use job_bodies::Plan;
 use plan_families::first_client;
 use recorded_classes::Settled;
-use recording_lines::RecordedActor;
+use recordings::RecordedActor;
 use std::alloc::{AllocError, Global};
 use support::NumberTable;
 

@@ -3,7 +3,7 @@
 ghost use Rattle.support.specs.Pushed.{Pushes};
 ghost use Rattle.conformance.specs.Stray as spec;
 
-use recording_lines::RecordedActor;
+use recordings::RecordedActor;
 use std::alloc::AllocError;
 use support::push_number;
 

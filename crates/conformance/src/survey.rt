@@ -2,8 +2,8 @@
 
 ghost use Rattle.std.specs.Prelude.{◌≡◌, ◌++◌, ◌∷◌, [], ℕ, false, List, Option, OnOk, IfOk};
 ghost use Rattle.job_bodies.specs.Plan as plans;
-ghost use Rattle.recording_lines.specs.RecordingLine.{RecordedLine, line_seen};
-ghost use Rattle.recorded_paths.specs.StandsFor.{KeepsRules};
+ghost use Rattle.recordings.specs.RecordingLine.{RecordedLine, line_seen};
+ghost use Rattle.recordings.specs.PathsOfLines.{KeepsRules};
 ghost use Rattle.recorded_classes.specs.declared.settled.Settled as settleds;
 ghost use Rattle.recorded_classes.specs.Settled.{AreTold, AreAllTold};
 ghost use Rattle.conformance.specs.Counted.{IsCountedFirst, IsCountedOf};
@@ -19,9 +19,7 @@ use crate::verdicts::Verdicts;
 use job_bodies::Plan;
 use plan_differences::{PoolDeviation, PoolWatch, pools_are_as_planned};
 use recorded_classes::{Classes, Settled};
-use recorded_notes::RecordedNotes;
-use recorded_rules::{RecordingFault, RuledLines};
-use recording_lines::Line;
+use recordings::{Line, RecordedNotes, RecordingFault, RuledLines};
 use std::alloc::{AllocError, Global};
 
 /// The part of a survey that each line updates on its own.

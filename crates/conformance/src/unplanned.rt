@@ -2,13 +2,13 @@
 
 ghost use Rattle.std.specs.Prelude.{◌≡◌, ◌++◌, ◌∷◌, [], List, OnOk};
 ghost use Rattle.job_bodies.specs.Plan as plans;
-ghost use Rattle.recording_lines.specs.RecordingLine.{RecordedLine, line_seen};
+ghost use Rattle.recordings.specs.RecordingLine.{RecordedLine, line_seen};
 ghost use Rattle.conformance.specs.Unplanned as spec;
 
 use crate::labels::{Labels, pair};
 use job_bodies::Plan;
 use plan_families::{first_class, first_client};
-use recording_lines::Line;
+use recordings::Line;
 use std::alloc::{AllocError, Global};
 
 /// A label that is not in the plan, with the number of the first line that has it.

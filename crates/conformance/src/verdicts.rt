@@ -13,7 +13,7 @@ use crate::numbers::is_none;
 use job_bodies::Plan;
 use plan_families::{first_class, first_client};
 use recorded_classes::Settled;
-use recording_lines::RecordedActor;
+use recordings::RecordedActor;
 use std::alloc::{AllocError, Global};
 
 /// For each label of the plan, the actor with the smallest number whose path matches no body, and

@@ -1,12 +1,12 @@
 //! A search for the first line of a recording that meets a condition.
 
 ghost use Rattle.std.specs.Prelude.{◌≡◌};
-ghost use Rattle.recording_lines.specs.RecordingLine.{line_seen};
+ghost use Rattle.recordings.specs.RecordingLine.{line_seen};
 ghost use Rattle.conformance.specs.Lines.{lines_of};
 ghost use Rattle.conformance.specs.Wanted as spec;
 
 use crate::good_lines::GoodLines;
-use recording_lines::{Line, RecordedActor};
+use recordings::{Line, RecordedActor};
 
 /// The condition of a search.
 #[derive(Clone, Copy)]

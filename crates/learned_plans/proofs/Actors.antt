@@ -3,11 +3,11 @@ use Rattle.std.proofs.Common.{◌≡◌, ◌||◌, ℕ, Bool, true, false, List,
 use Rattle.std.specs.List.{Contains, list_any}
 use Rattle.std.proofs.lemmas.Bool.{and_parts}
 use Rattle.std.proofs.lemmas.List.Elements.{Contains-append_left, Contains-append_right}
-use Rattle.recording_lines.specs.RecordingLine.{RecordedLine, RoundBegins, RoundEnds}
-use Rattle.recorded_rules.specs.Before.{is_begun}
-use Rattle.recorded_rules.specs.LineParts.{begins_round, is_begin}
-use Rattle.recorded_rules.specs.Rules.{broken_of}
-use Rattle.recorded_rules.proofs.Keeping.{keeps_all}
+use Rattle.recordings.specs.RecordingLine.{RecordedLine, RoundBegins, RoundEnds}
+use Rattle.recordings.specs.Before.{is_begun}
+use Rattle.recordings.specs.LineParts.{begins_round, is_begin}
+use Rattle.recordings.specs.Rules.{broken_of}
+use Rattle.recordings.proofs.Keeping.{keeps_all}
 use Rattle.learned_plans.specs.Names.{HasBegun}
 use Rattle.learned_plans.specs.TooMuch.{HasActors}
 

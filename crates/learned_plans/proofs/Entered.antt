@@ -7,8 +7,8 @@ use Rattle.std.proofs.lemmas.List.Quantifiers.{position-Some}
 use Rattle.std.proofs.lemmas.Option.{slice_get-get_or}
 use Rattle.std.proofs.lemmas.Slice.Eq.{bytes_eq-Decides}
 use Rattle.job_bodies.specs.Plan.{Pool, no_pool}
-use Rattle.recording_lines.specs.declared.recording_line.RecordedActor.{RecordedActor}
-use Rattle.recording_lines.specs.RecordingLine.{RecordedLine, Submits}
+use Rattle.recordings.specs.declared.recording_line.RecordedActor.{RecordedActor}
+use Rattle.recordings.specs.RecordingLine.{RecordedLine, Submits}
 use Rattle.learned_plans.specs.declared.entries.Entry.{Entry}
 use Rattle.learned_plans.specs.declared.stop.Stop.{Stop}
 use Rattle.learned_plans.specs.declared.stop.Stop.TheVariants as stop

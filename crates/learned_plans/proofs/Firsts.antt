@@ -7,7 +7,7 @@ use Rattle.std.proofs.lemmas.List.Elements.{filter_map-append}
 use Rattle.std.proofs.lemmas.List.{append-nil, append_assoc}
 use Rattle.std.proofs.lemmas.Slice.Eq.{bytes_eq-Decides}
 use Rattle.job_bodies.specs.Plan.{Pool}
-use Rattle.recording_lines.specs.RecordingLine.{RecordedLine}
+use Rattle.recordings.specs.RecordingLine.{RecordedLine}
 use Rattle.learned_plans.specs.Kept.{AreFirstPools}
 use Rattle.learned_plans.specs.Pools.{pool_of_line, has_other_name, firsts, pools_seen, has_name, with_first, with_first_of}
 

@@ -8,7 +8,7 @@ use Rattle.std.proofs.lemmas.List.Quantifiers.{position-Some}
 use Rattle.std.proofs.lemmas.Option.{slice_get-map, slice_get-get_or}
 use Rattle.std.proofs.lemmas.Slice.Eq.{bytes_eq-Decides}
 use Rattle.support.specs.Numbered.{value_at}
-use Rattle.recording_lines.specs.RecordingLine.{RecordedLine, RoundBegins, RoundEnds}
+use Rattle.recordings.specs.RecordingLine.{RecordedLine, RoundBegins, RoundEnds}
 use Rattle.learned_plans.specs.declared.counts.KindCount.{KindCount}
 use Rattle.learned_plans.specs.declared.label_rounds.LabelRounds.{LabelRounds}
 use Rattle.learned_plans.specs.Counts.{Kinds, is_kind, begins_one, ends_one, AreOfKinds, BeginsOfKind}

@@ -7,12 +7,12 @@ use Rattle.job_bodies.specs.declared.limits.TheConstants.{MAX_POOLS, MAX_SIZE}
 use Rattle.job_bodies.specs.Build.{given}
 use Rattle.job_bodies.specs.Plan.{Pool, Class, Client}
 use Rattle.job_bodies.specs.WellFormed.{is_within, is_lawful_name, has_lawful_sizes, is_lawful_pool, are_distinct, IsWellFormed}
-use Rattle.recording_lines.specs.declared.pool_sizes.PoolSizes.{PoolSizes}
-use Rattle.recording_lines.specs.LineText.{is_lawful_line, has_lawful_numbers}
-use Rattle.recording_lines.specs.RecordingLine.{RecordedLine, line_of, lines_read}
-use Rattle.recording_lines.specs.RecordingLine as line
-use Rattle.recording_lines.specs.WholeLines.{whole_lines}
-use Rattle.recording_lines.proofs.WrittenLines.{canonical}
+use Rattle.recordings.specs.declared.pool_sizes.PoolSizes.{PoolSizes}
+use Rattle.recordings.specs.LineText.{is_lawful_line, has_lawful_numbers}
+use Rattle.recordings.specs.RecordingLine.{RecordedLine, line_of, lines_read}
+use Rattle.recordings.specs.RecordingLine as line
+use Rattle.recordings.specs.WholeLines.{whole_lines}
+use Rattle.recordings.proofs.WrittenLines.{canonical}
 use Rattle.learned_plans.specs.Learned.{lines_of}
 use Rattle.learned_plans.specs.Names.{IsNamedClass, IsNamedClient}
 use Rattle.learned_plans.specs.Pools.{into_range, pool_seen, pool_of_line, has_other_name, firsts, pools_seen}

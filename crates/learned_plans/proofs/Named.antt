@@ -3,9 +3,9 @@ use Rattle.std.proofs.Common.{◌≡◌, ◌≤◌, ◌+◌, length, if◌then�
 use Rattle.std.proofs.lemmas.List.Sums.{sum_by_push}
 use Rattle.job_bodies.specs.declared.limits.TheConstants.{MAX_POOLS}
 use Rattle.job_bodies.specs.Plan.{Pool}
-use Rattle.recording_lines.specs.RecordingLine.{RecordedLine}
-use Rattle.recorded_rules.specs.LineParts.{is_begin, is_submit}
-use Rattle.recorded_rules.specs.Before.{begins, submits}
+use Rattle.recordings.specs.RecordingLine.{RecordedLine}
+use Rattle.recordings.specs.LineParts.{is_begin, is_submit}
+use Rattle.recordings.specs.Before.{begins, submits}
 use Rattle.learned_plans.specs.Unfinished.{is_round_end, is_job_start, is_job_end, round_ends, job_starts, job_ends}
 use Rattle.learned_plans.specs.declared.seen_names.SeenNames.{SeenNames}
 use Rattle.learned_plans.specs.Pools.{pool_of_line, pools_seen, with_first_of}

@@ -4,7 +4,7 @@ use Rattle.std.specs.List.{All}
 use Rattle.job_bodies.specs.declared.limits.TheConstants.{MAX_SIZE}
 use Rattle.job_bodies.specs.Plan.{Client}
 use Rattle.plan_families.specs.Family.{IsOfFamily}
-use Rattle.recording_lines.specs.RecordingLine.{RecordedLine, RoundBegins, RoundEnds}
+use Rattle.recordings.specs.RecordingLine.{RecordedLine, RoundBegins, RoundEnds}
 
 -- The kind of each round, by round number.
 abbrev pub Kinds : Type 0

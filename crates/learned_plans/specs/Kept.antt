@@ -5,8 +5,8 @@ use Rattle.std.specs.Option.{option_map, option_and_then}
 use Rattle.job_bodies.specs.declared.limits.TheConstants.{MAX_CLASSES, MAX_POOLS}
 use Rattle.job_bodies.specs.Plan.{Pool}
 use Rattle.plan_families.specs.Family.{IsOfFamily}
-use Rattle.recording_lines.specs.RecordingLine.{RecordedLine}
-use Rattle.recorded_rules.specs.Before.{begins, submits}
+use Rattle.recordings.specs.RecordingLine.{RecordedLine}
+use Rattle.recordings.specs.Before.{begins, submits}
 use Rattle.learned_plans.specs.declared.seen_names.SeenNames.{SeenNames}
 use Rattle.learned_plans.specs.declared.counts.KindCount.{KindCount}
 use Rattle.learned_plans.specs.Counts.{Kinds, is_kind, begun_of, ended_of, IsMostAtOnce}

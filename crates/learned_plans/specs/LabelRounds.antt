@@ -1,7 +1,7 @@
 -- Counters for the rounds of each label.
 use Rattle.std.specs.Prelude.{◌≡◌, ℕ, List, ◌++◌, length, map, slice_get, string_bytes, Some}
 use Rattle.support.specs.Numbered.{value_at}
-use Rattle.recording_lines.specs.RecordingLine.{RecordedLine}
+use Rattle.recordings.specs.RecordingLine.{RecordedLine}
 use Rattle.learned_plans.specs.declared.label_rounds.LabelRounds.{LabelRounds}
 use Rattle.learned_plans.specs.Counts.{AreOfKinds}
 use Rattle.learned_plans.specs.Kept.{AreCountsOf}

@@ -1,8 +1,8 @@
 -- The result of learning a plan.
 use Rattle.std.specs.Prelude.{ℕ, List, Option, Some, None, ⊤}
 use Rattle.std.specs.List.{filter_map}
-use Rattle.recording_lines.specs.RecordingLine.{RecordedLine, lines_read}
-use Rattle.recorded_rules.specs.declared.fault.RecordingFault.{RecordingFault}
+use Rattle.recordings.specs.RecordingLine.{RecordedLine, lines_read}
+use Rattle.recordings.specs.declared.fault.RecordingFault.{RecordingFault}
 use Rattle.learned_plans.specs.declared.learned.Learned.{Learned}
 use Rattle.learned_plans.specs.declared.learned.Learned.TheVariants.{Bad, Seen, TooMuch}
 use Rattle.learned_plans.specs.declared.learned.SeenPlan.{SeenPlan}

@@ -1,11 +1,11 @@
 -- The first pass: the names in the lines, or the first invalid line.
 use Rattle.std.specs.Prelude.{◌≡◌, ◌+◌, ℕ, List, if◌then◌else◌, Option, Some, None, Result, Ok, Err}
 use Rattle.std.specs.List.{All, filter_map}
-use Rattle.recording_lines.specs.RecordingLine.{RecordedLine, lines_read}
-use Rattle.recorded_rules.specs.Before.{begins, submits}
-use Rattle.recorded_rules.specs.Faults.{IsFirstFault}
-use Rattle.recorded_rules.specs.LineParts.{is_begin, is_submit}
-use Rattle.recorded_rules.specs.declared.fault.RecordingFault.{RecordingFault}
+use Rattle.recordings.specs.RecordingLine.{RecordedLine, lines_read}
+use Rattle.recordings.specs.Before.{begins, submits}
+use Rattle.recordings.specs.Faults.{IsFirstFault}
+use Rattle.recordings.specs.LineParts.{is_begin, is_submit}
+use Rattle.recordings.specs.declared.fault.RecordingFault.{RecordingFault}
 use Rattle.learned_plans.specs.declared.learned.Learned.{Learned}
 use Rattle.learned_plans.specs.declared.learned.Learned.TheVariants as told
 use Rattle.learned_plans.specs.declared.learned.SeenPlan.{SeenPlan}

@@ -4,8 +4,8 @@ use Rattle.std.specs.List.{Contains}
 use Rattle.job_bodies.specs.declared.limits.TheConstants.{MAX_CLASSES, MAX_NAME_BYTES}
 use Rattle.job_bodies.specs.Plan.{Pool, Class, Client}
 use Rattle.plan_families.specs.Family.{IsOfFamily}
-use Rattle.recording_lines.specs.declared.recording_line.RecordedActor.{RecordedActor}
-use Rattle.recording_lines.specs.RecordingLine.{RecordedLine, RoundBegins, Submits}
+use Rattle.recordings.specs.declared.recording_line.RecordedActor.{RecordedActor}
+use Rattle.recordings.specs.RecordingLine.{RecordedLine, RoundBegins, Submits}
 use Rattle.learned_plans.specs.Pools.{pools_seen}
 
 -- ---- labels

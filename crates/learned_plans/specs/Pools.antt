@@ -4,9 +4,9 @@ use Rattle.std.specs.List.{filter_map, list_any}
 use Rattle.std.specs.Str.{bytes_eq}
 use Rattle.job_bodies.specs.Plan.{Pool}
 use Rattle.job_bodies.specs.declared.limits.TheConstants.{MAX_SIZE}
-use Rattle.recording_lines.specs.declared.pool_sizes.PoolSizes.{PoolSizes}
-use Rattle.recording_lines.specs.RecordingLine as line
-use Rattle.recording_lines.specs.RecordingLine.{RecordedLine}
+use Rattle.recordings.specs.declared.pool_sizes.PoolSizes.{PoolSizes}
+use Rattle.recordings.specs.RecordingLine as line
+use Rattle.recordings.specs.RecordingLine.{RecordedLine}
 
 -- ---- one pool
 -- The number, clamped to the range from `low` to 1,000,000.

@@ -1,7 +1,7 @@
 -- The reasons why a valid recording gives no plan, and their texts.
 use Rattle.std.specs.Prelude.{◌<◌, ◌⊎◌, ℕ, List, length, codes}
 use Rattle.job_bodies.specs.declared.limits.TheConstants.{MAX_POOLS}
-use Rattle.recording_lines.specs.RecordingLine.{RecordedLine}
+use Rattle.recordings.specs.RecordingLine.{RecordedLine}
 use Rattle.learned_plans.specs.declared.too_much.TooMuch.{TooMuch}
 use Rattle.learned_plans.specs.declared.too_much.TooMuch.TheVariants.{Pools, Classes, Kinds, Names, Rounds, Paths, Text}
 use Rattle.learned_plans.specs.Counts.{IsCrowded}

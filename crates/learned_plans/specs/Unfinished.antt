@@ -1,7 +1,7 @@
 -- The number of rounds and jobs that have not ended at the end of the lines.
 use Rattle.std.specs.Prelude.{ℕ, ◌-◌, Bool, true, false, List, count_by}
-use Rattle.recording_lines.specs.RecordingLine.{RecordedLine, RoundEnds, JobStarts, JobEnds, JobThrew}
-use Rattle.recorded_rules.specs.Before.{begins}
+use Rattle.recordings.specs.RecordingLine.{RecordedLine, RoundEnds, JobStarts, JobEnds, JobThrew}
+use Rattle.recordings.specs.Before.{begins}
 
 -- ---- the type of a line
 abbrev pub is_round_end : RecordedLine → Bool

@@ -2,8 +2,8 @@
 
 ghost use Rattle.std.specs.Prelude.{◌≡◌, ◌++◌, ◌∷◌, [], ℕ, List, Some, true, false, length, slice_get, OnOk, IfOk, IfErr, IsTrue};
 ghost use Rattle.plan_families.specs.Family.{IsOfFamily};
-ghost use Rattle.recording_lines.specs.RecordingLine.{RecordedLine, line_seen};
-ghost use Rattle.recorded_rules.specs.LineParts.{is_begin};
+ghost use Rattle.recordings.specs.RecordingLine.{RecordedLine, line_seen};
+ghost use Rattle.recordings.specs.LineParts.{is_begin};
 ghost use Rattle.learned_plans.specs.Counts.{AreOfKinds, BeginsOfKind, IsOfKind, Kinds, is_kind, begins_one, ends_one};
 ghost use Rattle.learned_plans.specs.Kept.{IsCountOf, AreCountsOf, ChangesOne, IsStop, kinds_in, names_of, with_begin, with_end};
 ghost use Rattle.learned_plans.specs.Learned.{lines_of};
@@ -12,7 +12,7 @@ use crate::entries::Entry;
 use crate::stop::Stop;
 use crate::too_much::TooMuch;
 use plan_families::is_of_family;
-use recording_lines::{Line, RecordingLines};
+use recordings::{Line, RecordingLines};
 use std::alloc::{AllocError, Global};
 
 /// Counters for the rounds of one client kind.

@@ -1,7 +1,7 @@
 //! Repeated passes over a recording, until every actor matches a class or kind of the plan.
 
 ghost use Rattle.std.specs.Prelude.{◌≡◌, List, OnOk, IfErr};
-ghost use Rattle.recording_lines.specs.RecordingLine.{RecordedLine};
+ghost use Rattle.recordings.specs.RecordingLine.{RecordedLine};
 ghost use Rattle.learned_plans.specs.Kept.{AreWorkingOf, IsStop};
 ghost use Rattle.learned_plans.specs.TooMuch.{HasActors};
 

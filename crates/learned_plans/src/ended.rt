@@ -1,6 +1,6 @@
 //! The actors that have ended.
 
-use recording_lines::{Line, RecordedActor};
+use recordings::{Line, RecordedActor};
 use std::alloc::{AllocError, Global};
 use std::collections::HashSet;
 

@@ -4,7 +4,7 @@ ghost use Rattle.std.specs.Prelude.{◌≡◌, ◌≤◌, ◌&&◌, ◌==◌, �
 ghost use Rattle.std.specs.List.{list_any};
 ghost use Rattle.std.specs.Str.{bytes_eq};
 ghost use Rattle.job_bodies.specs.declared.limits.TheConstants.{MAX_CLASSES};
-ghost use Rattle.recording_lines.specs.RecordingLine.{RecordedLine};
+ghost use Rattle.recordings.specs.RecordingLine.{RecordedLine};
 ghost use Rattle.learned_plans.specs.declared.too_much.TooMuch.{TooMuch as Reason};
 ghost use Rattle.learned_plans.specs.Kept.{AreEntriesOf, IsGiven, IsStop};
 

@@ -1,7 +1,7 @@
 //! The extension of bodies so that they cover the observed paths.
 
 ghost use Rattle.std.specs.Prelude.{◌≡◌, List, OnOk, IfErr};
-ghost use Rattle.recording_lines.specs.RecordingLine.{RecordedLine};
+ghost use Rattle.recordings.specs.RecordingLine.{RecordedLine};
 ghost use Rattle.learned_plans.specs.declared.too_much.TooMuch.{TooMuch as Reason};
 ghost use Rattle.learned_plans.specs.Kept.{AreEntriesOf, IsGiven, IsStop};
 

@@ -4,8 +4,8 @@ ghost use Rattle.std.specs.Prelude.{◌≡◌, ◌+◌, ◌++◌, ◌∷◌, ◌
 ghost use Rattle.std.specs.List.{position};
 ghost use Rattle.std.specs.Str.{bytes_eq};
 ghost use Rattle.support.specs.Numbered.{value_at};
-ghost use Rattle.recording_lines.specs.RecordingLine.{RecordedLine, RoundBegins, RoundEnds, line_seen};
-ghost use Rattle.recorded_rules.specs.Rules.{broken_of};
+ghost use Rattle.recordings.specs.RecordingLine.{RecordedLine, RoundBegins, RoundEnds, line_seen};
+ghost use Rattle.recordings.specs.Rules.{broken_of};
 ghost use Rattle.learned_plans.specs.Kept.{ChangesOne, IsStop, names_of, with_begin, with_end};
 ghost use Rattle.learned_plans.specs.LabelRounds.{AreLabelRoundsOf, labels_of};
 ghost use Rattle.learned_plans.specs.Names.{HasBegun};
@@ -16,7 +16,7 @@ use crate::stop::Stop;
 use crate::too_much::TooMuch;
 use job_bodies::MAX_CLIENT_KINDS;
 use plan_families::is_of_family;
-use recording_lines::Line;
+use recordings::Line;
 use std::alloc::{AllocError, Global};
 use support::NumberTable;
 

@@ -2,7 +2,7 @@
 
 use crate::too_much::TooMuch;
 use job_bodies::Plan;
-use recorded_rules::RecordingFault;
+use recordings::RecordingFault;
 
 /// The result of learning a plan from a recording.
 #[derive(Drop)]

@@ -2,9 +2,9 @@
 
 ghost use Rattle.std.specs.Prelude.{◌≡◌, ◌<◌, ◌++◌, ◌∷◌, [], ℕ, List, Ok, length, slice_get, string_bytes, OnOk, IfOk, IfErr};
 ghost use Rattle.std.specs.List.{All};
-ghost use Rattle.recording_lines.specs.RecordingLine.{RecordedLine, lines_read};
-ghost use Rattle.recorded_rules.specs.Faults.{IsFirstFault};
-ghost use Rattle.recorded_rules.specs.Before.{begins, submits};
+ghost use Rattle.recordings.specs.RecordingLine.{RecordedLine, lines_read};
+ghost use Rattle.recordings.specs.Faults.{IsFirstFault};
+ghost use Rattle.recordings.specs.Before.{begins, submits};
 ghost use Rattle.learned_plans.specs.Counts.{AreCounted, AreOfKinds, Kinds, IsCounted, client_names};
 ghost use Rattle.learned_plans.specs.Kept.{AreCountsOf, AreWorkingOf, IsCountOf, IsStop, names_of};
 ghost use Rattle.learned_plans.specs.LabelRounds.{AreLabelRoundsOf};

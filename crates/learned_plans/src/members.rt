@@ -1,7 +1,7 @@
 //! The class assigned to each job.
 
 use body_paths::Deed;
-use recorded_paths::RecordedDeed;
+use recordings::RecordedDeed;
 use std::alloc::{AllocError, Global};
 use std::collections::{HashMap, HashSet};
 

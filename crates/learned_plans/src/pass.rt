@@ -1,7 +1,7 @@
 //! A pass over a recording that extends the bodies.
 
 ghost use Rattle.std.specs.Prelude.{◌≡◌, List, OnOk, IfErr};
-ghost use Rattle.recording_lines.specs.RecordingLine.{RecordedLine};
+ghost use Rattle.recordings.specs.RecordingLine.{RecordedLine};
 ghost use Rattle.learned_plans.specs.Kept.{AreWorkingOf, IsStop};
 
 use crate::ended::Ended;
@@ -14,7 +14,7 @@ use crate::working::Working;
 use body_paths::Course;
 use job_bodies::{Plan, Pool};
 use recorded_classes::{Classes, Settled};
-use recording_lines::{Line, RecordedActor, RecordingLines};
+use recordings::{Line, RecordedActor, RecordingLines};
 use std::alloc::{AllocError, Global};
 
 /// The state of a pass.

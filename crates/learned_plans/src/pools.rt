@@ -1,7 +1,7 @@
 //! The pools of a recording, as pools of a plan.
 
 ghost use Rattle.std.specs.Prelude.{◌≡◌, ◌≤◌, ◌<◌, ◌++◌, ◌∷◌, List, Some, length, slice_get, IfOk, IfErr, IfSome, OnOk};
-ghost use Rattle.recording_lines.specs.RecordingLine.{RecordedLine, line_seen};
+ghost use Rattle.recordings.specs.RecordingLine.{RecordedLine, line_seen};
 ghost use Rattle.std.specs.List.{position};
 ghost use Rattle.std.specs.Str.{bytes_eq};
 ghost use Rattle.learned_plans.specs.Kept.{IsStop};
@@ -10,7 +10,7 @@ ghost use Rattle.learned_plans.specs.Pools as spec;
 use crate::stop::Stop;
 use crate::too_much::TooMuch;
 use job_bodies::{MAX_POOLS, MAX_SIZE, Pool};
-use recording_lines::{Line, PoolSizes};
+use recordings::{Line, PoolSizes};
 use std::alloc::{AllocError, Global};
 
 /// Returns the pool of a `pool` line, with each size clamped to its range in a plan.

@@ -1,9 +1,9 @@
 //! The names in the lines of a recording.
 
 ghost use Rattle.std.specs.Prelude.{◌≡◌, ◌+◌, ◌++◌, ◌∷◌, [], List, None, OnOk, IfOk, IfErr, if◌then◌else◌};
-ghost use Rattle.recorded_rules.specs.LineParts as parts;
-ghost use Rattle.recorded_rules.specs.Rules.{broken_of};
-ghost use Rattle.recording_lines.specs.RecordingLine.{RecordedLine, line_seen, lines_read};
+ghost use Rattle.recordings.specs.LineParts as parts;
+ghost use Rattle.recordings.specs.Rules.{broken_of};
+ghost use Rattle.recordings.specs.RecordingLine.{RecordedLine, line_seen, lines_read};
 ghost use Rattle.learned_plans.specs.Kept.{AreNamesOf, AreWorkingOf, IsStop};
 ghost use Rattle.learned_plans.specs.LabelRounds.{AreLabelRoundsOf};
 ghost use Rattle.learned_plans.specs.Named.{IsNamed, IsStopAt, Counts, good};
@@ -14,8 +14,7 @@ use crate::pools::note_pool;
 use crate::stop::Stop;
 use crate::working::Working;
 use job_bodies::Pool;
-use recorded_rules::{RecordingFault, RuledLines, first_fault};
-use recording_lines::Line;
+use recordings::{Line, RecordingFault, RuledLines, first_fault};
 use std::alloc::{AllocError, Global};
 
 /// The pools, classes and client kinds that the lines name, and counts of rounds and jobs.

@@ -2,7 +2,7 @@
 
 ghost use Rattle.std.specs.Prelude.{◌≡◌, ◌==◌, ◌&&◌, length, List, OnOk, IfOk, IfErr, string_bytes};
 ghost use Rattle.std.specs.List.{All, Contains};
-ghost use Rattle.recording_lines.specs.RecordingLine.{RecordedLine, line_seen};
+ghost use Rattle.recordings.specs.RecordingLine.{RecordedLine, line_seen};
 ghost use Rattle.learned_plans.specs.Kept.{AreFirstPools, AreWorkingOf, IsEntryOf, IsStop};
 ghost use Rattle.learned_plans.specs.Names.{IsNamedClass};
 ghost use Rattle.learned_plans.specs.TooMuch.{HasActors};
@@ -14,7 +14,7 @@ use crate::pools::pool_number;
 use crate::stop::Stop;
 use crate::too_much::TooMuch;
 use job_bodies::{Class, Client, MAX_CLASSES, MAX_CLIENT_KINDS, Plan, Pool};
-use recording_lines::Line;
+use recordings::Line;
 use std::alloc::{AllocError, Global};
 
 /// The classes and client kinds, with their current bodies.

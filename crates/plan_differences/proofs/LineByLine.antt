@@ -5,8 +5,8 @@ use Rattle.std.specs.Option.{option_to_list}
 use Rattle.std.specs.Prelude.{Option, Some, None}
 use Rattle.std.proofs.lemmas.List.{map-append}
 use Rattle.std.proofs.lemmas.List.Sums.{sum_by_push}
-use Rattle.recording_lines.specs.RecordingLine.{RecordedLine}
-use Rattle.recorded_paths.specs.LineDeeds.{with_lines_before}
+use Rattle.recordings.specs.RecordingLine.{RecordedLine}
+use Rattle.recordings.specs.LineDeeds.{with_lines_before}
 
 -- ---- induction over lines, from the first one
 onward : (P : List RecordedLine → Type 0) → ((before : List RecordedLine) (line : RecordedLine) → P before → P (before ++ line ∷ [])) → (front rest : List RecordedLine) → P front → P (front ++ rest)

@@ -1,13 +1,13 @@
 -- In a valid recording a round that ends is open: more rounds of its kind began than ended.
 use Rattle.std.proofs.Common.{◌≡◌, ℕ, ◌+◌, ◌<◌, ◌==◌, ◌&&◌, ◌||◌, not, Bool, true, false, if◌then◌else◌, List, [], ◌∷◌, ◌++◌, count_by, Option, Some, None, refl, ap, sym, ◌∙◌, ◌≢◌, append_assoc, subst, suc, ⊎_elim, ◌⊎◌, inl, inr, arith}
 use Rattle.std.proofs.lemmas.Bool.{eqb-true, and_parts, not-true}
-use Rattle.recording_lines.specs.RecordingLine.{RecordedLine, RoundBegins, RoundEnds}
-use Rattle.recorded_rules.specs.declared.rule.LineRule.{LineRule}
-use Rattle.recorded_rules.specs.declared.rule.LineRule.TheVariants.{Frame, Pools, Numbers, Rounds}
-use Rattle.recorded_rules.specs.LineParts.{is_begin, begins_round, ends_round}
-use Rattle.recorded_rules.specs.Before.{begins, is_begun, is_ended}
-use Rattle.recorded_rules.specs.Rules.{broken_of, keeps_frame, keeps_pools, keeps_numbers, keeps_rounds}
-use Rattle.recorded_paths.specs.StandsFor.{KeepsRules}
+use Rattle.recordings.specs.RecordingLine.{RecordedLine, RoundBegins, RoundEnds}
+use Rattle.recordings.specs.declared.rule.LineRule.{LineRule}
+use Rattle.recordings.specs.declared.rule.LineRule.TheVariants.{Frame, Pools, Numbers, Rounds}
+use Rattle.recordings.specs.LineParts.{is_begin, begins_round, ends_round}
+use Rattle.recordings.specs.Before.{begins, is_begun, is_ended}
+use Rattle.recordings.specs.Rules.{broken_of, keeps_frame, keeps_pools, keeps_numbers, keeps_rounds}
+use Rattle.recordings.specs.PathsOfLines.{KeepsRules}
 use Rattle.plan_differences.specs.RoundExcesses.{kind_of, is_kind, begins_kind, ends_kind}
 use Rattle.plan_differences.proofs.LineByLine.{by_last, any_more, count_more}
 use Rattle.plan_differences.proofs.Tally.{tally, tally_same, tally_below, tally_more}

@@ -9,10 +9,10 @@ use Rattle.std.proofs.lemmas.Option.{cond_some}
 use Rattle.std.proofs.lemmas.Slice.Eq.{bytes_eq-Decides}
 use Rattle.job_bodies.specs.Plan as plans
 use Rattle.job_bodies.specs.Plan.{Plan, pool_at, no_pool, first_workers}
-use Rattle.recording_lines.specs.declared.pool_sizes.PoolSizes.{PoolSizes}
-use Rattle.recording_lines.specs.RecordingLine.{RecordedLine, Pool}
-use Rattle.recorded_rules.specs.LineParts.{declares}
-use Rattle.recorded_rules.specs.Before.{has_pool, is_closed}
+use Rattle.recordings.specs.declared.pool_sizes.PoolSizes.{PoolSizes}
+use Rattle.recordings.specs.RecordingLine.{RecordedLine, Pool}
+use Rattle.recordings.specs.LineParts.{declares}
+use Rattle.recordings.specs.Before.{has_pool, is_closed}
 use Rattle.plan_differences.specs.declared.difference.Difference.{Difference}
 use Rattle.plan_differences.specs.declared.difference.Difference.TheVariants.{Core, Max, KindOfQueue, Capacity, CoreTimeout, Prestarted}
 use Rattle.plan_differences.specs.Sizes.{differences, unless, is_array_or_linked, IsAsPlanned}

@@ -2,8 +2,8 @@
 use Rattle.std.proofs.Common.{◌≡◌, ℕ, ◌+◌, ◌&&◌, ◌||◌, Bool, true, false, if◌then◌else◌, List, [], ◌∷◌, ◌++◌, length, is_some, Option, ◌<◌, count_by, refl, ap, ap₂, sym, ◌∙◌, arith}
 use Rattle.std.proofs.lemmas.Bool.{lt-ltb}
 use Rattle.job_bodies.specs.Plan.{Plan, client_at}
-use Rattle.recording_lines.specs.RecordingLine.{RecordedLine, RoundEnds}
-use Rattle.recorded_paths.specs.StandsFor.{KeepsRules}
+use Rattle.recordings.specs.RecordingLine.{RecordedLine, RoundEnds}
+use Rattle.recordings.specs.PathsOfLines.{KeepsRules}
 use Rattle.plan_differences.specs.declared.round_watch.KindRounds.{KindRounds}
 use Rattle.plan_differences.specs.Rounds.{Rounds, excess_of, IsWithinPlan}
 use Rattle.plan_differences.specs.RoundExcesses.{kind_of, is_kind, begins_kind, ends_kind, rounds_of, exceeds, has_exceeded, excesses_by_line, excesses_by_lines}

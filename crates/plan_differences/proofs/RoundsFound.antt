@@ -3,7 +3,7 @@ use Rattle.std.proofs.Common.{◌≡◌, ℕ, ◌+◌, ◌<◌, ◌≤◌, ◌&&
 use Rattle.std.specs.Option.{option_map, option_to_list}
 use Rattle.std.proofs.lemmas.Bool.{eqb-true, lt-ltb}
 use Rattle.job_bodies.specs.Plan.{Plan}
-use Rattle.recording_lines.specs.RecordingLine.{RecordedLine, RoundBegins, RoundEnds}
+use Rattle.recordings.specs.RecordingLine.{RecordedLine, RoundBegins, RoundEnds}
 use Rattle.plan_differences.specs.declared.excess.Excess.{Excess}
 use Rattle.plan_differences.specs.Rounds.{Rounds, open_rounds, excess_of, IsWithinPlan}
 use Rattle.plan_differences.specs.RoundExcesses.{kind_of, is_kind, rounds_of, exceeds, has_exceeded, excess_at, excesses_of_kind, excesses_by_line, excesses_by_lines}

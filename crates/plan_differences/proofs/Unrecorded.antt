@@ -5,8 +5,8 @@ use Rattle.std.specs.Option.{option_to_list}
 use Rattle.std.proofs.lemmas.List.{take_more, take_all}
 use Rattle.std.proofs.lemmas.List.FromFn.{get_or-enumerate_from, length-enumerate_from}
 use Rattle.job_bodies.specs.Plan.{Plan, Pool}
-use Rattle.recording_lines.specs.RecordingLine.{RecordedLine}
-use Rattle.recorded_rules.specs.Before.{has_pool, is_closed}
+use Rattle.recordings.specs.RecordingLine.{RecordedLine}
+use Rattle.recordings.specs.Before.{has_pool, is_closed}
 use Rattle.plan_differences.specs.declared.pool_watch.PoolWatch.{PoolWatch}
 use Rattle.plan_differences.specs.PoolDeviations.{Deviation, NotRecorded, unrecorded_at, unrecorded_by, unrecorded, deviations_at_end}
 use Rattle.plan_differences.specs.PoolWatch.{has_name, IsPoolWatchOf}

@@ -5,11 +5,11 @@ use Rattle.std.proofs.lemmas.Bool.{ltb-true}
 use Rattle.std.proofs.lemmas.List.Elements.{filter_agree}
 use Rattle.std.proofs.lemmas.Option.{slice_get-get_or, slice_get_past, slice_get-map}
 use Rattle.job_bodies.specs.Plan.{Plan, Client, client_at, no_client, pool_at}
-use Rattle.recording_lines.specs.declared.pool_sizes.PoolSizes.{PoolSizes}
-use Rattle.recording_lines.specs.RecordingLine.{RecordedLine, RoundBegins, RoundEnds, Pool}
-use Rattle.recorded_rules.specs.LineParts.{is_end, declares}
-use Rattle.recorded_rules.specs.Before.{has_pool, is_closed}
-use Rattle.recorded_paths.specs.StandsFor.{KeepsRules}
+use Rattle.recordings.specs.declared.pool_sizes.PoolSizes.{PoolSizes}
+use Rattle.recordings.specs.RecordingLine.{RecordedLine, RoundBegins, RoundEnds, Pool}
+use Rattle.recordings.specs.LineParts.{is_end, declares}
+use Rattle.recordings.specs.Before.{has_pool, is_closed}
+use Rattle.recordings.specs.PathsOfLines.{KeepsRules}
 use Rattle.plan_differences.specs.declared.difference.Difference.{Difference}
 use Rattle.plan_differences.specs.declared.pool_watch.PoolWatch.{PoolWatch}
 use Rattle.plan_differences.specs.declared.round_watch.KindRounds.{KindRounds}

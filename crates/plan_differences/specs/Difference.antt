@@ -1,8 +1,8 @@
 -- The text of a difference between a recorded pool and the plan's pool, and equality of differences.
 use Rattle.std.specs.Prelude.{ℕ, ◌==◌, ◌&&◌, ◌++◌, Bool, true, false, List, codes, decimal}
-use Rattle.recording_lines.specs.declared.pool_sizes.QueueKind.{QueueKind}
-use Rattle.recording_lines.specs.declared.pool_sizes.QueueKind.TheVariants as queue
-use Rattle.recording_lines.specs.LineText.{queue_word}
+use Rattle.recordings.specs.declared.pool_sizes.QueueKind.{QueueKind}
+use Rattle.recordings.specs.declared.pool_sizes.QueueKind.TheVariants as queue
+use Rattle.recordings.specs.LineText.{queue_word}
 use Rattle.plan_differences.specs.declared.difference.Difference.{Difference}
 use Rattle.plan_differences.specs.declared.difference.Difference.TheVariants.{Core, Max, KindOfQueue, Capacity, CoreTimeout, Prestarted}
 

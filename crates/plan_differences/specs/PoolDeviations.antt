@@ -4,10 +4,10 @@ use Rattle.std.specs.List.{list_any, filter_map, flat_map, enumerate_from}
 use Rattle.std.specs.Str.{bytes_eq}
 use Rattle.job_bodies.specs.Plan as plans
 use Rattle.job_bodies.specs.Plan.{Plan, pool_at}
-use Rattle.recording_lines.specs.declared.pool_sizes.PoolSizes.{PoolSizes}
-use Rattle.recording_lines.specs.RecordingLine.{RecordedLine, Pool}
-use Rattle.recorded_rules.specs.Before.{has_pool, is_closed}
-use Rattle.recorded_paths.specs.LineDeeds.{with_lines_before}
+use Rattle.recordings.specs.declared.pool_sizes.PoolSizes.{PoolSizes}
+use Rattle.recordings.specs.RecordingLine.{RecordedLine, Pool}
+use Rattle.recordings.specs.Before.{has_pool, is_closed}
+use Rattle.recordings.specs.LineDeeds.{with_lines_before}
 use Rattle.plan_differences.specs.declared.difference.Difference.{Difference}
 use Rattle.plan_differences.specs.declared.pool_watch.PoolDeviation.{PoolDeviation}
 use Rattle.plan_differences.specs.declared.pool_watch.PoolDeviation.TheVariants as code

@@ -3,9 +3,9 @@ use Rattle.std.specs.Prelude.{◌≡◌, ℕ, ◌==◌, ◌&&◌, Bool, List, �
 use Rattle.std.specs.List.{list_any}
 use Rattle.std.specs.HashSet.{contains_text}
 use Rattle.job_bodies.specs.Plan.{Plan}
-use Rattle.recording_lines.specs.RecordingLine.{RecordedLine}
-use Rattle.recorded_rules.specs.LineParts.{is_end, declares}
-use Rattle.recorded_rules.specs.Before.{has_pool, is_closed}
+use Rattle.recordings.specs.RecordingLine.{RecordedLine}
+use Rattle.recordings.specs.LineParts.{is_end, declares}
+use Rattle.recordings.specs.Before.{has_pool, is_closed}
 use Rattle.plan_differences.specs.declared.pool_names.PoolNames.{PoolNames}
 use Rattle.plan_differences.specs.declared.difference.Difference.{Difference}
 use Rattle.plan_differences.specs.declared.told.PoolDifference.{PoolDifference}

@@ -2,7 +2,7 @@
 use Rattle.std.specs.Prelude.{◌≡◌, ℕ, ◌+◌, ◌||◌, nat_lt, if◌then◌else◌, List, length, slice_get, is_some, Option, Some, None, []}
 use Rattle.std.specs.Option.{option_map, option_to_list}
 use Rattle.job_bodies.specs.Plan.{Plan}
-use Rattle.recording_lines.specs.RecordingLine.{RecordedLine, RoundBegins, RoundEnds}
+use Rattle.recordings.specs.RecordingLine.{RecordedLine, RoundBegins, RoundEnds}
 use Rattle.plan_differences.specs.declared.excess.Excess.{Excess}
 use Rattle.plan_differences.specs.declared.round_watch.RoundExcess.{RoundExcess}
 use Rattle.plan_differences.specs.declared.round_watch.KindRounds.{KindRounds}

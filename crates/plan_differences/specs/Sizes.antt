@@ -1,9 +1,9 @@
 -- The differences between one `pool` line and a pool of the plan.
 use Rattle.std.specs.Prelude.{◌≡◌, Bool, true, false, ◌==◌, ◌||◌, not, if◌then◌else◌, List, [], ◌∷◌, ◌++◌, IsTrue}
 use Rattle.job_bodies.specs.Plan.{Pool, first_workers}
-use Rattle.recording_lines.specs.declared.pool_sizes.PoolSizes.{PoolSizes}
-use Rattle.recording_lines.specs.declared.pool_sizes.QueueKind.{QueueKind}
-use Rattle.recording_lines.specs.declared.pool_sizes.QueueKind.TheVariants as queue
+use Rattle.recordings.specs.declared.pool_sizes.PoolSizes.{PoolSizes}
+use Rattle.recordings.specs.declared.pool_sizes.QueueKind.{QueueKind}
+use Rattle.recordings.specs.declared.pool_sizes.QueueKind.TheVariants as queue
 use Rattle.plan_differences.specs.declared.difference.Difference.{Difference}
 use Rattle.plan_differences.specs.declared.difference.Difference.TheVariants.{Core, Max, KindOfQueue, Capacity, CoreTimeout, Prestarted}
 

@@ -1,9 +1,9 @@
 -- Laws about the results of the comparisons for all lines.
 use Rattle.std.specs.Prelude.{◌≡◌, ◌<◌, ◌+◌, ℕ, Bool, true, not, List, [], ◌∷◌, ◌++◌, length, Option}
 use Rattle.job_bodies.specs.Plan.{Plan, pool_at}
-use Rattle.recording_lines.specs.declared.pool_sizes.PoolSizes.{PoolSizes}
-use Rattle.recording_lines.specs.RecordingLine.{RecordedLine, Pool}
-use Rattle.recorded_rules.specs.Before.{has_pool, is_closed}
+use Rattle.recordings.specs.declared.pool_sizes.PoolSizes.{PoolSizes}
+use Rattle.recordings.specs.RecordingLine.{RecordedLine, Pool}
+use Rattle.recordings.specs.Before.{has_pool, is_closed}
 use Rattle.plan_differences.specs.Sizes.{IsAsPlanned}
 use Rattle.plan_differences.specs.Rounds.{IsWithinPlan}
 use Rattle.plan_differences.specs.PoolDeviations.{deviations_by_line, deviations_by_lines, deviations_at_end}

@@ -1,10 +1,10 @@
 //! Differences between a recorded pool and the plan's pool, and their texts.
 
 ghost use Rattle.std.specs.Prelude.{◌≡◌, Some};
-ghost use Rattle.recording_lines.specs.LineText.{queue_word};
+ghost use Rattle.recordings.specs.LineText.{queue_word};
 ghost use Rattle.plan_differences.specs.Difference as spec;
 
-use recording_lines::QueueKind;
+use recordings::QueueKind;
 use std::fmt;
 
 /// A difference between a recorded pool and the plan's pool.

@@ -3,8 +3,8 @@
 ghost use Rattle.std.specs.Prelude.{◌≡◌, List, [], ◌∷◌, ◌++◌, map, length, ◌<◌, if◌then◌else◌, OnOk, IfSome};
 ghost use Rattle.std.specs.Option.{option_to_list};
 ghost use Rattle.job_bodies.specs.Plan as plans;
-ghost use Rattle.recording_lines.specs.RecordingLine.{RecordedLine, line_seen};
-ghost use Rattle.recording_lines.specs.RecordingLine as lines;
+ghost use Rattle.recordings.specs.RecordingLine.{RecordedLine, line_seen};
+ghost use Rattle.recordings.specs.RecordingLine as lines;
 ghost use Rattle.plan_differences.specs.PoolDeviations as spec;
 ghost use Rattle.plan_differences.specs.PoolWatch.{has_name, is_told, IsPoolWatchOf, IsNoted, Adds};
 
@@ -12,7 +12,7 @@ use crate::pool_names::PoolNames;
 use crate::told::ToldDifferences;
 use crate::{Difference, differences};
 use job_bodies::{Plan, Pool};
-use recording_lines::{Line, PoolSizes};
+use recordings::{Line, PoolSizes};
 use std::alloc::{AllocError, Global};
 
 /// A difference between the pools of a recording and those of a plan. Lines are numbered from 1.

@@ -3,15 +3,15 @@
 ghost use Rattle.std.specs.Prelude.{◌≡◌, ◌<◌, ◌+◌, ◌++◌, ◌∷◌, [], ℕ, List, Option, IfOk, OnOk, slice_get, if◌then◌else◌, ◌==◌, false};
 ghost use Rattle.std.specs.Option.{option_map};
 ghost use Rattle.job_bodies.specs.Plan as plans;
-ghost use Rattle.recording_lines.specs.RecordingLine.{RecordedLine, line_seen};
-ghost use Rattle.recorded_paths.specs.StandsFor.{KeepsRules};
+ghost use Rattle.recordings.specs.RecordingLine.{RecordedLine, line_seen};
+ghost use Rattle.recordings.specs.PathsOfLines.{KeepsRules};
 ghost use Rattle.plan_differences.specs.Rounds.{no_rounds};
 ghost use Rattle.plan_differences.specs.RoundExcesses as spec;
 ghost use Rattle.plan_differences.specs.RoundWatch.{IsRoundWatchOf, after_begin, after_end, told_by_begin, told_of_begin, told_of_kind, told_by_line, IsCounted};
 
 use crate::{Excess, RoundCount};
 use job_bodies::{Client, Plan};
-use recording_lines::Line;
+use recordings::Line;
 use std::alloc::{AllocError, Global};
 
 /// The first line at which a client kind has more rounds than the plan allows.

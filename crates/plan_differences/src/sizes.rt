@@ -5,7 +5,7 @@ ghost use Rattle.plan_differences.specs.Sizes as spec;
 
 use crate::Difference;
 use job_bodies::Pool;
-use recording_lines::{PoolSizes, QueueKind};
+use recordings::{PoolSizes, QueueKind};
 use std::alloc::{AllocError, Global};
 
 /// Returns all differences between a `pool` line and the plan's pool, in the order of the variants

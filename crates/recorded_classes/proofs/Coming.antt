@@ -1,17 +1,17 @@
 -- The actors that have begun.
 use Rattle.std.proofs.Common.{◌≡◌, ◌==◌, Bool, true, false, if◌then◌else◌, ℕ, List, [], ◌∷◌, ◌++◌, is_some, slice_get, Option, Some, None, refl, ap, sym, ◌∙◌, arith}
 use Rattle.std.specs.List.{list_any, filter_map, cons_option}
-use Rattle.recording_lines.specs.declared.recording_line.RecordedActor.{RecordedActor}
-use Rattle.recording_lines.specs.declared.recording_line.RecordedActor.TheVariants.{Job, Round}
-use Rattle.recording_lines.specs.RecordingLine.{RecordedLine, RoundBegins, Submits}
-use Rattle.recorded_rules.specs.LineParts.{is_actor, submits_job, begins_round}
-use Rattle.recorded_rules.specs.Before.{is_begun}
-use Rattle.recorded_rules.proofs.Appended.{is_begun_more}
-use Rattle.recorded_paths.specs.LineDeeds.{is_submitted}
-use Rattle.recorded_paths.specs.StandsFor.{KeepsRules, is_about}
-use Rattle.recorded_paths.proofs.LinesSay.{submitted_more}
-use Rattle.recorded_paths.proofs.Tests.{and_first}
-use Rattle.recorded_paths.specs.LastLine.{ended_by}
+use Rattle.recordings.specs.declared.recording_line.RecordedActor.{RecordedActor}
+use Rattle.recordings.specs.declared.recording_line.RecordedActor.TheVariants.{Job, Round}
+use Rattle.recordings.specs.RecordingLine.{RecordedLine, RoundBegins, Submits}
+use Rattle.recordings.specs.LineParts.{is_actor, submits_job, begins_round}
+use Rattle.recordings.specs.Before.{is_begun}
+use Rattle.recordings.proofs.Appended.{is_begun_more}
+use Rattle.recordings.specs.LineDeeds.{is_submitted}
+use Rattle.recordings.specs.PathsOfLines.{KeepsRules, is_about}
+use Rattle.recordings.proofs.LinesSay.{submitted_more}
+use Rattle.recordings.proofs.Tests.{and_first}
+use Rattle.recordings.specs.LastLine.{ended_by}
 use Rattle.recorded_classes.specs.Course.{is_through}
 use Rattle.recorded_classes.specs.Label.{label_in, label_of, kind_in, kind_of, HasLabel}
 use Rattle.recorded_classes.specs.Settled.{has_come}

@@ -5,12 +5,12 @@ use Rattle.std.specs.List.{list_any, AllZip}
 use Rattle.std.specs.declared.alloc.Global.{Global}
 use Rattle.std.specs.declared.vec.Vec.{Vec}
 use Rattle.std.proofs.lemmas.List.Folds.{list_any_at, Any-from_list_any}
-use Rattle.recording_lines.specs.declared.recording_line.RecordedActor.TheVariants.{Job, Round}
-use Rattle.recording_lines.specs.RecordingLine.{RecordedLine}
-use Rattle.recorded_paths.specs.declared.deed.RecordedDeed.{RecordedDeed}
-use Rattle.recorded_paths.specs.declared.deed.RecordedDeed.TheVariants as recorded
-use Rattle.recorded_paths.specs.Path.{path_of}
-use Rattle.recorded_paths.proofs.Places.{same_self}
+use Rattle.recordings.specs.declared.recording_line.RecordedActor.TheVariants.{Job, Round}
+use Rattle.recordings.specs.RecordingLine.{RecordedLine}
+use Rattle.recordings.specs.declared.deed.RecordedDeed.{RecordedDeed}
+use Rattle.recordings.specs.declared.deed.RecordedDeed.TheVariants as recorded
+use Rattle.recordings.specs.Path.{path_of}
+use Rattle.recordings.proofs.Places.{same_self}
 use Rattle.job_bodies.specs.declared.action.Action.{Action}
 use Rattle.job_bodies.specs.declared.action.Action.TheVariants as action
 use Rattle.job_bodies.specs.Plan.{Plan}

@@ -2,22 +2,22 @@
 use Rattle.std.proofs.Common.{◌≡◌, ℕ, ◌==◌, Bool, true, false, if◌then◌else◌, List, [], Option, Some, None, is_some, refl, ap, sym, subst, ◌∙◌}
 use Rattle.std.specs.Option.{option_map}
 use Rattle.std.specs.Prelude.{string_bytes}
-use Rattle.recording_lines.specs.declared.recording_line.RecordedActor.{RecordedActor}
-use Rattle.recording_lines.specs.declared.recording_line.RecordedActor.TheVariants.{Job, Round}
-use Rattle.recording_lines.specs.RecordingLine.{RecordedLine, RoundBegins, RoundEnds, Submits, Refused, JobEnds, JobThrew}
-use Rattle.recorded_rules.specs.LineParts.{is_actor, is_same_actor}
-use Rattle.recorded_paths.specs.LineDeeds.{submits_by}
-use Rattle.recorded_paths.proofs.Tests.{and_first}
-use Rattle.recorded_paths.proofs.Refusals.{same_actor}
+use Rattle.recordings.specs.declared.recording_line.RecordedActor.{RecordedActor}
+use Rattle.recordings.specs.declared.recording_line.RecordedActor.TheVariants.{Job, Round}
+use Rattle.recordings.specs.RecordingLine.{RecordedLine, RoundBegins, RoundEnds, Submits, Refused, JobEnds, JobThrew}
+use Rattle.recordings.specs.LineParts.{is_actor, is_same_actor}
+use Rattle.recordings.specs.LineDeeds.{submits_by}
+use Rattle.recordings.proofs.Tests.{and_first}
+use Rattle.recordings.proofs.Refusals.{same_actor}
 use Rattle.recorded_classes.specs.declared.actor_table.ActorTable.{ActorTable}
 use Rattle.recorded_classes.specs.declared.actor_table.KeptActor.{KeptActor}
 use Rattle.recorded_classes.specs.declared.actor_table.Waiting.{Waiting}
 use Rattle.recorded_classes.specs.Label.{label_in, kind_in}
 use Rattle.recorded_classes.specs.Kept.{in_table, Comes, without_submitter, with_waiting}
-use Rattle.recorded_paths.specs.LastLine.{ended_by}
+use Rattle.recordings.specs.LastLine.{ended_by}
 use Rattle.recorded_classes.specs.Changes.{begun_by, refused_by, IsChanged, Changed}
 use Rattle.recorded_classes.proofs.Words.{by_bool, apart, some_of, if_true, if_false}
-use Rattle.recorded_paths.proofs.Places.{same_self}
+use Rattle.recordings.proofs.Places.{same_self}
 
 -- The earlier entry of an actor, and the parts that do not change.
 pub record WasKept (line : RecordedLine) (waiting : Waiting) (old : ActorTable) (one : RecordedActor) (kept : KeptActor) : Type 0 where

@@ -3,12 +3,12 @@ use Rattle.std.proofs.Common.{◌≡◌, true, List, Option, Some, None, unwrap_
 use Rattle.std.specs.Option.{option_map, option_and_then}
 use Rattle.std.specs.declared.alloc.Global.{Global}
 use Rattle.std.specs.declared.vec.Vec.{Vec}
-use Rattle.recording_lines.specs.declared.recording_line.RecordedActor.{RecordedActor}
-use Rattle.recording_lines.specs.RecordingLine.{RecordedLine}
-use Rattle.recorded_paths.specs.declared.deed.RecordedDeed.{RecordedDeed}
-use Rattle.recorded_paths.specs.LastLine.{ended_by, last_path_of}
-use Rattle.recorded_paths.specs.Path.{path_of}
-use Rattle.recorded_paths.specs.StandsFor.{is_about, live_path_of}
+use Rattle.recordings.specs.declared.recording_line.RecordedActor.{RecordedActor}
+use Rattle.recordings.specs.RecordingLine.{RecordedLine}
+use Rattle.recordings.specs.declared.deed.RecordedDeed.{RecordedDeed}
+use Rattle.recordings.specs.LastLine.{ended_by, last_path_of}
+use Rattle.recordings.specs.Path.{path_of}
+use Rattle.recordings.specs.PathsOfLines.{is_about, live_path_of}
 use Rattle.recorded_classes.proofs.Words.{if_true}
 
 its_path : (given : Option (Vec RecordedDeed Global)) (other : Vec RecordedDeed Global) (path : List RecordedDeed) → option_map (λ (p : Vec RecordedDeed Global). p.items) given ≡ Some path → (unwrap_or given other).items ≡ path

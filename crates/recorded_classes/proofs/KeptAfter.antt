@@ -1,19 +1,19 @@
 -- The tables are correct after one more line.
 use Rattle.std.proofs.Common.{◌≡◌, ◌⊎◌, ℕ, ◌||◌, true, false, List, [], ◌∷◌, ◌++◌, is_some, Some, None, refl, ap, sym, subst, ◌∙◌, inl, inr, arith}
 use Rattle.std.specs.Prelude.{string_bytes}
-use Rattle.recording_lines.specs.declared.recording_line.RecordedActor.{RecordedActor}
-use Rattle.recording_lines.specs.declared.recording_line.RecordedActor.TheVariants.{Job, Round}
-use Rattle.recording_lines.specs.RecordingLine.{RecordedLine, Submits}
-use Rattle.recorded_rules.specs.LineParts.{is_actor, refuses_job}
-use Rattle.recorded_rules.specs.Before.{begins}
-use Rattle.recorded_paths.specs.declared.deed.RecordedDeed.{RecordedDeed}
-use Rattle.recorded_paths.specs.LineDeeds.{submits_by, is_refused, has_submitted}
-use Rattle.recorded_paths.specs.Path.{path_of}
-use Rattle.recorded_paths.specs.StandsFor.{KeepsRules}
-use Rattle.recorded_paths.proofs.Tests.{or_first, or_second}
-use Rattle.recorded_paths.proofs.ByLast.{keeps_before, keeps_last}
-use Rattle.recorded_paths.proofs.Fresh.{submitted_fresh}
-use Rattle.recorded_paths.proofs.LinesSay.{refused_more, has_submitted_more}
+use Rattle.recordings.specs.declared.recording_line.RecordedActor.{RecordedActor}
+use Rattle.recordings.specs.declared.recording_line.RecordedActor.TheVariants.{Job, Round}
+use Rattle.recordings.specs.RecordingLine.{RecordedLine, Submits}
+use Rattle.recordings.specs.LineParts.{is_actor, refuses_job}
+use Rattle.recordings.specs.Before.{begins}
+use Rattle.recordings.specs.declared.deed.RecordedDeed.{RecordedDeed}
+use Rattle.recordings.specs.LineDeeds.{submits_by, is_refused, has_submitted}
+use Rattle.recordings.specs.Path.{path_of}
+use Rattle.recordings.specs.PathsOfLines.{KeepsRules}
+use Rattle.recordings.proofs.Tests.{or_first, or_second}
+use Rattle.recordings.proofs.ByLast.{keeps_before, keeps_last}
+use Rattle.recordings.proofs.Fresh.{submitted_fresh}
+use Rattle.recordings.proofs.LinesSay.{refused_more, has_submitted_more}
 use Rattle.job_bodies.specs.Plan.{Plan}
 use Rattle.recorded_classes.specs.declared.actor_table.ActorTable.{ActorTable}
 use Rattle.recorded_classes.specs.declared.actor_table.KeptActor.{KeptActor}
@@ -22,7 +22,7 @@ use Rattle.recorded_classes.specs.declared.job_classes.ClassTable.{ClassTable}
 use Rattle.recorded_classes.specs.Course.{is_through}
 use Rattle.recorded_classes.specs.Classes.{IsSettled}
 use Rattle.recorded_classes.specs.Kept.{in_table, classes_in, AreKnown, AreSettledBefore}
-use Rattle.recorded_paths.specs.LastLine.{ended_by}
+use Rattle.recordings.specs.LastLine.{ended_by}
 use Rattle.recorded_classes.specs.Changes.{begun_by}
 use Rattle.recorded_classes.specs.StandsFor.{IsNamed, IsWaiting, IsBlocked, IsKept}
 use Rattle.recorded_classes.proofs.Words.{by_bool, by_option, apart, some_of, none_some, two_of, one_of, is_none_of, or_right, or_either}

@@ -1,15 +1,15 @@
 -- The tables are empty before the first line, and no actor in the table is settled.
 use Rattle.std.proofs.Common.{◌≡◌, ◌⊎◌, ℕ, true, false, List, [], Some, None, refl, subst, inl, inr}
 use Rattle.std.specs.List.{list_any}
-use Rattle.recording_lines.specs.declared.recording_line.RecordedActor.{RecordedActor}
-use Rattle.recording_lines.specs.declared.recording_line.RecordedActor.TheVariants.{Job, Round}
-use Rattle.recording_lines.specs.RecordingLine.{RecordedLine}
-use Rattle.recorded_rules.specs.Before.{is_begun, is_ended, is_done}
-use Rattle.recorded_paths.specs.declared.deed.RecordedDeed.{RecordedDeed}
-use Rattle.recorded_paths.specs.Act.{submits}
-use Rattle.recorded_paths.specs.LineDeeds.{is_submitted}
-use Rattle.recorded_paths.specs.Path.{path_of}
-use Rattle.recorded_paths.specs.StandsFor.{is_about}
+use Rattle.recordings.specs.declared.recording_line.RecordedActor.{RecordedActor}
+use Rattle.recordings.specs.declared.recording_line.RecordedActor.TheVariants.{Job, Round}
+use Rattle.recordings.specs.RecordingLine.{RecordedLine}
+use Rattle.recordings.specs.Before.{is_begun, is_ended, is_done}
+use Rattle.recordings.specs.declared.deed.RecordedDeed.{RecordedDeed}
+use Rattle.recordings.specs.Act.{submits}
+use Rattle.recordings.specs.LineDeeds.{is_submitted}
+use Rattle.recordings.specs.Path.{path_of}
+use Rattle.recordings.specs.PathsOfLines.{is_about}
 use Rattle.job_bodies.specs.Plan.{Plan}
 use Rattle.recorded_classes.specs.declared.actor_table.ActorTable.{ActorTable}
 use Rattle.recorded_classes.specs.declared.actor_table.Waiting.{Waiting}

@@ -2,14 +2,14 @@
 use Rattle.std.proofs.Common.{◌≡◌, ℕ, true, List, [], ◌∷◌, ◌++◌, is_some, refl}
 use Rattle.std.specs.declared.alloc.Global.{Global}
 use Rattle.std.specs.declared.vec.Vec.{Vec}
-use Rattle.recording_lines.specs.RecordingLine.{RecordedLine}
-use Rattle.recorded_paths.specs.declared.deed.RecordedDeed.{RecordedDeed}
-use Rattle.recorded_paths.specs.declared.deed.RecordedDeed.TheVariants as recorded
+use Rattle.recordings.specs.RecordingLine.{RecordedLine}
+use Rattle.recordings.specs.declared.deed.RecordedDeed.{RecordedDeed}
+use Rattle.recordings.specs.declared.deed.RecordedDeed.TheVariants as recorded
 use Rattle.job_bodies.specs.Plan.{Plan}
 use Rattle.body_paths.specs.declared.deed.Deed.{Deed}
 use Rattle.body_paths.specs.declared.deed.Deed.TheVariants as deed
-use Rattle.recorded_paths.specs.Act.{submits}
-use Rattle.recorded_paths.proofs.Places.{same_self}
+use Rattle.recordings.specs.Act.{submits}
+use Rattle.recordings.proofs.Places.{same_self}
 use Rattle.recorded_classes.specs.declared.job_classes.ClassTable.{ClassTable}
 use Rattle.recorded_classes.specs.Classes.{AreClassesOf, StandFor, none, submit, get}
 use Rattle.recorded_classes.specs.Kept.{classes_in, is_settled_deed}

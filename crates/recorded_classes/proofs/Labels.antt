@@ -2,15 +2,15 @@
 use Rattle.std.proofs.Common.{◌≡◌, ◌≤◌, ℕ, ◌+◌, ◌==◌, true, if◌then◌else◌, List, [], ◌∷◌, ◌++◌, slice_get, Option, Some, None, refl, ap, ◌∙◌, arith}
 use Rattle.std.specs.Option.{option_to_list}
 use Rattle.std.specs.List.{filter_map}
-use Rattle.recording_lines.specs.RecordingLine.{RecordedLine, RoundBegins, Submits}
-use Rattle.recorded_rules.specs.LineParts.{is_submit, is_begin}
-use Rattle.recorded_rules.specs.Before.{submits, begins}
-use Rattle.recorded_rules.specs.Rules.{has_next_number}
-use Rattle.recorded_rules.proofs.Appended.{submits_more, begins_more}
-use Rattle.recorded_paths.specs.StandsFor.{KeepsRules}
-use Rattle.recorded_paths.proofs.Tests.{filter_map_more}
-use Rattle.recorded_paths.proofs.ByLast.{by_kept}
-use Rattle.recorded_paths.proofs.Fresh.{next_number}
+use Rattle.recordings.specs.RecordingLine.{RecordedLine, RoundBegins, Submits}
+use Rattle.recordings.specs.LineParts.{is_submit, is_begin}
+use Rattle.recordings.specs.Before.{submits, begins}
+use Rattle.recordings.specs.Rules.{has_next_number}
+use Rattle.recordings.proofs.Appended.{submits_more, begins_more}
+use Rattle.recordings.specs.PathsOfLines.{KeepsRules}
+use Rattle.recordings.proofs.Tests.{filter_map_more}
+use Rattle.recordings.proofs.ByLast.{by_kept}
+use Rattle.recordings.proofs.Fresh.{next_number}
 use Rattle.recorded_classes.specs.Label.{label_in, label_of, kind_in, kind_of}
 use Rattle.recorded_classes.proofs.Onward.{onward}
 use Rattle.recorded_classes.proofs.Words.{if_false}

@@ -1,20 +1,20 @@
 -- A job submits only jobs with larger numbers.
 use Rattle.std.proofs.Common.{◌≡◌, ◌<◌, ℕ, ◌&&◌, ◌||◌, not, Bool, true, false, List, [], refl, sym, ◌∙◌, arith}
 use Rattle.std.specs.List.{list_any}
-use Rattle.recording_lines.specs.declared.recording_line.RecordedActor.{RecordedActor}
-use Rattle.recording_lines.specs.declared.recording_line.RecordedActor.TheVariants.{Job, Round}
-use Rattle.recording_lines.specs.RecordingLine.{RecordedLine, Submits}
-use Rattle.recorded_rules.proofs.Keeping.{Keeps}
-use Rattle.recorded_paths.specs.Act.{submits}
-use Rattle.recorded_paths.specs.LineDeeds.{submits_by, has_submitted, is_refused}
-use Rattle.recorded_paths.specs.Path.{path_of, deeds_of}
-use Rattle.recorded_paths.specs.StandsFor.{KeepsRules}
-use Rattle.recorded_paths.proofs.Tests.{and_first}
-use Rattle.recorded_paths.proofs.ByLast.{by_kept}
-use Rattle.recorded_paths.proofs.Deeds.{deeds_submitted}
-use Rattle.recorded_paths.proofs.Fresh.{known_actor, next_number}
-use Rattle.recorded_paths.proofs.LinesSay.{has_submitted_more}
-use Rattle.recorded_paths.proofs.Places.{any_with_places}
+use Rattle.recordings.specs.declared.recording_line.RecordedActor.{RecordedActor}
+use Rattle.recordings.specs.declared.recording_line.RecordedActor.TheVariants.{Job, Round}
+use Rattle.recordings.specs.RecordingLine.{RecordedLine, Submits}
+use Rattle.recordings.proofs.Keeping.{Keeps}
+use Rattle.recordings.specs.Act.{submits}
+use Rattle.recordings.specs.LineDeeds.{submits_by, has_submitted, is_refused}
+use Rattle.recordings.specs.Path.{path_of, deeds_of}
+use Rattle.recordings.specs.PathsOfLines.{KeepsRules}
+use Rattle.recordings.proofs.Tests.{and_first}
+use Rattle.recordings.proofs.ByLast.{by_kept}
+use Rattle.recordings.proofs.Deeds.{deeds_submitted}
+use Rattle.recordings.proofs.Fresh.{known_actor, next_number}
+use Rattle.recordings.proofs.LinesSay.{has_submitted_more}
+use Rattle.recordings.proofs.Places.{any_with_places}
 
 -- An actor has submitted exactly the jobs of its path, apart from refused ones.
 pub path_submits : (lines : List RecordedLine) (actor : RecordedActor) (job : ℕ) → list_any (submits job) (path_of lines actor) ≡ (has_submitted lines actor job && not (is_refused lines job))

@@ -1,14 +1,14 @@
 -- The tables at the end of the lines, and the result for one remaining actor.
 use Rattle.std.proofs.Common.{◌≡◌, ◌⊎◌, ℕ, true, false, if◌then◌else◌, Bool, List, is_some, Option, Some, None, refl, ap, sym, subst, ◌∙◌, inl, inr}
 use Rattle.std.specs.List.{list_any}
-use Rattle.recording_lines.specs.declared.recording_line.RecordedActor.{RecordedActor}
-use Rattle.recording_lines.specs.declared.recording_line.RecordedActor.TheVariants.{Job, Round}
-use Rattle.recording_lines.specs.RecordingLine.{RecordedLine}
-use Rattle.recorded_rules.specs.LineParts.{is_same_actor}
-use Rattle.recorded_paths.specs.declared.deed.RecordedDeed.{RecordedDeed}
-use Rattle.recorded_paths.specs.Act.{submits}
-use Rattle.recorded_paths.specs.Path.{path_of}
-use Rattle.recorded_paths.specs.StandsFor.{KeepsRules}
+use Rattle.recordings.specs.declared.recording_line.RecordedActor.{RecordedActor}
+use Rattle.recordings.specs.declared.recording_line.RecordedActor.TheVariants.{Job, Round}
+use Rattle.recordings.specs.RecordingLine.{RecordedLine}
+use Rattle.recordings.specs.LineParts.{is_same_actor}
+use Rattle.recordings.specs.declared.deed.RecordedDeed.{RecordedDeed}
+use Rattle.recordings.specs.Act.{submits}
+use Rattle.recordings.specs.Path.{path_of}
+use Rattle.recordings.specs.PathsOfLines.{KeepsRules}
 use Rattle.job_bodies.specs.Plan.{Plan}
 use Rattle.recorded_classes.specs.declared.actor_table.ActorTable.{ActorTable}
 use Rattle.recorded_classes.specs.declared.actor_table.KeptActor.{KeptActor}

@@ -4,10 +4,10 @@ use Rattle.std.specs.List.Sorted.{IsNonDecreasing}
 use Rattle.std.specs.Set.{is_member}
 use Rattle.std.proofs.lemmas.List.{get_or_append_left, get_or-append-add, length-append}
 use Rattle.std.proofs.lemmas.List.Folds.{list_any-append, Any-from_list_any}
-use Rattle.recording_lines.specs.declared.recording_line.RecordedActor.{RecordedActor}
-use Rattle.recording_lines.specs.declared.recording_line.RecordedActor.TheVariants.{Job, Round}
-use Rattle.recorded_rules.specs.LineParts.{is_same_actor}
-use Rattle.recorded_paths.proofs.Places.{same_self}
+use Rattle.recordings.specs.declared.recording_line.RecordedActor.{RecordedActor}
+use Rattle.recordings.specs.declared.recording_line.RecordedActor.TheVariants.{Job, Round}
+use Rattle.recordings.specs.LineParts.{is_same_actor}
+use Rattle.recordings.proofs.Places.{same_self}
 use Rattle.recorded_classes.specs.declared.actor_table.ActorTable.{ActorTable}
 use Rattle.recorded_classes.specs.Kept.{in_table}
 use Rattle.recorded_classes.specs.Left.{AreNoneBelow, AreJobsAmong, AreRoundsAmong, HasNoJobs}

@@ -1,25 +1,25 @@
 -- The open and the ended actors after one more line.
 use Rattle.std.proofs.Common.{◌≡◌, ◌<◌, ◌≤◌, ℕ, ◌+◌, ◌==◌, ◌||◌, not, nat_lt, true, false, if◌then◌else◌, List, [], ◌∷◌, ◌++◌, Option, Some, refl, ap, sym, subst, ◌∙◌, arith}
 use Rattle.std.specs.List.{list_any}
-use Rattle.recording_lines.specs.declared.recording_line.RecordedActor.{RecordedActor}
-use Rattle.recording_lines.specs.declared.recording_line.RecordedActor.TheVariants.{Job, Round}
-use Rattle.recording_lines.specs.RecordingLine.{RecordedLine, RoundBegins, RoundEnds, Submits, Refused, JobEnds, JobThrew}
-use Rattle.recorded_rules.specs.LineParts.{is_actor, is_same_actor, is_of, actor_of, is_submit, submits_job, refuses_job, finishes_job, begins_round, ends_round}
-use Rattle.recorded_rules.specs.Before.{submits, begins, is_ended, has_started, is_done}
-use Rattle.recorded_rules.specs.Rules.{has_next_number, is_known_actor, is_running, is_going}
-use Rattle.recorded_rules.proofs.Appended.{submits_more, is_begun_more, is_ended_more, done_more}
-use Rattle.recorded_rules.proofs.Keeping.{Keeps}
-use Rattle.recorded_paths.specs.LineDeeds.{submits_by, is_submitted, has_submitted}
-use Rattle.recorded_paths.specs.Path.{path_of}
-use Rattle.recorded_paths.specs.StandsFor.{KeepsRules, is_about}
-use Rattle.recorded_paths.proofs.Tests.{and_first, and_second, none_weaker}
-use Rattle.recorded_paths.proofs.ByLast.{by_kept, keeps_before, keeps_last}
-use Rattle.recorded_paths.proofs.Fresh.{next_job, next_round, next_number, known_actor, done_fresh, own_fresh, ended_fresh, round_fresh}
-use Rattle.recorded_paths.proofs.LinesSay.{submitted_more}
-use Rattle.recorded_paths.proofs.PathAfter.{path_same}
-use Rattle.recorded_paths.proofs.Refusals.{same_actor}
+use Rattle.recordings.specs.declared.recording_line.RecordedActor.{RecordedActor}
+use Rattle.recordings.specs.declared.recording_line.RecordedActor.TheVariants.{Job, Round}
+use Rattle.recordings.specs.RecordingLine.{RecordedLine, RoundBegins, RoundEnds, Submits, Refused, JobEnds, JobThrew}
+use Rattle.recordings.specs.LineParts.{is_actor, is_same_actor, is_of, actor_of, is_submit, submits_job, refuses_job, finishes_job, begins_round, ends_round}
+use Rattle.recordings.specs.Before.{submits, begins, is_ended, has_started, is_done}
+use Rattle.recordings.specs.Rules.{has_next_number, is_known_actor, is_running, is_going}
+use Rattle.recordings.proofs.Appended.{submits_more, is_begun_more, is_ended_more, done_more}
+use Rattle.recordings.proofs.Keeping.{Keeps}
+use Rattle.recordings.specs.LineDeeds.{submits_by, is_submitted, has_submitted}
+use Rattle.recordings.specs.Path.{path_of}
+use Rattle.recordings.specs.PathsOfLines.{KeepsRules, is_about}
+use Rattle.recordings.proofs.Tests.{and_first, and_second, none_weaker}
+use Rattle.recordings.proofs.ByLast.{by_kept, keeps_before, keeps_last}
+use Rattle.recordings.proofs.Fresh.{next_job, next_round, next_number, known_actor, done_fresh, own_fresh, ended_fresh, round_fresh}
+use Rattle.recordings.proofs.LinesSay.{submitted_more}
+use Rattle.recordings.proofs.PathAfter.{path_same}
+use Rattle.recordings.proofs.Refusals.{same_actor}
 use Rattle.recorded_classes.specs.Course.{is_through}
-use Rattle.recorded_paths.specs.LastLine.{ended_by}
+use Rattle.recordings.specs.LastLine.{ended_by}
 use Rattle.recorded_classes.specs.Changes.{begun_by, refused_by}
 use Rattle.recorded_classes.proofs.Words.{by_bool, apart, or_left, or_right}
 

@@ -4,17 +4,17 @@ use Rattle.std.specs.List.{list_any}
 use Rattle.std.proofs.lemmas.Bool.{cases_lt}
 use Rattle.std.proofs.lemmas.List.{get_or_append_left, length-append, take-append-le}
 use Rattle.std.proofs.Math.Seq.{get_or-append_seam, take-append_seam}
-use Rattle.recording_lines.specs.declared.recording_line.RecordedActor.{RecordedActor}
-use Rattle.recording_lines.specs.RecordingLine.{RecordedLine}
-use Rattle.recorded_paths.specs.declared.deed.RecordedDeed.{RecordedDeed}
-use Rattle.recorded_paths.specs.declared.deed.RecordedDeed.TheVariants as recorded
-use Rattle.recorded_paths.specs.Act.{submits}
-use Rattle.recorded_paths.specs.LineDeeds.{JobDeed, is_submit_of}
-use Rattle.recorded_paths.specs.Path.{with_places, path_of, deeds_of}
-use Rattle.recorded_paths.specs.StandsFor.{KeepsRules}
-use Rattle.recorded_paths.proofs.Deeds.{lawful_deeds}
-use Rattle.recorded_paths.proofs.Lawful.{Lawful, none, submit, get}
-use Rattle.recorded_paths.proofs.Places.{any_with_places, same_number, places_none, places_submit, places_get}
+use Rattle.recordings.specs.declared.recording_line.RecordedActor.{RecordedActor}
+use Rattle.recordings.specs.RecordingLine.{RecordedLine}
+use Rattle.recordings.specs.declared.deed.RecordedDeed.{RecordedDeed}
+use Rattle.recordings.specs.declared.deed.RecordedDeed.TheVariants as recorded
+use Rattle.recordings.specs.Act.{submits}
+use Rattle.recordings.specs.LineDeeds.{JobDeed, is_submit_of}
+use Rattle.recordings.specs.Path.{with_places, path_of, deeds_of}
+use Rattle.recordings.specs.PathsOfLines.{KeepsRules}
+use Rattle.recordings.proofs.Deeds.{lawful_deeds}
+use Rattle.recordings.proofs.Lawful.{Lawful, none, submit, get}
+use Rattle.recordings.proofs.Places.{any_with_places, same_number, places_none, places_submit, places_get}
 use Rattle.recorded_classes.specs.Kept.{AreOnce}
 
 last_place : (path : List RecordedDeed) (deed : RecordedDeed) (i : ℕ) → i < length (path ++ deed ∷ []) → length path ≤ i → length path ≡ i

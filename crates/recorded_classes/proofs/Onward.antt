@@ -1,7 +1,7 @@
 -- Properties of lines that are preserved by each further valid line.
 use Rattle.std.proofs.Common.{List, [], ◌∷◌, ◌++◌, ap, sym, subst, ◌∙◌, append-nil, append_assoc}
-use Rattle.recording_lines.specs.RecordingLine.{RecordedLine}
-use Rattle.recorded_paths.specs.StandsFor.{KeepsRules}
+use Rattle.recordings.specs.RecordingLine.{RecordedLine}
+use Rattle.recordings.specs.PathsOfLines.{KeepsRules}
 
 pub keeps_front : (front behind : List RecordedLine) → KeepsRules (front ++ behind) → KeepsRules front
 keeps_front front behind kept = record {

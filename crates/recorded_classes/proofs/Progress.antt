@@ -2,18 +2,18 @@
 use Rattle.std.proofs.Common.{◌≡◌, ◌≤◌, ◌<◌, ◌⊎◌, ℕ, zero, suc, not, nat_le, Bool, true, false, List, [], ◌∷◌, length, slice_get, is_some, Option, Some, None, refl, ap, sym, subst, ◌∙◌, inl, inr, arith}
 use Rattle.std.specs.Option.{option_and_then}
 use Rattle.std.proofs.lemmas.List.{take_all}
-use Rattle.recorded_paths.specs.LineDeeds.{is_refused, has_submitted}
-use Rattle.recorded_paths.proofs.Places.{same_self}
-use Rattle.recorded_paths.proofs.Tests.{and_first, and_second}
+use Rattle.recordings.specs.LineDeeds.{is_refused, has_submitted}
+use Rattle.recordings.proofs.Places.{same_self}
+use Rattle.recordings.proofs.Tests.{and_first, and_second}
 use Rattle.recorded_classes.proofs.Later.{path_submits}
 use Rattle.std.specs.List.{list_any}
-use Rattle.recording_lines.specs.declared.recording_line.RecordedActor.{RecordedActor}
-use Rattle.recording_lines.specs.declared.recording_line.RecordedActor.TheVariants.{Job, Round}
-use Rattle.recording_lines.specs.RecordingLine.{RecordedLine}
-use Rattle.recorded_paths.specs.declared.deed.RecordedDeed.{RecordedDeed}
-use Rattle.recorded_paths.specs.declared.deed.RecordedDeed.TheVariants as recorded
-use Rattle.recorded_paths.specs.Act.{submits}
-use Rattle.recorded_paths.specs.Path.{path_of}
+use Rattle.recordings.specs.declared.recording_line.RecordedActor.{RecordedActor}
+use Rattle.recordings.specs.declared.recording_line.RecordedActor.TheVariants.{Job, Round}
+use Rattle.recordings.specs.RecordingLine.{RecordedLine}
+use Rattle.recordings.specs.declared.deed.RecordedDeed.{RecordedDeed}
+use Rattle.recordings.specs.declared.deed.RecordedDeed.TheVariants as recorded
+use Rattle.recordings.specs.Act.{submits}
+use Rattle.recordings.specs.Path.{path_of}
 use Rattle.job_bodies.specs.Plan.{Plan}
 use Rattle.recorded_classes.specs.declared.actor_table.ActorTable.{ActorTable}
 use Rattle.recorded_classes.specs.declared.actor_table.KeptActor.{KeptActor}

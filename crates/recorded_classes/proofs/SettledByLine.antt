@@ -2,10 +2,10 @@
 use Rattle.std.proofs.Common.{◌≡◌, ◌⊎◌, ℕ, true, List, [], ◌∷◌, ◌++◌, is_some, None, sym, ◌∙◌, inl, inr}
 use Rattle.std.specs.List.{list_any}
 use Rattle.std.proofs.lemmas.List.Elements.{All-weaker}
-use Rattle.recording_lines.specs.declared.recording_line.RecordedActor.{RecordedActor}
-use Rattle.recording_lines.specs.RecordingLine.{RecordedLine}
-use Rattle.recorded_rules.specs.LineParts.{is_actor}
-use Rattle.recorded_paths.specs.StandsFor.{KeepsRules}
+use Rattle.recordings.specs.declared.recording_line.RecordedActor.{RecordedActor}
+use Rattle.recordings.specs.RecordingLine.{RecordedLine}
+use Rattle.recordings.specs.LineParts.{is_actor}
+use Rattle.recordings.specs.PathsOfLines.{KeepsRules}
 use Rattle.job_bodies.specs.Plan.{Plan}
 use Rattle.recorded_classes.specs.declared.actor_table.ActorTable.{ActorTable}
 use Rattle.recorded_classes.specs.declared.actor_table.Waiting.{Waiting}
@@ -14,7 +14,7 @@ use Rattle.recorded_classes.specs.declared.settled.Settled.{Settled}
 use Rattle.recorded_classes.specs.Course.{is_through}
 use Rattle.recorded_classes.specs.Classes.{IsSettled}
 use Rattle.recorded_classes.specs.Kept.{in_table}
-use Rattle.recorded_paths.specs.LastLine.{ended_by}
+use Rattle.recordings.specs.LastLine.{ended_by}
 use Rattle.recorded_classes.specs.Changes.{begun_by}
 use Rattle.recorded_classes.specs.Settled.{IsTold, is_told, TellsSettled}
 use Rattle.recorded_classes.specs.StandsFor.{IsKept}

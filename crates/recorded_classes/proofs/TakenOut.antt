@@ -1,17 +1,17 @@
 -- The other actors, after one is removed with the jobs of its path.
 use Rattle.std.proofs.Common.{◌≡◌, ◌⊎◌, ℕ, not, Bool, true, false, if◌then◌else◌, List, is_some, Option, Some, None, sym, subst, ap, ◌∙◌, inl, inr, arith}
 use Rattle.std.specs.List.{list_any}
-use Rattle.recording_lines.specs.declared.recording_line.RecordedActor.{RecordedActor}
-use Rattle.recording_lines.specs.declared.recording_line.RecordedActor.TheVariants.{Job}
-use Rattle.recording_lines.specs.RecordingLine.{RecordedLine}
-use Rattle.recorded_rules.specs.LineParts.{is_same_actor}
-use Rattle.recorded_paths.specs.declared.deed.RecordedDeed.{RecordedDeed}
-use Rattle.recorded_paths.specs.Act.{submits}
-use Rattle.recorded_paths.specs.LineDeeds.{is_refused, has_submitted}
-use Rattle.recorded_paths.specs.Path.{path_of}
-use Rattle.recorded_paths.specs.StandsFor.{KeepsRules}
-use Rattle.recorded_paths.proofs.Tests.{and_first, and_second}
-use Rattle.recorded_paths.proofs.Refusals.{same_actor, one_submitter}
+use Rattle.recordings.specs.declared.recording_line.RecordedActor.{RecordedActor}
+use Rattle.recordings.specs.declared.recording_line.RecordedActor.TheVariants.{Job}
+use Rattle.recordings.specs.RecordingLine.{RecordedLine}
+use Rattle.recordings.specs.LineParts.{is_same_actor}
+use Rattle.recordings.specs.declared.deed.RecordedDeed.{RecordedDeed}
+use Rattle.recordings.specs.Act.{submits}
+use Rattle.recordings.specs.LineDeeds.{is_refused, has_submitted}
+use Rattle.recordings.specs.Path.{path_of}
+use Rattle.recordings.specs.PathsOfLines.{KeepsRules}
+use Rattle.recordings.proofs.Tests.{and_first, and_second}
+use Rattle.recordings.proofs.Refusals.{same_actor, one_submitter}
 use Rattle.job_bodies.specs.Plan.{Plan}
 use Rattle.recorded_classes.specs.declared.actor_table.ActorTable.{ActorTable}
 use Rattle.recorded_classes.specs.declared.actor_table.KeptActor.{KeptActor}

@@ -1,18 +1,18 @@
 -- An ended actor has no further lines, so its path does not change.
 use Rattle.std.proofs.Common.{◌≡◌, ◌||◌, Bool, true, false, if◌then◌else◌, List, [], ◌∷◌, ◌++◌, Option, Some, None, refl, ap, ◌∙◌, arith}
-use Rattle.recording_lines.specs.declared.recording_line.RecordedActor.{RecordedActor}
-use Rattle.recording_lines.specs.declared.recording_line.RecordedActor.TheVariants.{Job, Round}
-use Rattle.recording_lines.specs.RecordingLine.{RecordedLine, Refused}
-use Rattle.recorded_rules.specs.LineParts.{actor_of, is_actor, is_of, finishes_job, ends_round}
-use Rattle.recorded_rules.specs.Before.{is_ended, is_done}
-use Rattle.recorded_rules.specs.Rules.{is_going, is_running}
-use Rattle.recorded_rules.proofs.Appended.{is_ended_more, done_more}
-use Rattle.recorded_paths.specs.Act.{without_submit}
-use Rattle.recorded_paths.specs.Path.{path_of}
-use Rattle.recorded_paths.specs.StandsFor.{KeepsRules}
-use Rattle.recorded_paths.proofs.Tests.{and_second}
-use Rattle.recorded_paths.proofs.ByLast.{keeps_last}
-use Rattle.recorded_paths.proofs.PathAfter.{path_other, path_refused}
+use Rattle.recordings.specs.declared.recording_line.RecordedActor.{RecordedActor}
+use Rattle.recordings.specs.declared.recording_line.RecordedActor.TheVariants.{Job, Round}
+use Rattle.recordings.specs.RecordingLine.{RecordedLine, Refused}
+use Rattle.recordings.specs.LineParts.{actor_of, is_actor, is_of, finishes_job, ends_round}
+use Rattle.recordings.specs.Before.{is_ended, is_done}
+use Rattle.recordings.specs.Rules.{is_going, is_running}
+use Rattle.recordings.proofs.Appended.{is_ended_more, done_more}
+use Rattle.recordings.specs.Act.{without_submit}
+use Rattle.recordings.specs.Path.{path_of}
+use Rattle.recordings.specs.PathsOfLines.{KeepsRules}
+use Rattle.recordings.proofs.Tests.{and_second}
+use Rattle.recordings.proofs.ByLast.{keeps_last}
+use Rattle.recordings.proofs.PathAfter.{path_other, path_refused}
 use Rattle.recorded_classes.specs.Course.{is_through}
 use Rattle.recorded_classes.proofs.Onward.{onward}
 

@@ -1,10 +1,10 @@
 -- The effect of a line on the table of unsettled actors.
 use Rattle.std.specs.Prelude.{◌≡◌, if◌then◌else◌, [], Option, Some, None}
 use Rattle.std.specs.Option.{option_map}
-use Rattle.recording_lines.specs.declared.recording_line.RecordedActor.{RecordedActor}
-use Rattle.recording_lines.specs.declared.recording_line.RecordedActor.TheVariants.{Job, Round}
-use Rattle.recording_lines.specs.RecordingLine.{RecordedLine, RoundBegins, RoundEnds, Submits, Refused, JobEnds, JobThrew}
-use Rattle.recorded_rules.specs.LineParts.{is_same_actor}
+use Rattle.recordings.specs.declared.recording_line.RecordedActor.{RecordedActor}
+use Rattle.recordings.specs.declared.recording_line.RecordedActor.TheVariants.{Job, Round}
+use Rattle.recordings.specs.RecordingLine.{RecordedLine, RoundBegins, RoundEnds, Submits, Refused, JobEnds, JobThrew}
+use Rattle.recordings.specs.LineParts.{is_same_actor}
 use Rattle.recorded_classes.specs.declared.actor_table.ActorTable.{ActorTable}
 use Rattle.recorded_classes.specs.declared.actor_table.KeptActor.{KeptActor}
 use Rattle.recorded_classes.specs.declared.actor_table.Waiting.{Waiting}

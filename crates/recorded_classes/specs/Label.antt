@@ -1,9 +1,9 @@
 -- The labels of jobs and rounds.
 use Rattle.std.specs.Prelude.{◌≡◌, ℕ, ◌==◌, if◌then◌else◌, List, [], Option, Some, None, slice_get}
 use Rattle.std.specs.List.{filter_map}
-use Rattle.recording_lines.specs.declared.recording_line.RecordedActor.{RecordedActor}
-use Rattle.recording_lines.specs.declared.recording_line.RecordedActor.TheVariants.{Job, Round}
-use Rattle.recording_lines.specs.RecordingLine.{RecordedLine, RoundBegins, Submits}
+use Rattle.recordings.specs.declared.recording_line.RecordedActor.{RecordedActor}
+use Rattle.recordings.specs.declared.recording_line.RecordedActor.TheVariants.{Job, Round}
+use Rattle.recordings.specs.RecordingLine.{RecordedLine, RoundBegins, Submits}
 
 -- The class and the pool that the line names, if it submits the job.
 abbrev pub label_in : ℕ → RecordedLine → Option (List ℕ × List ℕ)

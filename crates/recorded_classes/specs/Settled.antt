@@ -2,13 +2,13 @@
 use Rattle.std.specs.Prelude.{◌≡◌, ◌≤◌, ◌↔◌, ◌⊎◌, ℕ, Bool, true, List, ◌++◌, count_by, string_bytes, IsTrue, All}
 use Rattle.std.specs.List.{list_any}
 use Rattle.std.specs.List.Sorted.{IsStrictlyIncreasing}
-use Rattle.recording_lines.specs.declared.recording_line.RecordedActor.{RecordedActor}
-use Rattle.recording_lines.specs.declared.recording_line.RecordedActor.TheVariants.{Job, Round}
-use Rattle.recording_lines.specs.RecordingLine.{RecordedLine}
-use Rattle.recorded_rules.specs.Before.{is_begun}
-use Rattle.recorded_rules.specs.LineParts.{is_same_actor}
-use Rattle.recorded_paths.specs.LineDeeds.{is_submitted}
-use Rattle.recorded_paths.specs.Path.{path_of}
+use Rattle.recordings.specs.declared.recording_line.RecordedActor.{RecordedActor}
+use Rattle.recordings.specs.declared.recording_line.RecordedActor.TheVariants.{Job, Round}
+use Rattle.recordings.specs.RecordingLine.{RecordedLine}
+use Rattle.recordings.specs.Before.{is_begun}
+use Rattle.recordings.specs.LineParts.{is_same_actor}
+use Rattle.recordings.specs.LineDeeds.{is_submitted}
+use Rattle.recordings.specs.Path.{path_of}
 use Rattle.job_bodies.specs.declared.action.Action.{Action}
 use Rattle.job_bodies.specs.Plan.{Plan}
 use Rattle.body_paths.specs.declared.deed.Deed.{Deed}

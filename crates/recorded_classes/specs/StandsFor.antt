@@ -1,13 +1,13 @@
 -- The state of a classifier, as a function of the lines read.
 use Rattle.std.specs.Prelude.{◌≡◌, ◌≤◌, ◌⊎◌, ℕ, true, false, List, length, string_bytes, is_some, Option, Some, None}
 use Rattle.std.specs.List.{list_any}
-use Rattle.recording_lines.specs.declared.recording_line.RecordedActor.{RecordedActor}
-use Rattle.recording_lines.specs.declared.recording_line.RecordedActor.TheVariants.{Job}
-use Rattle.recording_lines.specs.RecordingLine.{RecordedLine}
-use Rattle.recorded_paths.specs.Act.{submits}
-use Rattle.recorded_paths.specs.LineDeeds.{has_submitted, is_refused}
-use Rattle.recorded_paths.specs.Path.{path_of}
-use Rattle.recorded_paths.specs.StandsFor.{is_about, IsPathsOf}
+use Rattle.recordings.specs.declared.recording_line.RecordedActor.{RecordedActor}
+use Rattle.recordings.specs.declared.recording_line.RecordedActor.TheVariants.{Job}
+use Rattle.recordings.specs.RecordingLine.{RecordedLine}
+use Rattle.recordings.specs.Act.{submits}
+use Rattle.recordings.specs.LineDeeds.{has_submitted, is_refused}
+use Rattle.recordings.specs.Path.{path_of}
+use Rattle.recordings.specs.PathsOfLines.{is_about, IsPathsOf}
 use Rattle.job_bodies.specs.Plan.{Plan}
 use Rattle.recorded_classes.specs.declared.actor_table.ActorTable.{ActorTable}
 use Rattle.recorded_classes.specs.declared.actor_table.KeptActor.{KeptActor}

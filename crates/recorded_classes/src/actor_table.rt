@@ -5,13 +5,12 @@ ghost use Rattle.std.specs.List.Sorted.{IsNonDecreasing};
 ghost use Rattle.std.specs.Set.{is_member};
 ghost use Rattle.std.specs.Option.{option_map, option_copied, option_and_then};
 ghost use Rattle.support.specs.Numbered.{value_at, count_of};
-ghost use Rattle.recording_lines.specs.declared.recording_line.RecordedActor.{RecordedActor};
-ghost use Rattle.recorded_rules.specs.LineParts.{is_same_actor};
+ghost use Rattle.recordings.specs.declared.recording_line.RecordedActor.{RecordedActor};
+ghost use Rattle.recordings.specs.LineParts.{is_same_actor};
 ghost use Rattle.recorded_classes.specs.Kept.{in_table, Comes, without_submitter, with_waiting, with_known, is_job};
 ghost use Rattle.recorded_classes.specs.Left.{AreJobsAmong, AreRoundsAmong};
 
-use recorded_paths::RecordedDeed;
-use recording_lines::RecordedActor;
+use recordings::{RecordedActor, RecordedDeed};
 use std::alloc::{AllocError, Global};
 use support::NumberTable;
 

@@ -2,8 +2,8 @@
 
 ghost use Rattle.std.specs.Prelude.{◌≡◌, ◌<◌, ◌++◌, ◌∷◌, [], ℕ, List, None, Some, OnOk, IfOk, is_some, true, MatchOption};
 ghost use Rattle.support.specs.Numbered.{count_of};
-ghost use Rattle.recording_lines.specs.RecordingLine.{RecordedLine, line_seen};
-ghost use Rattle.recorded_paths.specs.StandsFor.{KeepsRules};
+ghost use Rattle.recordings.specs.RecordingLine.{RecordedLine, line_seen};
+ghost use Rattle.recordings.specs.PathsOfLines.{KeepsRules};
 ghost use Rattle.job_bodies.specs.Plan as plans;
 ghost use Rattle.recorded_classes.specs.declared.settled.Settled.{Settled};
 ghost use Rattle.recorded_classes.specs.Budget.{IsEnoughForPlan};
@@ -20,8 +20,7 @@ use crate::job_classes::ClassTable;
 use crate::settled::Settled;
 use body_paths::{Course, Deed};
 use job_bodies::Plan;
-use recorded_paths::Paths;
-use recording_lines::{Line, RecordedActor};
+use recordings::{Line, Paths, RecordedActor};
 use std::alloc::{AllocError, Global};
 
 /// A classifier for the actors of a recording.

@@ -1,7 +1,7 @@
 //! The path of an actor.
 
 use body_paths::Course;
-use recorded_paths::RecordedDeed;
+use recordings::RecordedDeed;
 
 /// The path of an actor, and whether the actor has ended.
 #[derive(Drop)]

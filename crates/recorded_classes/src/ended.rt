@@ -1,10 +1,10 @@
 //! The ends of actors.
 
 ghost use Rattle.std.specs.Prelude.{◌≡◌};
-ghost use Rattle.recording_lines.specs.RecordingLine.{line_seen};
-ghost use Rattle.recorded_paths.specs.LastLine as spec;
+ghost use Rattle.recordings.specs.RecordingLine.{line_seen};
+ghost use Rattle.recordings.specs.LastLine as spec;
 
-use recording_lines::{Line, RecordedActor};
+use recordings::{Line, RecordedActor};
 
 /// Returns the actor that the line ends, if there is one.
 pub(crate) fn ended_by(line: &Line<'_>) -> Option<RecordedActor>

@@ -2,10 +2,10 @@
 
 ghost use Rattle.std.specs.Prelude.{◌≡◌, ◌++◌, ℕ, List, None, OnOk, if◌then◌else◌};
 ghost use Rattle.std.specs.List.Sorted.{IsNonDecreasing};
-ghost use Rattle.recording_lines.specs.RecordingLine.{RecordedLine};
-ghost use Rattle.recording_lines.specs.declared.recording_line.RecordedActor as actors;
-ghost use Rattle.recorded_rules.specs.LineParts.{is_same_actor};
-ghost use Rattle.recorded_paths.specs.StandsFor.{KeepsRules, IsPathsOf};
+ghost use Rattle.recordings.specs.RecordingLine.{RecordedLine};
+ghost use Rattle.recordings.specs.declared.recording_line.RecordedActor as actors;
+ghost use Rattle.recordings.specs.LineParts.{is_same_actor};
+ghost use Rattle.recordings.specs.PathsOfLines.{KeepsRules, IsPathsOf};
 ghost use Rattle.recorded_classes.specs.declared.settled.Settled.{Settled};
 ghost use Rattle.recorded_classes.specs.Kept.{in_table};
 ghost use Rattle.recorded_classes.specs.Left.{IsLeft, AreNoneBelow, AreJobsAmong, AreRoundsAmong, HasNoJobs, HasNoRounds};
@@ -17,7 +17,7 @@ use crate::actor_table::KeptActor;
 use crate::classes::Classes;
 use crate::settled::Settled;
 use job_bodies::Plan;
-use recording_lines::RecordedActor;
+use recordings::RecordedActor;
 use std::alloc::AllocError;
 
 impl Classes {

@@ -1,17 +1,16 @@
 //! The classes of the settled jobs.
 
 ghost use Rattle.std.specs.Prelude.{◌≡◌, ◌≤◌, ◌&&◌, ◌++◌, ◌∷◌, [], ℕ, List, OnOk, IfOk, IsTrue, None, Some, is_some, if◌then◌else◌, ◌==◌, length};
-ghost use Rattle.recording_lines.specs.RecordingLine.{RecordedLine};
-ghost use Rattle.recorded_paths.specs.declared.deed.RecordedDeed.{RecordedDeed};
-ghost use Rattle.recorded_paths.specs.Act.{submits};
+ghost use Rattle.recordings.specs.RecordingLine.{RecordedLine};
+ghost use Rattle.recordings.specs.declared.deed.RecordedDeed.{RecordedDeed};
+ghost use Rattle.recordings.specs.Act.{submits};
 ghost use Rattle.job_bodies.specs.Plan.{Plan};
 ghost use Rattle.recorded_classes.specs.Classes.{AreClassesOf, StandFor};
 ghost use Rattle.recorded_classes.specs.Kept.{Keeps, AreTaken, classes_in, is_settled_deed, AreClassesIn, AreDecidedIn, AreAllIn, AreOnce, AreSettledBefore, IsUnsettledAt};
 
 use body_paths::Deed;
 use plan_families::PathFamily;
-use recorded_paths::RecordedDeed;
-use recording_lines::RecordedActor;
+use recordings::{RecordedActor, RecordedDeed};
 use std::alloc::{AllocError, Global};
 use support::NumberTable;
 

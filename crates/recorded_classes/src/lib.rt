@@ -2,12 +2,12 @@
 //! (`docs/RECORDING.md`).
 //!
 //! A label of a recording may refer to several classes of a plan. A job can belong to each class of
-//! its label's family (`plan_families`) whose body its path matches (`recorded_paths`,
+//! its label's family (`plan_families`) whose body its path matches (`recordings`,
 //! `body_paths`). In that comparison, each job that it submitted may have any class that that job
 //! can belong to. An actor is *settled* once it has ended and all jobs of its path are settled.
 //! Later lines do not change the classes of a settled actor ([`settled_actors_stay`]).
 //!
-//! [`Classes`] reads the lines of a valid recording (`recorded_rules`) in order. For each line it
+//! [`Classes`] reads the lines of a valid recording (`recordings`) in order. For each line it
 //! returns exactly the actors that become settled with it: their label, their path, the exact set
 //! of classes or kinds that they can belong to, and the length of the longest prefix of the path
 //! that a body explains. The set and the length are exact if they were decided within the budget.

@@ -1,8 +1,7 @@
 //! The result of classifying an actor.
 
 use plan_families::PathFamily;
-use recorded_paths::RecordedDeed;
-use recording_lines::RecordedActor;
+use recordings::{RecordedActor, RecordedDeed};
 
 /// A classified actor: its path, and the classes or kinds that it can belong to.
 #[derive(Drop)]
@@ -12,7 +11,7 @@ pub struct Settled {
     pub label: String,
     /// The pool that the job's submit names. It is empty for a round.
     pub pool: String,
-    /// The steps of the actor (`recorded_paths`).
+    /// The steps of the actor (`recordings`).
     pub path: Vec<RecordedDeed>,
     /// The classes that the job can belong to, or the kinds of the round. This is decided only if
     /// the classes of all jobs below are: the jobs that the actor submitted, those that these

@@ -1,9 +1,9 @@
 //! Classification of one actor.
 
 ghost use Rattle.std.specs.Prelude.{◌≡◌, true, List, Some, OnOk, IfOk};
-ghost use Rattle.recording_lines.specs.RecordingLine.{RecordedLine};
-ghost use Rattle.recorded_paths.specs.StandsFor.{IsPathsOf, is_about};
-ghost use Rattle.recorded_paths.specs.Path.{path_of};
+ghost use Rattle.recordings.specs.RecordingLine.{RecordedLine};
+ghost use Rattle.recordings.specs.PathsOfLines.{IsPathsOf, is_about};
+ghost use Rattle.recordings.specs.Path.{path_of};
 ghost use Rattle.recorded_classes.specs.Left.{IsAt, IsDoneBy};
 ghost use Rattle.recorded_classes.specs.Told.{IsFamilyOf, TellsOne};
 
@@ -15,8 +15,7 @@ use crate::settled::Settled;
 use body_paths::{Course, Deed};
 use job_bodies::Plan;
 use plan_families::{PathFamily, classes_of_path, kinds_of_path};
-use recorded_paths::RecordedDeed;
-use recording_lines::RecordedActor;
+use recordings::{RecordedActor, RecordedDeed};
 use std::alloc::{AllocError, Global};
 
 impl Classes {

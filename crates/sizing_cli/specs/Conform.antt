@@ -8,10 +8,10 @@ use Rattle.job_bodies.specs.declared.fault.PlanFault.{PlanFault}
 use Rattle.plan_text.specs.PlanOf.{plan_of}
 use Rattle.support.specs.Name.{head}
 use Rattle.support.specs.declared.number.TheConstants.{BAD_RECORDING}
-use Rattle.recording_lines.specs.RecordingLine.{lines_read}
-use Rattle.recorded_rules.specs.Faults.{IsFirstFault}
-use Rattle.recorded_rules.specs.FaultText.{fault_text}
-use Rattle.recorded_rules.specs.declared.fault.RecordingFault.{RecordingFault}
+use Rattle.recordings.specs.RecordingLine.{lines_read}
+use Rattle.recordings.specs.Faults.{IsFirstFault}
+use Rattle.recordings.specs.FaultText.{fault_text}
+use Rattle.recordings.specs.declared.fault.RecordingFault.{RecordingFault}
 use Rattle.conformance.specs.declared.comparison.Conformance.{Conformance}
 use Rattle.conformance.specs.declared.comparison.Conformance.TheVariants.{Bad, Compared}
 use Rattle.conformance.specs.declared.finding.Finding.{Finding}

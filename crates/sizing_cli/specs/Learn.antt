@@ -4,10 +4,10 @@ use Rattle.std.specs.List.{All, list_any}
 use Rattle.job_bodies.specs.Plan.{Plan}
 use Rattle.plan_text.specs.PlanOf.{plan_of}
 use Rattle.plan_text.specs.PlanDocument.{IsPlanText}
-use Rattle.recording_lines.specs.RecordingLine.{RecordedLine, lines_read}
-use Rattle.recorded_rules.specs.Before.{begins, submits}
-use Rattle.recorded_rules.specs.Faults.{IsFirstFault}
-use Rattle.recorded_rules.specs.declared.fault.RecordingFault.{RecordingFault}
+use Rattle.recordings.specs.RecordingLine.{RecordedLine, lines_read}
+use Rattle.recordings.specs.Before.{begins, submits}
+use Rattle.recordings.specs.Faults.{IsFirstFault}
+use Rattle.recordings.specs.declared.fault.RecordingFault.{RecordingFault}
 use Rattle.conformance.specs.declared.finding.Finding.{Finding}
 use Rattle.conformance.specs.Conforms.{DoAsPlanned}
 use Rattle.conformance.specs.Findings.{AreFindingsOf, is_of_actors}

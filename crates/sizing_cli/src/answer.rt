@@ -13,7 +13,7 @@ use cert_text::CertFault;
 use event_lines::{Reply, push_reply};
 use interleaving::Outcome;
 use job_bodies::{Plan, PlanFault};
-use recorded_rules::RecordingFault;
+use recordings::RecordingFault;
 use std::alloc::{AllocError, Global};
 use std::marker::Model;
 use support::{Counter, Head, number};

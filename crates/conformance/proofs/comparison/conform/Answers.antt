@@ -1,6 +1,6 @@
 use Rattle.std.proofs.Common.{subst}
 use Rattle.std.specs.Prelude.{Result}
-use Rattle.recorded_rules.specs.declared.fault.RecordingFault.{RecordingFault}
+use Rattle.recordings.specs.declared.fault.RecordingFault.{RecordingFault}
 use Rattle.conformance.specs.declared.survey.Survey.{Survey}
 use Rattle.conformance.specs.Survey.{IsSurveyed}
 use Rattle.conformance.proofs.Kept.{keeps_rules}

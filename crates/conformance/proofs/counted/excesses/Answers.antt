@@ -1,5 +1,5 @@
 use Rattle.std.proofs.Common.{◌≡◌, ◌≤◌, ◌∷◌, [], drop, take, length, ap, sym, subst, ◌∙◌, arith}
-use Rattle.recording_lines.specs.RecordingLine.{line_seen}
+use Rattle.recordings.specs.RecordingLine.{line_seen}
 use Rattle.plan_differences.specs.RoundExcesses.{excesses_by_lines}
 use Rattle.conformance.specs.Counted.{IsCountedOf}
 use Rattle.conformance.specs.Lines.{lines_of}

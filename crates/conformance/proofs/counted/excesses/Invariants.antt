@@ -1,5 +1,5 @@
 use Rattle.std.proofs.Common.{◌≡◌, ◌≤◌, ℕ, drop, take, length, List, Option}
-use Rattle.recorded_paths.specs.StandsFor.{KeepsRules}
+use Rattle.recordings.specs.PathsOfLines.{KeepsRules}
 use Rattle.conformance.specs.Counted.{IsCountedOf}
 use Rattle.conformance.specs.Lines.{lines_of}
 use Rattle.conformance.specs.OtherKinds.{AreGiven}

@@ -1,5 +1,5 @@
 use Rattle.std.proofs.Common.{◌≡◌, List, Option, refl, ap, sym, subst, ◌∙◌, rules}
-use Rattle.recorded_paths.specs.declared.deed.RecordedDeed.{RecordedDeed}
+use Rattle.recordings.specs.declared.deed.RecordedDeed.{RecordedDeed}
 use Rattle.conformance.specs.declared.described.JobDeed.{JobDeed}
 use Rattle.conformance.specs.declared.stray.NamedDeed.{NamedDeed}
 use Rattle.conformance.specs.declared.wanted.Wanted.{Wanted}

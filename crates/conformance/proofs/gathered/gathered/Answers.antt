@@ -1,6 +1,6 @@
 use Rattle.std.proofs.Common.{◌++◌, List, map, filter, ap, ◌∙◌}
 use Rattle.plan_differences.specs.declared.round_watch.RoundExcess.{RoundExcess}
-use Rattle.recorded_notes.specs.Voids.{voids_of}
+use Rattle.recordings.specs.Voids.{voids_of}
 use Rattle.conformance.specs.declared.finding.Finding.{Finding}
 use Rattle.conformance.specs.declared.finding.Finding.TheVariants as finding
 use Rattle.conformance.specs.Gathered as made

@@ -1,7 +1,7 @@
 use Rattle.std.proofs.Common.{◌≡◌, ◌∷◌, [], Option, Some, None, sym, subst}
 use Rattle.std.proofs.lemmas.List.{append-nil}
-use Rattle.recorded_notes.specs.declared.foreign_get.ForeignGet.{ForeignGet}
-use Rattle.recorded_notes.specs.ForeignGets.{first_foreign_get}
+use Rattle.recordings.specs.declared.foreign_get.ForeignGet.{ForeignGet}
+use Rattle.recordings.specs.ForeignGets.{first_foreign_get}
 use Rattle.conformance.specs.declared.finding.Finding.TheVariants as finding
 use Rattle.conformance.specs.Gathered as made
 use Rattle.conformance.specs.Lines.{lines_of}

@@ -1,5 +1,5 @@
 use Rattle.std.proofs.Common.{Option, subst}
-use Rattle.recorded_rules.specs.declared.fault.RecordingFault.{RecordingFault}
+use Rattle.recordings.specs.declared.fault.RecordingFault.{RecordingFault}
 use Rattle.conformance.specs.Lines.{lines_of}
 use Rattle.conformance.specs.Survey.{IsThrough}
 use Rattle.conformance.proofs.survey.surveyed.Goals as goal

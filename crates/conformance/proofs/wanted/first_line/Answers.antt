@@ -1,6 +1,6 @@
 use Rattle.std.proofs.Common.{◌≡◌, ◌∷◌, [], drop, refl, ap, sym, ◌∙◌}
 use Rattle.std.specs.List.{list_any}
-use Rattle.recording_lines.specs.RecordingLine.{line_seen}
+use Rattle.recordings.specs.RecordingLine.{line_seen}
 use Rattle.conformance.specs.Lines.{lines_of}
 use Rattle.conformance.specs.Wanted.{is_wanted}
 use Rattle.conformance.proofs.Steps.{next_is, rest_next, within_next, all_taken}

@@ -1,7 +1,7 @@
 use Rattle.std.proofs.Common.{◌≡◌, ◌∷◌, ◌∙◌, true, length, ap, sym, subst, arith, rules}
 use Rattle.std.proofs.lemmas.List.Elements.{All-push}
-use Rattle.recording_lines.specs.RecordingLine.{lines_read, line_read, line_seen}
-use Rattle.recorded_rules.specs.LineParts.{is_begin}
+use Rattle.recordings.specs.RecordingLine.{lines_read, line_read, line_seen}
+use Rattle.recordings.specs.LineParts.{is_begin}
 use Rattle.learned_plans.specs.Counts.{AreOfKinds, BeginsOfKind}
 use Rattle.learned_plans.specs.Kept.{AreCountsOf, kinds_in, names_of}
 use Rattle.learned_plans.proofs.Actors.{begin_actors}

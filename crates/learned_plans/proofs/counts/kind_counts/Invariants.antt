@@ -1,5 +1,5 @@
 use Rattle.std.proofs.Common.{length}
-use Rattle.recording_lines.specs.RecordingLine.{lines_read}
+use Rattle.recordings.specs.RecordingLine.{lines_read}
 use Rattle.learned_plans.specs.Counts.{AreOfKinds}
 use Rattle.learned_plans.specs.Kept.{AreCountsOf, kinds_in, names_of}
 use Rattle.learned_plans.proofs.Rest.{Rest, good}

@@ -1,4 +1,4 @@
-use Rattle.recording_lines.specs.RecordingLine.{line_seen}
+use Rattle.recordings.specs.RecordingLine.{line_seen}
 use Rattle.learned_plans.specs.Kept.{kinds_in}
 use Rattle.learned_plans.proofs.Tallies.{all_counted}
 use Rattle.learned_plans.proofs.counts.note.Goals as goal

@@ -1,6 +1,6 @@
 use Rattle.std.proofs.Common.{◌≡◌, ℕ, List, Some, slice_get, length, take}
 use Rattle.job_bodies.specs.Plan.{Client}
-use Rattle.recording_lines.specs.RecordingLine.{RecordedLine}
+use Rattle.recordings.specs.RecordingLine.{RecordedLine}
 use Rattle.learned_plans.specs.Counts.{IsCounted, Kinds, client_names}
 use Rattle.learned_plans.specs.Kept.{AreCountsOf, names_of}
 use Rattle.learned_plans.proofs.learning.counted_clients.Given as goal

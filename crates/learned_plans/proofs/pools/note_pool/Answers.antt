@@ -1,5 +1,5 @@
 use Rattle.std.proofs.Common.{◌++◌, ◌∷◌, arith}
-use Rattle.recording_lines.specs.RecordingLine.{line_seen}
+use Rattle.recordings.specs.RecordingLine.{line_seen}
 use Rattle.learned_plans.proofs.Firsts.{no_fewer_pools}
 use Rattle.learned_plans.proofs.pools.note_pool.Goals as goal
 

@@ -1,11 +1,11 @@
 use Rattle.std.proofs.Common.{◌≡◌, ◌++◌, ◌∷◌, [], ℕ, List, drop, take, Option, Some, Result, Ok, Err, ap, sym, subst, ◌∙◌}
 use Rattle.std.proofs.lemmas.List.{append_assoc, take-append-drop}
 use Rattle.std.proofs.lemmas.List.Elements.{filter_map-append}
-use Rattle.recording_lines.specs.declared.recording_line.Line.{Line}
-use Rattle.recording_lines.specs.RecordingLine.{RecordedLine, line_seen, lines_read}
-use Rattle.recorded_rules.specs.declared.fault.RecordingFault.{RecordingFault}
-use Rattle.recorded_rules.specs.Faults.{lines_before}
-use Rattle.recorded_rules.specs.RuledLines.{AreAllTaken, IsNext, IsTakenNext}
+use Rattle.recordings.specs.declared.recording_line.Line.{Line}
+use Rattle.recordings.specs.RecordingLine.{RecordedLine, line_seen, lines_read}
+use Rattle.recordings.specs.declared.fault.RecordingFault.{RecordingFault}
+use Rattle.recordings.specs.Faults.{lines_before}
+use Rattle.recordings.specs.RuledLines.{AreAllTaken, IsNext, IsTakenNext}
 use Rattle.learned_plans.specs.Kept.{AreNamesOf, AreWorkingOf, IsStop}
 use Rattle.learned_plans.specs.LabelRounds.{AreLabelRoundsOf}
 use Rattle.learned_plans.specs.Named.{good}

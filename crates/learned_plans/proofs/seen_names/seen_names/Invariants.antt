@@ -1,6 +1,6 @@
-use Rattle.recording_lines.specs.RecordingLine.{lines_read}
-use Rattle.recorded_rules.specs.Faults.{lines_before}
-use Rattle.recorded_rules.specs.RuledLines.{IsRuled, lines_left}
+use Rattle.recordings.specs.RecordingLine.{lines_read}
+use Rattle.recordings.specs.Faults.{lines_before}
+use Rattle.recordings.specs.RuledLines.{IsRuled, lines_left}
 use Rattle.learned_plans.specs.Kept.{AreNamesOf, AreWorkingOf}
 use Rattle.learned_plans.specs.LabelRounds.{AreLabelRoundsOf}
 use Rattle.learned_plans.specs.Named.{good}

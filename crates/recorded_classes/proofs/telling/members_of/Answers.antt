@@ -1,5 +1,5 @@
 use Rattle.std.proofs.Common.{sym, subst}
-use Rattle.recording_lines.specs.declared.recording_line.RecordedActor.{RecordedActor}
+use Rattle.recordings.specs.declared.recording_line.RecordedActor.{RecordedActor}
 use Rattle.plan_families.specs.declared.path_family.PathFamily.{PathFamily}
 use Rattle.recorded_classes.specs.Told.{IsFamilyOf}
 use Rattle.recorded_classes.proofs.Enough.{enough_for_classes, enough_for_clients, all_four}

@@ -1,6 +1,6 @@
 use Rattle.std.proofs.Common.{◌≡◌, inl, inr, refl, subst, None}
-use Rattle.recording_lines.specs.RecordingLine.{lines_read}
-use Rattle.recorded_rules.specs.Faults.{IsFirstFault}
+use Rattle.recordings.specs.RecordingLine.{lines_read}
+use Rattle.recordings.specs.Faults.{IsFirstFault}
 use Rattle.learned_plans.specs.declared.learned.Learned.{Learned}
 use Rattle.learned_plans.specs.declared.too_much.TooMuch.TheVariants.{Paths}
 use Rattle.learned_plans.specs.Learned.{fault_of}

@@ -1,4 +1,4 @@
-use Rattle.recording_lines.specs.RecordingLine.{line_seen}
+use Rattle.recordings.specs.RecordingLine.{line_seen}
 use Rattle.conformance.proofs.VerdictsAfter.{on_both}
 use Rattle.conformance.proofs.WatchedAfter.{excesses_after}
 use Rattle.conformance.proofs.counted.Counted.take.Goals as goal

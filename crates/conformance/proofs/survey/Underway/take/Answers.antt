@@ -1,5 +1,5 @@
 use Rattle.conformance.proofs.CountedAfter.{next_counted}
-use Rattle.recording_lines.specs.RecordingLine.{line_seen}
+use Rattle.recordings.specs.RecordingLine.{line_seen}
 use Rattle.conformance.proofs.survey.Underway.take.Goals as goal
 
 pub returns : goal.returns

@@ -1,10 +1,10 @@
 use Rattle.std.proofs.Common.{◌≡◌, ◌+◌, ◌++◌, ◌∷◌, [], ℕ, List, length, Option, Some, Result, Ok, Err, ap, sym, subst, ◌∙◌}
-use Rattle.recording_lines.specs.declared.recording_line.Line.{Line}
-use Rattle.recording_lines.specs.RecordingLine.{RecordedLine, line_seen, lines_read}
-use Rattle.recorded_rules.specs.declared.fault.RecordingFault.{RecordingFault}
-use Rattle.recorded_rules.specs.Faults.{lines_before}
-use Rattle.recorded_rules.specs.RuledLines.{AreUnbroken, AreAllTaken, IsNext, IsTakenNext}
-use Rattle.recorded_paths.specs.StandsFor.{KeepsRules}
+use Rattle.recordings.specs.declared.recording_line.Line.{Line}
+use Rattle.recordings.specs.RecordingLine.{RecordedLine, line_seen, lines_read}
+use Rattle.recordings.specs.declared.fault.RecordingFault.{RecordingFault}
+use Rattle.recordings.specs.Faults.{lines_before}
+use Rattle.recordings.specs.RuledLines.{AreUnbroken, AreAllTaken, IsNext, IsTakenNext}
+use Rattle.recordings.specs.PathsOfLines.{KeepsRules}
 use Rattle.conformance.specs.Lines.{lines_of}
 use Rattle.conformance.specs.Survey.{IsUnderway}
 use Rattle.conformance.proofs.survey.Underway.take_all.Goals as goal

@@ -1,7 +1,7 @@
 use Rattle.std.proofs.Common.{[], ℕ}
-use Rattle.recording_lines.specs.RecordingLine.{lines_read}
-use Rattle.recorded_rules.specs.Faults.{lines_before}
-use Rattle.recorded_rules.specs.RuledLines.{IsRuled, lines_left}
+use Rattle.recordings.specs.RecordingLine.{lines_read}
+use Rattle.recordings.specs.Faults.{lines_before}
+use Rattle.recordings.specs.RuledLines.{IsRuled, lines_left}
 use Rattle.conformance.specs.Survey as spec
 use Rattle.conformance.proofs.survey.Underway.take_all.Given as goal
 

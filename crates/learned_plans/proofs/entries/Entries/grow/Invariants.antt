@@ -1,5 +1,5 @@
 use Rattle.std.proofs.Common.{List}
-use Rattle.recording_lines.specs.RecordingLine.{RecordedLine}
+use Rattle.recordings.specs.RecordingLine.{RecordedLine}
 use Rattle.learned_plans.specs.declared.too_much.TooMuch.{TooMuch}
 use Rattle.learned_plans.specs.Kept.{AreEntriesOf}
 use Rattle.learned_plans.proofs.entries.Entries.grow.Given as goal

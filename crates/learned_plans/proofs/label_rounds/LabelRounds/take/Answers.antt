@@ -1,6 +1,6 @@
 use Rattle.std.proofs.Common.{◌≡◌, ◌++◌, ◌∷◌, ap, refl, rules, arith}
 use Rattle.std.proofs.lemmas.List.Elements.{Contains-append_right}
-use Rattle.recording_lines.specs.RecordingLine.{RoundBegins, RoundEnds, line_seen}
+use Rattle.recordings.specs.RecordingLine.{RoundBegins, RoundEnds, line_seen}
 use Rattle.learned_plans.proofs.Actors.{end_begun}
 use Rattle.learned_plans.proofs.LabelRounds.{other_after}
 use Rattle.learned_plans.proofs.label_rounds.LabelRounds.take.Goals as goal

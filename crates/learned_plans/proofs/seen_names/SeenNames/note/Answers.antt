@@ -3,7 +3,7 @@ use Rattle.std.specs.List.{Contains}
 use Rattle.std.proofs.lemmas.List.Elements.{Contains-append_right}
 use Rattle.job_bodies.specs.declared.limits.TheConstants.{MAX_POOLS}
 use Rattle.job_bodies.specs.Plan.{Pool}
-use Rattle.recording_lines.specs.RecordingLine.{line_seen}
+use Rattle.recordings.specs.RecordingLine.{line_seen}
 use Rattle.learned_plans.specs.Kept.{AreFirstPools, AreWorkingOf}
 use Rattle.learned_plans.specs.LabelRounds.{AreLabelRoundsOf}
 use Rattle.learned_plans.proofs.Entered.{still_stops}

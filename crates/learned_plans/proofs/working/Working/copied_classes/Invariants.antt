@@ -1,6 +1,6 @@
 use Rattle.std.proofs.Common.{List}
 use Rattle.std.specs.List.{All}
-use Rattle.recording_lines.specs.RecordingLine.{RecordedLine}
+use Rattle.recordings.specs.RecordingLine.{RecordedLine}
 use Rattle.learned_plans.specs.Kept.{AreWorkingOf}
 use Rattle.learned_plans.specs.Names.{IsNamedClass}
 use Rattle.learned_plans.proofs.working.Working.copied_classes.Given as goal

@@ -1,6 +1,6 @@
 use Rattle.std.proofs.Common.{ap, sym, subst}
 use Rattle.std.specs.List.{Contains}
-use Rattle.recording_lines.specs.RecordingLine.{line_seen}
+use Rattle.recordings.specs.RecordingLine.{line_seen}
 use Rattle.learned_plans.specs.declared.too_much.TooMuch.TheVariants.{Classes, Kinds}
 use Rattle.learned_plans.proofs.Entered.{on_ok, job_given}
 use Rattle.learned_plans.proofs.working.Working.note.Goals as goal

@@ -3,7 +3,7 @@ use Rattle.std.proofs.lemmas.List.{get_or_read}
 use Rattle.std.proofs.lemmas.Result.{on_ok_weaker}
 use Rattle.job_bodies.specs.Plan as plans
 use Rattle.job_bodies.specs.Plan.{Plan, pool_at, no_pool}
-use Rattle.recording_lines.specs.declared.pool_sizes.PoolSizes.{PoolSizes}
+use Rattle.recordings.specs.declared.pool_sizes.PoolSizes.{PoolSizes}
 use Rattle.plan_differences.specs.declared.difference.Difference.{Difference}
 use Rattle.plan_differences.specs.Sizes.{differences}
 use Rattle.plan_differences.specs.PoolDeviations.{Differs, untold, deviations_of_pool}

@@ -1,6 +1,6 @@
 use Rattle.std.proofs.Common.{subst}
 use Rattle.std.proofs.lemmas.Result.{on_ok_weaker}
-use Rattle.recording_lines.specs.RecordingLine.{line_seen}
+use Rattle.recordings.specs.RecordingLine.{line_seen}
 use Rattle.plan_differences.specs.PoolWatch.{Adds}
 use Rattle.plan_differences.proofs.WatchAfter.{pools_after, pools_told}
 use Rattle.plan_differences.proofs.pool_watch.PoolWatch.take.Goals as goal

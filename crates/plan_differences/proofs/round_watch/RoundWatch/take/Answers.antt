@@ -1,6 +1,6 @@
 use Rattle.std.proofs.Common.{◌++◌, ap, ◌∙◌}
 use Rattle.std.proofs.lemmas.Result.{on_ok_weaker}
-use Rattle.recording_lines.specs.RecordingLine.{line_seen}
+use Rattle.recordings.specs.RecordingLine.{line_seen}
 use Rattle.plan_differences.proofs.WatchAfter.{rounds_after, rounds_told}
 use Rattle.plan_differences.proofs.round_watch.RoundWatch.take.Goals as goal
 

@@ -1,6 +1,6 @@
 use Rattle.std.proofs.Common.{ap, is_some, sym, subst}
 use Rattle.std.proofs.lemmas.Result.{on_ok_weaker}
-use Rattle.recorded_paths.proofs.Refusals.{same_actor}
+use Rattle.recordings.proofs.Refusals.{same_actor}
 use Rattle.recorded_classes.specs.declared.actor_table.ActorTable.{ActorTable}
 use Rattle.recorded_classes.specs.Left.{IsLeft}
 use Rattle.recorded_classes.specs.Settled.{IsTold}

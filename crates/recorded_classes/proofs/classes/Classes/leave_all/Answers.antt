@@ -1,7 +1,7 @@
 use Rattle.std.proofs.Common.{sym, subst}
 use Rattle.std.proofs.lemmas.Result.{on_ok_weaker}
-use Rattle.recorded_paths.specs.declared.paths.Paths.{Paths}
-use Rattle.recorded_paths.specs.StandsFor.{IsPathsOf}
+use Rattle.recordings.specs.declared.paths.Paths.{Paths}
+use Rattle.recordings.specs.PathsOfLines.{IsPathsOf}
 use Rattle.recorded_classes.specs.Left.{IsLeft}
 use Rattle.recorded_classes.specs.Settled.{IsTold}
 use Rattle.recorded_classes.proofs.LeftNumbers.{nobody}

@@ -1,7 +1,7 @@
 use Rattle.std.proofs.Common.{ℕ, List, refl, sym, subst, ◌∙◌}
 use Rattle.std.specs.List.Sorted.{IsNonDecreasing}
-use Rattle.recorded_paths.specs.declared.paths.Paths.{Paths}
-use Rattle.recorded_paths.specs.StandsFor.{IsPathsOf}
+use Rattle.recordings.specs.declared.paths.Paths.{Paths}
+use Rattle.recordings.specs.PathsOfLines.{IsPathsOf}
 use Rattle.recorded_classes.specs.Left.{IsLeft, AreJobsAmong}
 use Rattle.recorded_classes.specs.Settled.{IsTold}
 use Rattle.recorded_classes.proofs.LeftNumbers.{sorted_front, none_below, jobs_among}

@@ -1,6 +1,6 @@
 use Rattle.std.proofs.Common.{ℕ, List, refl, sym, subst, ◌∙◌}
-use Rattle.recorded_paths.specs.declared.paths.Paths.{Paths}
-use Rattle.recorded_paths.specs.StandsFor.{IsPathsOf}
+use Rattle.recordings.specs.declared.paths.Paths.{Paths}
+use Rattle.recordings.specs.PathsOfLines.{IsPathsOf}
 use Rattle.recorded_classes.specs.Left.{IsLeft, AreRoundsAmong}
 use Rattle.recorded_classes.specs.Settled.{IsTold}
 use Rattle.recorded_classes.proofs.LeftNumbers.{rounds_among, jobs_still_none}

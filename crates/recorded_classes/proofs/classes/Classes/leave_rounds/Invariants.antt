@@ -1,6 +1,6 @@
 use Rattle.std.proofs.Common.{◌≡◌, List, length}
-use Rattle.recording_lines.specs.RecordingLine.{RecordedLine}
-use Rattle.recorded_paths.specs.StandsFor.{KeepsRules, IsPathsOf}
+use Rattle.recordings.specs.RecordingLine.{RecordedLine}
+use Rattle.recordings.specs.PathsOfLines.{KeepsRules, IsPathsOf}
 use Rattle.recorded_classes.specs.Left.{IsLeft, AreRoundsAmong, HasNoJobs}
 use Rattle.recorded_classes.specs.Settled.{IsTold}
 use Rattle.recorded_classes.specs.Told.{TellsTaken}

@@ -1,5 +1,5 @@
 use Rattle.std.proofs.Common.{ℕ, Option, Some, None, refl, subst, ◌∙◌}
-use Rattle.recording_lines.specs.declared.recording_line.RecordedActor.{RecordedActor}
+use Rattle.recordings.specs.declared.recording_line.RecordedActor.{RecordedActor}
 use Rattle.recorded_classes.specs.Budget.{IsEnoughForPlan}
 use Rattle.recorded_classes.specs.Told.{IsStep, IsSettledTold}
 use Rattle.recorded_classes.proofs.Steps.{step_then}

@@ -1,7 +1,7 @@
 use Rattle.std.proofs.Common.{◌≡◌, List, Some}
 use Rattle.support.specs.Numbered.{count_of}
-use Rattle.recording_lines.specs.RecordingLine.{RecordedLine}
-use Rattle.recorded_paths.specs.StandsFor.{KeepsRules}
+use Rattle.recordings.specs.RecordingLine.{RecordedLine}
+use Rattle.recordings.specs.PathsOfLines.{KeepsRules}
 use Rattle.recorded_classes.specs.Budget.{IsEnoughForPlan}
 use Rattle.recorded_classes.specs.Kept.{AreDecidedIn}
 use Rattle.recorded_classes.specs.StandsFor.{IsKept}

@@ -1,5 +1,5 @@
 use Rattle.std.proofs.lemmas.Result.{on_ok_weaker}
-use Rattle.recording_lines.specs.RecordingLine.{line_seen}
+use Rattle.recordings.specs.RecordingLine.{line_seen}
 use Rattle.recorded_classes.proofs.AllTold.{told_more}
 use Rattle.recorded_classes.proofs.classes.Classes.take.Goals as goal
 

@@ -1,7 +1,7 @@
 use Rattle.std.proofs.Common.{◌≡◌, ◌&&◌, true, List, sym, subst, ◌∙◌}
 use Rattle.std.specs.Prelude.{string_bytes}
-use Rattle.recorded_paths.specs.declared.deed.RecordedDeed.{RecordedDeed}
-use Rattle.recorded_paths.proofs.Tests.{and_first, and_second}
+use Rattle.recordings.specs.declared.deed.RecordedDeed.{RecordedDeed}
+use Rattle.recordings.proofs.Tests.{and_first, and_second}
 use Rattle.plan_families.specs.declared.path_family.PathFamily.{PathFamily}
 use Rattle.recorded_classes.specs.Classes.{StandFor}
 use Rattle.recorded_classes.specs.Kept.{AreAllIn, AreOnce, AreTaken}

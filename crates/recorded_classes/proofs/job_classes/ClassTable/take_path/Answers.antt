@@ -1,8 +1,8 @@
 use Rattle.std.proofs.Common.{◌≡◌, ◌&&◌, List, [], take, true, refl, sym, subst, ◌∙◌}
 use Rattle.std.proofs.lemmas.List.{take_more, take_all}
-use Rattle.recorded_paths.specs.declared.deed.RecordedDeed.{RecordedDeed}
-use Rattle.recorded_paths.specs.declared.deed.RecordedDeed.TheVariants as recorded
-use Rattle.recorded_paths.proofs.Tests.{and_first, and_second}
+use Rattle.recordings.specs.declared.deed.RecordedDeed.{RecordedDeed}
+use Rattle.recordings.specs.declared.deed.RecordedDeed.TheVariants as recorded
+use Rattle.recordings.proofs.Tests.{and_first, and_second}
 use Rattle.body_paths.specs.declared.deed.Deed.{Deed}
 use Rattle.recorded_classes.specs.Classes.{StandFor, none}
 use Rattle.recorded_classes.specs.Kept.{AreTaken}

@@ -1,5 +1,5 @@
 use Rattle.std.proofs.Common.{List, IsTrue, take}
-use Rattle.recording_lines.specs.RecordingLine.{RecordedLine}
+use Rattle.recordings.specs.RecordingLine.{RecordedLine}
 use Rattle.job_bodies.specs.Plan.{Plan}
 use Rattle.recorded_classes.specs.Classes.{StandFor}
 use Rattle.recorded_classes.specs.Kept.{AreClassesIn, AreDecidedIn, AreAllIn, AreOnce, AreTaken}

@@ -1,9 +1,0 @@
-use Rattle.std.proofs.Common.{refl, None}
-use Rattle.recorded_notes.specs.declared.notes.RecordedNotes.{RecordedNotes}
-use Rattle.recorded_notes.proofs.NotesBehind.{notes_none}
-use Rattle.recorded_notes.proofs.notes.RecordedNotes.new.Goals as goal
-
-pub returns : goal.returns
-returns c =
-    let notes : RecordedNotes = record { voids = c.new.result; ungot = c.new-2.result; foreign = None } in
-    notes_none notes c.new.ensures refl c.new-2.ensures

@@ -1,6 +1,0 @@
-pub mod Voids
-pub mod ForeignGets
-pub mod VoidText
-pub mod Noted
-pub mod Ungot
-pub mod StandsFor

@@ -1,7 +1,0 @@
-pub mod Act
-pub mod LineDeeds
-pub mod Path
-pub mod Kept
-pub mod StandsFor
-pub mod Changes
-pub mod LastLine

@@ -1,9 +1,0 @@
--- The names of the pools that have a line.
-use Rattle.std.specs.Prelude.{ℕ, ◌||◌, Bool, List}
-use Rattle.std.specs.HashSet.{contains_text}
-use Rattle.support.specs.Numbered.{value_at}
-use Rattle.recorded_rules.specs.declared.pools.Pools.{Pools}
-use Rattle.recorded_rules.specs.PoolNames.{number_of, is_name}
-
-abbrev pub has_name : Pools → List ℕ → Bool
-has_name pools name = is_name name (value_at pools.firsts (number_of name)) || contains_text pools.others name

@@ -1,6 +1,0 @@
-pub mod Words
-pub mod PoolSizes
-pub mod WholeLines
-pub mod RecordingLine
-pub mod LineText
-pub mod Laws

@@ -1,0 +1,130 @@
+-- Lines that are parsed from left to right up to their newline.
+use Rattle.std.proofs.Common.{◌≡◌, inl, inr, ℕ, suc, ◌+◌, ◌-◌, ◌*◌, ◌^◌, ◌<◌, ◌≤◌, true, false, ◌==◌, List, [], ◌∷◌, ◌++◌, length, take, drop, get_or, map, codes, decimal, Option, Some, refl, sym, ap, ap₂, ◌∙◌, arith, append_assoc, take-append-drop}
+use Rattle.std.specs.Char.{is_ascii_digit}
+use Rattle.std.specs.List.{list_all}
+use Rattle.std.specs.Str.Parse.{digits_value}
+use Rattle.std.proofs.Math.Nat.{pow-le-pow_right, pow-succ'}
+use Rattle.std.proofs.lemmas.Bool.{and_from, cases_lt}
+use Rattle.std.proofs.lemmas.Bool.Decides.{nat_tests}
+use Rattle.std.proofs.lemmas.List.{get_or-take, length-take-le, take_rest}
+use Rattle.std.proofs.lemmas.Slice.Eq.{HasBytesAt}
+use Rattle.job_bodies.specs.WellFormed.{is_name_byte, is_lawful_name}
+use Rattle.job_bodies.specs.declared.limits.TheConstants.{MAX_LINE_NUMBER, MAX_NAME_BYTES}
+use Rattle.line_words.specs.Number.{is_lawful_number, is_whole_number, number_of}
+use Rattle.line_words.proofs.Splits.{has_no, has_no-append}
+use Rattle.line_words.proofs.WrittenNumbers.{number_read, decimal_has_no}
+use Rattle.recordings.specs.declared.recording_line.RecordedActor.{RecordedActor}
+use Rattle.recordings.specs.declared.recording_line.RecordedActor.TheVariants.{Job, Round}
+use Rattle.recordings.specs.RecordingLine.{RecordedLine, RoundBegins, RoundEnds, Submits, JobStarts, JobEnds, Got, line_of, lines_read}
+use Rattle.recordings.specs.LineText.{behind_actor, line_text, is_lawful_actor, is_lawful_line}
+use Rattle.recordings.proofs.Names.{name_has_no}
+use Rattle.recordings.proofs.LineByLine.{whole_first}
+use Rattle.recordings.proofs.WrittenActs.{behind_is}
+use Rattle.recordings.proofs.WrittenLines.{canonical}
+
+-- ---- the bytes at the start of a text
+one_further : (b : ℕ) (text bytes : List ℕ) (i : ℕ) → HasBytesAt (b ∷ text) (suc i) bytes → HasBytesAt text i bytes
+one_further b text [] i there = tt
+one_further b text (c ∷ bytes) i there = (there.0, one_further b text bytes (suc i) there.1)
+
+at_front : (bytes text : List ℕ) → length bytes ≤ length text → HasBytesAt text 0 bytes → text ≡ bytes ++ drop (length bytes) text
+at_front [] text long there = refl
+at_front (c ∷ bytes) [] long there = absurd (omega arith)
+at_front (c ∷ bytes) (b ∷ text) long there = ap₂ (λ (x : ℕ) (xs : List ℕ). x ∷ xs) there.0 (at_front bytes text (omega arith) (one_further b text bytes 0 there.1))
+
+pub begins_with : (text bytes : List ℕ) → length bytes ≤ length text → HasBytesAt text 0 bytes → text ≡ bytes ++ take (length text - length bytes) (drop (length bytes) text)
+begins_with text bytes long there = at_front bytes text long there ∙ ap (λ (rest : List ℕ). bytes ++ rest) (sym (take_rest text (length bytes)))
+
+-- ---- the first line of a text
+ends_at : (actor : RecordedActor) (words behind : List ℕ) → behind_actor actor (words ++ behind) ≡ behind_actor actor words ++ behind
+ends_at (Job n) words behind = ap (λ (t : List ℕ). codes "job" ++ 32 ∷ t) (sym (append_assoc (decimal n) (32 ∷ words) behind))
+ends_at (Round n) words behind = ap (λ (t : List ℕ). codes "round" ++ 32 ∷ t) (sym (append_assoc (decimal n) (32 ∷ words) behind))
+
+on_one_line : (actor : RecordedActor) (words : List ℕ) → is_lawful_actor actor ≡ true → has_no 10 words ≡ true → has_no 10 (behind_actor actor words) ≡ true
+on_one_line (Job n) words lawful none = has_no-append 10 (decimal n) (32 ∷ words) (decimal_has_no 10 n (omega arith) lawful) none
+on_one_line (Round n) words lawful none = has_no-append 10 (decimal n) (32 ∷ words) (decimal_has_no 10 n (omega arith) lawful) none
+
+-- the line of an actor, from the words after its number
+first_read : (actor : RecordedActor) (words said behind : List ℕ) (line : RecordedLine) → is_lawful_actor actor ≡ true → is_lawful_line line ≡ true → line_text line ≡ behind_actor actor said → has_no 10 said ≡ true
+    → words ≡ said ++ 10 ∷ behind → lines_read (behind_actor actor words) ≡ Some line ∷ lines_read behind
+first_read actor words said behind line whose lawful written none is =
+    let whole : behind_actor actor words ≡ line_text line ++ 10 ∷ behind =
+    ap (behind_actor actor) is ∙ ends_at actor said (10 ∷ behind) ∙ ap (λ (t : List ℕ). t ++ 10 ∷ behind) (sym written)
+    in
+    let first = whole_first (line_text line) behind (ap (has_no 10) written ∙ on_one_line actor said whose none) in
+    ap lines_read whole ∙ ap (map line_of) first ∙ ap (λ (l : Option RecordedLine). l ∷ lines_read behind) ((canonical (line_text line) line).1 (lawful, refl))
+
+pub job_starts : (job : ℕ) (words behind : List ℕ) → is_lawful_number job ≡ true → words ≡ codes "start" ++ 10 ∷ behind → lines_read (behind_actor (Job job) words) ≡ Some (JobStarts job) ∷ lines_read behind
+job_starts job words behind lawful is = first_read (Job job) words (codes "start") behind (JobStarts job) lawful lawful refl refl is
+
+pub job_ends : (job : ℕ) (words behind : List ℕ) → is_lawful_number job ≡ true → words ≡ codes "end" ++ 10 ∷ behind → lines_read (behind_actor (Job job) words) ≡ Some (JobEnds job) ∷ lines_read behind
+job_ends job words behind lawful is = first_read (Job job) words (codes "end") behind (JobEnds job) lawful lawful refl refl is
+
+pub round_ends : (round : ℕ) (words behind : List ℕ) → is_lawful_number round ≡ true → words ≡ codes "end" ++ 10 ∷ behind → lines_read (behind_actor (Round round) words) ≡ Some (RoundEnds round) ∷ lines_read behind
+round_ends round words behind lawful is = first_read (Round round) words (codes "end") behind (RoundEnds round) lawful lawful refl refl is
+
+pub round_begins : (round : ℕ) (words rest kind behind : List ℕ) → is_lawful_number round ≡ true → words ≡ codes "begin" ++ 32 ∷ rest → is_lawful_name kind ≡ true → rest ≡ kind ++ 10 ∷ behind
+    → lines_read (behind_actor (Round round) words) ≡ Some (RoundBegins round kind) ∷ lines_read behind
+round_begins round words rest kind behind lawful is name split =
+    first_read (Round round) words (codes "begin" ++ 32 ∷ kind) behind (RoundBegins round kind) lawful (and_from _ _ lawful name) refl (name_has_no 10 kind (omega arith) name)
+    (is ∙ ap (λ (t : List ℕ). codes "begin" ++ 32 ∷ t) split)
+
+pub got : (actor : RecordedActor) (words rest : List ℕ) (job : ℕ) (behind : List ℕ) → is_lawful_actor actor ≡ true → words ≡ codes "got" ++ 32 ∷ rest → is_lawful_number job ≡ true → rest ≡ decimal job ++ 10 ∷ behind
+    → lines_read (behind_actor actor words) ≡ Some (Got actor job) ∷ lines_read behind
+got actor words rest job behind whose is lawful split =
+    first_read actor words (codes "got" ++ 32 ∷ decimal job) behind (Got actor job) whose (and_from _ _ whose lawful) (sym (behind_is actor (codes "got") (decimal job ∷ []))) (decimal_has_no 10 job (omega arith) lawful)
+    (is ∙ ap (λ (t : List ℕ). codes "got" ++ 32 ∷ t) split)
+
+pub submits : (actor : RecordedActor) (words : List ℕ) (job : ℕ) (second class third pool behind : List ℕ) → is_lawful_actor actor ≡ true → (is_lawful_number job ≡ true) × (words ≡ decimal job ++ 32 ∷ second)
+    → (is_lawful_name class ≡ true) × (second ≡ class ++ 32 ∷ third) → (is_lawful_name pool ≡ true) × (third ≡ pool ++ 10 ∷ behind)
+    → lines_read (behind_actor actor (codes "submit" ++ 32 ∷ words)) ≡ Some (Submits actor job class pool) ∷ lines_read behind
+submits actor words job second class third pool behind whose number label name =
+    let names : List ℕ = class ++ 32 ∷ pool in
+    let plain : has_no 10 names ≡ true = has_no-append 10 class (32 ∷ pool) (name_has_no 10 class (omega arith) label.0) (name_has_no 10 pool (omega arith) name.0) in
+    let whole : words ≡ (decimal job ++ 32 ∷ names) ++ 10 ∷ behind =
+    number.1
+    ∙ ap (λ (t : List ℕ). decimal job ++ 32 ∷ t) (label.1 ∙ ap (λ (t : List ℕ). class ++ 32 ∷ t) name.1 ∙ sym (append_assoc class (32 ∷ pool) (10 ∷ behind)))
+    ∙ sym (append_assoc (decimal job) (32 ∷ names) (10 ∷ behind))
+    in
+    first_read actor (codes "submit" ++ 32 ∷ words) (codes "submit" ++ 32 ∷ (decimal job ++ 32 ∷ names)) behind (Submits actor job class pool) whose
+    (and_from _ _ (and_from _ _ (and_from _ _ whose number.0) label.0) name.0)
+    (sym (behind_is actor (codes "submit") (decimal job ∷ class ∷ pool ∷ [])))
+    (has_no-append 10 (decimal job) (32 ∷ names) (decimal_has_no 10 job (omega arith) number.0) plain)
+    (ap (λ (t : List ℕ). codes "submit" ++ 32 ∷ t) whole)
+
+-- ---- numbers
+-- a byte with a value of at most 9 is a digit
+pub one_digit : (byte digit : ℕ) → (48 ≤ byte → digit + 48 ≡ byte) → (byte < 48 → 9 < digit) → digit ≤ 9 → (is_ascii_digit byte ≡ true) × (digit ≡ byte - 48)
+one_digit byte digit same other small =
+    elim (cases_lt byte 48) [
+      | inl below ↦ absurd (omega (arith, other below))
+      | inr from ↦ let is : digit + 48 ≡ byte = same from in (grind (arith, nat_tests), omega (arith, is))
+    ]
+
+-- after one more digit, the value is below the next power of ten
+pub power_more : (n digit i : ℕ) → n < 10 ^ i → digit ≤ 9 → n * 10 + digit < 10 ^ (i + 1)
+power_more n digit i small low =
+    let next : i + 1 ≡ suc i = omega arith in
+    let more : 10 ^ (i + 1) ≡ 10 * 10 ^ i = ap (λ k. 10 ^ k) next ∙ pow-succ' 10 i in
+    omega (arith, more)
+
+whole_number : (digits : List ℕ) (n : ℕ) → 0 < length digits → (get_or digits 0 0 == 48) ≡ false → list_all is_ascii_digit digits ≡ true → n ≡ digits_value 10 digits → n ≤ MAX_LINE_NUMBER → number_of digits ≡ Some n
+unfolding number_of is_whole_number
+whole_number digits n some first all e within = rw (all, ← e) (grind (arith, nat_tests))
+
+-- a number of `count` digits, of which the first is not 0, followed by a byte
+pub number_there : (text : List ℕ) (count n end : ℕ) (behind : List ℕ) → 1 ≤ count → count ≤ length text → count ≤ 9 → (get_or text 0 0 == 48) ≡ false → list_all is_ascii_digit (take count text) ≡ true
+    → n ≡ digits_value 10 (take count text) → n < 10 ^ count → drop count text ≡ end ∷ behind → (is_lawful_number n ≡ true) × (text ≡ decimal n ++ end ∷ behind)
+number_there text count n end behind some inside few first digits e small rest =
+    let most : 10 ^ count ≤ 10 ^ 9 = pow-le-pow_right (omega arith) few in
+    let long : length (take count text) ≡ count = length-take-le count text inside in
+    let same : get_or (take count text) 0 0 ≡ get_or text 0 0 = get_or-take count text 0 0 (omega arith) in
+    let number = number_read (take count text) n (whole_number (take count text) n (omega (arith, long)) (ap (λ b. b == 48) same ∙ first) digits e (omega (arith, most, small))) in
+    (number.0, sym (take-append-drop count text) ∙ ap₂ (λ (x y : List ℕ). x ++ y) number.1 rest)
+
+-- ---- names
+pub name_there : (text name behind : List ℕ) (count end : ℕ) → name ≡ take count text → drop count text ≡ end ∷ behind → text ≡ name ++ end ∷ behind
+name_there text name behind count end front rest = sym (take-append-drop count text) ∙ ap₂ (λ (x y : List ℕ). x ++ y) (sym front) rest
+
+pub lawful_name : (name : List ℕ) → 1 ≤ length name → length name ≤ MAX_NAME_BYTES → 97 ≤ get_or name 0 0 → get_or name 0 0 ≤ 122 → list_all is_name_byte name ≡ true → is_lawful_name name ≡ true
+lawful_name name some short low high bytes = grind (arith, nat_tests)

@@ -1,0 +1,12 @@
+use Rattle.std.proofs.Common.{◌∙◌}
+use Rattle.recordings.specs.RecordingLine.{line_seen}
+use Rattle.std.proofs.lemmas.Result.{on_ok_weaker, IfOk-weaker}
+use Rattle.recordings.proofs.LastPath.{last_path}
+use Rattle.recordings.proofs.PathsAfter.{paths_after}
+use Rattle.recordings.proofs.paths.Paths.take_last_path.Goals as goal
+
+pub returns-clause-taken : goal.returns-clause-taken
+returns-clause-taken c = λ before kept stand. on_ok_weaker c.note.result (λ changed. paths_after c.args.self.now c.note.new.self before (line_seen c.args.line.now) kept stand changed) c.note.ensures.noted
+
+pub returns-clause-path : goal.returns-clause-path
+returns-clause-path c = λ before stand. IfOk-weaker c.note.result _ _ (λ given is. is ∙ last_path c.args.self.now before (line_seen c.args.line.now) stand) c.note.ensures.path

@@ -1,0 +1,54 @@
+-- The description of a pool in a line: its sizes, its queue and its handler.
+use Rattle.std.specs.Prelude.{ℕ, Bool, true, false, if◌then◌else◌, List, Option, Some, None, codes}
+use Rattle.std.specs.Str.{bytes_eq}
+use Rattle.line_words.specs.Pieces.{split_space}
+use Rattle.recordings.specs.declared.pool_sizes.PoolSizes.{PoolSizes}
+use Rattle.recordings.specs.declared.pool_sizes.QueueKind.{QueueKind}
+use Rattle.recordings.specs.declared.pool_sizes.QueueKind.TheVariants as queue
+use Rattle.recordings.specs.declared.pool_sizes.HandlerKind.{HandlerKind}
+use Rattle.recordings.specs.declared.pool_sizes.HandlerKind.TheVariants as handler
+use Rattle.recordings.specs.Words.{◌>>=◌, number_then, behind, number_behind}
+
+-- the kind of queue with this name
+unfoldable pub queue_kind_of : List ℕ → Option QueueKind
+queue_kind_of word =
+    if bytes_eq word (codes "array") then Some queue.Array
+    else (if bytes_eq word (codes "linked") then Some queue.Linked
+    else (if bytes_eq word (codes "synchronous") then Some queue.Synchronous
+    else (if bytes_eq word (codes "priority") then Some queue.Priority
+    else (if bytes_eq word (codes "other") then Some queue.Other
+    else None))))
+
+-- the kind of handler with this name
+unfoldable pub handler_kind_of : List ℕ → Option HandlerKind
+handler_kind_of word =
+    if bytes_eq word (codes "abort") then Some handler.Abort
+    else (if bytes_eq word (codes "caller_runs") then Some handler.CallerRuns
+    else (if bytes_eq word (codes "discard") then Some handler.Discard
+    else (if bytes_eq word (codes "discard_oldest") then Some handler.DiscardOldest
+    else (if bytes_eq word (codes "other") then Some handler.Other
+    else None))))
+
+-- yes or no
+unfoldable pub yes_or_no : List ℕ → Option Bool
+yes_or_no word = if bytes_eq word (codes "yes") then Some true else (if bytes_eq word (codes "no") then Some false else None)
+
+-- `queue KIND`, and the other words
+unfoldable pub queue_then : List ℕ → Option (QueueKind × List ℕ)
+queue_then text = behind (codes "queue") text >>= λ rest. split_space rest >>= λ words. queue_kind_of words.0 >>= λ kind. Some (kind, words.1)
+
+-- `timeout WORD`, and the other words
+unfoldable pub timeout_then : List ℕ → Option (Bool × List ℕ)
+timeout_then text = behind (codes "timeout") text >>= λ rest. split_space rest >>= λ words. yes_or_no words.0 >>= λ timeout. Some (timeout, words.1)
+
+-- `handler KIND`
+unfoldable pub handler_of : List ℕ → Option HandlerKind
+handler_of text = behind (codes "handler") text >>= λ word. handler_kind_of word
+
+-- `core C max C queue KIND C timeout WORD prestarted C handler KIND`
+unfoldable pub pool_sizes_of : List ℕ → Option PoolSizes
+pool_sizes_of text =
+    number_behind (codes "core") text >>= λ core. number_behind (codes "max") core.1 >>= λ max. queue_then max.1 >>= λ queue.
+    number_then queue.1 >>= λ capacity. timeout_then capacity.1 >>= λ timeout. number_behind (codes "prestarted") timeout.1 >>= λ prestarted.
+    handler_of prestarted.1 >>= λ handler.
+    Some (record { core = core.0; max = max.0; queue = queue.0; capacity = capacity.0; timeout = timeout.0; prestarted = prestarted.0; handler = handler })

@@ -1,0 +1,48 @@
+//! Bad lines of a recording.
+
+ghost use Rattle.std.specs.Prelude.{Some};
+ghost use Rattle.recordings.specs.FaultText.{breach_text, fault_text};
+
+use crate::rule::LineRule;
+use std::fmt;
+
+/// The reason why a line is bad.
+#[derive(Clone, Copy, PartialEq, Eq)]
+pub enum Breach {
+    /// The line has none of the forms of a line.
+    Form,
+    /// The line has a form, and breaks this rule.
+    LineRule(LineRule),
+}
+
+/// Formats what the line should be.
+impl fmt::Display for Breach {
+    ghost output = { λ breach. Some (breach_text breach) };
+
+    fn fmt<W: fmt::Write>(&self, f: &mut fmt::Formatter<W>) -> fmt::Result {
+        match self {
+            Breach::Form => f.write_str("it has none of the forms of a line"),
+            Breach::LineRule(rule) => write!(f, "{rule}"),
+        }
+    }
+}
+
+/// A bad line of a recording.
+#[derive(Clone, Copy, PartialEq, Eq)]
+pub struct RecordingFault {
+    /// The line number, from 1.
+    pub line: usize,
+    pub breach: Breach,
+}
+
+/// Formats the line number and what the line should be, such as `line 3: O2: a pool that a line
+/// names has ..`.
+impl fmt::Display for RecordingFault {
+    ghost output = { λ fault. Some (fault_text fault) };
+
+    fn fmt<W: fmt::Write>(&self, f: &mut fmt::Formatter<W>) -> fmt::Result {
+        let line = self.line;
+        let breach = self.breach;
+        write!(f, "line {line}: {breach}")
+    }
+}

@@ -1,0 +1,200 @@
+//! A fast parser for the most frequent forms of line.
+//!
+//! It reads a line from left to right and ends with the last word, so it never searches for the
+//! newline. If it returns `None`, the line may be bad, have another form, or contain a number that
+//! is 0 or above 999,999,999.
+
+ghost use Rattle.std.specs.Prelude.{◌≡◌, ◌≤◌, ◌<◌, ◌+◌, ◌++◌, ◌∷◌, true, length, take, codes, decimal, Some, IfSome};
+ghost use Rattle.std.specs.List.{list_all};
+ghost use Rattle.job_bodies.specs.WellFormed.{is_name_byte, is_lawful_name};
+ghost use Rattle.line_words.specs.Number.{is_lawful_number};
+ghost use Rattle.recordings.specs.RecordingLine.{line_seen, lines_read};
+ghost use Rattle.recordings.specs.LineText.{behind_actor, is_lawful_actor};
+ghost use Rattle.recordings.specs.declared.recording_line.RecordedActor.TheVariants.{Job, Round};
+
+use crate::recording_line::{Line, RecordedActor};
+use job_bodies::MAX_NAME_BYTES;
+
+/// The maximum number of digits for which a number is always within the limit, so that its value
+/// needs no check.
+const MOST_DIGITS: usize = 9;
+
+/// Parses the first line, and returns it with the rest of the text.
+#[inline(always)]
+pub(crate) fn split_frequent_line(text: &[u8]) -> Option<(Line<'_>, &[u8])>
+    ensures { IfSome result
+        (λ read. lines_read text.now ≡ Some (line_seen read.0) ∷ lines_read read.1.now) }
+{
+    match text {
+        [b'j', b'o', b'b', b' ', words @ ..] => {
+            let (job, words) = split_number(words, b' ')?;
+            split_job_line(job, words)
+        }
+        [b'r', b'o', b'u', b'n', b'd', b' ', words @ ..] => {
+            let (round, words) = split_number(words, b' ')?;
+            split_round_line(round, words)
+        }
+        _ => None,
+    }
+}
+
+/// Parses the rest of a line after `job N`.
+#[inline(always)]
+fn split_job_line(job: usize, words: &[u8]) -> Option<(Line<'_>, &[u8])>
+    requires { is_lawful_number job ≡ true }
+    ensures { IfSome result (λ read.
+        lines_read (behind_actor (Job job) words.now)
+        ≡ Some (line_seen read.0) ∷ lines_read read.1.now) }
+{
+    if let [b's', b't', b'a', b'r', b't', b'\n', behind @ ..] = words {
+        return Some((Line::JobStarts { job }, behind));
+    }
+    if let [b'e', b'n', b'd', b'\n', behind @ ..] = words {
+        return Some((Line::JobEnds { job }, behind));
+    }
+    split_act(RecordedActor::Job(job), words)
+}
+
+/// Parses the rest of a line after `round N`.
+#[inline(always)]
+fn split_round_line(round: usize, words: &[u8]) -> Option<(Line<'_>, &[u8])>
+    requires { is_lawful_number round ≡ true }
+    ensures { IfSome result (λ read.
+        lines_read (behind_actor (Round round) words.now)
+        ≡ Some (line_seen read.0) ∷ lines_read read.1.now) }
+{
+    if let [b'b', b'e', b'g', b'i', b'n', b' ', kind @ ..] = words {
+        let (kind, behind) = split_name(kind, b'\n')?;
+        return Some((Line::RoundBegins { round, kind }, behind));
+    }
+    if let [b'e', b'n', b'd', b'\n', behind @ ..] = words {
+        return Some((Line::RoundEnds { round }, behind));
+    }
+    split_act(RecordedActor::Round(round), words)
+}
+
+/// Parses the rest of a line after an actor.
+#[inline(always)]
+fn split_act(actor: RecordedActor, words: &[u8]) -> Option<(Line<'_>, &[u8])>
+    requires { is_lawful_actor actor ≡ true }
+    ensures { IfSome result (λ read.
+        lines_read (behind_actor actor words.now)
+        ≡ Some (line_seen read.0) ∷ lines_read read.1.now) }
+{
+    if let [b'g', b'o', b't', b' ', job @ ..] = words {
+        let (job, behind) = split_number(job, b'\n')?;
+        return Some((Line::Got { actor, job }, behind));
+    }
+    let [b's', b'u', b'b', b'm', b'i', b't', b' ', words @ ..] = words else {
+        return None;
+    };
+    split_submit(actor, words)
+}
+
+/// Parses the rest of a line after `submit`: `J CLASS POOL`.
+#[inline(always)]
+fn split_submit(actor: RecordedActor, words: &[u8]) -> Option<(Line<'_>, &[u8])>
+    requires { is_lawful_actor actor ≡ true }
+    ensures { IfSome result (λ read.
+        lines_read (behind_actor actor (codes "submit" ++ 32 ∷ words.now))
+        ≡ Some (line_seen read.0) ∷ lines_read read.1.now) }
+{
+    let (job, words) = split_number(words, b' ')?;
+    let (class, words) = split_name(words, b' ')?;
+    let (pool, behind) = split_name(words, b'\n')?;
+    let line = Line::Submits {
+        actor,
+        job,
+        class,
+        pool,
+    };
+    Some((line, behind))
+}
+
+/// Parses a number before the byte `end`, and returns it with the text after that byte.
+#[inline(always)]
+fn split_number(text: &[u8], end: u8) -> Option<(usize, &[u8])>
+    ensures { IfSome result (λ read.
+        (is_lawful_number read.0 ≡ true) × (text.now ≡ decimal read.0 ++ end ∷ read.1.now)) }
+{
+    let [first @ b'1'..=b'9', ..] = text else {
+        return None;
+    };
+    let most = text.len().min(MOST_DIGITS);
+    let mut number = digit_of(*first);
+    let mut count = 1;
+    while count < most {
+        let digit = digit_of(text[count]);
+        if digit > 9 {
+            break;
+        }
+        number = number * 10 + digit;
+        count += 1;
+    }
+    Some((number, behind_byte(&text[count..], end)?))
+}
+
+/// Returns the value of a digit, and a value above 9 for any other byte.
+#[inline(always)]
+fn digit_of(byte: u8) -> usize
+    ensures digit { 48 ≤ byte → result + 48 ≡ byte }
+    ensures other { byte < 48 → 9 < result }
+{
+    usize::from(byte).wrapping_sub(usize::from(b'0'))
+}
+
+/// Parses a name before the byte `end`, and returns it with the text after that byte.
+#[inline(always)]
+fn split_name(text: &[u8], end: u8) -> Option<(&str, &[u8])>
+    ensures { IfSome result
+        (λ read. (is_lawful_name read.0.now ≡ true) × (text.now ≡ read.0.now ++ end ∷ read.1.now)) }
+{
+    let (name, behind) = text.split_at(count_name_bytes(text));
+    let [b'a'..=b'z', ..] = name else {
+        return None;
+    };
+    if name.len() > MAX_NAME_BYTES {
+        return None;
+    }
+    Some((name_text(name), behind_byte(behind, end)?))
+}
+
+/// Returns the length of the longest prefix of name bytes.
+#[inline(always)]
+fn count_name_bytes(text: &[u8]) -> usize
+    ensures inside { result ≤ length text.now }
+    ensures names { list_all is_name_byte (take result text.now) ≡ true }
+{
+    let mut count = 0;
+    while count < text.len() && is_name_byte(text[count]) {
+        count += 1;
+    }
+    count
+}
+
+#[inline(always)]
+fn is_name_byte(byte: u8) -> bool
+    ensures { result ≡ is_name_byte byte }
+{
+    byte.is_ascii_lowercase() || byte.is_ascii_digit() || byte == b'_'
+}
+
+/// Converts the bytes of a name to a string. They are ASCII, so this always succeeds.
+#[inline(always)]
+fn name_text(name: &[u8]) -> &str
+    requires { list_all is_name_byte name.now ≡ true }
+    ensures { result.now ≡ name.now }
+{
+    unsafe { std::str::from_utf8_unchecked(name) }
+}
+
+/// Strips the first byte if it is `byte`, and returns the rest.
+#[inline(always)]
+fn behind_byte(text: &[u8], byte: u8) -> Option<&[u8]>
+    ensures { IfSome result (λ behind. text.now ≡ byte ∷ behind.now) }
+{
+    match text {
+        [first, behind @ ..] if *first == byte => Some(behind),
+        _ => None,
+    }
+}

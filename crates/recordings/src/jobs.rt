@@ -1,0 +1,142 @@
+//! The jobs of a recording.
+
+ghost use Rattle.std.specs.Prelude.{◌≡◌, ◌+◌, ◌&&◌, not, ℕ, OnOk, OnErr, None, Some, is_some, if◌then◌else◌, ◌==◌};
+ghost use Rattle.std.specs.Option.{option_map};
+ghost use Rattle.recordings.specs.KeptState.{job_at, has_started, is_done, is_settled, offered_by, new_job, with_start, with_cancel, with_offered};
+
+use std::alloc::{AllocError, Global};
+use support::NumberTable;
+
+/// The state of a job that is not done.
+#[derive(Clone, Copy)]
+pub(crate) struct JobState {
+    started: bool,
+    cancelled: bool,
+    /// The job that this job submitted in its last line.
+    offered: Option<usize>,
+}
+
+/// The jobs of the lines so far: the number of submitted jobs, and the state of each job that is
+/// not done.
+#[derive(Drop)]
+pub(crate) struct Jobs {
+    pub(crate) submitted: usize,
+    unfinished: NumberTable<JobState>,
+}
+
+impl Jobs {
+    /// Creates an empty set of jobs.
+    pub(crate) fn new(alloc: Global) -> Jobs
+        ensures submitted { result.submitted ≡ 0 }
+        ensures unfinished { (j : ℕ) → job_at result j ≡ None }
+    {
+        Jobs {
+            submitted: 0,
+            unfinished: NumberTable::new(alloc),
+        }
+    }
+
+    fn get(&self, job: usize) -> Option<JobState>
+        ensures { result ≡ job_at self.now job }
+    {
+        self.unfinished.get(job).copied()
+    }
+
+    pub(crate) fn has_started(&self, job: usize) -> bool
+        ensures { result ≡ has_started self.now job }
+    {
+        job < self.submitted && self.get(job).is_none_or(|state| state.started)
+    }
+
+    /// Returns whether the job has started and is not done.
+    pub(crate) fn is_running(&self, job: usize) -> bool
+        ensures { result ≡ (has_started self.now job && not (is_done self.now job)) }
+    {
+        job < self.submitted && self.get(job).is_some_and(|state| state.started)
+    }
+
+    /// Returns whether the job is done or cancelled.
+    pub(crate) fn is_settled(&self, job: usize) -> bool
+        ensures { result ≡ is_settled self.now job }
+    {
+        job < self.submitted && self.get(job).is_none_or(|state| state.cancelled)
+    }
+
+    /// Returns the job that this job submitted in its last line.
+    pub(crate) fn offered(&self, job: usize) -> Option<usize>
+        ensures { result ≡ offered_by (job_at self.now job) }
+    {
+        self.get(job)?.offered
+    }
+
+    /// Adds a submitted job.
+    ///
+    /// # Errors
+    ///
+    /// Returns `AllocError` if memory runs out or the number of jobs is at its maximum. The jobs
+    /// are then unchanged.
+    pub(crate) fn submit(&mut self, job: usize) -> Result<(), AllocError>
+        ensures submitted { OnOk result (self.new.submitted ≡ self.old.submitted + 1) }
+        ensures unfinished { OnOk result
+            ((j : ℕ) → job_at self.new j ≡ (if job == j then Some new_job else job_at self.old j)) }
+        ensures same_submitted { OnErr result (self.new.submitted ≡ self.old.submitted) }
+        ensures same_unfinished { OnErr result ((j : ℕ) → job_at self.new j ≡ job_at self.old j) }
+    {
+        let submitted = self.submitted.checked_add(1).ok_or(AllocError)?;
+        let state = JobState {
+            started: false,
+            cancelled: false,
+            offered: None,
+        };
+        self.unfinished.insert(job, state)?;
+        self.submitted = submitted;
+        Ok(())
+    }
+
+    /// Marks the job as started, unless it is done.
+    pub(crate) fn start(&mut self, job: usize)
+        ensures submitted { self.new.submitted ≡ self.old.submitted }
+        ensures unfinished { (j : ℕ)
+            → job_at self.new j
+            ≡ (if job == j then option_map with_start (job_at self.old j) else job_at self.old j) }
+    {
+        if let Some(state) = self.unfinished.get_mut(job) {
+            state.started = true;
+        }
+    }
+
+    /// Marks the job as cancelled, unless it is done.
+    pub(crate) fn cancel(&mut self, job: usize)
+        ensures submitted { self.new.submitted ≡ self.old.submitted }
+        ensures unfinished { (j : ℕ)
+            → job_at self.new j
+            ≡ (if job == j then option_map with_cancel (job_at self.old j) else job_at self.old j) }
+    {
+        if let Some(state) = self.unfinished.get_mut(job) {
+            state.cancelled = true;
+        }
+    }
+
+    /// Sets the job that this job submitted in its last line, if any. Has no effect if this job is
+    /// done.
+    pub(crate) fn set_offered(&mut self, job: usize, offered: Option<usize>)
+        ensures submitted { self.new.submitted ≡ self.old.submitted }
+        ensures unfinished { (j : ℕ)
+            → job_at self.new j
+            ≡ (if job == j then option_map (with_offered offered) (job_at self.old j) else job_at
+            self.old j) }
+    {
+        if let Some(state) = self.unfinished.get_mut(job) {
+            state.offered = offered;
+        }
+    }
+
+    /// Removes the job, which is done.
+    pub(crate) fn finish(&mut self, job: usize)
+        ensures submitted { self.new.submitted ≡ self.old.submitted }
+        ensures unfinished { (j : ℕ)
+            → job_at self.new j ≡ (if job == j then None else job_at self.old j) }
+    {
+        self.unfinished.remove(job);
+    }
+}

@@ -1,0 +1,90 @@
+//! An iterator over the lines of a recording.
+
+ghost use Rattle.std.specs.Prelude.{◌≡◌, ◌≤◌, ◌∷◌, [], length, MatchOption};
+ghost use Rattle.recordings.specs.WholeLines.{whole_lines};
+ghost use Rattle.recordings.specs.RecordingLine.{line_read, lines_read};
+
+use crate::frequent_lines::split_frequent_line;
+use crate::line_forms::line_of;
+use crate::recording_line::Line;
+use memchr::memchr;
+use std::marker::Model;
+
+/// An iterator over the lines of a recording. [`next`](RecordingLines::next) parses each line once,
+/// so the iterator stores no lines.
+#[derive(Drop)]
+pub struct RecordingLines<'a> {
+    rest: &'a [u8],
+}
+
+/// A line that has none of the forms of a line of a recording.
+#[derive(Clone, Copy, PartialEq, Eq)]
+pub struct BadLine;
+
+impl<'a> Model for RecordingLines<'a> {
+    ghost use Rattle.std.specs.Prelude.{List, Option};
+    ghost use Rattle.recordings.specs.RecordingLine.{RecordedLine, lines_read};
+
+    ghost Value = { List (Option RecordedLine) };
+
+    ghost view = { λ l. lines_read l.rest.now };
+}
+
+impl<'a> RecordingLines<'a> {
+    /// Creates an iterator over the lines of a text. Ignores the text after the last newline. A
+    /// number is at most [`MAX_LINE_NUMBER`](job_bodies::MAX_LINE_NUMBER) and has no leading zero.
+    /// A name follows the rules for names in plans.
+    pub fn new(text: &'a [u8]) -> RecordingLines<'a>
+        ensures lines { result ≡ lines_read text.now }
+        ensures few { length result ≤ length text.now }
+    {
+        RecordingLines { rest: text }
+    }
+
+    /// Returns the next line, or `None` after the last one.
+    ///
+    /// # Errors
+    ///
+    /// Returns [`BadLine`] if the line has none of the forms. The caller can continue with the
+    /// lines after it.
+    #[inline(always)]
+    pub fn next(&mut self) -> Option<Result<Line<'a>, BadLine>>
+        ensures { MatchOption result ((self.old ≡ []) × (self.new ≡ []))
+            (λ line. self.old ≡ line_read line ∷ self.new) }
+    {
+        let (line, behind) = match split_frequent_line(self.rest) {
+            Some((line, behind)) => (Ok(line), behind),
+            None => split_line(self.rest)?,
+        };
+        self.rest = behind;
+        Some(line)
+    }
+}
+
+/// Parses the first line in any form, and returns it with the rest of the text. Returns `None` if
+/// no line is complete.
+///
+/// Inlined because a call would clear the space for all return values on entry, which the fast path
+/// does not need.
+#[inline(always)]
+fn split_line(text: &[u8]) -> Option<(Result<Line<'_>, BadLine>, &[u8])>
+    ensures { MatchOption result (lines_read text.now ≡ [])
+        (λ read. lines_read text.now ≡ line_read read.0 ∷ lines_read read.1.now) }
+{
+    let (line, behind) = split_whole_line(text)?;
+    match line_of(line) {
+        Some(line) => Some((Ok(line), behind)),
+        None => Some((Err(BadLine), behind)),
+    }
+}
+
+/// Splits off the first line without its newline. Returns `None` if no line is complete.
+#[cold]
+#[inline(never)]
+fn split_whole_line(text: &[u8]) -> Option<(&[u8], &[u8])>
+    ensures { MatchOption result (whole_lines text.now ≡ [])
+        (λ parts. whole_lines text.now ≡ parts.0.now ∷ whole_lines parts.1.now) }
+{
+    let newline = memchr(b'\n', text)?;
+    Some((&text[..newline], &text[newline + 1..]))
+}

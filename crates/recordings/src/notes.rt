@@ -1,0 +1,99 @@
+//! Notes on the lines of a recording.
+
+ghost use Rattle.std.specs.Prelude.{◌≡◌, ◌+◌, ◌++◌, ◌∷◌, [], List, OnOk, IfOk, length};
+ghost use Rattle.recordings.specs.RecordingLine.{RecordedLine, line_seen};
+ghost use Rattle.recordings.specs.PathsOfLines.{KeepsRules};
+ghost use Rattle.recordings.specs.Voids.{voids_of};
+ghost use Rattle.recordings.specs.ForeignGets.{first_foreign_get};
+ghost use Rattle.recordings.specs.Ungot.{with_foreign};
+ghost use Rattle.recordings.specs.NotesOfLines.{IsNotesOf};
+
+use crate::Line;
+use crate::foreign_get::ForeignGet;
+use crate::noted_voids::NotedVoids;
+use crate::ungot::Ungot;
+use crate::voiding::Void;
+use std::alloc::{AllocError, Global};
+
+/// The events that invalidate a SAFE answer, and the first get of a job by an actor that did not
+/// submit it, for the lines read so far.
+#[derive(Drop)]
+pub struct RecordedNotes {
+    pub(crate) voids: NotedVoids,
+    pub(crate) ungot: Ungot,
+    pub(crate) foreign: Option<ForeignGet>,
+}
+
+impl RecordedNotes {
+    /// Creates the notes, before the first line.
+    pub fn new(alloc: Global) -> RecordedNotes
+        ensures { IsNotesOf result [] }
+    {
+        RecordedNotes {
+            voids: NotedVoids::new(alloc),
+            ungot: Ungot::new(alloc),
+            foreign: None,
+        }
+    }
+
+    /// Reads line `number` of a valid recording. Lines are numbered from 1.
+    ///
+    /// # Errors
+    ///
+    /// Returns `AllocError` if memory runs out. The notes must not be used after that.
+    pub fn take(&mut self, number: usize, line: &Line<'_>) -> Result<(), AllocError>
+        ensures { (before : List RecordedLine)
+            → KeepsRules (before ++ line_seen line.now ∷ [])
+            → number ≡ length before + 1
+            → IsNotesOf self.old before
+            → OnOk result (IsNotesOf self.new (before ++ line_seen line.now ∷ [])) }
+    {
+        self.voids.take(number, line)?;
+        self.note_foreign_get(number, line);
+        self.ungot.take(line)
+    }
+
+    /// Returns the first line of each invalidating event type, in the order of the lines. A
+    /// `timeout` or `interrupted` counts if it is the last line of its actor so far, or if the next
+    /// one is no `timeout`, `interrupted` or `got` of the same job.
+    ///
+    /// # Errors
+    ///
+    /// Returns `AllocError` if memory runs out.
+    pub fn voids(&self, alloc: Global) -> Result<Vec<Void>, AllocError>
+        ensures { (lines : List RecordedLine)
+            → IsNotesOf self.now lines
+            → IfOk result (λ voids. voids.items ≡ voids_of lines) }
+    {
+        self.voids.firsts(alloc)
+    }
+
+    /// Returns the first get of a job by an actor that did not submit it, before its submitter got
+    /// it.
+    pub fn foreign_get(&self) -> Option<ForeignGet>
+        ensures { (lines : List RecordedLine)
+            → IsNotesOf self.now lines
+            → result ≡ first_foreign_get lines }
+    {
+        self.foreign
+    }
+
+    fn note_foreign_get(&mut self, number: usize, line: &Line<'_>)
+        ensures foreign { self.new.foreign
+            ≡ with_foreign self.old.ungot number (line_seen line.now) self.old.foreign }
+        ensures voids { self.new.voids ≡ self.old.voids }
+        ensures ungot { self.new.ungot ≡ self.old.ungot }
+    {
+        if self.foreign.is_none() {
+            if let Line::Got { actor, job } = *line {
+                if self.ungot.is_anothers(job, actor) {
+                    self.foreign = Some(ForeignGet {
+                        line: number,
+                        actor,
+                        job,
+                    });
+                }
+            }
+        }
+    }
+}

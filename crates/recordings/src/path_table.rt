@@ -1,0 +1,112 @@
+//! The paths of rounds or of jobs.
+
+ghost use Rattle.std.specs.Prelude.{◌≡◌, ℕ, [], OnOk, OnErr, None, Some, if◌then◌else◌, ◌==◌};
+ghost use Rattle.std.specs.Option.{option_map};
+ghost use Rattle.recordings.specs.Act.{with_get, without_submit};
+ghost use Rattle.recordings.specs.PathChanges.{with_deed};
+ghost use Rattle.recordings.specs.KeptPaths.{path_in};
+
+use crate::act::{drop_submit, note_get};
+use crate::deed::RecordedDeed;
+use std::alloc::{AllocError, Global};
+use support::NumberTable;
+
+/// A map from the numbers of the live rounds, or of the live jobs, to their paths.
+#[derive(Drop)]
+pub(crate) struct PathTable {
+    paths: NumberTable<Vec<RecordedDeed>>,
+    alloc: Global,
+}
+
+impl PathTable {
+    /// Creates an empty map.
+    pub(crate) fn new(alloc: Global) -> PathTable
+        ensures { (n : ℕ) → path_in result n ≡ None }
+    {
+        PathTable {
+            paths: NumberTable::new(alloc),
+            alloc,
+        }
+    }
+
+    pub(crate) fn path(&self, number: usize) -> Option<&[RecordedDeed]>
+        ensures { option_map (λ path. path.now) result ≡ path_in self.now number }
+    {
+        match self.paths.get(number) {
+            Some(path) => Some(path.as_slice()),
+            None => None,
+        }
+    }
+
+    /// Adds an actor with an empty path.
+    ///
+    /// # Errors
+    ///
+    /// Returns `AllocError` if memory runs out. The paths are then unchanged.
+    pub(crate) fn begin(&mut self, number: usize) -> Result<(), AllocError>
+        ensures begun { OnOk result
+            ((n : ℕ) → path_in self.new n ≡ (if number == n then Some [] else path_in self.old n)) }
+        ensures same { OnErr result ((n : ℕ) → path_in self.new n ≡ path_in self.old n) }
+    {
+        self.paths.insert(number, Vec::new(self.alloc))
+    }
+
+    /// Removes an actor and returns its path.
+    pub(crate) fn end(&mut self, number: usize) -> Option<Vec<RecordedDeed>>
+        ensures path { option_map (λ path. path.items) result ≡ path_in self.old number }
+        ensures gone { (n : ℕ)
+            → path_in self.new n ≡ (if number == n then None else path_in self.old n) }
+    {
+        self.paths.remove(number)
+    }
+
+    /// Appends an action to the path of this actor, if it is live.
+    ///
+    /// # Errors
+    ///
+    /// Returns `AllocError` if memory runs out. The paths are then unchanged.
+    pub(crate) fn push(&mut self, number: usize, deed: RecordedDeed) -> Result<(), AllocError>
+        ensures done { OnOk result
+            ((n : ℕ)
+            → path_in self.new n
+            ≡ (if number == n then option_map (with_deed deed) (path_in self.old n) else path_in
+            self.old n)) }
+        ensures same { OnErr result ((n : ℕ) → path_in self.new n ≡ path_in self.old n) }
+    {
+        if let Some(path) = self.paths.get_mut(number) {
+            path.push(deed)?;
+        }
+        Ok(())
+    }
+
+    /// Records a get of the job by this actor, if it is live.
+    ///
+    /// # Errors
+    ///
+    /// Returns `AllocError` if memory runs out. The paths are then unchanged.
+    pub(crate) fn note_get(&mut self, number: usize, job: usize) -> Result<(), AllocError>
+        ensures got { OnOk result
+            ((n : ℕ)
+            → path_in self.new n
+            ≡ (if number == n then option_map (with_get job) (path_in self.old n) else path_in
+            self.old n)) }
+        ensures same { OnErr result ((n : ℕ) → path_in self.new n ≡ path_in self.old n) }
+    {
+        if let Some(path) = self.paths.get_mut(number) {
+            note_get(path, job)?;
+        }
+        Ok(())
+    }
+
+    /// Records that this actor was refused the job, if the actor is live.
+    pub(crate) fn drop_submit(&mut self, number: usize, job: usize)
+        ensures { (n : ℕ)
+            → path_in self.new n
+            ≡ (if number == n then option_map (without_submit job) (path_in self.old n) else path_in
+            self.old n) }
+    {
+        if let Some(path) = self.paths.get_mut(number) {
+            drop_submit(path, job);
+        }
+    }
+}

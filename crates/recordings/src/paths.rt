@@ -1,0 +1,161 @@
+//! The paths of the actors of a recording.
+
+ghost use Rattle.std.specs.Prelude.{◌≡◌, ◌++◌, ◌∷◌, [], List, OnOk, OnErr, IfOk};
+ghost use Rattle.std.specs.Option.{option_map};
+ghost use Rattle.recordings.specs.RecordingLine.{RecordedLine, line_seen};
+ghost use Rattle.recordings.specs.Act.{with_get, without_submit};
+ghost use Rattle.recordings.specs.PathChanges.{Changes, change_of, no_change, at_actor, actor_submits, with_deed};
+ghost use Rattle.recordings.specs.LastLine.{last_path_of, last_path_in};
+ghost use Rattle.recordings.specs.PathsOfLines.{KeepsRules, IsPathsOf, live_path_of};
+
+use crate::deed::RecordedDeed;
+use crate::path_table::PathTable;
+use crate::{Line, RecordedActor};
+use std::alloc::{AllocError, Global};
+
+/// The paths of the live actors after the lines so far: of the rounds that began and have not
+/// ended, and of the jobs that were submitted and are not done.
+#[derive(Drop)]
+pub struct Paths {
+    rounds: PathTable,
+    jobs: PathTable,
+}
+
+impl Paths {
+    /// Creates the paths before the first line.
+    pub fn new(alloc: Global) -> Paths
+        ensures { IsPathsOf result [] }
+    {
+        Paths {
+            rounds: PathTable::new(alloc),
+            jobs: PathTable::new(alloc),
+        }
+    }
+
+    /// Processes the next line of a recording that keeps the rules.
+    ///
+    /// # Errors
+    ///
+    /// Returns `AllocError` if memory runs out. The paths are then unchanged.
+    pub fn take(&mut self, line: &Line<'_>) -> Result<(), AllocError>
+        ensures taken { (before : List RecordedLine)
+            → KeepsRules (before ++ line_seen line.now ∷ [])
+            → IsPathsOf self.old before
+            → OnOk result (IsPathsOf self.new (before ++ line_seen line.now ∷ [])) }
+        ensures same { (before : List RecordedLine)
+            → IsPathsOf self.old before
+            → OnErr result (IsPathsOf self.new before) }
+    {
+        self.note(line)?;
+        Ok(())
+    }
+
+    /// Processes the next line of a recording that keeps the rules, as [`take`](Paths::take) does.
+    /// If the line ends an actor, removes the actor and returns its path. Otherwise returns `None`.
+    ///
+    /// # Errors
+    ///
+    /// Returns `AllocError` if memory runs out. The paths are then unchanged.
+    pub fn take_last_path(
+        &mut self,
+        line: &Line<'_>,
+    ) -> Result<Option<Vec<RecordedDeed>>, AllocError>
+        ensures taken { (before : List RecordedLine)
+            → KeepsRules (before ++ line_seen line.now ∷ [])
+            → IsPathsOf self.old before
+            → OnOk result (IsPathsOf self.new (before ++ line_seen line.now ∷ [])) }
+        ensures path { (before : List RecordedLine)
+            → IsPathsOf self.old before
+            → IfOk result (λ given.
+            option_map (λ path. path.items) given ≡ last_path_of before (line_seen line.now)) }
+        ensures same { (before : List RecordedLine)
+            → IsPathsOf self.old before
+            → OnErr result (IsPathsOf self.new before) }
+    {
+        self.note(line)
+    }
+
+    /// Returns the path of the actor if it is live.
+    pub fn path(&self, actor: RecordedActor) -> Option<&[RecordedDeed]>
+        ensures { (before : List RecordedLine)
+            → IsPathsOf self.now before
+            → option_map (λ path. path.now) result ≡ live_path_of before actor }
+    {
+        match actor {
+            RecordedActor::Job(job) => self.jobs.path(job),
+            RecordedActor::Round(round) => self.rounds.path(round),
+        }
+    }
+
+    // Returns the path of the actor that the line ends.
+    fn note(&mut self, line: &Line<'_>) -> Result<Option<Vec<RecordedDeed>>, AllocError>
+        ensures noted { OnOk result (Changes self.old (change_of (line_seen line.now)) self.new) }
+        ensures path { IfOk result (λ given.
+            option_map (λ path. path.items) given ≡ last_path_in self.old (line_seen line.now)) }
+        ensures same { OnErr result (Changes self.old no_change self.new) }
+    {
+        match *line {
+            Line::RoundBegins { round, .. } => {
+                self.rounds.begin(round)?;
+                Ok(None)
+            }
+            Line::RoundEnds { round } => Ok(self.rounds.end(round)),
+            Line::Submits { actor, job, .. } => {
+                self.submit(actor, job)?;
+                Ok(None)
+            }
+            Line::Refused { actor, job } => {
+                self.drop_submit(actor, job);
+                Ok(None)
+            }
+            Line::Got { actor, job } => {
+                self.note_get(actor, job)?;
+                Ok(None)
+            }
+            Line::JobEnds { job } | Line::JobThrew { job } => Ok(self.jobs.end(job)),
+            _ => Ok(None),
+        }
+    }
+
+    // Adds the job, and appends its submit to the path of its actor.
+    fn submit(&mut self, actor: RecordedActor, job: usize) -> Result<(), AllocError>
+        ensures noted { OnOk result (Changes self.old (actor_submits actor job) self.new) }
+        ensures same { OnErr result (Changes self.old no_change self.new) }
+    {
+        self.push(actor, RecordedDeed::Submits(job))?;
+        if let Err(error) = self.jobs.begin(job) {
+            self.drop_submit(actor, job);
+            return Err(error);
+        }
+        Ok(())
+    }
+
+    fn push(&mut self, actor: RecordedActor, deed: RecordedDeed) -> Result<(), AllocError>
+        ensures noted { OnOk result (Changes self.old (at_actor actor (with_deed deed)) self.new) }
+        ensures same { OnErr result (Changes self.old no_change self.new) }
+    {
+        match actor {
+            RecordedActor::Job(number) => self.jobs.push(number, deed),
+            RecordedActor::Round(number) => self.rounds.push(number, deed),
+        }
+    }
+
+    fn note_get(&mut self, actor: RecordedActor, job: usize) -> Result<(), AllocError>
+        ensures noted { OnOk result (Changes self.old (at_actor actor (with_get job)) self.new) }
+        ensures same { OnErr result (Changes self.old no_change self.new) }
+    {
+        match actor {
+            RecordedActor::Job(number) => self.jobs.note_get(number, job),
+            RecordedActor::Round(number) => self.rounds.note_get(number, job),
+        }
+    }
+
+    fn drop_submit(&mut self, actor: RecordedActor, job: usize)
+        ensures { Changes self.old (at_actor actor (without_submit job)) self.new }
+    {
+        match actor {
+            RecordedActor::Job(number) => self.jobs.drop_submit(number, job),
+            RecordedActor::Round(number) => self.rounds.drop_submit(number, job),
+        }
+    }
+}

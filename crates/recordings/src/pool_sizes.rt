@@ -1,0 +1,143 @@
+//! The description of a pool in a line: its sizes, its queue and its handler.
+
+ghost use Rattle.std.specs.Prelude.{◌≡◌, option_map};
+ghost use Rattle.recordings.specs.PoolSizes as spec;
+
+use crate::words::{behind, is_word, number_behind, number_then};
+use line_words::split_space;
+
+/// The configuration of a pool. A value above the maximum of a line's number is stored as that
+/// maximum.
+#[derive(Clone, Copy, PartialEq, Eq)]
+pub struct PoolSizes {
+    pub core: usize,
+    pub max: usize,
+    pub queue: QueueKind,
+    /// The capacity of the queue.
+    pub capacity: usize,
+    /// Whether core threads may time out.
+    pub timeout: bool,
+    /// The number of threads of the pool when its recording began.
+    pub prestarted: usize,
+    pub handler: HandlerKind,
+}
+
+/// The kind of a pool's queue. Subclasses of the first two kinds are [`Other`](QueueKind::Other).
+#[derive(Clone, Copy, PartialEq, Eq)]
+pub enum QueueKind {
+    Array,
+    Linked,
+    Synchronous,
+    Priority,
+    Other,
+}
+
+/// The handler for rejected jobs.
+#[derive(Clone, Copy, PartialEq, Eq)]
+pub enum HandlerKind {
+    Abort,
+    CallerRuns,
+    Discard,
+    DiscardOldest,
+    Other,
+}
+
+#[tactic(auto, unfolding(crate::specs::PoolSizes::queue_kind_of))]
+fn queue_kind_of(word: &[u8]) -> Option<QueueKind>
+    ensures { result ≡ spec.queue_kind_of word.now }
+{
+    if is_word(word, "array") {
+        Some(QueueKind::Array)
+    } else if is_word(word, "linked") {
+        Some(QueueKind::Linked)
+    } else if is_word(word, "synchronous") {
+        Some(QueueKind::Synchronous)
+    } else if is_word(word, "priority") {
+        Some(QueueKind::Priority)
+    } else if is_word(word, "other") {
+        Some(QueueKind::Other)
+    } else {
+        None
+    }
+}
+
+#[tactic(auto, unfolding(crate::specs::PoolSizes::handler_kind_of))]
+fn handler_kind_of(word: &[u8]) -> Option<HandlerKind>
+    ensures { result ≡ spec.handler_kind_of word.now }
+{
+    if is_word(word, "abort") {
+        Some(HandlerKind::Abort)
+    } else if is_word(word, "caller_runs") {
+        Some(HandlerKind::CallerRuns)
+    } else if is_word(word, "discard") {
+        Some(HandlerKind::Discard)
+    } else if is_word(word, "discard_oldest") {
+        Some(HandlerKind::DiscardOldest)
+    } else if is_word(word, "other") {
+        Some(HandlerKind::Other)
+    } else {
+        None
+    }
+}
+
+#[tactic(auto, unfolding(crate::specs::PoolSizes::yes_or_no))]
+fn yes_or_no(word: &[u8]) -> Option<bool>
+    ensures { result ≡ spec.yes_or_no word.now }
+{
+    if is_word(word, "yes") {
+        Some(true)
+    } else if is_word(word, "no") {
+        Some(false)
+    } else {
+        None
+    }
+}
+
+/// Parses `queue KIND`, and returns the kind with the rest.
+#[tactic(auto, unfolding(crate::specs::PoolSizes::queue_then))]
+fn queue_then(text: &[u8]) -> Option<(QueueKind, &[u8])>
+    ensures { option_map (λ read. (read.0, read.1.now)) result ≡ spec.queue_then text.now }
+{
+    let (word, rest) = split_space(behind("queue", text)?)?;
+    Some((queue_kind_of(word)?, rest))
+}
+
+/// Parses `timeout WORD`, and returns whether the word is `yes` with the rest.
+#[tactic(auto, unfolding(crate::specs::PoolSizes::timeout_then))]
+fn timeout_then(text: &[u8]) -> Option<(bool, &[u8])>
+    ensures { option_map (λ read. (read.0, read.1.now)) result ≡ spec.timeout_then text.now }
+{
+    let (word, rest) = split_space(behind("timeout", text)?)?;
+    Some((yes_or_no(word)?, rest))
+}
+
+/// Parses `handler KIND`.
+#[tactic(auto, unfolding(crate::specs::PoolSizes::handler_of))]
+fn handler_of(text: &[u8]) -> Option<HandlerKind>
+    ensures { result ≡ spec.handler_of text.now }
+{
+    handler_kind_of(behind("handler", text)?)
+}
+
+/// Parses `core C max C queue KIND C timeout WORD prestarted C handler KIND`.
+#[tactic(auto, unfolding(crate::specs::PoolSizes::pool_sizes_of))]
+pub(crate) fn pool_sizes_of(text: &[u8]) -> Option<PoolSizes>
+    ensures { result ≡ spec.pool_sizes_of text.now }
+{
+    let (core, rest) = number_behind("core", text)?;
+    let (max, rest) = number_behind("max", rest)?;
+    let (queue, rest) = queue_then(rest)?;
+    let (capacity, rest) = number_then(rest)?;
+    let (timeout, rest) = timeout_then(rest)?;
+    let (prestarted, rest) = number_behind("prestarted", rest)?;
+    let handler = handler_of(rest)?;
+    Some(PoolSizes {
+        core,
+        max,
+        queue,
+        capacity,
+        timeout,
+        prestarted,
+        handler,
+    })
+}

@@ -1,0 +1,86 @@
+//! The rounds of a recording.
+
+ghost use Rattle.std.specs.Prelude.{◌≡◌, ◌+◌, ℕ, OnOk, OnErr, None, Some, is_some, if◌then◌else◌, ◌==◌};
+ghost use Rattle.std.specs.Option.{option_map};
+ghost use Rattle.recordings.specs.KeptState.{round_at, offered_there};
+
+use std::alloc::{AllocError, Global};
+use support::NumberTable;
+
+/// The rounds of the lines so far: the number of rounds begun, and for each open round the job that
+/// it submitted in its last line.
+#[derive(Drop)]
+pub(crate) struct Rounds {
+    pub(crate) begun: usize,
+    open: NumberTable<Option<usize>>,
+}
+
+impl Rounds {
+    /// Creates an empty set of rounds.
+    pub(crate) fn new(alloc: Global) -> Rounds
+        ensures begun { result.begun ≡ 0 }
+        ensures going { (r : ℕ) → round_at result r ≡ None }
+    {
+        Rounds {
+            begun: 0,
+            open: NumberTable::new(alloc),
+        }
+    }
+
+    /// Returns whether the round has begun and has not ended.
+    pub(crate) fn is_open(&self, round: usize) -> bool
+        ensures { result ≡ is_some (round_at self.now round) }
+    {
+        self.open.contains(round)
+    }
+
+    /// Returns the job that the round submitted in its last line.
+    pub(crate) fn offered(&self, round: usize) -> Option<usize>
+        ensures { result ≡ offered_there (round_at self.now round) }
+    {
+        *self.open.get(round)?
+    }
+
+    /// Adds a round.
+    ///
+    /// # Errors
+    ///
+    /// Returns `AllocError` if memory runs out or the number of rounds is at its maximum. The
+    /// rounds are then unchanged.
+    pub(crate) fn begin(&mut self, round: usize) -> Result<(), AllocError>
+        ensures begun { OnOk result (self.new.begun ≡ self.old.begun + 1) }
+        ensures going { OnOk result
+            ((r : ℕ)
+            → round_at self.new r ≡ (if round == r then Some None else round_at self.old r)) }
+        ensures same_begun { OnErr result (self.new.begun ≡ self.old.begun) }
+        ensures same_open { OnErr result ((r : ℕ) → round_at self.new r ≡ round_at self.old r) }
+    {
+        let begun = self.begun.checked_add(1).ok_or(AllocError)?;
+        self.open.insert(round, None)?;
+        self.begun = begun;
+        Ok(())
+    }
+
+    /// Removes the round, which has ended.
+    pub(crate) fn end(&mut self, round: usize)
+        ensures begun { self.new.begun ≡ self.old.begun }
+        ensures going { (r : ℕ)
+            → round_at self.new r ≡ (if round == r then None else round_at self.old r) }
+    {
+        self.open.remove(round);
+    }
+
+    /// Sets the job that this round submitted in its last line, if any. Has no effect if the round
+    /// is not open.
+    pub(crate) fn set_offered(&mut self, round: usize, offered: Option<usize>)
+        ensures begun { self.new.begun ≡ self.old.begun }
+        ensures going { (r : ℕ)
+            → round_at self.new r
+            ≡ (if round == r then option_map (λ _. offered) (round_at self.old r) else round_at
+            self.old r) }
+    {
+        if let Some(there) = self.open.get_mut(round) {
+            *there = offered;
+        }
+    }
+}

@@ -1,0 +1,51 @@
+//! The rules of a recording.
+
+ghost use Rattle.std.specs.Prelude.{Some};
+ghost use Rattle.recordings.specs.RuleText.{rule_text};
+
+use std::fmt;
+
+/// A rule that a line of a recording can break, given the lines before it.
+#[derive(Clone, Copy, PartialEq, Eq)]
+pub enum LineRule {
+    /// O1: the first line is `recording 1`, and no other line is. No line comes after `end`.
+    Frame,
+    /// O2: a pool that a line names has an earlier `pool` line.
+    Pools,
+    /// O3: jobs are numbered in the order of their `submit` lines, and rounds in the order of their
+    /// `begin` lines. Any other line that names a job comes after its `submit` line.
+    Numbers,
+    /// O4: the lines of a round come between its `begin` line and its `end` line.
+    Rounds,
+    /// O5: a job has at most one `start` line. Its lines as an actor come after that, and the last
+    /// of them is `end` or `threw`.
+    Jobs,
+    /// O6: `refused` comes after the `submit` line of the same job by the same actor, with no other
+    /// line of the actor between them, and before the job's `start` line.
+    Refusals,
+    /// O7: `got` comes after the `end`, `threw` or `cancel` line of its job.
+    Gets,
+}
+
+/// Formats the rule's number and its requirement.
+impl fmt::Display for LineRule {
+    ghost output = { λ rule. Some (rule_text rule) };
+
+    fn fmt<W: fmt::Write>(&self, f: &mut fmt::Formatter<W>) -> fmt::Result {
+        f.write_str(match self {
+            LineRule::Frame =>
+                "O1: the first line is `recording 1`, and no other one is; nothing stands behind `end`",
+            LineRule::Pools => "O2: a pool that a line names has a `pool` line before it",
+            LineRule::Numbers =>
+                "O3: the `submit` lines have the numbers 0, 1, 2, and so on, and so have the `begin` lines; a job that a line names has its `submit` line before it",
+            LineRule::Rounds =>
+                "O4: the lines of a round stand between its `begin` line and its `end` line",
+            LineRule::Jobs =>
+                "O5: a job has one `start` line at most; its lines as an actor stand behind that, and the last of them is `end` or `threw`",
+            LineRule::Refusals =>
+                "O6: `refused` stands behind the actor's `submit` of the job, with no other line of the actor between them, and before the job's `start`",
+            LineRule::Gets =>
+                "O7: `got` stands behind an `end`, `threw` or `cancel` line of the job",
+        })
+    }
+}

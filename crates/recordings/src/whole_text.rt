@@ -1,0 +1,28 @@
+//! The first bad line of a recording.
+
+ghost use Rattle.std.specs.Prelude.{IfOk};
+ghost use Rattle.recordings.specs.RecordingLine.{lines_read};
+ghost use Rattle.recordings.specs.Faults.{IsFirstFault};
+
+use crate::fault::RecordingFault;
+use crate::ruled_lines::RuledLines;
+use std::alloc::{AllocError, Global};
+
+/// Returns the first bad line of a recording, or `None` if it has none. Ignores the text after the
+/// last newline. If the text has no complete line, the first line breaks
+/// [`LineRule::Frame`](crate::LineRule::Frame).
+///
+/// # Errors
+///
+/// Returns `AllocError` if memory runs out.
+pub fn first_fault(alloc: Global, text: &[u8]) -> Result<Option<RecordingFault>, AllocError>
+    ensures { IfOk result (IsFirstFault (lines_read text.now)) }
+{
+    let mut lines = RuledLines::new(alloc, text);
+    while let Some(line) = lines.next()? {
+        if let Err(fault) = line {
+            return Ok(Some(fault));
+        }
+    }
+    Ok(None)
+}
