@@ -2,7 +2,7 @@
 use Rattle.std.proofs.Common.{◌≡◌, ℕ, zero, suc, Bool, true, false, cond, ◌||◌, List, [], ◌∷◌, ◌++◌, map, Contains, slice_get, take, drop, ◌+◌, Some, refl, ap, sym, subst, ◌∙◌, inl, inr, arith}
 use Rattle.std.specs.Prelude.{filter, ◌⊎◌}
 use Rattle.std.specs.List.{list_any}
-use Rattle.conformance.proofs.Steps.{front_next}
+use Rattle.conformance.proofs.ListSteps.{front_next}
 use Rattle.conformance.proofs.Times.{none_of_both}
 
 -- ---- membership

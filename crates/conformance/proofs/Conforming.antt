@@ -15,16 +15,16 @@ use Rattle.recordings.specs.RecordingLine.{RecordedLine}
 use Rattle.recordings.specs.Before.{is_begun}
 use Rattle.recordings.specs.LineParts.{is_same_actor}
 use Rattle.recordings.specs.LineDeeds.{is_submitted}
-use Rattle.plan_differences.specs.declared.pool_watch.PoolDeviation.{PoolDeviation}
-use Rattle.plan_differences.specs.declared.round_watch.RoundExcess.{RoundExcess}
-use Rattle.plan_differences.specs.PoolDeviations.{deviation_seen, deviations_by_lines, deviations_at_end}
-use Rattle.plan_differences.specs.RoundExcesses.{excesses_by_lines}
-use Rattle.plan_differences.specs.WatchLaws.{PoolsAreAsPlanned, PoolsAreRecorded, RoundsAreWithinPlan}
+use Rattle.conformance.specs.declared.pool_watch.PoolDeviation.{PoolDeviation}
+use Rattle.conformance.specs.declared.round_watch.RoundExcess.{RoundExcess}
+use Rattle.conformance.specs.PoolDeviations.{deviation_seen, deviations_by_lines, deviations_at_end}
+use Rattle.conformance.specs.RoundExcesses.{excesses_by_lines}
+use Rattle.conformance.specs.WatchLaws.{PoolsAreAsPlanned, PoolsAreRecorded, RoundsAreWithinPlan}
 use Rattle.recordings.specs.declared.foreign_get.ForeignGet.{ForeignGet}
 use Rattle.recordings.specs.declared.voiding.Void.{Void}
 use Rattle.recordings.specs.Voids.{voids_of}
-use Rattle.recorded_classes.specs.declared.settled.Settled.{Settled}
-use Rattle.recorded_classes.specs.Settled.{IsTold, AreAllTold, CanBe, is_told}
+use Rattle.conformance.specs.declared.settled.Settled.{Settled}
+use Rattle.conformance.specs.Settled.{IsTold, AreAllTold, CanBe, is_told}
 use Rattle.conformance.specs.declared.finding.Finding.{Finding}
 use Rattle.conformance.specs.declared.finding.Finding.TheVariants as finding
 use Rattle.conformance.specs.declared.survey.Survey.{Survey}

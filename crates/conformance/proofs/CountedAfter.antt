@@ -4,8 +4,8 @@ use Rattle.support.specs.Numbered.{value_at}
 use Rattle.job_bodies.specs.Plan.{Plan}
 use Rattle.recordings.specs.RecordingLine.{RecordedLine}
 use Rattle.recordings.specs.PathsOfLines.{KeepsRules}
-use Rattle.recorded_classes.specs.Label.{kind_of}
-use Rattle.recorded_classes.proofs.Labels.{kind_more, kind_stays}
+use Rattle.conformance.specs.Label.{kind_of}
+use Rattle.conformance.proofs.ActorLabels.{kind_more, kind_stays}
 use Rattle.conformance.specs.declared.counted.Counted.{Counted}
 use Rattle.conformance.specs.declared.other_kinds.OtherKinds.{OtherKinds}
 use Rattle.conformance.specs.Counted.{IsCountedOf, IsCountedFirst}

@@ -7,10 +7,10 @@ use Rattle.std.proofs.lemmas.List.Elements.{All-push, All-weaker, All-set, Conta
 use Rattle.std.proofs.lemmas.List.Quantifiers.{any-set, Any-push}
 use Rattle.recordings.specs.declared.recording_line.RecordedActor.{RecordedActor}
 use Rattle.recordings.specs.declared.recording_line.RecordedActor.TheVariants.{Job, Round}
-use Rattle.recorded_classes.specs.declared.settled.Settled.{Settled}
+use Rattle.conformance.specs.declared.settled.Settled.{Settled}
 use Rattle.conformance.specs.Firsts.{is_same_sort, number_of, is_same_label, StandsFor, AreFirsts}
 use Rattle.conformance.proofs.Among.{passing, passed}
-use Rattle.conformance.proofs.Places.{within}
+use Rattle.conformance.proofs.ListPlaces.{within}
 use Rattle.conformance.proofs.Times.{once_more, count_write}
 
 -- ---- labels

@@ -7,7 +7,7 @@ use Rattle.recordings.specs.Faults.{IsFirstFault, breach_of, lines_before, breac
 use Rattle.recordings.specs.Rules.{broken_of}
 use Rattle.recordings.specs.PathsOfLines.{KeepsRules}
 use Rattle.conformance.specs.Lines.{with_form, lines_of}
-use Rattle.conformance.proofs.Steps.{both_next}
+use Rattle.conformance.proofs.ListSteps.{both_next}
 
 -- ---- a prefix of the lines
 pub keeps_front : (front behind lines : List RecordedLine) → lines ≡ front ++ behind → KeepsRules lines → KeepsRules front

@@ -13,11 +13,11 @@ use Rattle.recordings.specs.Rules.{keeps_frame, keeps_pools, keeps_numbers, has_
 use Rattle.recordings.specs.PathsOfLines.{KeepsRules}
 use Rattle.recordings.proofs.ByLast.{by_last, keeps_before}
 use Rattle.job_bodies.specs.Plan.{Plan}
-use Rattle.plan_families.specs.Family.{client_family}
-use Rattle.recorded_classes.specs.declared.settled.Settled.{Settled}
-use Rattle.recorded_classes.specs.Label.{kind_of, kind_in}
+use Rattle.conformance.specs.Family.{client_family}
+use Rattle.conformance.specs.declared.settled.Settled.{Settled}
+use Rattle.conformance.specs.Label.{kind_of, kind_in}
 use Rattle.conformance.specs.FirstKinds.{AreFirstKinds}
-use Rattle.conformance.proofs.Places.{there_before, there_last}
+use Rattle.conformance.proofs.ListPlaces.{there_before, there_last}
 use Rattle.conformance.proofs.Times.{count_push}
 
 -- ---- lists

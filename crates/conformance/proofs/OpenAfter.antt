@@ -12,10 +12,10 @@ use Rattle.recordings.specs.PathsOfLines.{KeepsRules, is_about}
 use Rattle.recordings.proofs.ByLast.{keeps_before, keeps_last}
 use Rattle.recordings.proofs.Fresh.{next_round, ended_fresh}
 use Rattle.job_bodies.specs.Plan.{Plan}
-use Rattle.plan_differences.specs.RoundExcesses.{kind_of, kind_at}
-use Rattle.recorded_classes.specs.Label as labels
-use Rattle.recorded_classes.proofs.Labels.{kind_fresh, kind_new}
-use Rattle.recorded_classes.proofs.LineActors.{ended_about}
+use Rattle.conformance.specs.RoundExcesses.{kind_of, kind_at}
+use Rattle.conformance.specs.Label as labels
+use Rattle.conformance.proofs.ActorLabels.{kind_fresh, kind_new}
+use Rattle.conformance.proofs.LineActors.{ended_about}
 use Rattle.conformance.specs.declared.open_rounds.OpenRounds.{OpenRounds}
 use Rattle.conformance.specs.declared.other_kinds.OtherKinds.{OtherKinds}
 use Rattle.conformance.specs.OtherKinds.{kind_by, AreGiven}

@@ -9,15 +9,15 @@ use Rattle.recordings.specs.declared.recording_line.RecordedActor.{RecordedActor
 use Rattle.recordings.specs.declared.recording_line.RecordedActor.TheVariants.{Round}
 use Rattle.recordings.specs.RecordingLine.{RecordedLine}
 use Rattle.job_bodies.specs.Plan.{Plan}
-use Rattle.plan_differences.specs.RoundExcesses as rounds
-use Rattle.recorded_classes.specs.declared.settled.Settled.{Settled}
-use Rattle.recorded_classes.specs.Label.{HasLabel, kind_of}
-use Rattle.recorded_classes.specs.Settled.{IsTold}
+use Rattle.conformance.specs.RoundExcesses as rounds
+use Rattle.conformance.specs.declared.settled.Settled.{Settled}
+use Rattle.conformance.specs.Label.{HasLabel, kind_of}
+use Rattle.conformance.specs.Settled.{IsTold}
 use Rattle.conformance.specs.declared.other_kinds.OtherKinds.{OtherKinds}
 use Rattle.conformance.specs.FirstKinds.{round_told, AreFirstKinds}
 use Rattle.conformance.specs.OtherKinds.{first_of, unless_first, other_told, IsToldOther, AreOtherKinds, kind_or, AreGiven}
 use Rattle.conformance.proofs.Among.{here, later, head_or_later, is_among_none}
-use Rattle.conformance.proofs.ToldKinds.{pair_some, pair_is, round_of}
+use Rattle.conformance.proofs.CountedKinds.{pair_some, pair_is, round_of}
 
 -- ---- the kind of one round
 by_test : (same : Bool) (round kind : ℕ) (other : ℕ × ℕ) → (cond {A = Option (ℕ × ℕ)} same None (Some (round, kind))) ≡ Some other → pair_some round kind ≡ Some other

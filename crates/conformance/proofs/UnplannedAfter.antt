@@ -15,14 +15,14 @@ use Rattle.recordings.specs.RecordingLine.{line_seen}
 use Rattle.std.proofs.Common.{Bor}
 use Rattle.conformance.specs.Verdicts.{is_empty}
 use Rattle.recordings.specs.RecordingLine.{RecordedLine, Submits, RoundBegins}
-use Rattle.plan_families.specs.Family.{class_family, client_family}
+use Rattle.conformance.specs.Family.{class_family, client_family}
 use Rattle.conformance.specs.declared.unplanned.NotPlanned.{NotPlanned}
 use Rattle.conformance.specs.declared.unplanned.NotPlanned.TheVariants as code
 use Rattle.conformance.specs.declared.unplanned.Unplanned.{Unplanned}
 use Rattle.conformance.specs.Labels.{has_label, pair_text}
 use Rattle.conformance.specs.Wanted.{IsLine}
 use Rattle.conformance.proofs.Among.{at_place}
-use Rattle.conformance.proofs.Places.{there_before, there_last, within, before_or_behind}
+use Rattle.conformance.proofs.ListPlaces.{there_before, there_last, within, before_or_behind}
 use Rattle.conformance.proofs.Times.{once_more}
 use Rattle.conformance.specs.Unplanned.{IsNext, IsClassNotPlanned, IsKindNotPlanned, IsNotPlanned, IsUnplannedOf, TakesClass, TakesKind, class_stays, class_tells, kind_stays, kind_tells, tells_class, tells_kind}
 

@@ -5,7 +5,7 @@ use Rattle.std.specs.List.{list_any}
 use Rattle.std.proofs.lemmas.List.{append-nil}
 use Rattle.std.proofs.lemmas.List.Elements.{filter-append}
 use Rattle.job_bodies.specs.Plan.{Plan}
-use Rattle.recorded_classes.specs.declared.settled.Settled.{Settled}
+use Rattle.conformance.specs.declared.settled.Settled.{Settled}
 use Rattle.conformance.specs.declared.firsts.Firsts.{Firsts}
 use Rattle.conformance.specs.declared.job_set.JobSet.{JobSet}
 use Rattle.conformance.specs.declared.verdicts.Verdicts.{Verdicts}

@@ -3,12 +3,12 @@ use Rattle.std.proofs.Common.{◌≡◌, ◌+◌, ℕ, List, [], ◌∷◌, ◌+
 use Rattle.std.proofs.lemmas.List.{map-append}
 use Rattle.job_bodies.specs.Plan.{Plan}
 use Rattle.recordings.specs.RecordingLine.{RecordedLine}
-use Rattle.plan_differences.specs.declared.pool_watch.PoolDeviation.{PoolDeviation}
-use Rattle.plan_differences.specs.PoolDeviations.{Deviation, deviation_seen, deviations_by_line, deviations_by_lines}
-use Rattle.plan_differences.specs.PoolWatch.{Adds}
-use Rattle.plan_differences.specs.RoundExcesses.{excesses_by_line, excesses_by_lines}
-use Rattle.plan_differences.specs.WatchLaws.{DeviationsAddUp, ExcessesAddUp}
-use Rattle.plan_differences.specs.declared.round_watch.RoundExcess.{RoundExcess}
+use Rattle.conformance.specs.declared.pool_watch.PoolDeviation.{PoolDeviation}
+use Rattle.conformance.specs.PoolDeviations.{Deviation, deviation_seen, deviations_by_line, deviations_by_lines}
+use Rattle.conformance.specs.PoolWatch.{Adds}
+use Rattle.conformance.specs.RoundExcesses.{excesses_by_line, excesses_by_lines}
+use Rattle.conformance.specs.WatchLaws.{DeviationsAddUp, ExcessesAddUp}
+use Rattle.conformance.specs.declared.round_watch.RoundExcess.{RoundExcess}
 use Rattle.std.specs.Prelude.{Option}
 
 pub seen_more : (told more : List Deviation) (old new : List PoolDeviation) → map deviation_seen old ≡ told → Adds old more new → map deviation_seen new ≡ told ++ more

@@ -8,9 +8,9 @@ use Rattle.job_bodies.specs.Plan.{Plan}
 use Rattle.recordings.specs.declared.recording_line.RecordedActor.{RecordedActor}
 use Rattle.recordings.specs.declared.recording_line.RecordedActor.TheVariants.{Job, Round}
 use Rattle.recordings.specs.RecordingLine.{RecordedLine, Submits, RoundBegins}
-use Rattle.recorded_classes.specs.declared.settled.Settled.{Settled}
-use Rattle.recorded_classes.specs.Label.{HasLabel, label_of, kind_of, label_in, kind_in}
-use Rattle.recorded_classes.specs.Settled.{IsTold}
+use Rattle.conformance.specs.declared.settled.Settled.{Settled}
+use Rattle.conformance.specs.Label.{HasLabel, label_of, kind_of, label_in, kind_in}
+use Rattle.conformance.specs.Settled.{IsTold}
 use Rattle.conformance.specs.declared.unplanned.Unplanned.{Unplanned}
 use Rattle.conformance.specs.declared.verdicts.Verdicts.{Verdicts}
 use Rattle.conformance.specs.Firsts.{AreFirsts, StandsFor}

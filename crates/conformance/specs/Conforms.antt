@@ -5,11 +5,11 @@ use Rattle.recordings.specs.RecordingLine.{RecordedLine, Pool, Refused, Cancels,
 use Rattle.recordings.specs.Before.{has_pool, is_closed, is_begun}
 use Rattle.recordings.specs.LineDeeds.{is_submitted}
 use Rattle.job_bodies.specs.Plan.{Plan, pool_at}
-use Rattle.recorded_classes.specs.Classes.{AreClassesOf, AreKindsOf}
+use Rattle.conformance.specs.Classes.{AreClassesOf, AreKindsOf}
 use Rattle.recordings.specs.ForeignGets.{first_foreign_get}
-use Rattle.plan_differences.specs.Rounds.{IsWithinPlan}
-use Rattle.plan_differences.specs.RoundExcesses as rounds
-use Rattle.plan_differences.specs.WatchLaws.{IsPlannedPool}
+use Rattle.conformance.specs.Rounds.{IsWithinPlan}
+use Rattle.conformance.specs.RoundExcesses as rounds
+use Rattle.conformance.specs.WatchLaws.{IsPlannedPool}
 
 -- ---- conforming
 -- There are classes of the plan that the job can belong to.

@@ -2,8 +2,8 @@
 use Rattle.std.specs.Prelude.{◌≡◌, ℕ, false, List, Option}
 use Rattle.job_bodies.specs.Plan.{Plan}
 use Rattle.recordings.specs.RecordingLine.{RecordedLine}
-use Rattle.plan_differences.specs.RoundExcesses.{excesses_by_lines}
-use Rattle.plan_differences.specs.RoundWatch.{IsRoundWatchOf}
+use Rattle.conformance.specs.RoundExcesses.{excesses_by_lines}
+use Rattle.conformance.specs.RoundWatch.{IsRoundWatchOf}
 use Rattle.conformance.specs.declared.counted.Counted.{Counted}
 use Rattle.conformance.specs.declared.other_kinds.OtherKinds.{OtherKinds}
 use Rattle.conformance.specs.OtherKinds.{AreOfFirst}

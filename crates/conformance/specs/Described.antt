@@ -8,7 +8,7 @@ use Rattle.recordings.specs.declared.recording_line.RecordedActor.TheVariants.{J
 use Rattle.recordings.specs.declared.recording_line.RecordedActor.{RecordedActor}
 use Rattle.recordings.specs.declared.deed.RecordedDeed.{RecordedDeed}
 use Rattle.recordings.specs.declared.deed.RecordedDeed.TheVariants as recorded
-use Rattle.recorded_classes.specs.declared.settled.Settled.{Settled}
+use Rattle.conformance.specs.declared.settled.Settled.{Settled}
 use Rattle.conformance.specs.declared.described.JobDeed.{JobDeed}
 use Rattle.conformance.specs.declared.described.JobDeed.TheVariants as deed
 use Rattle.conformance.specs.declared.stray.NamedDeed.{NamedDeed}

@@ -1,7 +1,7 @@
 -- The lines of findings.
 use Rattle.std.specs.Prelude.{ℕ, Option, Some, None}
-use Rattle.plan_differences.specs.declared.pool_watch.PoolDeviation.{PoolDeviation}
-use Rattle.plan_differences.specs.declared.pool_watch.PoolDeviation.TheVariants as pool
+use Rattle.conformance.specs.declared.pool_watch.PoolDeviation.{PoolDeviation}
+use Rattle.conformance.specs.declared.pool_watch.PoolDeviation.TheVariants as pool
 use Rattle.conformance.specs.declared.finding.Finding.{Finding}
 use Rattle.conformance.specs.declared.finding.Finding.TheVariants as finding
 use Rattle.conformance.specs.declared.unplanned.NotPlanned.{NotPlanned}

@@ -1,12 +1,12 @@
 -- The findings as text.
 use Rattle.std.specs.Prelude.{ℕ, ◌++◌, List, [], ◌∷◌, codes, decimal, string_bytes, flat_map, Option, Some, None}
 use Rattle.job_bodies.specs.Plan.{Plan, pool_at, client_at}
-use Rattle.plan_differences.specs.declared.difference.Difference.{Difference}
-use Rattle.plan_differences.specs.declared.pool_watch.PoolDeviation.{PoolDeviation}
-use Rattle.plan_differences.specs.declared.pool_watch.PoolDeviation.TheVariants as pool
-use Rattle.plan_differences.specs.declared.round_watch.RoundExcess.{RoundExcess}
-use Rattle.plan_differences.specs.Difference.{difference_text}
-use Rattle.plan_differences.specs.Excess.{excess_text}
+use Rattle.conformance.specs.declared.difference.Difference.{Difference}
+use Rattle.conformance.specs.declared.pool_watch.PoolDeviation.{PoolDeviation}
+use Rattle.conformance.specs.declared.pool_watch.PoolDeviation.TheVariants as pool
+use Rattle.conformance.specs.declared.round_watch.RoundExcess.{RoundExcess}
+use Rattle.conformance.specs.Difference.{difference_text}
+use Rattle.conformance.specs.Excess.{excess_text}
 use Rattle.recordings.specs.declared.foreign_get.ForeignGet.{ForeignGet}
 use Rattle.recordings.specs.declared.voiding.Void.{Void}
 use Rattle.recordings.specs.VoidText.{void_text}

@@ -4,13 +4,13 @@ use Rattle.std.specs.List.{list_any}
 use Rattle.std.specs.List.Sorted.{IsPermutation}
 use Rattle.job_bodies.specs.Plan.{Plan}
 use Rattle.recordings.specs.RecordingLine.{RecordedLine}
-use Rattle.recorded_classes.specs.declared.settled.Settled.{Settled}
-use Rattle.recorded_classes.specs.Settled.{AreAllTold}
+use Rattle.conformance.specs.declared.settled.Settled.{Settled}
+use Rattle.conformance.specs.Settled.{AreAllTold}
 use Rattle.recordings.specs.ForeignGets.{first_foreign_get}
 use Rattle.recordings.specs.Voids.{voids_of}
-use Rattle.plan_differences.specs.declared.pool_watch.PoolDeviation.{PoolDeviation}
-use Rattle.plan_differences.specs.PoolDeviations.{deviation_seen, deviations_by_lines, deviations_at_end}
-use Rattle.plan_differences.specs.RoundExcesses.{excesses_by_lines}
+use Rattle.conformance.specs.declared.pool_watch.PoolDeviation.{PoolDeviation}
+use Rattle.conformance.specs.PoolDeviations.{deviation_seen, deviations_by_lines, deviations_at_end}
+use Rattle.conformance.specs.RoundExcesses.{excesses_by_lines}
 use Rattle.conformance.specs.declared.finding.Finding.{Finding}
 use Rattle.conformance.specs.declared.finding.Finding.TheVariants as finding
 use Rattle.conformance.specs.declared.unplanned.NotPlanned.{NotPlanned}

@@ -5,9 +5,9 @@ use Rattle.recordings.specs.declared.recording_line.RecordedActor.TheVariants.{J
 use Rattle.recordings.specs.RecordingLine.{RecordedLine}
 use Rattle.recordings.specs.Before.{begins}
 use Rattle.job_bodies.specs.Plan.{Plan}
-use Rattle.plan_families.specs.Family.{client_family}
-use Rattle.recorded_classes.specs.declared.settled.Settled.{Settled}
-use Rattle.recorded_classes.specs.Label.{kind_of}
+use Rattle.conformance.specs.Family.{client_family}
+use Rattle.conformance.specs.declared.settled.Settled.{Settled}
+use Rattle.conformance.specs.Label.{kind_of}
 
 -- A round, with the first of the kinds that it can belong to.
 abbrev pub has_kind : List ℕ → RecordedActor → Option (ℕ × ℕ)

@@ -4,9 +4,9 @@ use Rattle.std.specs.List.{AllZip}
 use Rattle.std.specs.declared.alloc.Global.{Global}
 use Rattle.std.specs.declared.string.String.{String}
 use Rattle.recordings.specs.RecordingLine.{RecordedLine}
-use Rattle.plan_differences.specs.declared.pool_watch.PoolDeviation.{PoolDeviation}
-use Rattle.plan_differences.specs.declared.round_watch.RoundExcess.{RoundExcess}
-use Rattle.recorded_classes.specs.declared.settled.Settled.{Settled}
+use Rattle.conformance.specs.declared.pool_watch.PoolDeviation.{PoolDeviation}
+use Rattle.conformance.specs.declared.round_watch.RoundExcess.{RoundExcess}
+use Rattle.conformance.specs.declared.settled.Settled.{Settled}
 use Rattle.recordings.specs.declared.foreign_get.ForeignGet.{ForeignGet}
 use Rattle.recordings.specs.declared.voiding.Void.{Void}
 use Rattle.recordings.specs.declared.voiding.Voiding.{Voiding}

@@ -6,7 +6,7 @@ use Rattle.recordings.specs.declared.recording_line.RecordedActor.TheVariants.{R
 use Rattle.recordings.specs.RecordingLine.{RecordedLine, RoundBegins, RoundEnds}
 use Rattle.recordings.specs.PathsOfLines.{is_about}
 use Rattle.job_bodies.specs.Plan.{Plan}
-use Rattle.plan_differences.specs.RoundExcesses.{kind_of}
+use Rattle.conformance.specs.RoundExcesses.{kind_of}
 use Rattle.conformance.specs.declared.open_rounds.OpenRounds.{OpenRounds}
 use Rattle.conformance.specs.declared.other_kinds.OtherKinds.{OtherKinds}
 use Rattle.conformance.specs.OtherKinds.{kind_by}

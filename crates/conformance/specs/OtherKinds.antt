@@ -3,10 +3,10 @@ use Rattle.std.specs.Prelude.{◌≡◌, ℕ, true, false, if◌then◌else◌, 
 use Rattle.support.specs.Numbered.{value_at}
 use Rattle.recordings.specs.RecordingLine.{RecordedLine}
 use Rattle.job_bodies.specs.Plan.{Plan}
-use Rattle.plan_families.specs.Family.{client_family}
-use Rattle.plan_differences.specs.RoundExcesses as rounds
-use Rattle.recorded_classes.specs.declared.settled.Settled.{Settled}
-use Rattle.recorded_classes.specs.Label as labels
+use Rattle.conformance.specs.Family.{client_family}
+use Rattle.conformance.specs.RoundExcesses as rounds
+use Rattle.conformance.specs.declared.settled.Settled.{Settled}
+use Rattle.conformance.specs.Label as labels
 use Rattle.conformance.specs.declared.other_kinds.OtherKinds.{OtherKinds}
 use Rattle.conformance.specs.FirstKinds.{round_told}
 

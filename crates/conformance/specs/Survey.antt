@@ -4,14 +4,14 @@ use Rattle.job_bodies.specs.Plan.{Plan}
 use Rattle.recordings.specs.RecordingLine.{RecordedLine, lines_read}
 use Rattle.recordings.specs.declared.fault.RecordingFault.{RecordingFault}
 use Rattle.recordings.specs.Faults.{IsFirstFault}
-use Rattle.plan_differences.specs.PoolDeviations.{deviation_seen, deviations_by_lines, deviations_at_end}
-use Rattle.plan_differences.specs.PoolWatch.{IsPoolWatchOf}
+use Rattle.conformance.specs.PoolDeviations.{deviation_seen, deviations_by_lines, deviations_at_end}
+use Rattle.conformance.specs.PoolWatch.{IsPoolWatchOf}
 use Rattle.recordings.specs.NotesOfLines.{IsNotesOf}
 use Rattle.recordings.specs.PathsOfLines.{KeepsRules}
-use Rattle.recorded_classes.specs.declared.classes.Classes.{Classes}
-use Rattle.recorded_classes.specs.declared.settled.Settled.{Settled}
-use Rattle.recorded_classes.specs.Settled.{AreTold, AreAllTold}
-use Rattle.recorded_classes.specs.StandsFor.{IsClassesOf}
+use Rattle.conformance.specs.declared.classes.Classes.{Classes}
+use Rattle.conformance.specs.declared.settled.Settled.{Settled}
+use Rattle.conformance.specs.Settled.{AreTold, AreAllTold}
+use Rattle.conformance.specs.StandsFor.{IsClassesOf}
 use Rattle.conformance.specs.declared.survey.Watched.{Watched}
 use Rattle.conformance.specs.declared.survey.Judged.{Judged}
 use Rattle.conformance.specs.declared.survey.Survey.{Survey}

@@ -7,7 +7,7 @@ use Rattle.std.specs.declared.string.String.{String}
 use Rattle.job_bodies.specs.Plan.{Plan}
 use Rattle.recordings.specs.declared.recording_line.RecordedActor.{RecordedActor}
 use Rattle.recordings.specs.RecordingLine.{RecordedLine, Submits, RoundBegins}
-use Rattle.plan_families.specs.Family.{class_family, client_family}
+use Rattle.conformance.specs.Family.{class_family, client_family}
 use Rattle.conformance.specs.declared.unplanned.NotPlanned.{NotPlanned}
 use Rattle.conformance.specs.declared.unplanned.NotPlanned.TheVariants as code
 use Rattle.conformance.specs.declared.unplanned.Unplanned.{Unplanned}

@@ -5,8 +5,8 @@ use Rattle.conformance.specs.JobSet.{has_job}
 use Rattle.recordings.specs.declared.recording_line.RecordedActor.{RecordedActor}
 use Rattle.recordings.specs.declared.recording_line.RecordedActor.TheVariants.{Job, Round}
 use Rattle.job_bodies.specs.Plan.{Plan}
-use Rattle.plan_families.specs.Family.{class_family, client_family}
-use Rattle.recorded_classes.specs.declared.settled.Settled.{Settled}
+use Rattle.conformance.specs.Family.{class_family, client_family}
+use Rattle.conformance.specs.declared.settled.Settled.{Settled}
 use Rattle.conformance.specs.declared.verdicts.Verdicts.{Verdicts}
 use Rattle.conformance.specs.Firsts.{AreFirsts}
 

@@ -5,7 +5,7 @@ ghost use Rattle.std.specs.List.{list_any};
 ghost use Rattle.recordings.specs.RecordingLine.{lines_read};
 ghost use Rattle.recordings.specs.Faults.{IsFirstFault};
 ghost use Rattle.recordings.specs.PathsOfLines.{KeepsRules};
-ghost use Rattle.plan_differences.specs.RoundExcesses.{excesses_by_lines};
+ghost use Rattle.conformance.specs.RoundExcesses.{excesses_by_lines};
 ghost use Rattle.conformance.specs.Lines.{lines_of};
 ghost use Rattle.conformance.specs.Conforms.{Conforms, DoAsPlanned, IsNotVoid};
 ghost use Rattle.conformance.specs.Findings.{AreFindingsOf, is_of_actors};
@@ -17,8 +17,8 @@ use crate::counted::excesses;
 use crate::finding::Finding;
 use crate::gathered::gathered;
 use crate::survey::{Survey, surveyed};
+use crate::{RoundExcess, pools_are_as_planned, rounds_are_within_plan};
 use job_bodies::Plan;
-use plan_differences::{RoundExcess, pools_are_as_planned, rounds_are_within_plan};
 use recordings::RecordingFault;
 use std::alloc::{AllocError, Global};
 

@@ -3,7 +3,7 @@
 ghost use Rattle.std.specs.Prelude.{◌≡◌, ◌++◌, ◌∷◌, [], ℕ, List, Option, OnOk, IfOk};
 ghost use Rattle.recordings.specs.RecordingLine.{RecordedLine, line_seen};
 ghost use Rattle.recordings.specs.PathsOfLines.{KeepsRules};
-ghost use Rattle.plan_differences.specs.RoundExcesses.{excesses_by_lines};
+ghost use Rattle.conformance.specs.RoundExcesses.{excesses_by_lines};
 ghost use Rattle.conformance.specs.Counted.{IsCountedOf};
 ghost use Rattle.conformance.specs.Lines.{lines_of};
 ghost use Rattle.conformance.specs.OtherKinds.{AreGiven};
@@ -12,8 +12,8 @@ ghost use Rattle.conformance.specs.Unplanned.{IsNext};
 use crate::good_lines::GoodLines;
 use crate::open_rounds::OpenRounds;
 use crate::other_kinds::OtherKinds;
+use crate::{RoundExcess, RoundWatch, rounds_are_within_plan};
 use job_bodies::Plan;
-use plan_differences::{RoundExcess, RoundWatch, rounds_are_within_plan};
 use recordings::Line;
 use std::alloc::{AllocError, Global};
 

@@ -7,10 +7,10 @@ ghost use Rattle.conformance.specs.Lines.{lines_of};
 ghost use Rattle.conformance.specs.Wanted.{IsLabelOf, found_seen};
 ghost use Rattle.conformance.specs.Described as spec;
 
+use crate::Settled;
 use crate::job_set::JobSet;
 use crate::stray::{NamedDeed, Stray, StrayDeed};
 use crate::wanted::{Wanted, first_line, label_in};
-use recorded_classes::Settled;
 use recordings::{Line, RecordedActor, RecordedDeed};
 use std::alloc::{AllocError, Global};
 

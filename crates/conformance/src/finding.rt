@@ -5,7 +5,7 @@ ghost use Rattle.conformance.specs.Finding as spec;
 
 use crate::stray::Stray;
 use crate::unplanned::NotPlanned;
-use plan_differences::{PoolDeviation, RoundExcess};
+use crate::{PoolDeviation, RoundExcess};
 use recordings::{ForeignGet, RecordedActor, Void};
 
 /// A difference between a recording and a plan, or an event that invalidates a SAFE answer. Lines

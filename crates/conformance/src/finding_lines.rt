@@ -7,8 +7,8 @@ ghost use Rattle.conformance.specs.FindingText as spec;
 use crate::finding::Finding;
 use crate::stray::{push_actor, push_stray};
 use crate::unplanned::NotPlanned;
+use crate::{Difference, PoolDeviation, RoundExcess};
 use job_bodies::Plan;
-use plan_differences::{Difference, PoolDeviation, RoundExcess};
 use recordings::{ForeignGet, Void};
 use std::alloc::AllocError;
 

@@ -1,10 +1,10 @@
 //! The actor with the smallest number of each label.
 
 ghost use Rattle.std.specs.Prelude.{◌≡◌, ◌++◌, ◌∷◌, [], List, OnOk, position};
-ghost use Rattle.recorded_classes.specs.declared.settled.Settled as settleds;
+ghost use Rattle.conformance.specs.declared.settled.Settled as settleds;
 ghost use Rattle.conformance.specs.Firsts as spec;
 
-use recorded_classes::Settled;
+use crate::Settled;
 use recordings::RecordedActor;
 use std::alloc::{AllocError, Global};
 

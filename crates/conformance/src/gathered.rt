@@ -16,8 +16,7 @@ use crate::job_set::JobSet;
 use crate::survey::{Judged, Survey, Watched};
 use crate::unplanned::{NotPlanned, Unplanned};
 use crate::verdicts::Verdicts;
-use plan_differences::{PoolDeviation, RoundExcess};
-use recorded_classes::Settled;
+use crate::{PoolDeviation, RoundExcess, Settled};
 use recordings::{RecordedNotes, Void, Voiding};
 use std::alloc::{AllocError, Global};
 

@@ -4,7 +4,7 @@ ghost use Rattle.std.specs.Prelude.{◌≡◌, ◌++◌, ◌∷◌, [], ℕ, Lis
 ghost use Rattle.support.specs.Numbered.{value_at};
 ghost use Rattle.recordings.specs.RecordingLine.{RecordedLine, line_seen};
 ghost use Rattle.recordings.specs.PathsOfLines.{KeepsRules};
-ghost use Rattle.plan_differences.specs.RoundExcesses.{kind_at};
+ghost use Rattle.conformance.specs.RoundExcesses.{kind_at};
 ghost use Rattle.conformance.specs.OtherKinds.{AreGiven};
 ghost use Rattle.conformance.specs.OpenRounds as spec;
 

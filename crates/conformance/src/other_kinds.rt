@@ -2,13 +2,12 @@
 
 ghost use Rattle.std.specs.Prelude.{◌≡◌, ◌++◌, ◌∷◌, [], List, OnOk, false};
 ghost use Rattle.job_bodies.specs.Plan as plans;
-ghost use Rattle.recorded_classes.specs.declared.settled.Settled as settleds;
+ghost use Rattle.conformance.specs.declared.settled.Settled as settleds;
 ghost use Rattle.conformance.specs.FirstKinds as first;
 ghost use Rattle.conformance.specs.OtherKinds as spec;
 
+use crate::{Settled, first_client};
 use job_bodies::Plan;
-use plan_families::first_client;
-use recorded_classes::Settled;
 use recordings::RecordedActor;
 use std::alloc::{AllocError, Global};
 use support::NumberTable;

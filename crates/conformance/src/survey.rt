@@ -4,8 +4,8 @@ ghost use Rattle.std.specs.Prelude.{◌≡◌, ◌++◌, ◌∷◌, [], ℕ, fal
 ghost use Rattle.job_bodies.specs.Plan as plans;
 ghost use Rattle.recordings.specs.RecordingLine.{RecordedLine, line_seen};
 ghost use Rattle.recordings.specs.PathsOfLines.{KeepsRules};
-ghost use Rattle.recorded_classes.specs.declared.settled.Settled as settleds;
-ghost use Rattle.recorded_classes.specs.Settled.{AreTold, AreAllTold};
+ghost use Rattle.conformance.specs.declared.settled.Settled as settleds;
+ghost use Rattle.conformance.specs.Settled.{AreTold, AreAllTold};
 ghost use Rattle.conformance.specs.Counted.{IsCountedFirst, IsCountedOf};
 ghost use Rattle.conformance.specs.OtherKinds.{AreOtherKinds};
 ghost use Rattle.conformance.specs.Unplanned.{IsNext};
@@ -16,9 +16,8 @@ use crate::counted::Counted;
 use crate::other_kinds::OtherKinds;
 use crate::unplanned::Unplanned;
 use crate::verdicts::Verdicts;
+use crate::{Classes, PoolDeviation, PoolWatch, Settled, pools_are_as_planned};
 use job_bodies::Plan;
-use plan_differences::{PoolDeviation, PoolWatch, pools_are_as_planned};
-use recorded_classes::{Classes, Settled};
 use recordings::{Line, RecordedNotes, RecordingFault, RuledLines};
 use std::alloc::{AllocError, Global};
 

@@ -6,8 +6,8 @@ ghost use Rattle.recordings.specs.RecordingLine.{RecordedLine, line_seen};
 ghost use Rattle.conformance.specs.Unplanned as spec;
 
 use crate::labels::{Labels, pair};
+use crate::{first_class, first_client};
 use job_bodies::Plan;
-use plan_families::{first_class, first_client};
 use recordings::Line;
 use std::alloc::{AllocError, Global};
 

@@ -2,7 +2,7 @@
 
 ghost use Rattle.std.specs.Prelude.{◌≡◌, ◌++◌, ◌∷◌, [], ℕ, List, OnOk};
 ghost use Rattle.job_bodies.specs.Plan as plans;
-ghost use Rattle.recorded_classes.specs.declared.settled.Settled as settleds;
+ghost use Rattle.conformance.specs.declared.settled.Settled as settleds;
 ghost use Rattle.conformance.specs.Firsts.{AreFirsts};
 ghost use Rattle.conformance.specs.JobSet.{has_job};
 ghost use Rattle.conformance.specs.Verdicts as spec;
@@ -10,9 +10,8 @@ ghost use Rattle.conformance.specs.Verdicts as spec;
 use crate::firsts::Firsts;
 use crate::job_set::JobSet;
 use crate::numbers::is_none;
+use crate::{Settled, first_class, first_client};
 use job_bodies::Plan;
-use plan_families::{first_class, first_client};
-use recorded_classes::Settled;
 use recordings::RecordedActor;
 use std::alloc::{AllocError, Global};
 

@@ -7,10 +7,10 @@ use Rattle.std.proofs.lemmas.List.Edits.{length-insert}
 use Rattle.std.proofs.lemmas.List.Elements.{filter-append}
 use Rattle.job_bodies.specs.declared.action.Action.{Action}
 use Rattle.job_bodies.specs.declared.action.Action.TheVariants.{Work, Submit, Get}
-use Rattle.body_paths.specs.declared.deed.Deed.{Deed}
-use Rattle.body_paths.specs.declared.deed.Course.{Course}
-use Rattle.body_paths.specs.declared.deed.Course.TheVariants.{Whole, Begun}
-use Rattle.body_paths.specs.Path.{keeps, stays, IsOfBody}
+use Rattle.conformance.specs.declared.deed.Deed.{Deed}
+use Rattle.conformance.specs.declared.deed.Course.{Course}
+use Rattle.conformance.specs.declared.deed.Course.TheVariants.{Whole, Begun}
+use Rattle.conformance.specs.Path.{keeps, stays, IsOfBody}
 use Rattle.covering_bodies.specs.Covers.{Covers, is_work, work_of, Grows}
 use Rattle.covering_bodies.specs.Insertion.{moved_action, with_action}
 use Rattle.covering_bodies.proofs.Moved.{left_out, keeps-new, keeps-before}

@@ -4,7 +4,7 @@ use Rattle.std.specs.Prelude.{nat_lt}
 use Rattle.std.proofs.lemmas.Bool.{cases_lt, lt-ltb, le-ltb}
 use Rattle.job_bodies.specs.declared.action.Action.{Action}
 use Rattle.job_bodies.specs.declared.action.Action.TheVariants.{Work, Submit, Get}
-use Rattle.body_paths.specs.Path.{keeps, stays}
+use Rattle.conformance.specs.Path.{keeps, stays}
 use Rattle.covering_bodies.specs.Insertion.{moved, moved_action}
 
 -- ---- indices

@@ -10,9 +10,9 @@ use Rattle.job_bodies.specs.declared.action.Action.{Action}
 use Rattle.job_bodies.specs.declared.action.Action.TheVariants.{Work, Submit, Get}
 use Rattle.job_bodies.specs.Plan.{submits, is_got}
 use Rattle.job_bodies.specs.WellFormed.{is_lawful_get}
-use Rattle.body_paths.specs.declared.deed.Deed.{Deed}
-use Rattle.body_paths.specs.declared.deed.Deed.TheVariants as deed
-use Rattle.body_paths.specs.Path.{keeps, stays, IsDeedOf, IsOfBody}
+use Rattle.conformance.specs.declared.deed.Deed.{Deed}
+use Rattle.conformance.specs.declared.deed.Deed.TheVariants as deed
+use Rattle.conformance.specs.Path.{keeps, stays, IsDeedOf, IsOfBody}
 use Rattle.covering_bodies.specs.PathBody.{action_of, body_of, HasClass, HasBody}
 
 -- ---- the element at an index

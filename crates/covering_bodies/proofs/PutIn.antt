@@ -6,9 +6,9 @@ use Rattle.std.specs.Option.{option_map}
 use Rattle.std.proofs.lemmas.Option.{slice_get-map}
 use Rattle.job_bodies.specs.declared.action.Action.{Action}
 use Rattle.job_bodies.specs.declared.action.Action.TheVariants as action
-use Rattle.body_paths.specs.declared.deed.Deed.{Deed}
-use Rattle.body_paths.specs.declared.deed.Deed.TheVariants as deed
-use Rattle.body_paths.specs.Path.{stays, kept_actions, IsDeedOf, IsOfBodyBy}
+use Rattle.conformance.specs.declared.deed.Deed.{Deed}
+use Rattle.conformance.specs.declared.deed.Deed.TheVariants as deed
+use Rattle.conformance.specs.Path.{stays, kept_actions, IsDeedOf, IsOfBodyBy}
 use Rattle.covering_bodies.specs.Insertion.{moved, moved_action, with_action}
 use Rattle.covering_bodies.proofs.Moved.{left_out, moved-before, moved-behind, stays-moved}
 

@@ -3,8 +3,8 @@ use Rattle.std.proofs.Common.{◌≡◌, ◌<◌, ℕ, suc, List, [], ◌∷◌,
 use Rattle.std.specs.Prelude.{Bool, slice_get}
 use Rattle.std.specs.List.{AllZip}
 use Rattle.job_bodies.specs.declared.action.Action.{Action}
-use Rattle.body_paths.specs.declared.deed.Deed.{Deed}
-use Rattle.body_paths.specs.Path.{kept_actions, IsDeedOf, IsOfBody}
+use Rattle.conformance.specs.declared.deed.Deed.{Deed}
+use Rattle.conformance.specs.Path.{kept_actions, IsDeedOf, IsOfBody}
 use Rattle.covering_bodies.specs.Stands.{IsDeedAt}
 
 pub zip_each : (kept : List (ℕ × Action)) (path : List Deed) (entries : List (ℕ × Action)) → length path ≡ length entries → ((place : ℕ) → place < length path → IsDeedAt kept (slice_get path place) (slice_get entries place)) → AllZip (IsDeedOf kept) path entries

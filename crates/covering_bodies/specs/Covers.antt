@@ -3,11 +3,11 @@ use Rattle.std.specs.Prelude.{◌≡◌, ◌≤◌, ◌+◌, ◌*◌, ◌^◌, B
 use Rattle.job_bodies.specs.declared.action.Action.{Action}
 use Rattle.job_bodies.specs.declared.action.Action.TheVariants.{Work, Submit, Get}
 use Rattle.job_bodies.specs.declared.limits.TheConstants.{MAX_ACTIONS, MAX_PATH_STEPS}
-use Rattle.body_paths.specs.declared.deed.Deed.{Deed}
-use Rattle.body_paths.specs.declared.deed.Course.{Course}
-use Rattle.body_paths.specs.declared.deed.Course.TheVariants.{Whole}
-use Rattle.body_paths.specs.Path.{IsPathOf}
-use Rattle.body_paths.specs.Budget.{submit_count}
+use Rattle.conformance.specs.declared.deed.Deed.{Deed}
+use Rattle.conformance.specs.declared.deed.Course.{Course}
+use Rattle.conformance.specs.declared.deed.Course.TheVariants.{Whole}
+use Rattle.conformance.specs.Path.{IsPathOf}
+use Rattle.conformance.specs.StepBudget.{submit_count}
 use Rattle.covering_bodies.specs.Lawful.{HasLawfulGets}
 
 -- Each path of the body is also a path of the other body.

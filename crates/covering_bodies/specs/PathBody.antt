@@ -3,8 +3,8 @@ use Rattle.std.specs.Prelude.{◌≤◌, List, length, map, slice_index, All}
 use Rattle.job_bodies.specs.declared.action.Action.{Action}
 use Rattle.job_bodies.specs.declared.action.Action.TheVariants.{Submit, Get}
 use Rattle.job_bodies.specs.declared.limits.TheConstants.{MAX_ACTIONS}
-use Rattle.body_paths.specs.declared.deed.Deed.{Deed}
-use Rattle.body_paths.specs.declared.deed.Deed.TheVariants as deed
+use Rattle.conformance.specs.declared.deed.Deed.{Deed}
+use Rattle.conformance.specs.declared.deed.Deed.TheVariants as deed
 use Rattle.covering_bodies.specs.Lawful.{HasLawfulGets}
 
 -- The action of a step: a submit of the first class that the job can belong to, or the get of the submit at the same index.

@@ -1,6 +1,6 @@
 //! The pairs of an action of a body and a step of a path that may correspond.
 
-use body_paths::Deed;
+use conformance::Deed;
 use job_bodies::{Action, is_got};
 
 /// Returns the index in the path of the get for the submit at index `submit`.

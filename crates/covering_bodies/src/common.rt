@@ -1,7 +1,7 @@
 //! The longest common subsequence of a body and a path.
 
 use crate::alike::{are_alike, get_in_body, get_of};
-use body_paths::Deed;
+use conformance::Deed;
 use job_bodies::Action;
 use std::alloc::{AllocError, Global};
 

@@ -2,8 +2,8 @@
 
 ghost use Rattle.std.specs.Prelude.{◌≡◌, ◌≤◌, length, IfOk, IfSome, IsSome, IsSomeAnd, IsTrue};
 ghost use Rattle.job_bodies.specs.declared.limits.TheConstants.{MAX_ACTIONS};
-ghost use Rattle.body_paths.specs.declared.deed.Course.TheVariants.{Whole};
-ghost use Rattle.body_paths.specs.Path.{IsPathOf};
+ghost use Rattle.conformance.specs.declared.deed.Course.TheVariants.{Whole};
+ghost use Rattle.conformance.specs.Path.{IsPathOf};
 ghost use Rattle.covering_bodies.specs.Covers.{Covers, Grows, IsSurelyOf, work_of};
 ghost use Rattle.covering_bodies.specs.Lawful.{HasLawfulGets};
 
@@ -11,7 +11,7 @@ use crate::common::partners_of;
 use crate::lawful::has_lawful_gets;
 use crate::merge::merged;
 use crate::stands::stands_at;
-use body_paths::{Course, Deed, PathFit, path_fits};
+use conformance::{Course, Deed, PathFit, path_fits};
 use job_bodies::{Action, MAX_ACTIONS, MAX_PATH_STEPS};
 use std::alloc::{AllocError, Global};
 

@@ -5,7 +5,7 @@ ghost use Rattle.covering_bodies.specs.Covers.{Grows};
 
 use crate::alike::get_of;
 use crate::insertion::{moved, with_submit, with_submit_and_get};
-use body_paths::Deed;
+use conformance::Deed;
 use job_bodies::Action;
 use std::alloc::{AllocError, Global};
 

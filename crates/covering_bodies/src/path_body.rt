@@ -2,13 +2,13 @@
 
 ghost use Rattle.std.specs.Prelude.{◌≡◌, ◌≤◌, ◌↔◌, IfOk, IfSome, MatchOption, All, IsTrue, length};
 ghost use Rattle.job_bodies.specs.declared.limits.TheConstants.{MAX_ACTIONS};
-ghost use Rattle.body_paths.specs.declared.deed.Course.TheVariants.{Whole};
-ghost use Rattle.body_paths.specs.Path.{IsPathOf};
+ghost use Rattle.conformance.specs.declared.deed.Course.TheVariants.{Whole};
+ghost use Rattle.conformance.specs.Path.{IsPathOf};
 ghost use Rattle.covering_bodies.specs.Lawful.{HasLawfulGets};
 ghost use Rattle.covering_bodies.specs.PathBody as spec;
 
 use crate::lawful::has_lawful_gets;
-use body_paths::Deed;
+use conformance::Deed;
 use job_bodies::{Action, MAX_ACTIONS};
 use std::alloc::{AllocError, Global};
 

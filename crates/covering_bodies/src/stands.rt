@@ -3,10 +3,10 @@
 ghost use Rattle.std.specs.Prelude.{◌≡◌, ℕ, Some, IfOk, IsTrue, slice_get};
 ghost use Rattle.std.specs.List.{AllZip};
 ghost use Rattle.job_bodies.specs.declared.action.Action.TheVariants.{Submit};
-ghost use Rattle.body_paths.specs.Path as spec;
+ghost use Rattle.conformance.specs.Path as spec;
 ghost use Rattle.covering_bodies.specs.Stands.{IsDeedAt};
 
-use body_paths::Deed;
+use conformance::Deed;
 use job_bodies::Action;
 use std::alloc::{AllocError, Global};
 

@@ -7,7 +7,7 @@ use Rattle.std.proofs.lemmas.List.{get_or-map, length-map, map-append}
 use Rattle.std.proofs.lemmas.List.Elements.{All-map}
 use Rattle.std.proofs.lemmas.Option.{slice_get-map, slice_get-get_or}
 use Rattle.job_bodies.specs.Plan.{Client}
-use Rattle.plan_families.specs.Family.{IsOfFamily}
+use Rattle.conformance.specs.Family.{IsOfFamily}
 use Rattle.recordings.specs.RecordingLine.{RecordedLine}
 use Rattle.learned_plans.specs.declared.entries.Entry.{Entry}
 use Rattle.learned_plans.specs.declared.too_much.TooMuch.TheVariants.{Kinds}

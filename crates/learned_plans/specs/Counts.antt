@@ -3,7 +3,7 @@ use Rattle.std.specs.Prelude.{◌≡◌, ◌≤◌, ◌<◌, ℕ, ◌-◌, ◌==
 use Rattle.std.specs.List.{All}
 use Rattle.job_bodies.specs.declared.limits.TheConstants.{MAX_SIZE}
 use Rattle.job_bodies.specs.Plan.{Client}
-use Rattle.plan_families.specs.Family.{IsOfFamily}
+use Rattle.conformance.specs.Family.{IsOfFamily}
 use Rattle.recordings.specs.RecordingLine.{RecordedLine, RoundBegins, RoundEnds}
 
 -- The kind of each round, by round number.

@@ -4,7 +4,7 @@ use Rattle.std.specs.List.{All}
 use Rattle.std.specs.Option.{option_map, option_and_then}
 use Rattle.job_bodies.specs.declared.limits.TheConstants.{MAX_CLASSES, MAX_POOLS}
 use Rattle.job_bodies.specs.Plan.{Pool}
-use Rattle.plan_families.specs.Family.{IsOfFamily}
+use Rattle.conformance.specs.Family.{IsOfFamily}
 use Rattle.recordings.specs.RecordingLine.{RecordedLine}
 use Rattle.recordings.specs.Before.{begins, submits}
 use Rattle.learned_plans.specs.declared.seen_names.SeenNames.{SeenNames}

@@ -3,7 +3,7 @@ use Rattle.std.specs.Prelude.{◌≡◌, ◌≤◌, ◌<◌, ℕ, List, ◌++◌
 use Rattle.std.specs.List.{Contains}
 use Rattle.job_bodies.specs.declared.limits.TheConstants.{MAX_CLASSES, MAX_NAME_BYTES}
 use Rattle.job_bodies.specs.Plan.{Pool, Class, Client}
-use Rattle.plan_families.specs.Family.{IsOfFamily}
+use Rattle.conformance.specs.Family.{IsOfFamily}
 use Rattle.recordings.specs.declared.recording_line.RecordedActor.{RecordedActor}
 use Rattle.recordings.specs.RecordingLine.{RecordedLine, RoundBegins, Submits}
 use Rattle.learned_plans.specs.Pools.{pools_seen}

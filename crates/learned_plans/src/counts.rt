@@ -1,7 +1,7 @@
 //! The number of clients of each kind.
 
 ghost use Rattle.std.specs.Prelude.{◌≡◌, ◌++◌, ◌∷◌, [], ℕ, List, Some, true, false, length, slice_get, OnOk, IfOk, IfErr, IsTrue};
-ghost use Rattle.plan_families.specs.Family.{IsOfFamily};
+ghost use Rattle.conformance.specs.Family.{IsOfFamily};
 ghost use Rattle.recordings.specs.RecordingLine.{RecordedLine, line_seen};
 ghost use Rattle.recordings.specs.LineParts.{is_begin};
 ghost use Rattle.learned_plans.specs.Counts.{AreOfKinds, BeginsOfKind, IsOfKind, Kinds, is_kind, begins_one, ends_one};
@@ -11,7 +11,7 @@ ghost use Rattle.learned_plans.specs.Learned.{lines_of};
 use crate::entries::Entry;
 use crate::stop::Stop;
 use crate::too_much::TooMuch;
-use plan_families::is_of_family;
+use conformance::is_of_family;
 use recordings::{Line, RecordingLines};
 use std::alloc::{AllocError, Global};
 

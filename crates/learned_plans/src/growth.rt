@@ -7,7 +7,7 @@ ghost use Rattle.learned_plans.specs.Kept.{AreEntriesOf, IsGiven, IsStop};
 
 use crate::entries::Entries;
 use crate::stop::Stop;
-use body_paths::{Course, Deed, PathFit, path_fits};
+use conformance::{Course, Deed, PathFit, path_fits};
 use covering_bodies::{body_of_path, covering_body};
 use job_bodies::{Action, MAX_ACTIONS, MAX_PATH_STEPS};
 use std::alloc::{AllocError, Global};

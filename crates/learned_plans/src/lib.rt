@@ -5,7 +5,7 @@
 //! counts the rounds of each label. Each label starts as one class for each pool, or as one client
 //! kind, with an empty body. Further passes over the part of the recording that [`Extent`] selects
 //! then extend the bodies. Each pass compares the path of each job and round with the current
-//! bodies (`recorded_classes`), the jobs that an actor submits before the actor. If a path matches
+//! bodies (`conformance`), the jobs that an actor submits before the actor. If a path matches
 //! no body, a body of its label is extended to cover it (`covering_bodies`); if that is impossible,
 //! a class or kind NAME_2, NAME_3 and so on is added. So a body has all that jobs of its label did,
 //! and every submit in it is optional. A class is never extended to submit jobs that lead back to

@@ -1,6 +1,6 @@
 //! The class assigned to each job.
 
-use body_paths::Deed;
+use conformance::Deed;
 use recordings::RecordedDeed;
 use std::alloc::{AllocError, Global};
 use std::collections::{HashMap, HashSet};

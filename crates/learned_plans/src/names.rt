@@ -2,7 +2,7 @@
 
 ghost use Rattle.std.specs.Prelude.{◌<◌, length, string_bytes, IfOk, IfErr};
 ghost use Rattle.job_bodies.specs.declared.limits.TheConstants.{MAX_CLASSES};
-ghost use Rattle.plan_families.specs.Family.{IsOfFamily};
+ghost use Rattle.conformance.specs.Family.{IsOfFamily};
 ghost use Rattle.learned_plans.specs.Kept.{IsNoName};
 
 use crate::entries::Entry;

@@ -11,9 +11,8 @@ use crate::members::Members;
 use crate::pools::pool_number;
 use crate::stop::Stop;
 use crate::working::Working;
-use body_paths::Course;
+use conformance::{Classes, Course, Settled};
 use job_bodies::{Plan, Pool};
-use recorded_classes::{Classes, Settled};
 use recordings::{Line, RecordedActor, RecordingLines};
 use std::alloc::{AllocError, Global};
 

@@ -5,7 +5,7 @@ use Rattle.conformance.specs.Finding.{place_of}
 use Rattle.conformance.specs.Findings.{is_of_actors}
 use Rattle.conformance.proofs.AllFound.{all_found}
 use Rattle.conformance.proofs.Conforming.{conforms, actors_do, none_before}
-use Rattle.conformance.proofs.ToldKinds.{all_first_kinds}
+use Rattle.conformance.proofs.CountedKinds.{all_first_kinds}
 use Rattle.conformance.proofs.comparison.compared.Goals as goal
 
 pub returns-clause-conforms : goal.returns-clause-conforms

@@ -1,11 +1,11 @@
 use Rattle.std.proofs.Common.{◌≡◌, ◌≤◌, ◌∷◌, [], drop, take, length, ap, sym, subst, ◌∙◌, arith}
 use Rattle.recordings.specs.RecordingLine.{line_seen}
-use Rattle.plan_differences.specs.RoundExcesses.{excesses_by_lines}
+use Rattle.conformance.specs.RoundExcesses.{excesses_by_lines}
 use Rattle.conformance.specs.Counted.{IsCountedOf}
 use Rattle.conformance.specs.Lines.{lines_of}
 use Rattle.conformance.proofs.CountedAfter.{given_before}
 use Rattle.conformance.proofs.Kept.{keeps_next}
-use Rattle.conformance.proofs.Steps.{both_next, rest_next, within_next, front_next, all_taken, number_next}
+use Rattle.conformance.proofs.ListSteps.{both_next, rest_next, within_next, front_next, all_taken, number_next}
 use Rattle.conformance.proofs.counted.excesses.Goals as goal
 
 pub loop-line-init : goal.loop-line-init

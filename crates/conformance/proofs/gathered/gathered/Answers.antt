@@ -1,5 +1,5 @@
 use Rattle.std.proofs.Common.{◌++◌, List, map, filter, ap, ◌∙◌}
-use Rattle.plan_differences.specs.declared.round_watch.RoundExcess.{RoundExcess}
+use Rattle.conformance.specs.declared.round_watch.RoundExcess.{RoundExcess}
 use Rattle.recordings.specs.Voids.{voids_of}
 use Rattle.conformance.specs.declared.finding.Finding.{Finding}
 use Rattle.conformance.specs.declared.finding.Finding.TheVariants as finding

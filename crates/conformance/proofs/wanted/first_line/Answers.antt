@@ -3,7 +3,7 @@ use Rattle.std.specs.List.{list_any}
 use Rattle.recordings.specs.RecordingLine.{line_seen}
 use Rattle.conformance.specs.Lines.{lines_of}
 use Rattle.conformance.specs.Wanted.{is_wanted}
-use Rattle.conformance.proofs.Steps.{next_is, rest_next, within_next, all_taken}
+use Rattle.conformance.proofs.ListSteps.{next_is, rest_next, within_next, all_taken}
 use Rattle.conformance.proofs.Among.{any_more}
 use Rattle.conformance.proofs.wanted.first_line.Goals as goal
 

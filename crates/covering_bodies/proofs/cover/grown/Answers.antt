@@ -1,6 +1,6 @@
 use Rattle.std.proofs.Common.{List, subst, sym}
 use Rattle.job_bodies.specs.declared.action.Action.{Action}
-use Rattle.body_paths.specs.Path.{IsOfBody}
+use Rattle.conformance.specs.Path.{IsOfBody}
 use Rattle.covering_bodies.proofs.cover.grown.Goals as goal
 
 pub returns-in_ok-from_slice-clause-fits : goal.returns-in_ok-from_slice-clause-fits

@@ -1,6 +1,6 @@
 use Rattle.std.proofs.Common.{List, subst}
 use Rattle.job_bodies.specs.declared.action.Action.{Action}
-use Rattle.body_paths.specs.Path.{IsOfBody}
+use Rattle.conformance.specs.Path.{IsOfBody}
 use Rattle.covering_bodies.proofs.cover.with_path.Goals as goal
 
 pub returns-then-branch-clause-fits : goal.returns-then-branch-clause-fits

@@ -1,6 +1,6 @@
 use Rattle.std.proofs.Common.{rules, List, subst, sym}
 use Rattle.job_bodies.specs.declared.action.Action.{Action}
-use Rattle.body_paths.specs.Path.{IsOfBody}
+use Rattle.conformance.specs.Path.{IsOfBody}
 use Rattle.covering_bodies.specs.PathBody.{HasBody}
 use Rattle.covering_bodies.proofs.OwnBody.{of_own_body}
 use Rattle.covering_bodies.proofs.path_body.body_of_path.Goals as goal

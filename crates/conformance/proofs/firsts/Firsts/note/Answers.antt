@@ -1,5 +1,5 @@
 use Rattle.std.proofs.Common.{◌≡◌, ◌++◌, ◌∷◌, [], sym, subst, ◌∙◌, ap, true, arith}
-use Rattle.recorded_classes.specs.declared.settled.Settled.{Settled}
+use Rattle.conformance.specs.declared.settled.Settled.{Settled}
 use Rattle.std.proofs.lemmas.List.Quantifiers.{position-Some}
 use Rattle.conformance.specs.Firsts.{AreFirsts, is_same_label}
 use Rattle.conformance.proofs.FirstsAfter.{behind_new, behind_known, behind_earlier, read_at}

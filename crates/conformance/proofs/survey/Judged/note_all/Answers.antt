@@ -1,7 +1,7 @@
 use Rattle.std.proofs.Common.{◌≡◌, ◌++◌, ◌∷◌, [], List, ap, sym, subst, ◌∙◌, append_assoc}
 use Rattle.std.proofs.lemmas.List.{append-nil}
 use Rattle.std.specs.Vec.Iter.{drain_items}
-use Rattle.recorded_classes.specs.declared.settled.Settled.{Settled}
+use Rattle.conformance.specs.declared.settled.Settled.{Settled}
 use Rattle.conformance.specs.OtherKinds.{AreOtherKinds}
 use Rattle.conformance.specs.Verdicts.{IsVerdictsOf}
 use Rattle.conformance.proofs.survey.Judged.note_all.Goals as goal

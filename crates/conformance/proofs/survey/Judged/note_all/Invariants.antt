@@ -1,6 +1,6 @@
 use Rattle.std.proofs.Common.{◌≡◌, ◌++◌, false, List}
 use Rattle.std.specs.Vec.Iter.{drain_items}
-use Rattle.recorded_classes.specs.declared.settled.Settled.{Settled}
+use Rattle.conformance.specs.declared.settled.Settled.{Settled}
 use Rattle.conformance.specs.OtherKinds.{AreOtherKinds}
 use Rattle.conformance.specs.Verdicts.{IsVerdictsOf}
 use Rattle.conformance.proofs.survey.Judged.note_all.Given as goal

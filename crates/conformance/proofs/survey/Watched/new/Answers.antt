@@ -1,5 +1,5 @@
 use Rattle.std.proofs.Common.{map, ap, ◌∙◌}
-use Rattle.plan_differences.specs.PoolDeviations.{deviation_seen}
+use Rattle.conformance.specs.PoolDeviations.{deviation_seen}
 use Rattle.conformance.proofs.WatchedAfter.{no_deviations}
 use Rattle.conformance.proofs.survey.Watched.new.Goals as goal
 

@@ -2,7 +2,7 @@ use Rattle.std.proofs.Common.{◌<◌, length, string_bytes, sym, subst, arith}
 use Rattle.std.specs.List.{All}
 use Rattle.std.proofs.lemmas.List.Elements.{All-push}
 use Rattle.job_bodies.specs.declared.limits.TheConstants.{MAX_CLASSES}
-use Rattle.plan_families.specs.Family.{IsOfFamily}
+use Rattle.conformance.specs.Family.{IsOfFamily}
 use Rattle.learned_plans.specs.Kept.{IsEntryOf, IsGiven}
 use Rattle.learned_plans.proofs.Entered.{no_name, still_stops}
 use Rattle.learned_plans.proofs.entries.Entries.add.Goals as goal

@@ -1,0 +1,40 @@
+-- The differences between one `pool` line and a pool of the plan.
+use Rattle.std.specs.Prelude.{◌≡◌, Bool, true, false, ◌==◌, ◌||◌, not, if◌then◌else◌, List, [], ◌∷◌, ◌++◌, IsTrue}
+use Rattle.job_bodies.specs.Plan.{Pool, first_workers}
+use Rattle.recordings.specs.declared.pool_sizes.PoolSizes.{PoolSizes}
+use Rattle.recordings.specs.declared.pool_sizes.QueueKind.{QueueKind}
+use Rattle.recordings.specs.declared.pool_sizes.QueueKind.TheVariants as queue
+use Rattle.conformance.specs.declared.difference.Difference.{Difference}
+use Rattle.conformance.specs.declared.difference.Difference.TheVariants.{Core, Max, KindOfQueue, Capacity, CoreTimeout, Prestarted}
+
+-- The queue is an `ArrayBlockingQueue` or a `LinkedBlockingQueue`.
+abbrev pub is_array_or_linked : QueueKind → Bool
+is_array_or_linked queue.Array = true
+is_array_or_linked queue.Linked = true
+is_array_or_linked queue.Synchronous = false
+is_array_or_linked queue.Priority = false
+is_array_or_linked queue.Other = false
+
+-- A list with the difference, or an empty one if the two sides agree.
+abbrev pub unless : Bool → Difference → List Difference
+unless agree difference = if agree then [] else difference ∷ []
+
+-- Another core size, maximum size, kind of queue or capacity than in the plan, or core threads that may time out. In the
+-- first line of a pool, also another number of prestarted threads: the core size with `prestart`, and 0 without it.
+abbrev pub differences : Bool → PoolSizes → Pool → List Difference
+differences is_first sizes pool =
+    unless (sizes.core == pool.core) (Core sizes.core pool.core)
+    ++ unless (sizes.max == pool.max) (Max sizes.max pool.max)
+    ++ unless (is_array_or_linked sizes.queue) (KindOfQueue sizes.queue)
+    ++ unless (sizes.capacity == pool.queue) (Capacity sizes.capacity pool.queue)
+    ++ unless (not sizes.timeout) CoreTimeout
+    ++ unless (not is_first || sizes.prestarted == first_workers pool) (Prestarted sizes.prestarted (first_workers pool))
+
+-- The sizes are those of the plan, as far as they are compared in this line.
+pub record IsAsPlanned (is_first : Bool) (sizes : PoolSizes) (pool : Pool) : Type 0 where
+  pub core : sizes.core ≡ pool.core
+  pub max : sizes.max ≡ pool.max
+  pub array_or_linked : IsTrue (is_array_or_linked sizes.queue)
+  pub capacity : sizes.capacity ≡ pool.queue
+  pub core_stays : sizes.timeout ≡ false
+  pub prestarted : is_first ≡ true → sizes.prestarted ≡ first_workers pool

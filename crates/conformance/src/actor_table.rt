@@ -1,0 +1,217 @@
+//! The unsettled actors of a recording.
+
+ghost use Rattle.std.specs.Prelude.{◌≡◌, ◌+◌, ℕ, nat_eq, true, OnOk, IfOk, None, Some, is_some, if◌then◌else◌};
+ghost use Rattle.std.specs.List.Sorted.{IsNonDecreasing};
+ghost use Rattle.std.specs.Set.{is_member};
+ghost use Rattle.std.specs.Option.{option_map, option_copied, option_and_then};
+ghost use Rattle.support.specs.Numbered.{value_at, count_of};
+ghost use Rattle.recordings.specs.declared.recording_line.RecordedActor.{RecordedActor};
+ghost use Rattle.recordings.specs.LineParts.{is_same_actor};
+ghost use Rattle.conformance.specs.Kept.{in_table, Comes, without_submitter, with_waiting, with_known, is_job};
+ghost use Rattle.conformance.specs.Left.{AreJobsAmong, AreRoundsAmong};
+
+use recordings::{RecordedActor, RecordedDeed};
+use std::alloc::{AllocError, Global};
+use support::NumberTable;
+
+/// An unsettled actor. It is open, or it has ended and waits for a job of its path.
+#[derive(Drop)]
+pub(crate) struct KeptActor {
+    /// The class of a job, or the kind of a round.
+    pub(crate) label: String,
+    /// The pool of a job.
+    pub(crate) pool: String,
+    /// The submitter of a job, unless the job was refused.
+    pub(crate) submitter: Option<RecordedActor>,
+    /// The state of an actor that has ended.
+    pub(crate) waiting: Option<Waiting>,
+}
+
+/// The state of an actor that has ended and waits for jobs of its path.
+#[derive(Drop)]
+pub(crate) struct Waiting {
+    pub(crate) path: Vec<RecordedDeed>,
+    /// The length of the prefix of the path whose jobs are all settled.
+    pub(crate) known: usize,
+}
+
+impl KeptActor {
+    fn advance(&mut self, known: usize)
+        ensures { self.new ≡ with_known known self.old }
+    {
+        if let Some(waiting) = &mut self.waiting {
+            waiting.known = known;
+        }
+    }
+}
+
+/// The unsettled actors, by number.
+#[derive(Drop)]
+pub(crate) struct ActorTable {
+    pub(crate) jobs: NumberTable<KeptActor>,
+    pub(crate) rounds: NumberTable<KeptActor>,
+}
+
+impl ActorTable {
+    /// Creates an empty table.
+    pub(crate) fn new(alloc: Global) -> ActorTable
+        ensures { (one : RecordedActor) → in_table result one ≡ None }
+    {
+        ActorTable {
+            jobs: NumberTable::new(alloc),
+            rounds: NumberTable::new(alloc),
+        }
+    }
+
+    /// Inserts an actor.
+    pub(crate) fn insert(&mut self, actor: RecordedActor, kept: KeptActor) -> Result<(), AllocError>
+        ensures { OnOk result
+            ((one : RecordedActor)
+            → in_table self.new one
+            ≡ (if is_same_actor actor one then Some kept else in_table self.old one)) }
+    {
+        match actor {
+            RecordedActor::Job(job) => self.jobs.insert(job, kept),
+            RecordedActor::Round(round) => self.rounds.insert(round, kept),
+        }
+    }
+
+    /// Inserts an open actor with this label.
+    ///
+    /// # Errors
+    ///
+    /// Returns `AllocError` if memory runs out.
+    pub(crate) fn begin(
+        &mut self,
+        alloc: Global,
+        actor: RecordedActor,
+        label: &str,
+        pool: &str,
+        submitter: Option<RecordedActor>,
+    ) -> Result<(), AllocError>
+        ensures { OnOk result (Comes self.old actor label.now pool.now submitter self.new) }
+    {
+        let kept = KeptActor {
+            label: String::from_str(alloc, label)?,
+            pool: String::from_str(alloc, pool)?,
+            submitter,
+            waiting: None,
+        };
+        self.insert(actor, kept)
+    }
+
+    /// Removes the submitter of a refused job, which belongs to no path.
+    pub(crate) fn forget_submitter(&mut self, job: usize)
+        ensures { (one : RecordedActor)
+            → in_table self.new one
+            ≡ (if is_same_actor (RecordedActor.Job job) one then option_map without_submitter
+            (in_table self.old one) else in_table self.old one) }
+    {
+        if let Some(kept) = self.jobs.get_mut(job) {
+            kept.submitter = None;
+        }
+    }
+
+    /// Marks the actor as ended, if it is in the table.
+    pub(crate) fn wait(&mut self, actor: RecordedActor, waiting: Waiting)
+        ensures { (one : RecordedActor)
+            → in_table self.new one
+            ≡ (if is_same_actor actor one then option_map (with_waiting waiting)
+            (in_table self.old one) else in_table self.old one) }
+    {
+        match actor {
+            RecordedActor::Job(job) => {
+                if let Some(kept) = self.jobs.get_mut(job) {
+                    kept.waiting = Some(waiting);
+                }
+            }
+            RecordedActor::Round(round) => {
+                if let Some(kept) = self.rounds.get_mut(round) {
+                    kept.waiting = Some(waiting);
+                }
+            }
+        }
+    }
+
+    /// Returns the state of the actor, if it is in the table and has ended.
+    pub(crate) fn waiting(&self, actor: RecordedActor) -> Option<&Waiting>
+        ensures { option_copied result
+            ≡ option_and_then (λ kept. kept.waiting) (in_table self.now actor) }
+    {
+        let kept = match actor {
+            RecordedActor::Job(job) => self.jobs.get(job)?,
+            RecordedActor::Round(round) => self.rounds.get(round)?,
+        };
+        kept.waiting.as_ref()
+    }
+
+    /// Sets the length of the settled prefix of the actor's path, if the actor is in the table and
+    /// has ended.
+    pub(crate) fn advance(&mut self, actor: RecordedActor, known: usize)
+        ensures after { (one : RecordedActor)
+            → in_table self.new one
+            ≡ (if is_same_actor actor one then option_map (with_known known) (in_table self.old one)
+            else in_table self.old one) }
+    {
+        match actor {
+            RecordedActor::Job(job) => {
+                if let Some(kept) = self.jobs.get_mut(job) {
+                    kept.advance(known);
+                }
+            }
+            RecordedActor::Round(round) => {
+                if let Some(kept) = self.rounds.get_mut(round) {
+                    kept.advance(known);
+                }
+            }
+        }
+    }
+
+    /// Removes and returns the actor.
+    pub(crate) fn remove(&mut self, actor: RecordedActor) -> Option<KeptActor>
+        ensures value { result ≡ in_table self.old actor }
+        ensures after { (one : RecordedActor)
+            → in_table self.new one
+            ≡ (if is_same_actor actor one then None else in_table self.old one) }
+        ensures fewer { count_of self.new.jobs + (if is_some result then is_job actor else 0)
+            ≡ count_of self.old.jobs }
+    {
+        match actor {
+            RecordedActor::Job(job) => self.jobs.remove(job),
+            RecordedActor::Round(round) => self.rounds.remove(round),
+        }
+    }
+
+    /// Returns the numbers of the jobs, in ascending order.
+    ///
+    /// # Errors
+    ///
+    /// Returns `AllocError` if memory runs out.
+    pub(crate) fn job_numbers(&self, alloc: Global) -> Result<Vec<usize>, AllocError>
+        ensures all { IfOk result (λ numbers. AreJobsAmong self.now numbers.items) }
+        ensures sorted { IfOk result (λ numbers. IsNonDecreasing numbers.items) }
+    {
+        numbers_of(alloc, &self.jobs)
+    }
+
+    /// Returns the numbers of the rounds, in ascending order.
+    ///
+    /// # Errors
+    ///
+    /// Returns `AllocError` if memory runs out.
+    pub(crate) fn round_numbers(&self, alloc: Global) -> Result<Vec<usize>, AllocError>
+        ensures { IfOk result (λ numbers. AreRoundsAmong self.now numbers.items) }
+    {
+        numbers_of(alloc, &self.rounds)
+    }
+}
+
+fn numbers_of(alloc: Global, actors: &NumberTable<KeptActor>) -> Result<Vec<usize>, AllocError>
+    ensures all { IfOk result (λ numbers.
+        (number : ℕ)
+        → is_some (value_at actors.now number) ≡ true
+        → is_member nat_eq numbers.items number ≡ true) }
+    ensures sorted { IfOk result (λ numbers. IsNonDecreasing numbers.items) }
+{
+    actors.numbers(alloc)
+}

@@ -1,0 +1,74 @@
+//! Differences between a recorded pool and the plan's pool, and their texts.
+
+ghost use Rattle.std.specs.Prelude.{◌≡◌, Some};
+ghost use Rattle.recordings.specs.LineText.{queue_word};
+ghost use Rattle.conformance.specs.Difference as spec;
+
+use recordings::QueueKind;
+use std::fmt;
+
+/// A difference between a recorded pool and the plan's pool.
+///
+/// It formats as a short phrase without the pool's name, such as `max 20, plan 10`.
+#[derive(Clone, Copy, PartialEq, Eq)]
+pub enum Difference {
+    /// The core pool size, in threads.
+    Core { recorded: u64, planned: u64 },
+    /// The maximum pool size, in threads.
+    Max { recorded: u64, planned: u64 },
+    /// A queue of this kind, which is neither an array queue nor a linked one.
+    KindOfQueue(QueueKind),
+    /// The capacity of the queue, in jobs.
+    Capacity { recorded: u64, planned: u64 },
+    /// Core threads may time out. Those of a plan never do.
+    CoreTimeout,
+    /// The number of threads when the recording began. A plan with `prestart` has all core threads
+    /// then, and one without it has none.
+    Prestarted { recorded: u64, planned: u64 },
+}
+
+impl Difference {
+    /// Returns true if both are of the same variant, with the same numbers.
+    pub(crate) fn is_same(self, other: Difference) -> bool
+        ensures { result ≡ spec.is_same_difference self other }
+    {
+        self == other
+    }
+}
+
+impl fmt::Display for Difference {
+    ghost output = { λ difference. Some (spec.difference_text difference) };
+
+    fn fmt<W: fmt::Write>(&self, f: &mut fmt::Formatter<W>) -> fmt::Result {
+        match *self {
+            Difference::Core { recorded, planned } => {
+                write!(f, "core {recorded}, plan {planned}")
+            }
+            Difference::Max { recorded, planned } => { write!(f, "max {recorded}, plan {planned}") }
+            Difference::KindOfQueue(kind) => {
+                let word = kind_word(kind);
+                write!(f, "queue of another kind ({word})")
+            }
+            Difference::Capacity { recorded, planned } => {
+                write!(f, "queue {recorded}, plan {planned}")
+            }
+            Difference::CoreTimeout => write!(f, "core threads may time out"),
+            Difference::Prestarted { recorded, planned } => {
+                write!(f, "{recorded} threads prestarted, plan {planned}")
+            }
+        }
+    }
+}
+
+/// Returns the keyword of `pool` lines for the kind of a queue.
+fn kind_word(kind: QueueKind) -> &'static str
+    ensures { result.now ≡ queue_word kind }
+{
+    match kind {
+        QueueKind::Array => "array",
+        QueueKind::Linked => "linked",
+        QueueKind::Synchronous => "synchronous",
+        QueueKind::Priority => "priority",
+        QueueKind::Other => "other",
+    }
+}

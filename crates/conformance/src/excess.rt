@@ -1,0 +1,33 @@
+//! Rounds of a client kind beyond its `count`, and their text.
+
+ghost use Rattle.std.specs.Prelude.{Some};
+ghost use Rattle.conformance.specs.Excess as spec;
+
+use std::fmt;
+
+/// More rounds of a client kind than its `count` in the plan.
+///
+/// It formats as a short phrase without the kind's name, such as `31 at once, count is 30`.
+#[derive(Clone, Copy, PartialEq, Eq)]
+pub enum Excess {
+    /// This many rounds are open at once.
+    AtOnce { rounds: u64, count: u64 },
+    /// This many rounds began in all, of a kind that does not repeat.
+    InAll { rounds: u64, count: u64 },
+}
+
+impl fmt::Display for Excess {
+    ghost output = { λ excess. Some (spec.excess_text excess) };
+
+    fn fmt<W: fmt::Write>(&self, f: &mut fmt::Formatter<W>) -> fmt::Result {
+        match *self {
+            Excess::AtOnce { rounds, count } => write!(f, "{rounds} at once, count is {count}"),
+            Excess::InAll { rounds, count } => {
+                write!(
+                    f,
+                    "{rounds} in all, count is {count} and it does not repeat"
+                )
+            }
+        }
+    }
+}

@@ -1,0 +1,18 @@
+//! Laws about the actors of a recording, stated as contracts of empty functions.
+
+ghost use Rattle.conformance.specs.Laws.{PathsStay, JobsAreLater, ClassesStay, KindsStay, ClassesAreDetermined, KindsAreDetermined};
+
+/// Proves that later lines change neither the path of an ended actor nor the classes of a settled
+/// one.
+pub fn settled_actors_stay()
+    ensures paths { PathsStay }
+    ensures later { JobsAreLater }
+    ensures classes { ClassesStay }
+    ensures kinds { KindsStay }
+{}
+
+/// Proves that the lines determine the classes that a job can belong to, and the kinds of a round.
+pub fn classes_are_determined()
+    ensures classes { ClassesAreDetermined }
+    ensures kinds { KindsAreDetermined }
+{}

@@ -1,0 +1,84 @@
+//! Comparison of one `pool` line with a pool of the plan.
+
+ghost use Rattle.std.specs.Prelude.{◌≡◌, ◌++◌, ◌↔◌, [], OnOk, IfOk};
+ghost use Rattle.conformance.specs.Sizes as spec;
+
+use crate::Difference;
+use job_bodies::Pool;
+use recordings::{PoolSizes, QueueKind};
+use std::alloc::{AllocError, Global};
+
+/// Returns all differences between a `pool` line and the plan's pool, in the order of the variants
+/// of [`Difference`]. The list is empty exactly when the pool is as planned.
+///
+/// The number of prestarted threads is compared only in the first line of the pool. The handler is
+/// not compared, because it is never called if the plan is SAFE.
+///
+/// # Errors
+///
+/// Returns [`AllocError`] if memory runs out.
+pub fn differences(
+    alloc: Global,
+    sizes: &PoolSizes,
+    pool: &Pool,
+    is_first: bool,
+) -> Result<Vec<Difference>, AllocError>
+    ensures exact { IfOk result
+        (λ found. found.items ≡ spec.differences is_first sizes.now pool.now) }
+    ensures none { IfOk result
+        (λ found. (found.items ≡ []) ↔ spec.IsAsPlanned is_first sizes.now pool.now) }
+{
+    let mut found = Vec::new(alloc);
+    let (recorded, planned) = (sizes.core as u64, pool.core);
+    push_unless(
+        &mut found,
+        recorded == planned,
+        Difference::Core { recorded, planned },
+    )?;
+    let (recorded, planned) = (sizes.max as u64, pool.max);
+    push_unless(
+        &mut found,
+        recorded == planned,
+        Difference::Max { recorded, planned },
+    )?;
+    push_unless(
+        &mut found,
+        is_array_or_linked(sizes.queue),
+        Difference::KindOfQueue(sizes.queue),
+    )?;
+    let (recorded, planned) = (sizes.capacity as u64, pool.queue);
+    push_unless(
+        &mut found,
+        recorded == planned,
+        Difference::Capacity { recorded, planned },
+    )?;
+    push_unless(&mut found, !sizes.timeout, Difference::CoreTimeout)?;
+    let (recorded, planned) = (sizes.prestarted as u64, pool.first_workers());
+    push_unless(
+        &mut found,
+        !is_first || recorded == planned,
+        Difference::Prestarted { recorded, planned },
+    )?;
+    Ok(found)
+}
+
+/// Returns true if the queue is of one of the two kinds that a plan can describe.
+fn is_array_or_linked(kind: QueueKind) -> bool
+    ensures { result ≡ spec.is_array_or_linked kind }
+{
+    matches!(kind, QueueKind::Array | QueueKind::Linked)
+}
+
+/// Appends the difference, unless the two sides agree.
+fn push_unless(
+    found: &mut Vec<Difference>,
+    agree: bool,
+    difference: Difference,
+) -> Result<(), AllocError>
+    ensures { OnOk result (found.new.items ≡ found.old.items ++ spec.unless agree difference) }
+{
+    if !agree {
+        found.push(difference)?;
+    }
+    Ok(())
+}

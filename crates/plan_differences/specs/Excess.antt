@@ -1,9 +1,0 @@
--- The text for more rounds than the plan allows.
-use Rattle.std.specs.Prelude.{ℕ, ◌++◌, List, codes, decimal}
-use Rattle.plan_differences.specs.declared.excess.Excess.{Excess}
-use Rattle.plan_differences.specs.declared.excess.Excess.TheVariants.{AtOnce, InAll}
-
--- The text has no name of the kind and no newline.
-abbrev pub excess_text : Excess → List ℕ
-excess_text (AtOnce rounds count) = decimal rounds ++ codes " at once, count is " ++ decimal count
-excess_text (InAll rounds count) = decimal rounds ++ codes " in all, count is " ++ decimal count ++ codes " and it does not repeat"

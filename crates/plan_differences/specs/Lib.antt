@@ -1,9 +1,0 @@
-pub mod Difference
-pub mod Sizes
-pub mod Excess
-pub mod Rounds
-pub mod PoolDeviations
-pub mod PoolWatch
-pub mod RoundExcesses
-pub mod RoundWatch
-pub mod WatchLaws

@@ -1,7 +1,0 @@
-use Rattle.std.proofs.Common.{◌≡◌, filter, []}
-use Rattle.std.specs.List.{range_with_len}
-use Rattle.plan_families.specs.Family.{is_client_in_family}
-use Rattle.plan_families.proofs.family.first_client.Given as goal
-
-abbrev pub invariant-loop-client : goal.invariant-loop-client
-invariant-loop-client l = filter (is_client_in_family l.plan l.label) (range_with_len 0 l.client) ≡ []

@@ -1,3 +1,0 @@
-pub mod Family
-pub mod PathFamily
-pub mod Told
