@@ -14,14 +14,14 @@ use Rattle.conformance.specs.Findings.{AreFindingsOf, is_of_actors}
 use Rattle.conformance.specs.FindingText.{finding_line}
 use Rattle.conformance.specs.Lines.{lines_of}
 use Rattle.conformance.specs.Outcome.{AreInOrder}
-use Rattle.learned_plans.specs.Counts.{AreCounted}
-use Rattle.learned_plans.specs.Pools.{pools_seen}
-use Rattle.learned_plans.specs.Names.{IsNamedClass, IsNamedClient}
-use Rattle.learned_plans.specs.TooMuch.{IsReason, too_much_text}
-use Rattle.learned_plans.specs.Unfinished.{unfinished_rounds, unfinished_jobs}
-use Rattle.learned_plans.specs.declared.learned.SeenPlan.{SeenPlan}
-use Rattle.learned_plans.specs.declared.too_much.TooMuch.{TooMuch}
-use Rattle.learned_plans.specs.declared.too_much.TooMuch.TheVariants.{Paths, Text}
+use Rattle.learning.specs.Counts.{AreCounted}
+use Rattle.learning.specs.Pools.{pools_seen}
+use Rattle.learning.specs.Names.{IsNamedClass, IsNamedClient}
+use Rattle.learning.specs.TooMuch.{IsReason, too_much_text}
+use Rattle.learning.specs.Unfinished.{unfinished_rounds, unfinished_jobs}
+use Rattle.learning.specs.declared.learned.SeenPlan.{SeenPlan}
+use Rattle.learning.specs.declared.too_much.TooMuch.{TooMuch}
+use Rattle.learning.specs.declared.too_much.TooMuch.TheVariants.{Paths, Text}
 use Rattle.job_bodies.specs.declared.limits.TheConstants.{MAX_PATH_STEPS, MAX_RECORDED_BYTES}
 use Rattle.sizing_cli.specs.declared.status.Status.TheVariants.{Done, Refused}
 use Rattle.sizing_cli.specs.Answer.{Answer, input_too_long}

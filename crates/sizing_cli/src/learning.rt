@@ -16,7 +16,7 @@ use crate::answer::{Answer, bad_recording, input_too_long};
 use crate::texts::plan_in;
 use conformance::{Conformance, Finding, conform, push_finding};
 use job_bodies::{MAX_PATH_STEPS, MAX_PLAN_BYTES, MAX_RECORDED_BYTES, Plan};
-use learned_plans::{Extent, Learned, START_BYTES, SeenPlan, TooMuch, learn};
+use learning::{Extent, Learned, START_BYTES, SeenPlan, TooMuch, learn};
 use plan_text::write_plan;
 use std::alloc::{AllocError, Global};
 

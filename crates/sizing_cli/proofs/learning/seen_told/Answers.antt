@@ -1,5 +1,5 @@
 use Rattle.std.proofs.Common.{inl, inr, refl}
-use Rattle.learned_plans.specs.declared.too_much.TooMuch.TheVariants.{Text}
+use Rattle.learning.specs.declared.too_much.TooMuch.TheVariants.{Text}
 use Rattle.sizing_cli.proofs.learning.seen_told.Goals as goal
 
 pub returns : goal.returns

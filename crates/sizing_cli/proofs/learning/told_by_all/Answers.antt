@@ -1,9 +1,9 @@
 use Rattle.std.proofs.Common.{◌≡◌, inl, inr, refl, subst, None}
 use Rattle.recordings.specs.RecordingLine.{lines_read}
 use Rattle.recordings.specs.Faults.{IsFirstFault}
-use Rattle.learned_plans.specs.declared.learned.Learned.{Learned}
-use Rattle.learned_plans.specs.declared.too_much.TooMuch.TheVariants.{Paths}
-use Rattle.learned_plans.specs.Learned.{fault_of}
+use Rattle.learning.specs.declared.learned.Learned.{Learned}
+use Rattle.learning.specs.declared.too_much.TooMuch.TheVariants.{Paths}
+use Rattle.learning.specs.Learned.{fault_of}
 use Rattle.sizing_cli.specs.Answer.{Answer}
 use Rattle.sizing_cli.specs.Learn.{AnswersLines, not_learned}
 use Rattle.sizing_cli.proofs.Answering.{if_ok_map}

@@ -1,7 +1,0 @@
-mod Moved
-mod PutIn
-mod Grown
-mod Found
-mod Stood
-mod LawfulGets
-mod OwnBody

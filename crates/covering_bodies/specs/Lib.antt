@@ -1,5 +1,0 @@
-pub mod Covers
-pub mod Lawful
-pub mod PathBody
-pub mod Insertion
-pub mod Stands

@@ -1,7 +1,0 @@
-use Rattle.std.proofs.Common.{List}
-use Rattle.recordings.specs.RecordingLine.{RecordedLine}
-use Rattle.learned_plans.specs.Kept.{AreWorkingOf}
-use Rattle.learned_plans.proofs.covering.cover_all.Given as goal
-
-abbrev pub invariant-loop : goal.invariant-loop
-invariant-loop l = (lines : List RecordedLine) → AreWorkingOf lines l.initial.working → AreWorkingOf lines l.working

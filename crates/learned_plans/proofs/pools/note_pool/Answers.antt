@@ -1,9 +1,0 @@
-use Rattle.std.proofs.Common.{◌++◌, ◌∷◌, arith}
-use Rattle.recordings.specs.RecordingLine.{line_seen}
-use Rattle.learned_plans.proofs.Firsts.{no_fewer_pools}
-use Rattle.learned_plans.proofs.pools.note_pool.Goals as goal
-
-pub returns-in-Pool-clause-err : goal.returns-in-Pool-clause-err
-returns-in-Pool-clause-err c = λ before behind pools.
-    let no_fewer = no_fewer_pools before behind (line_seen c.args.line.now) c.args.pools.now.items pools in
-    c.add_pool.ensures.err (before ++ line_seen c.args.line.now ∷ behind) (grind (arith, no_fewer, c.in-Pool.is))

@@ -1,0 +1,36 @@
+-- Bodies that cover all paths of another body.
+use Rattle.std.specs.Prelude.{◌≡◌, ◌≤◌, ◌+◌, ◌*◌, ◌^◌, Bool, true, false, List, length, filter}
+use Rattle.job_bodies.specs.declared.action.Action.{Action}
+use Rattle.job_bodies.specs.declared.action.Action.TheVariants.{Work, Submit, Get}
+use Rattle.job_bodies.specs.declared.limits.TheConstants.{MAX_ACTIONS, MAX_PATH_STEPS}
+use Rattle.conformance.specs.declared.deed.Deed.{Deed}
+use Rattle.conformance.specs.declared.deed.Course.{Course}
+use Rattle.conformance.specs.declared.deed.Course.TheVariants.{Whole}
+use Rattle.conformance.specs.Path.{IsPathOf}
+use Rattle.conformance.specs.StepBudget.{submit_count}
+use Rattle.learning.specs.Lawful.{HasLawfulGets}
+
+-- Each path of the body is also a path of the other body.
+abbrev pub Covers : List Action → List Action → Type 0
+Covers body other = (course : Course) (path : List Deed) → IsPathOf course body path → IsPathOf course other path
+
+abbrev pub is_work : Action → Bool
+is_work (Work units) = true
+is_work (Submit class) = false
+is_work (Get submit) = false
+
+-- The work of a body, in order.
+abbrev pub work_of : List Action → List Action
+work_of body = filter is_work body
+
+-- The other body covers the body, and has the same work.
+pub record Grows (body other : List Action) : Type 0 where
+  pub covers : Covers body other
+  pub work : work_of other ≡ work_of body
+
+-- The path matches the body. The body is valid in a plan, and has so few submits that the search always decides.
+pub record IsSurelyOf (body : List Action) (path : List Deed) : Type 0 where
+  pub of : IsPathOf Whole body path
+  pub short : length body ≤ MAX_ACTIONS
+  pub lawful : HasLawfulGets body
+  pub few : (length body + 1) * 2 ^ submit_count body ≤ MAX_PATH_STEPS

@@ -1,0 +1,19 @@
+-- Counters for the rounds of each label.
+use Rattle.std.specs.Prelude.{◌≡◌, ℕ, List, ◌++◌, length, map, slice_get, string_bytes, Some}
+use Rattle.support.specs.Numbered.{value_at}
+use Rattle.recordings.specs.RecordingLine.{RecordedLine}
+use Rattle.learning.specs.declared.label_rounds.LabelRounds.{LabelRounds}
+use Rattle.learning.specs.Counts.{AreOfKinds}
+use Rattle.learning.specs.Kept.{AreCountsOf}
+
+abbrev pub labels_of : LabelRounds → List (List ℕ)
+labels_of rounds = map string_bytes rounds.labels.items
+
+-- Each round has the kind that its label's number stands for, and the counters of each kind count its rounds. This holds
+-- whatever rounds and labels follow, because the lines so far name none of them. The kind of each open round is stored.
+pub record AreLabelRoundsOf (rounds : LabelRounds) (lines : List RecordedLine) : Type 0 where
+  pub kinds : List ℕ
+  pub begun : length kinds ≡ rounds.begun
+  pub about : (round kind : ℕ) → value_at rounds.about round ≡ Some kind → slice_get kinds round ≡ Some kind
+  pub counts : (more : List ℕ) → AreCountsOf (slice_get (kinds ++ more)) lines rounds.counts.items
+  pub of_kinds : (more : List ℕ) (names : List (List ℕ)) → AreOfKinds (slice_get (kinds ++ more)) (labels_of rounds ++ names) lines

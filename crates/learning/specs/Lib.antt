@@ -1,0 +1,14 @@
+pub mod Covers
+pub mod Lawful
+pub mod PathBody
+pub mod Insertion
+pub mod Stands
+pub mod Pools
+pub mod Counts
+pub mod Names
+pub mod TooMuch
+pub mod Unfinished
+pub mod Kept
+pub mod LabelRounds
+pub mod Learned
+pub mod Named

@@ -1,0 +1,153 @@
+//! The classes or client kinds of a plan, while their bodies are learned.
+
+ghost use Rattle.std.specs.Prelude.{◌≡◌, ◌≤◌, ◌&&◌, ◌==◌, ◌++◌, ◌∷◌, IsTrue, List, [], OnOk, IfErr, string_bytes};
+ghost use Rattle.std.specs.List.{list_any};
+ghost use Rattle.std.specs.Str.{bytes_eq};
+ghost use Rattle.job_bodies.specs.declared.limits.TheConstants.{MAX_CLASSES};
+ghost use Rattle.recordings.specs.RecordingLine.{RecordedLine};
+ghost use Rattle.learning.specs.declared.too_much.TooMuch.{TooMuch as Reason};
+ghost use Rattle.learning.specs.Kept.{AreEntriesOf, IsGiven, IsStop};
+
+use crate::names::free_name;
+use crate::stop::Stop;
+use crate::too_much::TooMuch;
+use job_bodies::Action;
+use std::alloc::{AllocError, Global};
+
+/// A class of jobs, or a kind of clients.
+#[derive(Drop)]
+pub(crate) struct Entry {
+    /// The name in the recording.
+    pub(crate) label: String,
+    /// The number of its pool, or 0 for a client kind.
+    pub(crate) pool: usize,
+    /// The name in the plan: the label, or the label and a number.
+    pub(crate) name: String,
+    pub(crate) body: Vec<Action>,
+}
+
+/// The classes or the client kinds, in the order of the plan.
+#[derive(Drop)]
+pub(crate) struct Entries {
+    pub(crate) entries: Vec<Entry>,
+    /// The maximum number of entries in a plan. `beyond` is the reason to report if there are more.
+    limit: usize,
+    beyond: TooMuch,
+    pub(crate) alloc: Global,
+}
+
+impl Entries {
+    /// Creates an empty list.
+    pub(crate) fn new(alloc: Global, limit: usize, beyond: TooMuch) -> Entries
+        ensures { (lines : List RecordedLine)
+            → limit ≤ MAX_CLASSES
+            → AreEntriesOf lines beyond result }
+    {
+        Entries {
+            entries: Vec::new(alloc),
+            limit,
+            beyond,
+            alloc,
+        }
+    }
+
+    /// Adds an entry with an empty body, unless there is one of this label in this pool.
+    ///
+    /// # Errors
+    ///
+    /// As for [`add`](Entries::add).
+    pub(crate) fn note(&mut self, label: &str, pool: usize) -> Result<(), Stop>
+        ensures ok { (lines : List RecordedLine) (beyond : Reason)
+            → IsGiven lines beyond label.now pool
+            → AreEntriesOf lines beyond self.old
+            → OnOk result (AreEntriesOf lines beyond self.new) }
+        ensures err { (lines : List RecordedLine) (beyond : Reason)
+            → IsGiven lines beyond label.now pool
+            → AreEntriesOf lines beyond self.old
+            → IfErr result (IsStop lines) }
+    {
+        if self.has(label, pool) {
+            return Ok(());
+        }
+        self.add(label, pool, Vec::new(self.alloc))
+    }
+
+    /// Returns true if there is an entry of this label in this pool.
+    pub(crate) fn has(&self, label: &str, pool: usize) -> bool
+        ensures { (lines : List RecordedLine) (beyond : Reason)
+            → AreEntriesOf lines beyond self.now
+            → IsTrue result
+            → IsGiven lines beyond label.now pool }
+    {
+        self.entries.iter().any(|entry| entry.is_of(label, pool))
+    }
+
+    /// Adds an entry with this body and the next free name of the label.
+    ///
+    /// # Errors
+    ///
+    /// - [`Stop::TooMuch`] if a plan cannot have one more entry, or if the name would be too long.
+    /// - [`Stop::Memory`] if memory runs out.
+    pub(crate) fn add(&mut self, label: &str, pool: usize, body: Vec<Action>) -> Result<(), Stop>
+        ensures ok { (lines : List RecordedLine) (beyond : Reason)
+            → IsGiven lines beyond label.now pool
+            → AreEntriesOf lines beyond self.old
+            → OnOk result (AreEntriesOf lines beyond self.new) }
+        ensures err { (lines : List RecordedLine) (beyond : Reason)
+            → IsGiven lines beyond label.now pool
+            → AreEntriesOf lines beyond self.old
+            → IfErr result (IsStop lines) }
+    {
+        if self.entries.len() >= self.limit {
+            return Err(Stop::TooMuch(self.beyond));
+        }
+        let name = free_name(self.alloc, &self.entries, label)?;
+        let label = String::from_str(self.alloc, label)?;
+        self.push(Entry {
+            label,
+            pool,
+            name,
+            body,
+        })?;
+        Ok(())
+    }
+
+    fn push(&mut self, entry: Entry) -> Result<(), AllocError>
+        ensures entries { OnOk result
+            (self.new.entries.items ≡ self.old.entries.items ++ entry ∷ []) }
+        ensures limit { self.new.limit ≡ self.old.limit }
+        ensures beyond { self.new.beyond ≡ self.old.beyond }
+    {
+        self.entries.push(entry)?;
+        Ok(())
+    }
+
+    /// Returns the body of an entry, or an empty one if there is no such entry.
+    pub(crate) fn body(&self, number: usize) -> &[Action] {
+        match self.entries.get(number) {
+            Some(entry) => entry.body.as_slice(),
+            None => &[],
+        }
+    }
+
+    /// Replaces the body of an entry, if there is one with this number.
+    pub(crate) fn put(&mut self, number: usize, body: Vec<Action>)
+        ensures { (lines : List RecordedLine) (beyond : Reason)
+            → AreEntriesOf lines beyond self.old
+            → AreEntriesOf lines beyond self.new }
+    {
+        if let Some(entry) = self.entries.get_mut(number) {
+            entry.body = body;
+        }
+    }
+}
+
+impl Entry {
+    /// Returns true if the entry has this label in the recording, in this pool.
+    pub(crate) fn is_of(&self, label: &str, pool: usize) -> bool
+        ensures { result
+            ≡ (bytes_eq (string_bytes self.now.label) label.now && self.now.pool == pool) }
+    {
+        self.label.as_str() == label && self.pool == pool
+    }
+}

@@ -1,0 +1,207 @@
+//! The number of rounds of each label.
+
+ghost use Rattle.std.specs.Prelude.{◌≡◌, ◌+◌, ◌++◌, ◌∷◌, ◌==◌, [], ℕ, List, None, Some, if◌then◌else◌, slice_get, map, string_bytes, OnOk, IfOk, IfErr, IsTrue};
+ghost use Rattle.std.specs.List.{position};
+ghost use Rattle.std.specs.Str.{bytes_eq};
+ghost use Rattle.support.specs.Numbered.{value_at};
+ghost use Rattle.recordings.specs.RecordingLine.{RecordedLine, RoundBegins, RoundEnds, line_seen};
+ghost use Rattle.recordings.specs.Rules.{broken_of};
+ghost use Rattle.learning.specs.Kept.{ChangesOne, IsStop, names_of, with_begin, with_end};
+ghost use Rattle.learning.specs.LabelRounds.{AreLabelRoundsOf, labels_of};
+ghost use Rattle.learning.specs.Names.{HasBegun};
+
+use crate::counts::{KindCount, begin_one, end_one, no_counts};
+use crate::entries::Entry;
+use crate::stop::Stop;
+use crate::too_much::TooMuch;
+use conformance::is_of_family;
+use job_bodies::MAX_CLIENT_KINDS;
+use recordings::Line;
+use std::alloc::{AllocError, Global};
+use support::NumberTable;
+
+/// Counters for the rounds of each label. As long as each label has one kind, these are also the
+/// rounds of each kind.
+#[derive(Drop)]
+pub(crate) struct LabelRounds {
+    labels: Vec<String>,
+    /// The label number of each open round, by round number.
+    about: NumberTable<usize>,
+    /// The number of rounds that have begun.
+    begun: usize,
+    /// The counters of each label that a plan has room for, by label number.
+    pub(crate) counts: Vec<KindCount>,
+    alloc: Global,
+}
+
+impl LabelRounds {
+    /// Creates the counters, before the first line.
+    ///
+    /// # Errors
+    ///
+    /// Returns `AllocError` if memory runs out.
+    pub(crate) fn new(alloc: Global) -> Result<LabelRounds, AllocError>
+        ensures { IfOk result (λ rounds. AreLabelRoundsOf rounds []) }
+    {
+        let counts = no_counts(alloc, MAX_CLIENT_KINDS)?;
+        Ok(LabelRounds {
+            labels: Vec::new(alloc),
+            about: NumberTable::new(alloc),
+            begun: 0,
+            counts,
+            alloc,
+        })
+    }
+
+    /// Reads the next line.
+    ///
+    /// # Errors
+    ///
+    /// - [`Stop::TooMuch`] if a round does not have the number that the rules of recordings
+    ///   require.
+    /// - [`Stop::Memory`] if memory runs out.
+    pub(crate) fn take(&mut self, line: &Line<'_>) -> Result<(), Stop>
+        ensures ok { (before : List RecordedLine)
+            → AreLabelRoundsOf self.old before
+            → OnOk result (AreLabelRoundsOf self.new (before ++ line_seen line.now ∷ [])) }
+        ensures err { (before behind : List RecordedLine)
+            → broken_of before (line_seen line.now) ≡ None
+            → IfErr result (IsStop (before ++ line_seen line.now ∷ behind)) }
+    {
+        match *line {
+            Line::RoundBegins { round, kind } => self.begin(round, kind),
+            Line::RoundEnds { round } => self.end(round),
+            _ => Ok(()),
+        }
+    }
+
+    // A valid recording numbers its rounds consecutively, so this never returns `Stop::TooMuch`.
+    fn begin(&mut self, round: usize, label: &str) -> Result<(), Stop>
+        ensures ok { (before : List RecordedLine)
+            → AreLabelRoundsOf self.old before
+            → OnOk result (AreLabelRoundsOf self.new (before ++ RoundBegins round label.now ∷ [])) }
+        ensures err { (lines : List RecordedLine)
+            → HasBegun lines label.now
+            → IfErr result (IsStop lines) }
+    {
+        if round != self.begun {
+            return Err(Stop::TooMuch(TooMuch::Paths));
+        }
+        let kind = self.number_of(label)?;
+        self.push(kind)?;
+        begin_one(&mut self.counts, Some(kind))?;
+        Ok(())
+    }
+
+    // In a valid recording only an open round ends, so this never returns `Stop::TooMuch`.
+    fn end(&mut self, round: usize) -> Result<(), Stop>
+        ensures ok { (before : List RecordedLine)
+            → AreLabelRoundsOf self.old before
+            → OnOk result (AreLabelRoundsOf self.new (before ++ RoundEnds round ∷ [])) }
+        ensures err { (lines : List RecordedLine) (label : List ℕ)
+            → HasBegun lines label
+            → IfErr result (IsStop lines) }
+    {
+        let Some(kind) = self.about.remove(round) else {
+            return Err(Stop::TooMuch(TooMuch::Paths));
+        };
+        end_one(&mut self.counts, Some(kind))?;
+        Ok(())
+    }
+
+    // Returns the number of the label, and adds the label if it is new.
+    fn number_of(&mut self, label: &str) -> Result<usize, AllocError>
+        ensures number { IfOk result
+            (λ kind. slice_get (labels_of self.new) kind ≡ Some label.now) }
+        ensures labels { OnOk result
+            ((more : List (List ℕ)) × (labels_of self.new ≡ labels_of self.old ++ more)) }
+        ensures about { self.new.about ≡ self.old.about }
+        ensures begun { self.new.begun ≡ self.old.begun }
+        ensures counts { self.new.counts ≡ self.old.counts }
+    {
+        match place_of(&self.labels, label) {
+            Some(kind) => Ok(kind),
+            None => {
+                let kind = self.labels.len();
+                self.add(label)?;
+                Ok(kind)
+            }
+        }
+    }
+
+    fn add(&mut self, label: &str) -> Result<(), AllocError>
+        ensures labels { OnOk result (labels_of self.new ≡ labels_of self.old ++ label.now ∷ []) }
+        ensures about { self.new.about ≡ self.old.about }
+        ensures begun { self.new.begun ≡ self.old.begun }
+        ensures counts { self.new.counts ≡ self.old.counts }
+    {
+        self.labels.push(String::from_str(self.alloc, label)?)?;
+        Ok(())
+    }
+
+    // Records the next round as open, with this kind.
+    fn push(&mut self, kind: usize) -> Result<(), AllocError>
+        ensures about { OnOk result
+            ((round : ℕ)
+            → value_at self.new.about round
+            ≡ (if self.old.begun == round then Some kind else value_at self.old.about round)) }
+        ensures begun { OnOk result (self.new.begun ≡ self.old.begun + 1) }
+        ensures labels { self.new.labels ≡ self.old.labels }
+        ensures counts { self.new.counts ≡ self.old.counts }
+    {
+        self.about.insert(self.begun, kind)?;
+        self.begun = self.begun.checked_add(1).ok_or(AllocError)?;
+        Ok(())
+    }
+
+    /// Returns true if each label has one kind, and the entries are these kinds in the order of the
+    /// labels.
+    pub(crate) fn are_of(&self, entries: &[Entry]) -> bool
+        ensures { IsTrue result → names_of entries.now ≡ labels_of self.now }
+    {
+        are_named(entries, &self.labels)
+            && self
+                .labels
+                .iter()
+                .all(|label| kinds_of(label, entries) == 1)
+    }
+}
+
+// Returns the index of the label.
+fn place_of(labels: &[String], label: &str) -> Option<usize>
+    ensures { result ≡ position (λ one. bytes_eq (string_bytes one) label.now) labels.now }
+{
+    labels.iter().position(|one| one.as_str() == label)
+}
+
+// Returns true if the entries have exactly these names, in this order.
+fn are_named(entries: &[Entry], names: &[String]) -> bool
+    ensures { IsTrue result → names_of entries.now ≡ map string_bytes names.now }
+{
+    if entries.len() != names.len() {
+        return false;
+    }
+    for (number, name) in names.iter().enumerate() {
+        if !is_named(entries, number, name) {
+            return false;
+        }
+    }
+    true
+}
+
+fn is_named(entries: &[Entry], number: usize, name: &str) -> bool
+    ensures { IsTrue result → slice_get (names_of entries.now) number ≡ Some name.now }
+{
+    match entries.get(number) {
+        Some(entry) => entry.name.as_str() == name,
+        None => false,
+    }
+}
+
+// Returns the number of entries with a name of the label's family.
+fn kinds_of(label: &str, entries: &[Entry]) -> usize {
+    entries
+        .iter()
+        .filter(|entry| is_of_family(label, &entry.name))
+        .count()
+}

@@ -1,0 +1,94 @@
+//! Insertion of the missing steps of a path into a body.
+
+ghost use Rattle.std.specs.Prelude.{IfOk, IfSome};
+ghost use Rattle.learning.specs.Covers.{Grows};
+
+use crate::alike::get_of;
+use crate::insertion::{moved, with_submit, with_submit_and_get};
+use conformance::Deed;
+use job_bodies::Action;
+use std::alloc::{AllocError, Global};
+
+/// Returns the body with insertions of the submits and gets of the path that it lacks, or `None` if
+/// one of them cannot be inserted, such as a submit that cannot belong to any class.
+///
+/// `places` has the index in the body of each step of the path, or `None` for a missing one. The
+/// function updates it for the insertions.
+pub(crate) fn merged(
+    alloc: Global,
+    body: &[Action],
+    path: &[Deed],
+    places: &mut [Option<usize>],
+) -> Result<Option<Vec<Action>>, AllocError>
+    ensures { IfOk result (λ found. IfSome found (λ new. Grows body.now new.items)) }
+{
+    let mut new = Vec::from_slice(alloc, body)?;
+    for (place, deed) in path.iter().enumerate() {
+        if let Deed::Submits(classes) = deed {
+            if place_at(places, place).is_none() {
+                let Some(class) = classes.first() else {
+                    return Ok(None);
+                };
+                match with_deed(alloc, &new, path, places, place, *class)? {
+                    Some(next) => new = next,
+                    None => return Ok(None),
+                }
+            }
+        }
+    }
+    Ok(Some(new))
+}
+
+/// Returns the body with the submit at index `place` of the path inserted, and its get if it has
+/// one.
+fn with_deed(
+    alloc: Global,
+    body: &[Action],
+    path: &[Deed],
+    places: &mut [Option<usize>],
+    place: usize,
+    class: usize,
+) -> Result<Option<Vec<Action>>, AllocError>
+    ensures { IfOk result (λ found. IfSome found (λ new. Grows body.now new.items)) }
+{
+    let at = behind_those_before(places, place);
+    match get_of(path, place) {
+        None => {
+            put(places, place, at);
+            with_submit(alloc, body, at, class)
+        }
+        Some(get) => {
+            put(places, place, at);
+            let get_at = behind_those_before(places, get);
+            put(places, get, get_at);
+            with_submit_and_get(alloc, body, at, class, get_at)
+        }
+    }
+}
+
+/// Returns the index in the body of the step at index `place` of the path.
+fn place_at(places: &[Option<usize>], place: usize) -> Option<usize> {
+    *places.get(place)?
+}
+
+/// Returns the first index in the body after all steps before index `place` of the path.
+fn behind_those_before(places: &[Option<usize>], place: usize) -> usize {
+    let mut behind = 0;
+    for at in places.iter().take(place).flatten() {
+        behind = at.saturating_add(1);
+    }
+    behind
+}
+
+/// Records that the step at index `place` of the path is inserted at index `at` of the body.
+fn put(places: &mut [Option<usize>], place: usize, at: usize) {
+    for other in places.iter_mut() {
+        *other = match *other {
+            Some(position) => moved(at, position),
+            None => None,
+        };
+    }
+    if let Some(slot) = places.get_mut(place) {
+        *slot = Some(at);
+    }
+}

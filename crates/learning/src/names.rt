@@ -1,0 +1,45 @@
+//! The names of classes and client kinds.
+
+ghost use Rattle.std.specs.Prelude.{◌<◌, length, string_bytes, IfOk, IfErr};
+ghost use Rattle.job_bodies.specs.declared.limits.TheConstants.{MAX_CLASSES};
+ghost use Rattle.conformance.specs.Family.{IsOfFamily};
+ghost use Rattle.learning.specs.Kept.{IsNoName};
+
+use crate::entries::Entry;
+use crate::stop::Stop;
+use crate::too_much::TooMuch;
+use job_bodies::MAX_NAME_BYTES;
+use std::alloc::{AllocError, Global};
+
+/// Returns the first unused name of LABEL, LABEL_2, LABEL_3 and so on.
+///
+/// # Errors
+///
+/// - [`Stop::TooMuch`] if that name is too long for a plan.
+/// - [`Stop::Memory`] if memory runs out.
+pub(crate) fn free_name(alloc: Global, entries: &[Entry], label: &str) -> Result<String, Stop>
+    ensures ok { length entries.now < MAX_CLASSES
+        → IfOk result (λ name. IsOfFamily label.now (string_bytes name)) }
+    ensures err { length entries.now < MAX_CLASSES → IfErr result (IsNoName label.now) }
+{
+    if !has_name(entries, label) {
+        return Ok(String::from_str(alloc, label)?);
+    }
+    // The loop always finds a free name: with the label it tries one name more than there are
+    // entries.
+    for step in 0..entries.len() {
+        let number = step.saturating_add(2);
+        let name = format!(in alloc; "{label}_{number}")?;
+        if name.len() > MAX_NAME_BYTES {
+            return Err(Stop::TooMuch(TooMuch::Names));
+        }
+        if !has_name(entries, &name) {
+            return Ok(name);
+        }
+    }
+    Err(Stop::Memory(AllocError))
+}
+
+fn has_name(entries: &[Entry], name: &str) -> bool {
+    entries.iter().any(|entry| entry.name.as_str() == name)
+}

@@ -1,0 +1,72 @@
+//! The body of a single path.
+
+ghost use Rattle.std.specs.Prelude.{◌≡◌, ◌≤◌, ◌↔◌, IfOk, IfSome, MatchOption, All, IsTrue, length};
+ghost use Rattle.job_bodies.specs.declared.limits.TheConstants.{MAX_ACTIONS};
+ghost use Rattle.conformance.specs.declared.deed.Course.TheVariants.{Whole};
+ghost use Rattle.conformance.specs.Path.{IsPathOf};
+ghost use Rattle.learning.specs.Lawful.{HasLawfulGets};
+ghost use Rattle.learning.specs.PathBody as spec;
+
+use crate::lawful::has_lawful_gets;
+use conformance::Deed;
+use job_bodies::{Action, MAX_ACTIONS};
+use std::alloc::{AllocError, Global};
+
+/// Returns the body that consists of the steps of a path. Each submit gets the first class that its
+/// job can belong to.
+///
+/// Returns `None` if the path is longer than a body may be, a submit cannot belong to any class, or
+/// a get names no earlier submit or one that an earlier get names.
+///
+/// # Errors
+///
+/// Returns [`AllocError`] if memory runs out.
+pub fn body_of_path(alloc: Global, path: &[Deed]) -> Result<Option<Vec<Action>>, AllocError>
+    ensures exact { IfOk result (λ found.
+        MatchOption found (¬ spec.HasBody path.now) (λ body. body.items ≡ spec.body_of path.now)) }
+    ensures has_body { IfOk result (λ found. IfSome found (λ body. spec.HasBody path.now)) }
+    ensures fits { IfOk result
+        (λ found. IfSome found (λ body. IsPathOf Whole body.items path.now)) }
+    ensures short { IfOk result (λ found. IfSome found (λ body. length body.items ≤ MAX_ACTIONS)) }
+    ensures lawful { IfOk result (λ found. IfSome found (λ body. HasLawfulGets body.items)) }
+{
+    if path.len() > MAX_ACTIONS || !has_classes(path) {
+        return Ok(None);
+    }
+    let body = all_actions(alloc, path)?;
+    if has_lawful_gets(&body) {
+        Ok(Some(body))
+    } else {
+        Ok(None)
+    }
+}
+
+fn has_classes(path: &[Deed]) -> bool
+    ensures { IsTrue result ↔ All spec.HasClass path.now }
+{
+    path.iter().all(|deed| has_class(deed))
+}
+
+fn has_class(deed: &Deed) -> bool
+    ensures { IsTrue result ↔ spec.HasClass deed.now }
+{
+    match deed {
+        Deed::Submits(classes) => !classes.is_empty(),
+        Deed::Gets(_) => true,
+    }
+}
+
+fn all_actions(alloc: Global, path: &[Deed]) -> Result<Vec<Action>, AllocError>
+    ensures { IfOk result (λ body. body.items ≡ spec.body_of path.now) }
+{
+    path.iter().map(|deed| action_of(deed)).collect(alloc)
+}
+
+fn action_of(deed: &Deed) -> Action
+    ensures { result ≡ spec.action_of deed.now }
+{
+    match deed {
+        Deed::Submits(classes) => Action::Submit(classes.first().copied().unwrap_or(0)),
+        Deed::Gets(place) => Action::Get(*place),
+    }
+}

@@ -1,0 +1,101 @@
+//! The pools of a recording, as pools of a plan.
+
+ghost use Rattle.std.specs.Prelude.{◌≡◌, ◌≤◌, ◌<◌, ◌++◌, ◌∷◌, List, Some, length, slice_get, IfOk, IfErr, IfSome, OnOk};
+ghost use Rattle.recordings.specs.RecordingLine.{RecordedLine, line_seen};
+ghost use Rattle.std.specs.List.{position};
+ghost use Rattle.std.specs.Str.{bytes_eq};
+ghost use Rattle.learning.specs.Kept.{IsStop};
+ghost use Rattle.learning.specs.Pools as spec;
+
+use crate::stop::Stop;
+use crate::too_much::TooMuch;
+use job_bodies::{MAX_POOLS, MAX_SIZE, Pool};
+use recordings::{Line, PoolSizes};
+use std::alloc::{AllocError, Global};
+
+/// Returns the pool of a `pool` line, with each size clamped to its range in a plan.
+///
+/// # Errors
+///
+/// Returns `AllocError` if memory runs out.
+pub(crate) fn pool_seen(alloc: Global, name: &str, sizes: PoolSizes) -> Result<Pool, AllocError>
+    ensures { IfOk result (λ pool. pool ≡ spec.pool_seen name.now sizes) }
+{
+    let core = into_range(1, sizes.core as u64);
+    Ok(Pool {
+        name: String::from_str(alloc, name)?,
+        core,
+        max: into_range(core, sizes.max as u64),
+        queue: into_range(1, sizes.capacity as u64),
+        prestart: has_core_threads(sizes),
+    })
+}
+
+// Clamps the number to the range from `low` to the maximum size of a plan.
+fn into_range(low: u64, number: u64) -> u64
+    ensures { result ≡ spec.into_range low number }
+{
+    number.min(MAX_SIZE).max(low)
+}
+
+fn has_core_threads(sizes: PoolSizes) -> bool
+    ensures { result ≡ spec.has_core_threads sizes }
+{
+    sizes.prestarted != 0 && sizes.prestarted == sizes.core
+}
+
+/// Adds the pool of a `pool` line, unless there is one of that name.
+///
+/// # Errors
+///
+/// - [`Stop::TooMuch`] if a plan cannot have one more pool.
+/// - [`Stop::Memory`] if memory runs out.
+pub(crate) fn note_pool(alloc: Global, pools: &mut Vec<Pool>, line: &Line<'_>) -> Result<(), Stop>
+    ensures ok { OnOk result
+        (pools.new.items
+        ≡ spec.with_first_of (spec.pool_of_line (line_seen line.now)) pools.old.items) }
+    ensures few { length pools.old.items ≤ MAX_POOLS
+        → OnOk result (length pools.new.items ≤ MAX_POOLS) }
+    ensures err { (before behind : List RecordedLine)
+        → pools.old.items ≡ spec.pools_seen before
+        → IfErr result (IsStop (before ++ line_seen line.now ∷ behind)) }
+{
+    match *line {
+        Line::Pool { name, sizes } => add_pool(alloc, pools, name, sizes),
+        _ => Ok(()),
+    }
+}
+
+fn add_pool(alloc: Global, pools: &mut Vec<Pool>, name: &str, sizes: PoolSizes) -> Result<(), Stop>
+    ensures ok { OnOk result
+        (pools.new.items ≡ spec.with_first pools.old.items (spec.pool_seen name.now sizes)) }
+    ensures few { length pools.old.items ≤ MAX_POOLS
+        → OnOk result (length pools.new.items ≤ MAX_POOLS) }
+    ensures err { (lines : List RecordedLine)
+        → (length (spec.with_first pools.old.items (spec.pool_seen name.now sizes))
+        ≤ length (spec.pools_seen lines))
+        → IfErr result (IsStop lines) }
+{
+    if has_name(pools, name) {
+        return Ok(());
+    }
+    if pools.len() >= MAX_POOLS {
+        return Err(Stop::TooMuch(TooMuch::Pools));
+    }
+    let pool = pool_seen(alloc, name, sizes)?;
+    pools.push(pool).map_err(AllocError::from)?;
+    Ok(())
+}
+
+fn has_name(pools: &[Pool], name: &str) -> bool
+    ensures { result ≡ spec.has_name name.now pools.now }
+{
+    pools.iter().any(|pool| pool.name.as_str() == name)
+}
+
+/// Returns the number of the pool with this name.
+pub(crate) fn pool_number(pools: &[Pool], name: &str) -> Option<usize>
+    ensures { result ≡ position (λ pool. bytes_eq pool.name name.now) pools.now }
+{
+    pools.iter().position(|pool| pool.name.as_str() == name)
+}

@@ -1,0 +1,205 @@
+//! The plan, while its bodies are learned.
+
+ghost use Rattle.std.specs.Prelude.{◌≡◌, ◌==◌, ◌&&◌, length, List, OnOk, IfOk, IfErr, string_bytes};
+ghost use Rattle.std.specs.List.{All, Contains};
+ghost use Rattle.recordings.specs.RecordingLine.{RecordedLine, line_seen};
+ghost use Rattle.learning.specs.Kept.{AreFirstPools, AreWorkingOf, IsEntryOf, IsStop};
+ghost use Rattle.learning.specs.Names.{IsNamedClass};
+ghost use Rattle.learning.specs.TooMuch.{HasActors};
+ghost use Rattle.learning.specs.declared.too_much.TooMuch.TheVariants as reason;
+
+use crate::entries::{Entries, Entry};
+use crate::growth::{Did, Taken, reached_from};
+use crate::pools::pool_number;
+use crate::stop::Stop;
+use crate::too_much::TooMuch;
+use job_bodies::{Class, Client, MAX_CLASSES, MAX_CLIENT_KINDS, Plan, Pool};
+use recordings::Line;
+use std::alloc::{AllocError, Global};
+
+/// The classes and client kinds, with their current bodies.
+#[derive(Drop)]
+pub(crate) struct Working {
+    pub(crate) classes: Entries,
+    pub(crate) kinds: Entries,
+    alloc: Global,
+}
+
+impl Working {
+    /// Creates an empty plan.
+    pub(crate) fn new(alloc: Global) -> Working
+        ensures { (lines : List RecordedLine) → AreWorkingOf lines result }
+    {
+        Working {
+            classes: Entries::new(alloc, MAX_CLASSES, TooMuch::Classes),
+            kinds: Entries::new(alloc, MAX_CLIENT_KINDS, TooMuch::Kinds),
+            alloc,
+        }
+    }
+
+    /// Adds the class or kind that the line names, unless it is there.
+    ///
+    /// # Errors
+    ///
+    /// - [`Stop::TooMuch`] if a plan cannot have one more.
+    /// - [`Stop::Memory`] if memory runs out.
+    pub(crate) fn note(&mut self, pools: &[Pool], line: &Line<'_>) -> Result<(), Stop>
+        ensures ok { (lines : List RecordedLine)
+            → Contains lines (line_seen line.now)
+            → AreFirstPools lines pools.now
+            → AreWorkingOf lines self.old
+            → OnOk result (AreWorkingOf lines self.new) }
+        ensures err { (lines : List RecordedLine)
+            → Contains lines (line_seen line.now)
+            → AreFirstPools lines pools.now
+            → AreWorkingOf lines self.old
+            → IfErr result (IsStop lines) }
+    {
+        match *line {
+            Line::RoundBegins { kind, .. } => self.kinds.note(kind, 0),
+            Line::Submits { class, pool, .. } => match pool_number(pools, pool) {
+                Some(pool) => self.classes.note(class, pool),
+                None => Ok(()),
+            },
+            _ => Ok(()),
+        }
+    }
+
+    /// Returns true if there are no classes and no client kinds.
+    pub(crate) fn is_empty(&self) -> bool
+        ensures { result
+            ≡ (length self.now.classes.entries.items == 0
+            && length self.now.kinds.entries.items == 0) }
+    {
+        self.classes.entries.is_empty() && self.kinds.entries.is_empty()
+    }
+
+    /// Returns the current plan. Each kind has one client, which does not repeat.
+    ///
+    /// # Errors
+    ///
+    /// - [`Stop::TooMuch`] if the parts do not form a plan.
+    /// - [`Stop::Memory`] if memory runs out.
+    pub(crate) fn plan(&self, pools: &[Pool]) -> Result<Plan, Stop>
+        ensures { (lines : List RecordedLine) → HasActors lines → IfErr result (IsStop lines) }
+    {
+        let pools = copied_pools(self.alloc, pools)?;
+        let classes = self.copied_classes()?;
+        let clients = self.copied_clients()?;
+        match Plan::build(self.alloc, pools, classes, clients) {
+            Ok(plan) => Ok(plan),
+            Err(_) => Err(Stop::TooMuch(TooMuch::Paths)),
+        }
+    }
+
+    pub(crate) fn copied_classes(&self) -> Result<Vec<Class>, AllocError>
+        ensures { (lines : List RecordedLine)
+            → AreWorkingOf lines self.now
+            → IfOk result (λ classes. All (IsNamedClass lines) classes.items) }
+    {
+        let mut classes = Vec::new(self.alloc);
+        for entry in &self.classes.entries {
+            classes.push(class_of(self.alloc, entry)?)?;
+        }
+        Ok(classes)
+    }
+
+    fn copied_clients(&self) -> Result<Vec<Client>, AllocError> {
+        let mut clients = Vec::new(self.alloc);
+        for entry in &self.kinds.entries {
+            clients.push(client_of(self.alloc, entry, 1, false)?)?;
+        }
+        Ok(clients)
+    }
+
+    /// Returns the class assigned to a job of this label and pool with this path, or `None` if no
+    /// body covers the path.
+    ///
+    /// # Errors
+    ///
+    /// - [`Stop::TooMuch`] if a plan cannot have one more class.
+    /// - [`Stop::Memory`] if memory runs out.
+    pub(crate) fn learn_job(
+        &mut self,
+        label: &str,
+        pool: usize,
+        did: &Did,
+    ) -> Result<Option<Taken>, Stop>
+        ensures ok { (lines : List RecordedLine)
+            → AreWorkingOf lines self.old
+            → OnOk result (AreWorkingOf lines self.new) }
+        ensures err { (lines : List RecordedLine)
+            → AreWorkingOf lines self.old
+            → IfErr result (IsStop lines) }
+    {
+        if let Some(taken) = self.classes.explaining(label, pool, did) {
+            return Ok(Some(taken));
+        }
+        let reached = reached_from(self.alloc, &self.classes, &did.deeds)?;
+        self.classes.grow(label, pool, did, &reached)
+    }
+
+    /// Returns the kind assigned to a round of this label with this path, or `None` if no body
+    /// covers the path.
+    ///
+    /// # Errors
+    ///
+    /// - [`Stop::TooMuch`] if a plan cannot have one more kind.
+    /// - [`Stop::Memory`] if memory runs out.
+    pub(crate) fn learn_round(&mut self, label: &str, did: &Did) -> Result<Option<Taken>, Stop>
+        ensures ok { (lines : List RecordedLine)
+            → AreWorkingOf lines self.old
+            → OnOk result (AreWorkingOf lines self.new) }
+        ensures err { (lines : List RecordedLine)
+            → AreWorkingOf lines self.old
+            → IfErr result (IsStop lines) }
+    {
+        if let Some(taken) = self.kinds.explaining(label, 0, did) {
+            return Ok(Some(taken));
+        }
+        self.kinds.grow(label, 0, did, &[])
+    }
+}
+
+fn copied_pools(alloc: Global, pools: &[Pool]) -> Result<Vec<Pool>, AllocError> {
+    let mut copies = Vec::new(alloc);
+    for pool in pools {
+        copies.push(pool.copied(alloc)?)?;
+    }
+    Ok(copies)
+}
+
+fn class_of(alloc: Global, entry: &Entry) -> Result<Class, AllocError>
+    ensures { (lines : List RecordedLine)
+        → IsEntryOf lines reason.Classes entry.now
+        → IfOk result (IsNamedClass lines) }
+{
+    Ok(Class {
+        name: String::from_str(alloc, &entry.name)?,
+        pool: entry.pool,
+        body: Vec::from_slice(alloc, &entry.body)?,
+    })
+}
+
+/// Returns the client kind of an entry, with this count.
+///
+/// # Errors
+///
+/// Returns `AllocError` if memory runs out.
+pub(crate) fn client_of(
+    alloc: Global,
+    entry: &Entry,
+    count: u64,
+    repeat: bool,
+) -> Result<Client, AllocError>
+    ensures name { IfOk result (λ client. client.name ≡ string_bytes entry.now.name) }
+    ensures count { IfOk result (λ client. client.count ≡ count) }
+    ensures repeat { IfOk result (λ client. client.repeat ≡ repeat) }
+{
+    Ok(Client {
+        name: String::from_str(alloc, &entry.name)?,
+        count,
+        repeat,
+        body: Vec::from_slice(alloc, &entry.body)?,
+    })
+}
