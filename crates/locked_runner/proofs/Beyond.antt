@@ -3,7 +3,7 @@ use Rattle.std.proofs.Common.{◌≡◌, ◌≤◌, ◌∙◌, ℕ, Bool, false,
 use Rattle.std.proofs.lemmas.Bool.{or_parts, ltb-false, lt-ltb, le-ltb, cases_lt}
 use Rattle.job_bodies.specs.Plan.{Plan}
 use Rattle.weights.specs.Ranks.{Ranks}
-use Rattle.run_histories.specs.RunNumbers.{most_events, capped}
+use Rattle.locked_runner.specs.RunNumbers.{most_events, capped}
 use Rattle.locked_runner.specs.Limits.{clients, carriers, is_beyond, is_too_large}
 
 more_capped : (n : ℕ) → nat_lt 1000000 (capped n) ≡ nat_lt 1000000 n

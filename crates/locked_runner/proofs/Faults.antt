@@ -5,10 +5,10 @@ use Rattle.support.specs.declared.number.TheConstants.{MEMORY, RUN_TOO_LARGE}
 use Rattle.job_bodies.specs.Plan.{Plan}
 use Rattle.written_machine.specs.declared.event.Event.{Event}
 use Rattle.held_machines.specs.declared.held.Receipt.{Receipt}
-use Rattle.run_histories.specs.Run.{IsAnswerTo}
-use Rattle.run_histories.specs.declared.report.ThreadFault.{ThreadFault}
-use Rattle.run_histories.specs.declared.report.ThreadFault.TheVariants as cause
-use Rattle.run_histories.specs.declared.report.RunFault.{RunFault}
+use Rattle.locked_runner.specs.Run.{IsAnswerTo}
+use Rattle.locked_runner.specs.declared.report.ThreadFault.{ThreadFault}
+use Rattle.locked_runner.specs.declared.report.ThreadFault.TheVariants as cause
+use Rattle.locked_runner.specs.declared.report.RunFault.{RunFault}
 use Rattle.locked_runner.specs.Faults.{IsFaultOf}
 
 answer_of : (plan : Plan) (rounds jobs units : ℕ) (history : List Event) (lists : List (List (Receipt Event))) (met : Option ThreadFault) (fault : RunFault) → IsAnswerTo plan rounds jobs units history lists met fault → IsFaultOf false fault

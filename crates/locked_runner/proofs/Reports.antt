@@ -1,8 +1,8 @@
 -- Properties of a report whose value is known.
 use Rattle.std.proofs.Common.{◌≡◌, sym, subst, Result, Ok, Err}
 use Rattle.std.specs.Prelude.{IfOk}
-use Rattle.run_histories.specs.Report.{RunReport}
-use Rattle.run_histories.specs.declared.report.RunFault.{RunFault}
+use Rattle.locked_runner.specs.Report.{RunReport}
+use Rattle.locked_runner.specs.declared.report.RunFault.{RunFault}
 
 -- a property that holds for the value of every success holds for the report
 pub told : (P : RunReport → Type 0) (r : Result RunReport RunFault) (whole : RunReport) → IfOk r (λ report. report ≡ whole) → IfOk r (λ _. P whole) → IfOk r P

@@ -1,7 +1,7 @@
 -- The faults of runs.
 use Rattle.std.specs.Prelude.{◌≡◌, ◌⊎◌, Bool, true, false}
 use Rattle.support.specs.declared.number.TheConstants.{MEMORY, RUN_TOO_LARGE, STRANGE, MIXED, GATE}
-use Rattle.run_histories.specs.declared.report.RunFault.{RunFault}
+use Rattle.locked_runner.specs.declared.report.RunFault.{RunFault}
 
 -- true: the run exceeds a limit, and nothing was started; false: a thread reported the fault, or its results are not a run
 abbrev pub IsFaultOf : Bool → RunFault → Type 0

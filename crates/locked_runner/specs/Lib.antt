@@ -1,2 +1,12 @@
+pub mod Trace
+pub mod HeldWorld
+pub mod Owner
+pub mod Receipts
+pub mod KeptReceipt
+pub mod Complete
+pub mod Run
+pub mod Replayed
+pub mod Report
+pub mod RunNumbers
 pub mod Limits
 pub mod Faults

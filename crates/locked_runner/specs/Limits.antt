@@ -2,7 +2,7 @@
 use Rattle.std.specs.Prelude.{ℕ, Bool, ◌||◌, nat_lt, sum_by}
 use Rattle.job_bodies.specs.Plan.{Plan}
 use Rattle.weights.specs.Ranks.{Ranks}
-use Rattle.run_histories.specs.RunNumbers.{most_events}
+use Rattle.locked_runner.specs.RunNumbers.{most_events}
 use Rattle.job_bodies.specs.declared.limits.TheConstants.{MAX_RUN_CLIENTS, MAX_RUN_CARRIERS, MAX_RUN_EVENTS}
 
 -- the number of clients of all kinds

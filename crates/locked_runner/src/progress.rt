@@ -1,6 +1,6 @@
 //! The progress of a run.
 
-use run_histories::ThreadFault;
+use crate::ThreadFault;
 
 /// The progress of a run.
 #[derive(Drop)]

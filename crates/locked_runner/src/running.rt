@@ -1,17 +1,16 @@
 //! A run of a certified plan on threads.
 
 ghost use Rattle.std.specs.Prelude.{◌≡◌, IfOk, IfErr, false};
-ghost use Rattle.run_histories.specs.Run.{IsRun, Makes, Works, IsLengthOfLegal};
-ghost use Rattle.run_histories.specs.RunNumbers.{jobs, units};
+ghost use Rattle.locked_runner.specs.Run.{IsRun, Makes, Works, IsLengthOfLegal};
+ghost use Rattle.locked_runner.specs.RunNumbers.{jobs, units};
 ghost use Rattle.locked_runner.specs.Limits.{is_too_large};
 ghost use Rattle.locked_runner.specs.Faults.{IsFaultOf};
 
-use crate::Gate;
 use crate::limits::is_beyond;
 use crate::starting::on_threads;
+use crate::{Gate, RunFault, RunNumbers, RunReport, judge, run_numbers};
 use cert_check::Certified;
 use job_bodies::Plan;
-use run_histories::{RunFault, RunNumbers, RunReport, judge, run_numbers};
 use std::alloc::Global;
 use std::sync::Wait;
 use std::thread::Threads;

@@ -1,11 +1,10 @@
 //! The state that the threads of a run share.
 
 use crate::progress::Progress;
-use certified_worlds::CertifiedWorld;
+use crate::{CertifiedWorld, ThreadFault};
 use held_machines::{Held, Locked, Receipt};
 use interleaving::{Event, Outcome};
 use job_bodies::Plan;
-use run_histories::ThreadFault;
 use std::alloc::{AllocError, Global};
 use std::collections::VecDeque;
 use std::sync::{Condvar, Mutex, MutexGuard, Wait};

@@ -1,13 +1,14 @@
 //! The threads of a run.
 
-use crate::Gate;
 use crate::shared::Shared;
 use crate::threads::Runner;
+use crate::{
+    CertifiedWorld, Gate, KeptReceipt, Met, Owner, ThreadFault, kinds_of, lists_of,
+    rounds_of_client,
+};
 use cert_check::Certified;
-use certified_worlds::CertifiedWorld;
 use held_machines::Held;
 use job_bodies::{Client, Plan};
-use run_histories::{KeptReceipt, Met, Owner, ThreadFault, kinds_of, lists_of, rounds_of_client};
 use std::alloc::{AllocError, Global};
 use std::sync::Wait;
 use std::thread;

@@ -1,11 +1,10 @@
 //! The work of each thread of a run.
 
 use crate::shared::Shared;
-use crate::{Actor, Gate};
+use crate::{Actor, Gate, KeptReceipt, ThreadFault};
 use held_machines::Receipt;
 use interleaving::Event;
 use job_bodies::{Action, Client};
-use run_histories::{KeptReceipt, ThreadFault};
 use std::alloc::{AllocError, Global};
 use std::sync::Wait;
 

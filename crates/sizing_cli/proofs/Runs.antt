@@ -2,7 +2,7 @@
 use Rattle.std.proofs.Common.{◌≡◌, ℕ, Bool, true, false, inl, inr, Result, Ok, Err, IfOk, refl, subst, ap, ◌∙◌, arith}
 use Rattle.std.specs.Prelude.{◌==◌}
 use Rattle.support.specs.declared.number.TheConstants.{RUN_TOO_LARGE}
-use Rattle.run_histories.specs.declared.report.RunFault.{RunFault}
+use Rattle.locked_runner.specs.declared.report.RunFault.{RunFault}
 use Rattle.locked_runner.specs.Faults.{IsFaultOf}
 use Rattle.sizing_cli.specs.ServeFault.{is_of_run}
 use Rattle.job_bodies.specs.Plan.{Plan}

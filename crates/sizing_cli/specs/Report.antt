@@ -16,7 +16,7 @@ use Rattle.cert_check.specs.Verdict.{Verdict, verdict}
 use Rattle.cert_check.specs.Text.{verdict_text}
 use Rattle.refusal_notes.specs.Explanation.{explanation}
 use Rattle.written_machine.specs.Reach.{start}
-use Rattle.run_histories.specs.RunNumbers.{jobs, units}
+use Rattle.locked_runner.specs.RunNumbers.{jobs, units}
 use Rattle.locked_runner.specs.Limits.{is_too_large}
 use Rattle.event_lines.specs.EventLine.{Line, event_lines}
 use Rattle.command_line.specs.declared.command.Review.{Review}

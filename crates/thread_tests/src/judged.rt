@@ -3,7 +3,7 @@
 use crate::plans::certified;
 use held_machines::Receipt;
 use interleaving::Event;
-use run_histories::{KeptReceipt, Met, RunFault, RunNumbers, RunReport, ThreadFault, judge};
+use locked_runner::{KeptReceipt, Met, RunFault, RunNumbers, RunReport, ThreadFault, judge};
 use std::alloc::{AllocError, Global};
 use std::process::Abort;
 use std::sync::Wait;

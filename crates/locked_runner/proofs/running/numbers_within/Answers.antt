@@ -1,7 +1,7 @@
 use Rattle.std.proofs.Common.{◌∙◌, true, false}
 use Rattle.locked_runner.proofs.Beyond.{passed, few_events}
 use Rattle.locked_runner.proofs.Faults.{too_large}
-use Rattle.locked_runner.proofs.Numbers.{few_jobs, few_units}
+use Rattle.locked_runner.proofs.BoundedNumbers.{few_jobs, few_units}
 use Rattle.locked_runner.proofs.running.numbers_within.Goals as goal
 
 pub returns-then-is_beyond-clause-fault : goal.returns-then-is_beyond-clause-fault

@@ -2,10 +2,10 @@ use Rattle.std.proofs.Common.{rules, ◌≡◌, ◌≢◌, ◌∙◌, ℕ, Bool,
 use Rattle.std.proofs.lemmas.Result.{IfErr-weaker}
 use Rattle.support.specs.declared.number.TheConstants.{MEMORY}
 use Rattle.cert_text.specs.Cert.{Cert}
-use Rattle.run_histories.specs.Report.{RunReport}
-use Rattle.run_histories.specs.Run.{IsRun, Makes, Works, IsAnswerTo, IsLegalFront, IsLengthOfLegal}
-use Rattle.run_histories.specs.RunNumbers.{jobs, units}
-use Rattle.run_histories.proofs.Histories.{length_of_front}
+use Rattle.locked_runner.specs.Report.{RunReport}
+use Rattle.locked_runner.specs.Run.{IsRun, Makes, Works, IsAnswerTo, IsLegalFront, IsLengthOfLegal}
+use Rattle.locked_runner.specs.RunNumbers.{jobs, units}
+use Rattle.locked_runner.proofs.Histories.{length_of_front}
 use Rattle.locked_runner.specs.Limits.{is_too_large}
 use Rattle.locked_runner.specs.Faults.{IsFaultOf}
 use Rattle.locked_runner.proofs.Faults.{answered}

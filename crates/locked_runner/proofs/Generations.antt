@@ -1,0 +1,67 @@
+-- The numbers of the classes, with one more generation of jobs at a time.
+use Rattle.std.proofs.Common.{◌≡◌, ◌≤◌, ◌<◌, ◌+◌, ◌-◌, ◌*◌, ◌^◌, ℕ, zero, suc, List, length, map, min, slice_get, slice_index, Some, sum_by, refl, sym, ap, subst, ◌∙◌, arith}
+use Rattle.std.proofs.lemmas.List.{get_or-map}
+use Rattle.std.proofs.lemmas.Option.{get_or_from_slice_get}
+use Rattle.job_bodies.specs.declared.action.Action.{Action}
+use Rattle.job_bodies.specs.declared.action.Action.TheVariants.{Work, Submit, Get}
+use Rattle.job_bodies.specs.Plan.{Plan, Class, Client, class_at, no_class, no_client}
+use Rattle.job_bodies.specs.WellFormed.{IsWellFormed}
+use Rattle.job_bodies.specs.Lawful.{IsLawful}
+use Rattle.job_bodies.proofs.Bodies.{ordered}
+use Rattle.locked_runner.specs.Complete.{rounds_of}
+use Rattle.soundness.specs.Drain.{of_submit}
+use Rattle.locked_runner.specs.RunNumbers.{capped, AreCapped, AreCaused, submitted, submitted_by, caused_within}
+use Rattle.locked_runner.proofs.Capped.{capped_sums, capped_products}
+
+-- a body submits only classes of the plan
+submits_capped : (plan : Plan) (f g : ℕ → ℕ) (body : List Action) → IsLawful plan body → ((k : ℕ) → k < length plan.classes → capped (f k) ≡ capped (g k)) → capped (submitted f body) ≡ capped (submitted g body)
+submits_capped plan f g body lawful same = capped_sums (2 ^ 64 - 1) (of_submit f) (of_submit g) body each
+  where
+    each : (i : ℕ) (action : Action) → slice_get body i ≡ Some action → capped (of_submit f action) ≡ capped (of_submit g action)
+    each i (Work u) e = refl
+    each i (Submit k) e = same k (lawful.submit i k e)
+    each i (Get t) e = refl
+
+pub of_numbers : (plan : Plan) (f : ℕ → ℕ) (numbers : List ℕ) (body : List Action) → IsLawful plan body → AreCapped plan f numbers → capped (submitted (slice_index numbers) body) ≡ capped (submitted f body)
+of_numbers plan f numbers body lawful are =
+    submits_capped plan (slice_index numbers) f body lawful (λ k inside. let at : slice_index numbers k ≡ min (f k) (2 ^ 64 - 1) = are k inside in omega arith)
+
+abbrev pub with_jobs : (Class → ℕ) → List ℕ → Class → ℕ
+with_jobs own numbers class = own class + submitted (slice_index numbers) class.body
+
+pub one_more : (plan : Plan) (own : Class → ℕ) (n : ℕ) (numbers next : List ℕ) → IsWellFormed plan → next ≡ map (λ class. capped (with_jobs own numbers class)) plan.classes
+    → AreCaused plan own n numbers → AreCaused plan own (suc n) next
+one_more plan own n numbers next formed is are k inside =
+    let class : Class = class_at plan k in
+    let at : slice_index next k ≡ capped (with_jobs own numbers class) = ap (λ (xs : List ℕ). slice_index xs k) is ∙ get_or-map (λ class. capped (with_jobs own numbers class)) plan.classes k no_class 0 inside in
+    let same : capped (submitted (slice_index numbers) class.body) ≡ capped (submitted (caused_within plan own n) class.body) = of_numbers plan (caused_within plan own n) numbers class.body ((ordered plan formed).classes k) are in
+    let sums : capped (own class + submitted (slice_index numbers) class.body) ≡ capped (own class + submitted (caused_within plan own n) class.body) = omega arith in
+    at ∙ sums
+
+-- numbers that one more generation does not change stay the same for all further generations
+after : (plan : Plan) (own : Class → ℕ) (n d : ℕ) (numbers : List ℕ) → AreCaused plan own n numbers → ((m : ℕ) → AreCaused plan own m numbers → AreCaused plan own (suc m) numbers)
+    → AreCaused plan own (d + n) numbers
+after plan own n zero numbers are stays =
+    let same : n ≡ 0 + n = omega arith in
+    subst (λ (m : ℕ). AreCaused plan own m numbers) same are
+after plan own n (suc d) numbers are stays =
+    let same : suc (d + n) ≡ suc d + n = omega arith in
+    subst (λ (m : ℕ). AreCaused plan own m numbers) same (stays (d + n) (after plan own n d numbers are stays))
+
+pub settled : (plan : Plan) (own : Class → ℕ) (n m : ℕ) (numbers : List ℕ) → AreCaused plan own n numbers → ((i : ℕ) → AreCaused plan own i numbers → AreCaused plan own (suc i) numbers)
+    → n ≤ m → AreCaused plan own m numbers
+settled plan own n m numbers are stays later =
+    let same : m - n + n ≡ m = omega arith in
+    subst (λ (i : ℕ). AreCaused plan own i numbers) same (after plan own n (m - n) numbers are stays)
+
+-- the sum over the jobs that the clients cause in all their rounds
+pub in_rounds : (plan : Plan) (rounds : ℕ) (f : ℕ → ℕ) (numbers : List ℕ) → IsWellFormed plan → AreCapped plan f numbers
+    → capped (sum_by (submitted_by rounds (slice_index numbers)) plan.clients) ≡ capped (sum_by (submitted_by rounds f) plan.clients)
+in_rounds plan rounds f numbers formed are = capped_sums (2 ^ 64 - 1) (submitted_by rounds (slice_index numbers)) (submitted_by rounds f) plan.clients each
+  where
+    each : (i : ℕ) (client : Client) → slice_get plan.clients i ≡ Some client → capped (submitted_by rounds (slice_index numbers) client) ≡ capped (submitted_by rounds f client)
+    each i client e =
+        let lawful : IsLawful plan client.body = subst (λ (x : Client). IsLawful plan x.body) (get_or_from_slice_get plan.clients i client no_client e) ((ordered plan formed).clients i) in
+        sym (capped_products (2 ^ 64 - 1) client.count (rounds_of rounds client) (submitted (slice_index numbers) client.body))
+        ∙ (ap (λ (x : ℕ). min (client.count * min (rounds_of rounds client * x) (2 ^ 64 - 1)) (2 ^ 64 - 1)) (of_numbers plan f numbers client.body lawful are)
+        ∙ capped_products (2 ^ 64 - 1) client.count (rounds_of rounds client) (submitted f client.body))

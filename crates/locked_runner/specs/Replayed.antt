@@ -1,0 +1,24 @@
+-- Histories that were replayed in a world of the plan.
+use Rattle.std.specs.Prelude.{◌≡◌, ◌≤◌, ◌^◌, ◌++◌, ◌∷◌, [], ℕ, Bool, true, false, List, Option, Some, None}
+use Rattle.job_bodies.specs.Plan.{Plan}
+use Rattle.written_machine.specs.declared.event.Event.{Event}
+use Rattle.interleaving.specs.LiveView.{View}
+use Rattle.locked_runner.specs.HeldWorld.{IsReachedBy}
+use Rattle.locked_runner.specs.Owner.{ArePoolsOf}
+use Rattle.locked_runner.specs.Run.{IsLegal, units_done}
+
+-- the number as a u64, or None if it does not fit
+abbrev pub IsCounted : ℕ → Option ℕ → Type 0
+IsCounted n (Some m) = n ≡ m
+IsCounted n None = 2 ^ 64 ≤ n
+
+-- the history leads to the world, these pools determine the owners of its events, and these are its units of work
+pub record IsReplayedAs (plan : Plan) (history : List Event) (world : View) (pools : List ℕ) (units : Option ℕ) : Type 0 where
+  pub reached : IsReachedBy plan history world
+  pub owned : ArePoolsOf plan history pools
+  pub counted : IsCounted (units_done plan history) units
+
+-- true: the history with the event is replayed; false: it is not legal, and the history without it is replayed
+abbrev pub GoesOn : Plan → List Event → Event → Bool → View → List ℕ → Option ℕ → Type 0
+GoesOn plan history event true world pools units = IsReplayedAs plan (history ++ event ∷ []) world pools units
+GoesOn plan history event false world pools units = (¬ IsLegal plan (history ++ event ∷ [])) × IsReplayedAs plan history world pools units

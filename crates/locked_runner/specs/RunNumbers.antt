@@ -1,0 +1,93 @@
+-- The numbers of jobs, units and events of a complete run.
+use Rattle.std.specs.Prelude.{◌≡◌, ◌<◌, ◌-◌, ◌^◌, ℕ, zero, suc, ◌+◌, ◌*◌, List, length, slice_index, sum_by, fold, min, max}
+use Rattle.job_bodies.specs.declared.action.Action.{Action}
+use Rattle.job_bodies.specs.declared.action.Action.TheVariants.{Work}
+use Rattle.job_bodies.specs.Plan.{Plan, Class, Client, class_at}
+use Rattle.weights.specs.Row.{AllHold}
+use Rattle.weights.specs.Ranks.{Ranks, rank_rows}
+use Rattle.soundness.specs.Drain.{of_submit}
+use Rattle.locked_runner.specs.declared.numbers.Measure.{Measure}
+use Rattle.locked_runner.specs.declared.numbers.Measure.TheVariants.{Jobs, Units, Events}
+use Rattle.locked_runner.specs.Complete.{rounds_of, events_of_client}
+
+abbrev pub units_of : Action → ℕ
+units_of (Work u) = u
+units_of _ = 0
+
+-- the units of work that a body declares
+abbrev pub units_in : List Action → ℕ
+units_in body = sum_by units_of body
+
+-- the sum of f over the classes that the body submits
+abbrev pub submitted : (ℕ → ℕ) → List Action → ℕ
+submitted f body = sum_by (of_submit f) body
+
+-- the quantity of one job of the class, without the jobs that it causes; its events are its actions, a take and its end
+abbrev pub own : Measure → Class → ℕ
+own Jobs class = 1
+own Units class = units_in class.body
+own Events class = length class.body + 2
+
+-- the quantity of one job with the jobs that it causes, in n generations including its own
+abbrev pub caused_within : Plan → (Class → ℕ) → ℕ → ℕ → ℕ
+caused_within plan own zero k = 0
+caused_within plan own (suc n) k = own (class_at plan k) + submitted (caused_within plan own n) (class_at plan k).body
+
+abbrev pub greatest : List ℕ → ℕ
+greatest = fold (λ a n. max a n) 0
+
+-- the same for all generations, since the level of a class is above the levels of the classes that it submits
+abbrev pub caused : Plan → Ranks → (Class → ℕ) → ℕ → ℕ
+caused plan ranks own k = caused_within plan own (greatest ranks.levels + 1) k
+
+-- the sum of f over the jobs that the clients of a kind submit in all their rounds
+abbrev pub submitted_by : ℕ → (ℕ → ℕ) → Client → ℕ
+submitted_by rounds f client = client.count * (rounds_of rounds client * submitted f client.body)
+
+-- the quantity of all jobs that the clients cause in all their rounds
+abbrev pub by_jobs : Plan → Ranks → ℕ → (Class → ℕ) → ℕ
+by_jobs plan ranks rounds own = sum_by (submitted_by rounds (caused plan ranks own)) plan.clients
+
+-- the units of work of the clients of a kind in all their rounds
+abbrev pub units_of_clients : ℕ → Client → ℕ
+units_of_clients rounds client = client.count * (rounds_of rounds client * units_in client.body)
+
+abbrev pub events_of_clients : ℕ → Client → ℕ
+events_of_clients rounds client = client.count * events_of_client rounds client
+
+-- the number of jobs, and the units of work of jobs and clients
+abbrev pub jobs : Plan → Ranks → ℕ → ℕ
+jobs plan ranks rounds = by_jobs plan ranks rounds (own Jobs)
+
+abbrev pub units : Plan → Ranks → ℕ → ℕ
+units plan ranks rounds = by_jobs plan ranks rounds (own Units) + sum_by (units_of_clients rounds) plan.clients
+
+-- an upper bound of the number of events of jobs and clients
+abbrev pub most_events : Plan → Ranks → ℕ → ℕ
+most_events plan ranks rounds = by_jobs plan ranks rounds (own Events) + sum_by (events_of_clients rounds) plan.clients
+
+-- if the rows of the ranks hold, the quantity of a job is its own quantity plus those of the classes that it submits
+abbrev pub CausedIsWhole : Type 0
+CausedIsWhole = (plan : Plan) (ranks : Ranks) (own : Class → ℕ) (k : ℕ) → AllHold (rank_rows plan ranks) → caused plan ranks own k ≡ own (class_at plan k) + submitted (caused plan ranks own) (class_at plan k).body
+
+-- both ranks give a run the same three numbers
+pub record HaveSameNumbers (plan : Plan) (rounds : ℕ) (ranks ranks' : Ranks) : Type 0 where
+  pub jobs : jobs plan ranks rounds ≡ jobs plan ranks' rounds
+  pub units : units plan ranks rounds ≡ units plan ranks' rounds
+  pub most_events : most_events plan ranks rounds ≡ most_events plan ranks' rounds
+
+-- all ranks whose rows hold give the same numbers
+abbrev pub NumbersAreOfThePlan : Type 0
+NumbersAreOfThePlan = (plan : Plan) (rounds : ℕ) (ranks ranks' : Ranks) → AllHold (rank_rows plan ranks) → AllHold (rank_rows plan ranks') → HaveSameNumbers plan rounds ranks ranks'
+
+-- the number, capped at the greatest u64
+abbrev pub capped : ℕ → ℕ
+capped n = min n (2 ^ 64 - 1)
+
+-- the list has f of each class of the plan, capped
+abbrev pub AreCapped : Plan → (ℕ → ℕ) → List ℕ → Type 0
+AreCapped plan f numbers = (k : ℕ) → k < length plan.classes → slice_index numbers k ≡ capped (f k)
+
+-- the list has the quantity of each class with n generations of jobs, its own included, capped
+abbrev pub AreCaused : Plan → (Class → ℕ) → ℕ → List ℕ → Type 0
+AreCaused plan own n numbers = AreCapped plan (caused_within plan own n) numbers

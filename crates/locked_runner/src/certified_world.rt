@@ -1,0 +1,72 @@
+//! The world of a certified plan, as a machine.
+
+ghost use Rattle.std.specs.Prelude.{IsTrue};
+ghost use Rattle.job_bodies.specs.WellFormed.{IsWellFormed};
+ghost use Rattle.soundness.specs.Accepted.{accepted};
+
+use crate::SeenWorld;
+use cert_check::Certified;
+use held_machines::Machine;
+use interleaving::{Event, Outcome};
+use std::alloc::{AllocError, Global};
+
+/// The machine of a certified plan, which it borrows.
+#[derive(Clone, Copy, Drop)]
+pub struct CertifiedWorld<'a> {
+    certified: &'a Certified,
+    ghost well_formed: { IsWellFormed certified.now.plan },
+    ghost accepted: { IsTrue (accepted certified.now.plan certified.now.cert) },
+}
+
+impl<'a> CertifiedWorld<'a> {
+    ghost use Rattle.std.specs.Prelude.{◌≡◌};
+
+    pub fn new(certified: &'a Certified) -> CertifiedWorld<'a>
+        ensures { result.certified.now ≡ certified.now }
+    {
+        let _pools = certified.plan().pools();
+        let _cert = certified.cert();
+        CertifiedWorld { certified }
+    }
+}
+
+/// A world with the outcome of its last event. The outcome tells the caller which job the event
+/// started, queued or took.
+#[derive(Drop)]
+pub struct TracedWorld {
+    pub world: SeenWorld,
+    /// `None` before the first event.
+    pub outcome: Option<Outcome>,
+}
+
+impl Machine for CertifiedWorld<'_> {
+    ghost use Rattle.interleaving.specs.LiveView.{live_view};
+    ghost use Rattle.locked_runner.specs.Trace.{Traced, start, next};
+
+    type State = TracedWorld;
+
+    type Event = Event;
+
+    ghost Ideal = { Traced };
+
+    ghost first = { λ machine. start machine.certified.now.plan };
+
+    ghost next = { λ machine. next machine.certified.now.plan };
+
+    ghost content = { λ machine t. record { world = live_view machine.certified.now.plan t.state; outcome = t.outcome } };
+
+    fn start(&self, alloc: Global) -> Result<TracedWorld, AllocError> {
+        Ok(TracedWorld {
+            world: SeenWorld::start(alloc, self.certified.plan())?,
+            outcome: None,
+        })
+    }
+
+    fn step(&self, state: &mut TracedWorld, event: Event) -> Result<bool, AllocError> {
+        let Some(outcome) = state.world.step(self.certified.plan(), event)? else {
+            return Ok(false);
+        };
+        state.outcome = Some(outcome);
+        Ok(true)
+    }
+}

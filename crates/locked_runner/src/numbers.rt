@@ -1,0 +1,232 @@
+//! The numbers of jobs, units and events of a complete run.
+
+ghost use Rattle.std.specs.Prelude.{◌≡◌, ◌*◌, ℕ, suc, IfOk, slice_index, sum_by};
+ghost use Rattle.locked_runner.specs.Complete as complete;
+ghost use Rattle.locked_runner.specs.RunNumbers as spec;
+ghost use Rattle.locked_runner.specs.RunNumbers.{capped};
+
+use crate::rounds::{events_of_client, rounds_of_client};
+use job_bodies::{Action, Class, Client, Plan};
+use std::alloc::{AllocError, Global};
+use weights::Ranks;
+
+/// The numbers of jobs and units of work of a complete run, and an upper bound of the number of its
+/// events. Each number saturates at `u64::MAX`.
+#[derive(Clone, Copy, PartialEq, Eq)]
+pub struct RunNumbers {
+    /// The number of jobs that clients and jobs submit.
+    pub jobs: u64,
+    /// The units of work of clients and jobs.
+    pub units: u64,
+    /// An upper bound of the number of events. It counts a take event for each job, although a job
+    /// whose submit starts a thread has none.
+    pub events: u64,
+}
+
+/// Returns the numbers of a run of the plan in which each repeating client performs its body
+/// `rounds` times. With 0 rounds, a repeating client contributes nothing.
+///
+/// # Errors
+///
+/// Returns `AllocError` if there is not enough memory for the numbers of the classes.
+pub fn run_numbers(
+    alloc: Global,
+    plan: &Plan,
+    ranks: &Ranks,
+    rounds: u64,
+) -> Result<RunNumbers, AllocError>
+    ensures jobs { IfOk result
+        (λ numbers. numbers.jobs ≡ capped (spec.jobs plan.now ranks.now rounds)) }
+    ensures units { IfOk result
+        (λ numbers. numbers.units ≡ capped (spec.units plan.now ranks.now rounds)) }
+    ensures events { IfOk result
+        (λ numbers. numbers.events ≡ capped (spec.most_events plan.now ranks.now rounds)) }
+{
+    let jobs = by_jobs(alloc, plan, ranks, rounds, Measure::Jobs)?;
+    let units = by_jobs(alloc, plan, ranks, rounds, Measure::Units)?;
+    let events = by_jobs(alloc, plan, ranks, rounds, Measure::Events)?;
+    Ok(RunNumbers {
+        jobs,
+        units: units.saturating_add(units_of_all(plan, rounds)),
+        events: events.saturating_add(events_of_all(plan, rounds)),
+    })
+}
+
+/// A quantity that is summed over the jobs of a run.
+#[derive(Clone, Copy)]
+enum Measure {
+    Jobs,
+    Units,
+    Events,
+}
+
+/// Returns the quantity of one job of the class, without the jobs that it causes. Its events are
+/// its actions, a take event and its end.
+fn own(measure: Measure, class: &Class) -> u64
+    ensures { result ≡ capped (spec.own measure class.now) }
+{
+    match measure {
+        Measure::Jobs => 1,
+        Measure::Units => units_in(&class.body),
+        Measure::Events => (class.body.len() as u64).saturating_add(2),
+    }
+}
+
+/// Returns the quantity of all jobs that the clients cause in all their rounds.
+fn by_jobs(
+    alloc: Global,
+    plan: &Plan,
+    ranks: &Ranks,
+    rounds: u64,
+    measure: Measure,
+) -> Result<u64, AllocError>
+    ensures { IfOk result
+        (λ total. total ≡ capped (spec.by_jobs plan.now ranks.now rounds (spec.own measure))) }
+{
+    let numbers = caused(alloc, plan, ranks, measure)?;
+    Ok(submitted_by_all(plan, rounds, &numbers))
+}
+
+/// Returns the sum of the numbers of the classes that the clients submit in all their rounds.
+fn submitted_by_all(plan: &Plan, rounds: u64, numbers: &[u64]) -> u64
+    ensures { (f : ℕ → ℕ)
+        → spec.AreCapped plan.now f numbers.now
+        → result ≡ capped (sum_by (spec.submitted_by rounds f) plan.now.clients) }
+{
+    let mut total = 0u64;
+    for client in plan.clients() {
+        total = total.saturating_add(submitted_by(client, rounds, numbers));
+    }
+    total
+}
+
+fn submitted_by(client: &Client, rounds: u64, numbers: &[u64]) -> u64
+    ensures { result ≡ capped (spec.submitted_by rounds (slice_index numbers.now) client.now) }
+{
+    in_all_rounds(client, rounds, submitted(&client.body, numbers))
+}
+
+/// Returns the units of work of the clients themselves.
+fn units_of_all(plan: &Plan, rounds: u64) -> u64
+    ensures { result ≡ capped (sum_by (spec.units_of_clients rounds) plan.now.clients) }
+{
+    let mut total = 0u64;
+    for client in plan.clients() {
+        total = total.saturating_add(units_of_clients(client, rounds));
+    }
+    total
+}
+
+fn units_of_clients(client: &Client, rounds: u64) -> u64
+    ensures { result ≡ capped (spec.units_of_clients rounds client.now) }
+{
+    in_all_rounds(client, rounds, units_in(&client.body))
+}
+
+/// Returns the number of events of the clients themselves.
+fn events_of_all(plan: &Plan, rounds: u64) -> u64
+    ensures { result ≡ capped (sum_by (spec.events_of_clients rounds) plan.now.clients) }
+{
+    let mut total = 0u64;
+    for client in plan.clients() {
+        total = total.saturating_add(client.count.saturating_mul(events_within(client, rounds)));
+    }
+    total
+}
+
+/// Returns the quantity of all clients of a kind in all their rounds, given that of one client in
+/// one round.
+fn in_all_rounds(client: &Client, rounds: u64, in_one: u64) -> u64
+    ensures { (n : ℕ)
+        → in_one ≡ capped n
+        → result ≡ capped (client.now.count * (complete.rounds_of rounds client.now * n)) }
+{
+    let of_one = rounds_of_client(client, rounds).saturating_mul(in_one);
+    client.count.saturating_mul(of_one)
+}
+
+/// Returns the number of events of one client of this kind, which saturates at `u64::MAX`.
+fn events_within(client: &Client, rounds: u64) -> u64
+    ensures { result ≡ capped (complete.events_of_client rounds client.now) }
+{
+    events_of_client(client, rounds).unwrap_or(u64::MAX)
+}
+
+/// Returns the units of work that the body declares.
+fn units_in(body: &[Action]) -> u64
+    ensures { result ≡ capped (spec.units_in body.now) }
+{
+    let mut total = 0u64;
+    for action in body {
+        if let Action::Work(units) = action {
+            total = total.saturating_add(u64::from(*units));
+        }
+    }
+    total
+}
+
+/// Returns the sum of the numbers of the classes that the body submits.
+fn submitted(body: &[Action], numbers: &[u64]) -> u64
+    ensures { result ≡ capped (spec.submitted (slice_index numbers.now) body.now) }
+{
+    let mut total = 0u64;
+    for action in body {
+        if let Action::Submit(class) = action {
+            total = total.saturating_add(numbers.get(*class).copied().unwrap_or(0));
+        }
+    }
+    total
+}
+
+/// Returns, for each class, the quantity of one job with all jobs that it causes, of all
+/// generations.
+fn caused(
+    alloc: Global,
+    plan: &Plan,
+    ranks: &Ranks,
+    measure: Measure,
+) -> Result<Vec<u64>, AllocError>
+    ensures { IfOk result (λ numbers.
+        spec.AreCapped plan.now (spec.caused plan.now ranks.now (spec.own measure)) numbers.items) }
+{
+    let mut numbers = one_more(alloc, plan, measure, &[])?;
+    for generation in 0..greatest(&ranks.levels) {
+        let next = one_more(alloc, plan, measure, &numbers)?;
+        if next == numbers {
+            return Ok(numbers);
+        }
+        numbers = next;
+    }
+    Ok(numbers)
+}
+
+fn greatest(levels: &[u64]) -> u64
+    ensures { result ≡ spec.greatest levels.now }
+{
+    let mut greatest = 0;
+    for level in levels {
+        if *level > greatest {
+            greatest = *level;
+        }
+    }
+    greatest
+}
+
+/// Returns the numbers with one more generation of jobs, which comes before the given generations.
+fn one_more(
+    alloc: Global,
+    plan: &Plan,
+    measure: Measure,
+    numbers: &[u64],
+) -> Result<Vec<u64>, AllocError>
+    ensures { IfOk result (λ next.
+        (n : ℕ)
+        → spec.AreCaused plan.now (spec.own measure) n numbers.now
+        → spec.AreCaused plan.now (spec.own measure) (suc n) next.items) }
+{
+    let mut next = Vec::with_capacity(alloc, plan.classes().len())?;
+    for class in plan.classes() {
+        next.push(own(measure, class).saturating_add(submitted(&class.body, numbers)))?;
+    }
+    Ok(next)
+}

@@ -1,0 +1,101 @@
+//! The result of a run.
+
+ghost use Rattle.std.specs.Prelude.{◌≡◌};
+ghost use Rattle.job_bodies.specs.Plan as spec;
+ghost use Rattle.locked_runner.specs.Run.{IsLengthOfLegal, number_of};
+
+use crate::KeptReceipt;
+use interleaving::Event;
+use std::marker::Model;
+use support::number::{GATE, MEMORY};
+
+/// The report of a run that was performed and checked.
+#[derive(Drop)]
+pub struct RunReport {
+    /// The number of jobs created.
+    pub jobs: u64,
+    /// The units of work done by clients and jobs.
+    pub units: u64,
+    /// The number of rejected submits, which is 0.
+    pub refused: u64,
+    /// Every event, in the order in which the events happened.
+    pub history: Vec<Event>,
+    /// The receipts of each thread in ascending order: one list for each client, then `max` lists
+    /// for each pool.
+    pub receipts: Vec<Vec<KeptReceipt>>,
+}
+
+impl Model for RunReport {
+    ghost use Rattle.std.specs.Prelude.{map};
+    ghost use Rattle.locked_runner.specs.Report.{RunReport};
+
+    ghost Value = { RunReport };
+
+    ghost view = { λ r. record { jobs = r.jobs; units = r.units; refused = r.refused; history = r.history.items; receipts = map (λ list. list.items) r.receipts.items } };
+}
+
+/// The reason why a run is not complete: a number of `support`, and the length of a legal prefix of
+/// the history.
+///
+/// - 20: memory ran out.
+/// - 40: the run exceeds a limit, and nothing was started.
+/// - 41: a receipt is strange. The history has no such event at its number, or the event belongs to
+///   another thread, or the numbers of a list do not rise.
+/// - 42: the receipts are not the events of the history, each once, or the history is not complete,
+///   or its number of jobs or units differs from the computed one.
+/// - 43: the gate failed.
+#[derive(Clone, Copy, Debug, PartialEq, Eq)]
+pub struct RunFault {
+    pub number: u8,
+    pub events: u64,
+}
+
+impl RunFault {
+    /// Creates a fault before the first event.
+    #[tactic(auto, using(crate::proofs::Histories::nothing_is_legal))]
+    pub fn at_start(number: u8) -> RunFault
+        ensures value { result ≡ record { number = number; events = 0 } }
+        ensures legal { (plan : spec.Plan) → IsLengthOfLegal plan result.events }
+    {
+        RunFault { number, events: 0 }
+    }
+}
+
+/// The reason why the threads of a run end early.
+#[derive(Clone, Copy, PartialEq, Eq)]
+pub enum ThreadFault {
+    /// Memory ran out, or a thread could not be started.
+    Memory,
+    /// The gate failed.
+    Gate,
+}
+
+impl ThreadFault {
+    /// Returns its number of `support`.
+    pub fn number(self) -> u8
+        ensures { result ≡ number_of self }
+    {
+        match self {
+            ThreadFault::Memory => MEMORY,
+            ThreadFault::Gate => GATE,
+        }
+    }
+}
+
+/// The results of the threads of a run: the history, the receipts of each thread, and the fault
+/// that a thread reported. If several did, it is the fault with the lowest number.
+#[derive(Drop)]
+pub struct Met {
+    pub history: Vec<Event>,
+    pub receipts: Vec<Vec<KeptReceipt>>,
+    pub fault: Option<ThreadFault>,
+}
+
+impl Model for Met {
+    ghost use Rattle.std.specs.Prelude.{map};
+    ghost use Rattle.locked_runner.specs.Report.{Met};
+
+    ghost Value = { Met };
+
+    ghost view = { λ met. record { history = met.history.items; receipts = map (λ list. list.items) met.receipts.items; fault = met.fault } };
+}

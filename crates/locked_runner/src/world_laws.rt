@@ -1,0 +1,31 @@
+//! Laws of the worlds of certified plans, for every history.
+
+ghost use Rattle.std.specs.Prelude.{◌≡◌, List};
+ghost use Rattle.written_machine.specs.declared.event.Event.{Event};
+ghost use Rattle.locked_runner.specs.HeldWorld.{IsReachedBy, RefusesNothing};
+
+use crate::{CertifiedWorld, SeenWorld};
+use cert_check::Certified;
+use held_machines::Held;
+
+/// Proves that the world is the live view of the state that its history reaches, that no submit was
+/// rejected in this history, and that no event that is possible next is a rejected submit.
+pub fn held_worlds_refuse_nothing(held: &Held<CertifiedWorld<'_>>)
+    ensures reached { IsReachedBy held.now.machine.certified.now.plan held.now.history
+        held.now.state.world }
+    ensures none_refused { held.now.state.world.refusals ≡ 0 }
+    ensures refuses_nothing { RefusesNothing held.now.machine.certified.now.plan held.now.history }
+{
+    let _history = held.history();
+}
+
+/// Proves that a world that a history of the plan reaches has no rejected submits.
+pub fn reached_worlds_refuse_nothing(certified: &Certified, world: &SeenWorld)
+    ensures { (history : List Event)
+        → IsReachedBy certified.now.plan history world.now
+        → world.now.refusals ≡ 0 }
+{
+    let _pools = certified.plan().pools();
+    let _cert = certified.cert();
+    let _world = world.world();
+}

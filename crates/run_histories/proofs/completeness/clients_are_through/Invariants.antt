@@ -1,5 +1,0 @@
-use Rattle.run_histories.proofs.Through.{AreThrough}
-use Rattle.run_histories.proofs.completeness.clients_are_through.Given as goal
-
-abbrev pub invariant-loop-number : goal.invariant-loop-number
-invariant-loop-number l = AreThrough l.plan l.kinds l.rounds l.made l.world.view l.number

@@ -1,7 +1,0 @@
--- The counts of the events so far.
-use Rattle.std.proofs.Common.{◌≡◌, ◌<◌, ◌-◌, ◌^◌, ℕ, length, take, min, slice_index, count_by}
-use Rattle.run_histories.specs.Complete.{is_of_client}
-use Rattle.run_histories.proofs.completeness.events_made.Given as goal
-
-abbrev pub invariant-loop-event : goal.invariant-loop-event
-invariant-loop-event l = (length l.made.items ≡ l.clients) × ((c : ℕ) → c < l.clients → slice_index l.made.items c ≡ min (count_by (is_of_client c) (take l.event-index l.history)) (2 ^ 64 - 1))

@@ -1,6 +1,0 @@
-use Rattle.std.proofs.Common.{◌≡◌, take}
-use Rattle.run_histories.specs.RunNumbers.{greatest}
-use Rattle.run_histories.proofs.numbers.greatest.Given as goal
-
-abbrev pub invariant-loop-level : goal.invariant-loop-level
-invariant-loop-level l = l.greatest ≡ greatest (take l.level-index l.levels)

@@ -1,6 +1,0 @@
-use Rattle.std.proofs.Common.{◌≡◌, take, slice_index, sum_by}
-use Rattle.run_histories.specs.RunNumbers.{capped, submitted_by}
-use Rattle.run_histories.proofs.numbers.submitted_by_all.Given as goal
-
-abbrev pub invariant-loop-client : goal.invariant-loop-client
-invariant-loop-client l = l.total ≡ capped (sum_by (submitted_by l.rounds (slice_index l.numbers)) (take l.client-index l.plan.clients))

@@ -1,6 +1,0 @@
-use Rattle.std.proofs.Common.{◌≡◌, take}
-use Rattle.run_histories.specs.RunNumbers.{capped, units_in}
-use Rattle.run_histories.proofs.numbers.units_in.Given as goal
-
-abbrev pub invariant-loop-action : goal.invariant-loop-action
-invariant-loop-action l = l.total ≡ capped (units_in (take l.action-index l.body))

@@ -1,6 +1,0 @@
-use Rattle.run_histories.proofs.Owners.{client_more}
-use Rattle.run_histories.proofs.owner.clients_of.Goals as goal
-
-pub loop-number-preserved : goal.loop-number-preserved
-loop-number-preserved c =
-    rw (c.in_ok-push.ensures.items) (client_more c.args.kinds.now c.loop-number.number c.loop-number.owners.items _ c.loop-number-test.true c.loop-number.invariant)

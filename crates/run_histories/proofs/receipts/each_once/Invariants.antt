@@ -1,7 +1,0 @@
--- The marks so far count the numbers of the lists so far.
-use Rattle.std.proofs.Common.{◌≡◌, ◌<◌, ℕ, length, map, take, min, slice_index}
-use Rattle.run_histories.specs.Receipts.{places_of}
-use Rattle.run_histories.proofs.receipts.each_once.Given as goal
-
-abbrev pub invariant-loop-list : goal.invariant-loop-list
-invariant-loop-list l = (length l.marks.items ≡ l.length) × ((k : ℕ) → k < l.length → slice_index l.marks.items k ≡ min (places_of k (map (λ list. list.items) (take l.list-index l.lists))) 255)

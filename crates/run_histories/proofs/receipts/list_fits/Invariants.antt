@@ -1,7 +1,0 @@
--- All receipts fit if the remaining ones fit.
-use Rattle.std.proofs.Common.{◌↔◌, drop}
-use Rattle.run_histories.specs.Receipts.{AreReceiptsOf}
-use Rattle.run_histories.proofs.receipts.list_fits.Given as goal
-
-abbrev pub invariant-loop-kept : goal.invariant-loop-kept
-invariant-loop-kept l = AreReceiptsOf l.plan l.history l.owner l.low (drop l.kept-index l.list) ↔ AreReceiptsOf l.plan l.history l.owner 0 l.list

@@ -1,7 +1,0 @@
--- All lists fit if the remaining ones fit.
-use Rattle.std.proofs.Common.{◌↔◌, drop, map}
-use Rattle.run_histories.specs.Receipts.{AreListsOf}
-use Rattle.run_histories.proofs.receipts.lists_fit.Given as goal
-
-abbrev pub invariant-loop-at : goal.invariant-loop-at
-invariant-loop-at l = AreListsOf l.plan l.history (drop l.at l.of_lists) (map (λ list. list.items) (drop l.at l.lists)) ↔ AreListsOf l.plan l.history l.of_lists (map (λ list. list.items) l.lists)
