@@ -12,8 +12,8 @@ use crate::sizes::sizes_value;
 use crate::warnings::warnings_value;
 use crate::witness::witness_value;
 use ask_answers::PlanFinding;
+use diagnostics::{Faults, Warning};
 use job_bodies::Plan;
-use plan_advice::{Faults, Warning};
 use serde_json::{Value, json};
 use std::alloc::{AllocError, Global};
 

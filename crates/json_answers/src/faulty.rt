@@ -4,7 +4,7 @@ ghost use Rattle.std.specs.Prelude.{◌≡◌, IfOk};
 ghost use Rattle.serde_json.specs.View.{view};
 ghost use Rattle.json_answers.specs.Json as spec;
 
-use plan_advice::{Advice, Faults};
+use diagnostics::{Advice, Faults};
 use serde_json::{Value, json};
 use std::alloc::{AllocError, Global};
 

@@ -1,6 +1,6 @@
 //! Warnings as JSON.
 
-use plan_advice::{Oddity, Warning};
+use diagnostics::{Oddity, Warning};
 use serde_json::{Value, json};
 use std::alloc::{AllocError, Global};
 

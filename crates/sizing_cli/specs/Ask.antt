@@ -8,12 +8,12 @@ use Rattle.cert_text.specs.Cert.{Cert}
 use Rattle.cert_text.specs.CertOf.{cert_of}
 use Rattle.soundness.specs.Accepted.{accepted}
 use Rattle.cert_text.specs.declared.fault.CertFault.{CertFault}
-use Rattle.plan_advice.specs.declared.advice.Faults.{Faults}
-use Rattle.plan_advice.specs.declared.oddity.Oddity.{Oddity}
-use Rattle.plan_advice.specs.declared.oddity.Oddity.TheVariants.{StaleCertificate}
-use Rattle.plan_advice.specs.declared.warnings.Warning.{Warning}
-use Rattle.plan_advice.specs.Oddities.{AreOddities, warned_of}
-use Rattle.plan_advice.specs.Advice.{faults_text, warnings_text}
+use Rattle.diagnostics.specs.declared.advice.Faults.{Faults}
+use Rattle.diagnostics.specs.declared.oddity.Oddity.{Oddity}
+use Rattle.diagnostics.specs.declared.oddity.Oddity.TheVariants.{StaleCertificate}
+use Rattle.diagnostics.specs.declared.warnings.Warning.{Warning}
+use Rattle.diagnostics.specs.Oddities.{AreOddities, warned_of}
+use Rattle.diagnostics.specs.Advice.{faults_text, warnings_text}
 use Rattle.ask_answers.specs.declared.finding.PlanFinding.{PlanFinding}
 use Rattle.ask_answers.specs.declared.finding.PlanFinding.TheVariants.{Safe, NotSafe, NotDecided}
 use Rattle.ask_answers.specs.Finding.{IsFinding}

@@ -2,7 +2,7 @@
 
 ghost use Rattle.std.specs.Prelude.{◌≡◌, ◌++◌, IfOk, IsTrue, option_map, string_bytes};
 ghost use Rattle.soundness.specs.Accepted.{accepted};
-ghost use Rattle.plan_advice.specs.Oddities.{warned_of};
+ghost use Rattle.diagnostics.specs.Oddities.{warned_of};
 ghost use Rattle.job_bodies.specs.Plan.{Plan as PlanValue};
 ghost use Rattle.ask_answers.specs.Finding.{IsFinding};
 ghost use Rattle.sizing_cli.specs.Ask as spec;
@@ -14,9 +14,9 @@ use crate::output::Output;
 use ask_answers::{PlanFinding, needed_places, picture_of, told};
 use cert_text::{Cert, write_cert};
 use command_line::{Form, Manner};
+use diagnostics::{Oddity, Warning, push_warnings, warnings_of};
 use job_bodies::{MAX_CERT_BYTES, Plan};
 use json_answers::finding_json;
-use plan_advice::{Oddity, Warning, push_warnings, warnings_of};
 use plan_text::TextPlace;
 use std::alloc::{AllocError, Global};
 

@@ -1,4 +1,4 @@
-use Rattle.plan_advice.specs.Oddities.{warned_of}
+use Rattle.diagnostics.specs.Oddities.{warned_of}
 use Rattle.sizing_cli.proofs.found_answer.warnings_for.Goals as goal
 
 pub returns : goal.returns

@@ -1,0 +1,11 @@
+-- The text so far and the remaining lines are all lines.
+use Rattle.std.proofs.Common.{◌≡◌, ◌++◌, length}
+use Rattle.std.specs.Prelude.{string_bytes}
+use Rattle.diagnostics.specs.Advice.{warnings_text}
+use Rattle.diagnostics.proofs.warning_lines.push_warnings.Given as goal
+
+abbrev pub invariant-loop-warning : goal.invariant-loop-warning
+invariant-loop-warning l = string_bytes l.text ++ warnings_text l.file l.warnings ≡ string_bytes l.fn.text ++ warnings_text l.file l.fn.warnings
+
+abbrev pub decreases-loop-warning : goal.decreases-loop-warning
+decreases-loop-warning l = length l.warnings

@@ -1,0 +1,42 @@
+//! The lines of warnings.
+
+ghost use Rattle.diagnostics.specs.Advice as spec;
+ghost use Rattle.support.specs.Pushed.{Pushes};
+
+use crate::advice::push_place;
+use crate::warnings::Warning;
+use plan_text::TextPlace;
+use std::alloc::AllocError;
+
+/// Appends a line for each warning, such as `shop.toml:24:1: warning: client browser goes through
+/// its body once`, with `file` as the file's name.
+///
+/// # Errors
+///
+/// [`AllocError`] if memory runs out.
+pub fn push_warnings(
+    text: &mut String,
+    file: &str,
+    mut warnings: &[Warning],
+) -> Result<(), AllocError>
+    ensures { Pushes result text.old text.new (spec.warnings_text file.now warnings.now) }
+{
+    while let Some((warning, rest)) = warnings.split_first() {
+        push_warning(text, file, warning)?;
+        warnings = rest;
+    }
+    Ok(())
+}
+
+fn push_warning(text: &mut String, file: &str, warning: &Warning) -> Result<(), AllocError>
+    ensures { Pushes result text.old text.new (spec.warning_line file.now warning.now) }
+{
+    push_line(text, file, warning.place, &warning.what)
+}
+
+fn push_line(text: &mut String, file: &str, place: TextPlace, what: &str) -> Result<(), AllocError>
+    ensures { Pushes result text.old text.new (spec.seldom_line file.now place what.now) }
+{
+    push_place(text, file, place)?;
+    writeln!(text, "warning: {what}")
+}

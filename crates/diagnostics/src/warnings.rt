@@ -1,0 +1,78 @@
+//! Warnings: lints with their places and messages.
+
+ghost use Rattle.std.specs.Prelude.{◌≡◌, IfOk};
+ghost use Rattle.diagnostics.specs.Oddities as spec;
+
+use crate::oddities::oddities_of;
+use crate::oddity::Oddity;
+use crate::warning_places::place_of;
+use crate::warning_words::words_of;
+use job_bodies::Plan;
+use plan_text::{Places, TextPlace};
+use std::alloc::{AllocError, Global};
+
+/// A warning about a plan.
+#[derive(Drop)]
+pub struct Warning {
+    /// The lint.
+    pub oddity: Oddity,
+    /// The place in the plan's text.
+    pub place: TextPlace,
+    /// A message that says what the lint is and what it means for the answer.
+    pub what: String,
+}
+
+/// Returns a warning for each lint of the plan, in order. `text` is the plan's text. For each pool
+/// whose queue is bounded by a standing vector, `needed` has the bound. The contract promises
+/// nothing about places and messages.
+///
+/// # Errors
+///
+/// [`AllocError`] if memory runs out.
+pub fn warnings_of(
+    alloc: Global,
+    text: &[u8],
+    plan: &Plan,
+    needed: &[Option<u64>],
+) -> Result<Vec<Warning>, AllocError>
+    ensures { IfOk result
+        (λ warnings. spec.AreOddities plan.now needed.now (spec.warned_of warnings.items)) }
+{
+    let oddities = oddities_of(alloc, plan, needed)?;
+    let places = Places::of(alloc, text)?;
+    warnings_about(alloc, &places, plan, &oddities)
+}
+
+/// Returns a warning for each lint.
+fn warnings_about(
+    alloc: Global,
+    places: &Places<'_>,
+    plan: &Plan,
+    oddities: &[Oddity],
+) -> Result<Vec<Warning>, AllocError>
+    ensures { IfOk result (λ warnings. spec.warned_of warnings.items ≡ oddities.now) }
+{
+    let mut warnings = Vec::new(alloc);
+    for oddity in oddities {
+        let warning = warning_about(alloc, places, plan, *oddity)?;
+        warnings.push(warning)?;
+    }
+    Ok(warnings)
+}
+
+fn warning_about(
+    alloc: Global,
+    places: &Places<'_>,
+    plan: &Plan,
+    oddity: Oddity,
+) -> Result<Warning, AllocError>
+    ensures { IfOk result (λ warning. warning.oddity ≡ oddity) }
+{
+    let what = words_of(alloc, plan, oddity)?;
+    let place = place_of(places, oddity);
+    Ok(Warning {
+        oddity,
+        place,
+        what,
+    })
+}
