@@ -9,9 +9,9 @@ use Rattle.cert_text.specs.CertOf.{cert_of}
 use Rattle.cert_text.specs.declared.fault.CertFault.{CertFault}
 use Rattle.soundness.proofs.Promised.{promises}
 use Rattle.cert_check.proofs.Yes.{plans_read_are_well_formed}
-use Rattle.ask_answers.specs.declared.finding.PlanFinding.{PlanFinding}
-use Rattle.ask_answers.specs.declared.finding.PlanFinding.TheVariants.{Safe, NotSafe, NotDecided}
-use Rattle.ask_answers.specs.Finding.{IsFinding}
+use Rattle.report.specs.declared.finding.PlanFinding.{PlanFinding}
+use Rattle.report.specs.declared.finding.PlanFinding.TheVariants.{Safe, NotSafe, NotDecided}
+use Rattle.report.specs.Finding.{IsFinding}
 use Rattle.command_line.specs.declared.command.Given.{Given}
 use Rattle.command_line.specs.declared.command.Manner.{Manner}
 use Rattle.command_line.specs.declared.command.Given.TheVariants.{PlanAlone, WithCertificate}

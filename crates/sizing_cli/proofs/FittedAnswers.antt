@@ -15,8 +15,8 @@ use Rattle.cert_check.proofs.Yes.{plans_read_are_well_formed}
 use Rattle.size_search.specs.declared.found.SizesFound.{SizesFound}
 use Rattle.size_search.specs.declared.found.SizesFound.TheVariants.{Found, NotFound}
 use Rattle.size_search.specs.Sized.{IsSized, IsFound}
-use Rattle.size_lines.specs.Sizes.{changes}
-use Rattle.size_lines.proofs.Unchanged.{unchanged}
+use Rattle.report.specs.Sizes.{changes}
+use Rattle.report.proofs.Unchanged.{unchanged}
 use Rattle.command_line.specs.declared.command.SizesForm.TheVariants.{Sizes, Bundle}
 use Rattle.sizing_cli.specs.declared.status.Status.TheVariants.{Done, Refused, BadText}
 use Rattle.sizing_cli.specs.Answer.{Answer, yes_or_no, input_too_long}

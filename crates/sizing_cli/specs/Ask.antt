@@ -14,13 +14,13 @@ use Rattle.diagnostics.specs.declared.oddity.Oddity.TheVariants.{StaleCertificat
 use Rattle.diagnostics.specs.declared.warnings.Warning.{Warning}
 use Rattle.diagnostics.specs.Oddities.{AreOddities, warned_of}
 use Rattle.diagnostics.specs.Advice.{faults_text, warnings_text}
-use Rattle.ask_answers.specs.declared.finding.PlanFinding.{PlanFinding}
-use Rattle.ask_answers.specs.declared.finding.PlanFinding.TheVariants.{Safe, NotSafe, NotDecided}
-use Rattle.ask_answers.specs.Finding.{IsFinding}
-use Rattle.ask_answers.specs.Places.{needed_places}
-use Rattle.ask_answers.specs.Told.{Tells}
-use Rattle.json_answers.specs.Json as json
-use Rattle.ask_answers.specs.Picture.{IsPicture}
+use Rattle.report.specs.declared.finding.PlanFinding.{PlanFinding}
+use Rattle.report.specs.declared.finding.PlanFinding.TheVariants.{Safe, NotSafe, NotDecided}
+use Rattle.report.specs.Finding.{IsFinding}
+use Rattle.report.specs.Places.{needed_places}
+use Rattle.report.specs.Told.{Tells}
+use Rattle.report.specs.Json as json
+use Rattle.report.specs.Picture.{IsPicture}
 use Rattle.command_line.specs.declared.command.Given.{Given}
 use Rattle.command_line.specs.declared.command.Given.TheVariants.{PlanAlone, WithCertificate}
 use Rattle.command_line.specs.declared.command.Form.{Form}

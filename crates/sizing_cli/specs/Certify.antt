@@ -10,7 +10,7 @@ use Rattle.job_bodies.specs.declared.limits.TheConstants.{MAX_CERT_BYTES, MAX_IN
 use Rattle.cert_text.specs.CertText.{cert_text}
 use Rattle.soundness.specs.Accepted.{accepted}
 use Rattle.size_search.specs.declared.found.SizesFound.{SizesFound}
-use Rattle.ask_answers.specs.Finding.{IsOpen}
+use Rattle.report.specs.Finding.{IsOpen}
 use Rattle.cert_check.specs.Verdict.{Verdict}
 use Rattle.cert_check.specs.Check.{checked, IsSafeToRun}
 use Rattle.sizing_cli.specs.declared.certify.Certified.{Certified}

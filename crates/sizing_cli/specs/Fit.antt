@@ -15,8 +15,8 @@ use Rattle.size_search.specs.declared.found.SizesFound.{SizesFound}
 use Rattle.size_search.specs.declared.found.SizesFound.TheVariants.{Found, NotFound}
 use Rattle.size_search.specs.Sized.{IsSized, IsFound}
 use Rattle.size_search.specs.Decided.{IsDecided}
-use Rattle.size_lines.specs.Sizes.{changes, sizes_text}
-use Rattle.size_lines.specs.Cause.{no_sizes_text}
+use Rattle.report.specs.Sizes.{changes, sizes_text}
+use Rattle.report.specs.Cause.{no_sizes_text}
 use Rattle.command_line.specs.declared.command.SizesForm.{SizesForm}
 use Rattle.command_line.specs.declared.command.SizesForm.TheVariants.{Sizes, Bundle}
 use Rattle.sizing_cli.specs.declared.status.Status.TheVariants.{Done, Refused}

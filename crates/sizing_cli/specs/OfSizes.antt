@@ -2,7 +2,7 @@
 use Rattle.std.specs.Prelude.{IsTrue}
 use Rattle.job_bodies.specs.Plan.{Plan}
 use Rattle.soundness.specs.Accepted.{accepted}
-use Rattle.ask_answers.specs.Finding.{IsOpen}
+use Rattle.report.specs.Finding.{IsOpen}
 use Rattle.sizing_cli.specs.declared.certificate.Declared.{Declared}
 use Rattle.sizing_cli.specs.declared.certificate.Declared.TheVariants.{Accepted, Other}
 

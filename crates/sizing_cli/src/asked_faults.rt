@@ -11,7 +11,7 @@ use cert_text::CertFault;
 use command_line::Form;
 use diagnostics::{Faults, faults_of, push_faults};
 use job_bodies::PlanFault;
-use json_answers::{fault_json, faults_json};
+use report::{fault_json, faults_json};
 use std::alloc::{AllocError, Global};
 use support::number::{CERT_TOO_LONG, NOT_JSON, VERSION, WEIGHT_TOO_LARGE};
 

@@ -4,7 +4,7 @@ ghost use Rattle.std.specs.Prelude.{◌≡◌, ◌≤◌, IfOk, IfErr, IfSome, I
 ghost use Rattle.job_bodies.specs.declared.limits.TheConstants.{MAX_WORKERS};
 ghost use Rattle.soundness.specs.Accepted.{accepted};
 ghost use Rattle.size_search.specs.Steady.{steady_cert};
-ghost use Rattle.ask_answers.specs.Finding.{IsKnown};
+ghost use Rattle.report.specs.Finding.{IsKnown};
 ghost use Rattle.sizing_cli.specs.Certify.{IsUncertified};
 ghost use Rattle.sizing_cli.specs.OfSizes as spec;
 ghost use Rattle.sizing_cli.specs.ServeFault.{is_of_search};

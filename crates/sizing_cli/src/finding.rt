@@ -3,8 +3,8 @@
 ghost use Rattle.std.specs.Prelude.{◌≡◌, IfOk, IfErr, IsTrue, false, not};
 ghost use Rattle.soundness.specs.Accepted.{accepted};
 ghost use Rattle.size_search.specs.Steady.{steady_cert};
-ghost use Rattle.ask_answers.specs.Finding.{IsFinding, IsKnown};
-ghost use Rattle.ask_answers.specs.declared.finding.PlanFinding.TheVariants.{Safe};
+ghost use Rattle.report.specs.Finding.{IsFinding, IsKnown};
+ghost use Rattle.report.specs.declared.finding.PlanFinding.TheVariants.{Safe};
 ghost use Rattle.sizing_cli.specs.Ask as spec;
 ghost use Rattle.sizing_cli.specs.ServeFault.{is_of_search};
 
@@ -12,11 +12,11 @@ use crate::ServeFault;
 use crate::at_once::AtOnce;
 use crate::certificate::{Declared, WORKERS, as_declared};
 use crate::witness::witness_of;
-use ask_answers::PlanFinding;
 use cert_check::accepts;
 use cert_search::search;
 use cert_text::Cert;
 use job_bodies::{DEFAULT_STATES, Plan};
+use report::PlanFinding;
 use size_search::{SizesFound, search_sizes};
 use std::alloc::{AllocError, Global};
 use std::sync::Wait;

@@ -20,7 +20,7 @@ use cert_text::{Cert, write_cert};
 use command_line::SizesForm;
 use job_bodies::{MAX_CERT_BYTES, MAX_INPUT_BYTES, MAX_PLAN_BYTES, Plan};
 use plan_text::write_plan;
-use size_lines::{push_no_sizes, push_sizes};
+use report::{push_no_sizes, push_sizes};
 use size_search::{NoSizes, SizesFound, search_sizes};
 use std::alloc::{AllocError, Global};
 use std::sync::Wait;

@@ -4,20 +4,19 @@ ghost use Rattle.std.specs.Prelude.{◌≡◌, ◌++◌, IfOk, IsTrue, option_ma
 ghost use Rattle.soundness.specs.Accepted.{accepted};
 ghost use Rattle.diagnostics.specs.Oddities.{warned_of};
 ghost use Rattle.job_bodies.specs.Plan.{Plan as PlanValue};
-ghost use Rattle.ask_answers.specs.Finding.{IsFinding};
+ghost use Rattle.report.specs.Finding.{IsFinding};
 ghost use Rattle.sizing_cli.specs.Ask as spec;
 
 use crate::Status;
 use crate::answer::Answer;
 use crate::asking::Replied;
 use crate::output::Output;
-use ask_answers::{PlanFinding, needed_places, picture_of, told};
 use cert_text::{Cert, write_cert};
 use command_line::{Form, Manner};
 use diagnostics::{Oddity, Warning, push_warnings, warnings_of};
 use job_bodies::{MAX_CERT_BYTES, Plan};
-use json_answers::finding_json;
 use plan_text::TextPlace;
+use report::{PlanFinding, finding_json, needed_places, picture_of, told};
 use std::alloc::{AllocError, Global};
 
 /// Writes the answer for this finding. Messages use `file` as the name of the plan's file. A given

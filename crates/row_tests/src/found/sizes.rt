@@ -2,7 +2,7 @@
 
 use job_bodies::Plan;
 use plan_text::read_plan;
-use size_lines::{push_no_sizes, push_sizes};
+use report::{push_no_sizes, push_sizes};
 use size_search::{SizesFound, search_sizes};
 use std::alloc::{AllocError, Global};
 

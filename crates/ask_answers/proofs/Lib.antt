@@ -1,3 +1,0 @@
-mod Paid
-mod Rows
-mod Pairs

@@ -1,5 +1,0 @@
-use Rattle.ask_answers.proofs.Rows.{both_pushed}
-use Rattle.ask_answers.proofs.unsafe_sizes.push_pool.Goals as goal
-
-pub returns : goal.returns
-returns c = both_pushed c.push_queue.result _ _ _ _ _ c.in_ok-push_core.ensures c.push_queue.ensures

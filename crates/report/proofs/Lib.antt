@@ -1,0 +1,5 @@
+pub mod Unchanged
+mod Telling
+mod Paid
+mod Rows
+mod Pairs

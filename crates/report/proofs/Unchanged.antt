@@ -1,0 +1,58 @@
+-- A plan with no changed size is the declared one.
+use Rattle.std.proofs.Common.{◌≡◌, ℕ, ◌+◌, Bool, true, false, cond, List, [], ◌∷◌, map, zip, sum_by, refl, sym, ap, ap₂, ◌∙◌, arith}
+use Rattle.std.specs.Prelude.{◌==◌}
+use Rattle.std.proofs.lemmas.Bool.{eqb-true}
+use Rattle.std.proofs.lemmas.List.Sums.{sum_by-cons}
+use Rattle.job_bodies.specs.Plan.{Pool, Class, Client, Plan}
+use Rattle.report.specs.Sizes.{changed, pool_changes, both_changes, UnchangedSizesAreTheDeclaredPlan}
+
+-- a size that does not change is the declared one
+same_size : (declared fit : ℕ) → changed declared fit ≡ 0 → fit ≡ declared
+same_size declared fit none = by_test (declared == fit) refl none
+  where
+    by_test : (same : Bool) → (declared == fit) ≡ same → ◌≡◌ {A = ℕ} (cond same 0 1) 0 → fit ≡ declared
+    by_test true is none = sym (eqb-true declared fit is)
+    by_test false is none = absurd (omega (arith, none))
+
+-- the pool without its sizes
+abbrev bare : Pool → Pool
+bare pool = record pool { core = 0; max = 0; queue = 0 }
+
+-- a pool with no changed size is the declared one
+same_pool : (declared fit : Pool) → bare fit ≡ bare declared → pool_changes declared fit ≡ 0 → fit ≡ declared
+same_pool declared fit same none =
+    let core : fit.core ≡ declared.core = same_size declared.core fit.core (omega (arith, none)) in
+    let max : fit.max ≡ declared.max = same_size declared.max fit.max (omega (arith, none)) in
+    let queue : fit.queue ≡ declared.queue = same_size declared.queue fit.queue (omega (arith, none)) in
+    let name : fit.name ≡ declared.name = ap (λ (pool : Pool). pool.name) same in
+    let prestart : fit.prestart ≡ declared.prestart = ap (λ (pool : Pool). pool.prestart) same in
+    by_fields declared.name fit.name declared.core fit.core declared.max fit.max declared.queue fit.queue declared.prestart fit.prestart name core max queue prestart
+  where
+    pool_of : List ℕ → ℕ → ℕ → ℕ → Bool → Pool
+    pool_of name core max queue prestart = record { name = name; core = core; max = max; queue = queue; prestart = prestart }
+
+    by_fields : (n n' : List ℕ) (c c' m m' q q' : ℕ) (p p' : Bool) → n' ≡ n → c' ≡ c → m' ≡ m → q' ≡ q → p' ≡ p → pool_of n' c' m' q' p' ≡ pool_of n c m q p
+    by_fields n n' c c' m m' q q' p p' name core max queue prestart = rw (name, core, max, queue, prestart) refl
+
+same_pools : (declared fit : List Pool) → map bare fit ≡ map bare declared → sum_by both_changes (zip declared fit) ≡ 0 → fit ≡ declared
+same_pools [] [] same none = refl
+same_pools [] (f ∷ fs) same none = absurd cc
+same_pools (d ∷ ds) [] same none = absurd cc
+same_pools (d ∷ ds) (f ∷ fs) same none =
+    let all : pool_changes d f + sum_by both_changes (zip ds fs) ≡ 0 = sym (sum_by-cons both_changes (d, f) (zip ds fs)) ∙ none in
+    let first : bare f ≡ bare d = cc in
+    let rest : map bare fs ≡ map bare ds = cc in
+    ap₂ (λ (pool : Pool) (pools : List Pool). pool ∷ pools) (same_pool d f first (omega (arith, all))) (same_pools ds fs rest (omega (arith, all)))
+
+pub unchanged : UnchangedSizesAreTheDeclaredPlan
+unchanged declared fit same none =
+    let pools : fit.pools ≡ declared.pools = same_pools declared.pools fit.pools (ap (λ (plan : Plan). plan.pools) same) none in
+    let classes : fit.classes ≡ declared.classes = ap (λ (plan : Plan). plan.classes) same in
+    let clients : fit.clients ≡ declared.clients = ap (λ (plan : Plan). plan.clients) same in
+    by_fields declared.pools fit.pools declared.classes fit.classes declared.clients fit.clients pools classes clients
+  where
+    plan_of : List Pool → List Class → List Client → Plan
+    plan_of pools classes clients = record { pools = pools; classes = classes; clients = clients }
+
+    by_fields : (p p' : List Pool) (k k' : List Class) (c c' : List Client) → p' ≡ p → k' ≡ k → c' ≡ c → plan_of p' k' c' ≡ plan_of p k c
+    by_fields p p' k k' c c' pools classes clients = rw (pools, classes, clients) refl

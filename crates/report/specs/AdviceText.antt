@@ -1,0 +1,55 @@
+-- The advice for the sizes that were found, or for the cause why there are none.
+use Rattle.std.specs.Prelude.{ℕ, ◌-◌, ◌==◌, if◌then◌else◌, List, [], ◌∷◌, ◌++◌, flat_map, codes, decimal}
+use Rattle.job_bodies.specs.Plan.{Pool, Plan}
+use Rattle.size_search.specs.declared.cause.Cause.TheVariants.{Circle, ClientNeverGets, ClassNeverGets}
+use Rattle.size_search.specs.declared.found.NoSizes.{NoSizes}
+use Rattle.size_search.specs.declared.found.NoSizes.TheVariants.{Cause, TooLarge}
+use Rattle.size_search.specs.declared.found.SizesFound.{SizesFound}
+use Rattle.size_search.specs.declared.found.SizesFound.TheVariants.{Found, NotFound}
+use Rattle.report.specs.Sizes.{both_pools}
+
+-- the number of jobs that can wait at once, for which this core size leaves a thread
+abbrev pub core_line : List ℕ → ℕ → List ℕ
+core_line name core =
+    name ++ (codes ": up to " ++ (decimal (core - 1) ++ (codes " of its jobs may wait for jobs at once, and core " ++ (decimal core ++ (codes " leaves a thread" ++ 10 ∷ [])))))
+
+-- the reason for a larger core size, if it changes
+abbrev pub core_reason : Pool → Pool → List ℕ
+core_reason declared fit = if declared.core == fit.core then [] else core_line declared.name fit.core
+
+-- the reason for a larger queue, if it changes
+abbrev pub queue_reason : Pool → Pool → List ℕ
+queue_reason declared fit =
+    if declared.queue == fit.queue then [] else declared.name ++ (codes ": up to " ++ (decimal fit.queue ++ (codes " jobs may wait in its queue at once" ++ 10 ∷ [])))
+
+abbrev pub pool_reasons : Pool × Pool → List ℕ
+pool_reasons both = core_reason both.0 both.1 ++ queue_reason both.0 both.1
+
+-- the reasons for the sizes that change
+abbrev pub reasons_text : Plan → Plan → List ℕ
+reasons_text declared fit = flat_map pool_reasons (both_pools declared fit)
+
+-- the advice for jobs that are never got
+abbrev pub not_got_text : List ℕ
+not_got_text = codes "no certificate accepts any sizes while nobody waits for these jobs: get the result, or bound them by permits (docs/PERMITS.md)" ++ 10 ∷ []
+
+-- the advice if sizes alone do not help
+abbrev pub way_text : NoSizes → List ℕ
+way_text (Cause (Circle k)) = codes "no certificate accepts any sizes while jobs submit jobs of their own class: write the levels as classes of their own" ++ 10 ∷ []
+way_text (Cause (ClientNeverGets c i)) = not_got_text
+way_text (Cause (ClassNeverGets k i)) = not_got_text
+way_text (TooLarge p) = codes "fewer clients, or bodies that have fewer jobs open at one time, need less" ++ 10 ∷ []
+
+abbrev pub advice_text : Plan → SizesFound → List ℕ
+advice_text plan (Found fit cert) = reasons_text plan fit
+advice_text plan (NotFound cause) = way_text cause
+
+-- the declared sizes may be safe
+abbrev pub maybe_text : List ℕ
+maybe_text = codes "no certificate was found for the declared sizes, nor events that show them wrong: they may be right" ++ 10 ∷ []
+
+-- what is left undecided
+abbrev pub open_text : SizesFound → List ℕ
+open_text (NotFound (Cause cause)) = codes "no certificate accepts this plan, whatever its sizes, and no events were found that show it wrong" ++ 10 ∷ []
+open_text (NotFound (TooLarge p)) = maybe_text
+open_text (Found fit cert) = maybe_text

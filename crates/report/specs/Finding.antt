@@ -1,0 +1,31 @@
+-- The finding about a plan on which an answer rests.
+use Rattle.std.specs.Prelude.{◌≡◌, ◌≢◌, false, IsTrue}
+use Rattle.job_bodies.specs.Plan.{Plan}
+use Rattle.cert_text.specs.Cert.{Cert}
+use Rattle.soundness.specs.Accepted.{accepted}
+use Rattle.size_search.specs.Steady.{steady_cert}
+use Rattle.counterexample.specs.Witness.{IsWitness}
+use Rattle.size_search.specs.Sized.{IsFound}
+use Rattle.size_search.specs.Decided.{IsDecided}
+use Rattle.size_search.specs.declared.found.SizesFound.{SizesFound}
+use Rattle.size_search.specs.declared.found.SizesFound.TheVariants.{Found}
+use Rattle.report.specs.declared.finding.PlanFinding.{PlanFinding}
+use Rattle.report.specs.declared.finding.PlanFinding.TheVariants.{Safe, NotSafe, NotDecided}
+
+-- the result of the search for sizes is true of the plan, and decides whether there are any
+pub record IsKnown (plan : Plan) (sizes : SizesFound) : Type 0 where
+  pub is_found : IsFound plan sizes
+  pub is_decided : IsDecided plan sizes
+
+-- no certificate was found: the steady one does not accept the plan, and the sizes that were found are not the declared ones
+pub record IsOpen (plan : Plan) (sizes : SizesFound) : Type 0 where
+  pub known : IsKnown plan sizes
+  pub not_steady : accepted plan (steady_cert plan) ≡ false
+  pub others : (cert : Cert) → sizes ≢ Found plan cert
+
+-- the finding is true of the plan: a certificate accepts it; or it has a witness, and the result for other sizes is true; or
+-- neither was found, and the result for other sizes is true
+abbrev pub IsFinding : Plan → PlanFinding → Type 0
+IsFinding plan (Safe cert) = IsTrue (accepted plan cert)
+IsFinding plan (NotSafe witness sizes) = IsWitness plan witness.events.items witness.ending × IsKnown plan sizes
+IsFinding plan (NotDecided sizes) = IsOpen plan sizes

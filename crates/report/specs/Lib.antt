@@ -1,0 +1,11 @@
+pub mod Sizes
+pub mod Cause
+pub mod Finding
+pub mod Told
+pub mod SafeText
+pub mod AdviceText
+pub mod Payers
+pub mod Picture
+pub mod Waits
+pub mod Places
+pub mod Json

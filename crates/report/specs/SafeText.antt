@@ -1,0 +1,119 @@
+-- The text for a plan that a certificate accepts: for each pool the bound of its queue, the shares in it, and the pools that
+-- its jobs wait for.
+use Rattle.std.specs.Prelude.{ℕ, ◌-◌, ◌==◌, if◌then◌else◌, List, [], ◌∷◌, ◌++◌, flat_map, codes, decimal, Option, Some, None, slice_get}
+use Rattle.std.specs.List.{enumerate_from, join_by}
+use Rattle.job_bodies.specs.Plan.{Pool, Plan, client_at, pool_at}
+use Rattle.weights.specs.Vector.{Vector, vector_fits, total}
+use Rattle.weights.specs.Bound.{bound_vector}
+use Rattle.weights.specs.declared.bound.Bound.{Bound}
+use Rattle.weights.specs.declared.bound.Bound.TheVariants.{Standing, Lifetime}
+use Rattle.cert_text.specs.Cert.{PoolCert, Cert}
+use Rattle.report.specs.Payers.{client_shares, worker_shares}
+use Rattle.report.specs.Waits.{waits_for}
+
+-- the parts, joined with commas
+abbrev pub separated : List (List ℕ) → List ℕ
+separated = join_by (λ part. part) (codes ", ")
+
+-- ---- the bound of a queue
+
+-- the number of threads of the pool
+abbrev pub threads_text : Pool → List ℕ
+threads_text pool =
+    if pool.core == pool.max
+    then (if pool.core == 1 then codes "1 thread" else decimal pool.core ++ codes " threads")
+    else decimal pool.core ++ codes " to " ++ decimal pool.max ++ codes " threads"
+
+-- the number of jobs of the bound
+abbrev pub most_text : Bound → ℕ → List ℕ
+most_text (Standing v) n = if n == 1 then codes "up to 1 job waits at once" else codes "up to " ++ decimal n ++ codes " jobs wait at once"
+most_text (Lifetime v) n = if n == 1 then codes "at most 1 job is ever given to it" else codes "at most " ++ decimal n ++ codes " jobs are ever given to it"
+
+-- one share, or nothing if it is 0
+abbrev pub paid : ℕ → List ℕ → List ℕ → List (List ℕ)
+paid share from name = if share == 0 then [] else (decimal share ++ codes " " ++ from ++ name) ∷ []
+
+-- the share of a kind of clients
+abbrev pub client_part : Plan → ℕ × ℕ → List (List ℕ)
+client_part plan (kind, share) = paid share [] (client_at plan kind).name
+
+-- the share of a pool's threads
+abbrev pub worker_part : Plan → ℕ × ℕ → List (List ℕ)
+worker_part plan (pool, share) = paid share (codes "from threads of ") (pool_at plan pool).name
+
+-- the shares of the kinds of clients
+abbrev pub client_parts : Plan → List ℕ → List (List ℕ)
+client_parts plan shares = flat_map (client_part plan) (enumerate_from 0 shares)
+
+-- the shares of the pools
+abbrev pub worker_parts : Plan → List ℕ → List (List ℕ)
+worker_parts plan shares = flat_map (worker_part plan) (enumerate_from 0 shares)
+
+-- the shares in the total of a vector
+abbrev pub payers : Plan → Vector → List (List ℕ)
+payers plan v = client_parts plan (client_shares plan v) ++ worker_parts plan (worker_shares plan v)
+
+-- the most jobs in the queue, and the shares in them
+abbrev pub places_text : Plan → Bound → ℕ → List ℕ
+places_text plan bound n =
+    if n == 0 then codes "no job waits in it" else most_text bound n ++ codes " (" ++ separated (payers plan (bound_vector bound)) ++ codes ")"
+
+-- the bound of the queue, if the vector fits the plan
+abbrev pub queue_text : Plan → Pool → Bound → List ℕ
+queue_text plan pool bound =
+    if vector_fits plan (bound_vector bound)
+    then codes ", queue " ++ decimal pool.queue ++ codes ": " ++ places_text plan bound (total plan (bound_vector bound))
+    else []
+
+-- the pool's threads, and its queue
+abbrev pub bound_line : Plan → Pool → Bound → List ℕ
+bound_line plan pool bound = pool.name ++ codes ": " ++ threads_text pool ++ queue_text plan pool bound ++ 10 ∷ []
+
+-- ---- pools that wait for pools
+
+-- the name of a pool whose jobs pool p waits for
+abbrev pub waited_name : Plan → ℕ → ℕ × Pool → List (List ℕ)
+waited_name plan p (q, pool) = if waits_for plan p q then pool.name ∷ [] else []
+
+abbrev pub or_nobody : List (List ℕ) → List ℕ
+or_nobody [] = codes "nobody"
+or_nobody (name ∷ names) = separated (name ∷ names)
+
+-- the names of the pools that jobs of pool p wait for
+abbrev pub waited_names : Plan → ℕ → List (List ℕ)
+waited_names plan p = flat_map (waited_name plan p) (enumerate_from 0 plan.pools)
+
+abbrev pub waited_text : Plan → ℕ → List ℕ
+waited_text plan p = or_nobody (waited_names plan p)
+
+-- the most core threads that wait at once at gets that need a free thread, and how many are left; empty if there are none
+abbrev pub waiting_text : Pool → ℕ → List ℕ
+waiting_text pool n =
+    if n == 0
+    then []
+    else codes ": at most " ++ (decimal n ++ (codes " of its " ++ (decimal pool.core ++ (codes " core threads at once where others must go on, " ++ (decimal (pool.core - n) ++ codes " left")))))
+
+-- the most threads that wait, if the vector fits the plan
+abbrev pub left_text : Plan → Pool → Vector → List ℕ
+left_text plan pool blocked = if vector_fits plan blocked then waiting_text pool (total plan blocked) else []
+
+-- the pools that the pool's jobs wait for, and its threads that wait
+abbrev pub waits_line : Plan → ℕ → Pool → Vector → List ℕ
+waits_line plan p pool blocked = codes "  " ++ pool.name ++ codes " waits for " ++ waited_text plan p ++ left_text plan pool blocked ++ 10 ∷ []
+
+-- ---- the whole text
+
+-- the two lines of a pool, if the certificate has a part for it
+abbrev pub part_lines : Plan → ℕ → Pool → Option PoolCert → List ℕ
+part_lines plan p pool None = []
+part_lines plan p pool (Some part) = bound_line plan pool part.bound ++ waits_line plan p pool part.blocked
+
+abbrev pub pool_lines : Plan → Cert → ℕ × Pool → List ℕ
+pool_lines plan cert (p, pool) = part_lines plan p pool (slice_get cert.pools p)
+
+abbrev pub pools_text : Plan → Cert → List ℕ
+pools_text plan cert = flat_map (pool_lines plan cert) (enumerate_from 0 plan.pools)
+
+-- the lines of each pool, and then what holds for all of them
+abbrev pub safe_text : Plan → Cert → List ℕ
+safe_text plan cert = pools_text plan cert ++ codes "no submit is ever refused, and no jobs wait for each other for ever" ++ 10 ∷ []

@@ -1,0 +1,62 @@
+//! The lines that say why no sizes were found.
+
+ghost use Rattle.support.specs.Pushed.{Pushes};
+ghost use Rattle.report.specs.Cause as spec;
+
+use job_bodies::{MAX_SIZE, Plan};
+use size_search::{Cause, NoSizes};
+use std::alloc::AllocError;
+
+/// Appends that no sizes were found for the plan, and why, such as `no fitting sizes found` and
+/// `class render submits itself`.
+///
+/// # Errors
+///
+/// [`AllocError`] if memory runs out.
+pub fn push_no_sizes(text: &mut String, plan: &Plan, cause: NoSizes) -> Result<(), AllocError>
+    ensures { Pushes result text.old text.new (spec.no_sizes_text plan.now cause) }
+{
+    text.push_str("no fitting sizes found\n")?;
+    push_cause(text, plan, cause)
+}
+
+fn push_cause(text: &mut String, plan: &Plan, cause: NoSizes) -> Result<(), AllocError>
+    ensures { Pushes result text.old text.new (spec.cause_text plan.now cause) }
+{
+    match cause {
+        NoSizes::Cause(Cause::Circle(class)) => push_circle(text, plan.class_name(class)),
+        NoSizes::Cause(Cause::ClientNeverGets(client, action)) => {
+            push_never_got(text, "client", plan.client_name(client), action)
+        }
+        NoSizes::Cause(Cause::ClassNeverGets(class, action)) => {
+            push_never_got(text, "class", plan.class_name(class), action)
+        }
+        NoSizes::TooLarge(pool) => push_above(text, plan.pool_name(pool)),
+    }
+}
+
+fn push_circle(text: &mut String, name: &str) -> Result<(), AllocError>
+    ensures { Pushes result text.old text.new (spec.circle_text name.now) }
+{
+    writeln!(text, "class {name} submits itself")
+}
+
+fn push_never_got(
+    text: &mut String,
+    kind: &str,
+    name: &str,
+    action: usize,
+) -> Result<(), AllocError>
+    ensures { Pushes result text.old text.new (spec.never_got_text kind.now name.now action) }
+{
+    writeln!(
+        text,
+        "{kind} {name} action {action}: submits for ever, never got"
+    )
+}
+
+fn push_above(text: &mut String, name: &str) -> Result<(), AllocError>
+    ensures { Pushes result text.old text.new (spec.above_text name.now) }
+{
+    writeln!(text, "pool {name}: sizes above {MAX_SIZE}")
+}

@@ -1,0 +1,30 @@
+//! The report of `sizing ask`, as text and as JSON, and the lines of `sizing fit`.
+#![tactic(auto)]
+
+mod cause_lines;
+mod finding;
+mod json_answers;
+mod json_faults;
+mod json_pools;
+mod json_sizes;
+mod json_warnings;
+mod json_witness;
+mod payers;
+mod picture;
+mod safe;
+mod size_laws;
+mod size_lines;
+mod text;
+mod unsafe_sizes;
+mod waits;
+
+pub use cause_lines::push_no_sizes;
+pub use finding::PlanFinding;
+pub use json_answers::{fault_json, faults_json, finding_json};
+pub use payers::{Payers, payers_of};
+pub use picture::picture_of;
+pub use safe::{needed_places, total_of};
+pub use size_laws::unchanged_sizes_are_the_declared_plan;
+pub use size_lines::push_sizes;
+pub use text::told;
+pub use waits::waits_for;

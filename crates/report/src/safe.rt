@@ -1,0 +1,362 @@
+//! The text for a plan that a certificate accepts.
+
+ghost use Rattle.std.specs.Prelude.{◌≡◌, ◌++◌, IfOk, IsTrue, OnOk, map, string_bytes};
+ghost use Rattle.support.specs.Pushed.{Pushes};
+ghost use Rattle.weights.specs.Vector.{vector_fits};
+ghost use Rattle.report.specs.Places as places;
+ghost use Rattle.report.specs.SafeText as spec;
+
+use crate::payers::{Payers, payers_of};
+use crate::waits::waits_for;
+use cert_text::{Cert, PoolCert};
+use job_bodies::{Plan, Pool};
+use std::alloc::{AllocError, Global};
+use weights::{Bound, Vector};
+
+/// Appends two lines for each pool, and that no job starves.
+pub(crate) fn push_safe(
+    alloc: Global,
+    text: &mut String,
+    plan: &Plan,
+    cert: &Cert,
+) -> Result<(), AllocError>
+    ensures { Pushes result text.old text.new (spec.safe_text plan.now cert.now) }
+{
+    push_pools(alloc, text, plan, cert)?;
+    text.push_str("no submit is ever refused, and no jobs wait for each other for ever\n")
+}
+
+fn push_pools(alloc: Global, text: &mut String, plan: &Plan, cert: &Cert) -> Result<(), AllocError>
+    ensures { Pushes result text.old text.new (spec.pools_text plan.now cert.now) }
+{
+    for (number, pool) in plan.pools().iter().enumerate() {
+        push_pool(alloc, text, plan, cert, number, pool)?;
+    }
+    Ok(())
+}
+
+/// Appends the lines of a pool, if the certificate has a part for it.
+fn push_pool(
+    alloc: Global,
+    text: &mut String,
+    plan: &Plan,
+    cert: &Cert,
+    number: usize,
+    pool: &Pool,
+) -> Result<(), AllocError>
+    ensures { Pushes result text.old text.new
+        (spec.pool_lines plan.now cert.now (number, pool.now)) }
+{
+    match cert.pools.get(number) {
+        Some(part) => push_lines(alloc, text, plan, number, pool, part),
+        None => Ok(()),
+    }
+}
+
+fn push_lines(
+    alloc: Global,
+    text: &mut String,
+    plan: &Plan,
+    number: usize,
+    pool: &Pool,
+    part: &PoolCert,
+) -> Result<(), AllocError>
+    ensures { Pushes result text.old text.new
+        (spec.bound_line plan.now pool.now part.now.bound
+        ++ spec.waits_line plan.now number pool.now part.now.blocked) }
+{
+    push_bound(alloc, text, plan, pool, &part.bound)?;
+    push_waits(alloc, text, plan, number, pool, &part.blocked)
+}
+
+/// Returns how many places of its queue each pool needs at most, in the certificate's order. That
+/// is known if a standing vector that fits the plan bounds the queue.
+///
+/// # Errors
+///
+/// [`AllocError`] if memory runs out.
+pub fn needed_places(
+    alloc: Global,
+    plan: &Plan,
+    cert: &Cert,
+) -> Result<Vec<Option<u64>>, AllocError>
+    ensures { IfOk result (λ needed. needed.items ≡ places.needed_places plan.now cert.now) }
+{
+    let mut needed = Vec::new(alloc);
+    for parts in &cert.pools {
+        needed.push(places_of(plan, &parts.bound))?;
+    }
+    Ok(needed)
+}
+
+fn places_of(plan: &Plan, bound: &Bound) -> Option<u64>
+    ensures { result ≡ places.places_of plan.now bound.now }
+{
+    match bound {
+        Bound::Standing(vector) => total_of(plan, vector),
+        Bound::Lifetime(_) => None,
+    }
+}
+
+/// Returns the total of a vector, if it fits the plan.
+pub fn total_of(plan: &Plan, vector: &Vector) -> Option<u64>
+    ensures { result ≡ places.total_of plan.now vector.now }
+{
+    if vector.fits(plan) {
+        Some(vector.total(plan))
+    } else {
+        None
+    }
+}
+
+/// Appends the line with the pool's threads and its queue.
+fn push_bound(
+    alloc: Global,
+    text: &mut String,
+    plan: &Plan,
+    pool: &Pool,
+    bound: &Bound,
+) -> Result<(), AllocError>
+    ensures { Pushes result text.old text.new (spec.bound_line plan.now pool.now bound.now) }
+{
+    let name = pool.name.as_str();
+    write!(text, "{name}: ")?;
+    push_threads(text, pool)?;
+    push_queue(alloc, text, plan, pool, bound)?;
+    text.push('\n')
+}
+
+/// Appends the bound of a pool's queue, and the shares in it.
+fn push_queue(
+    alloc: Global,
+    text: &mut String,
+    plan: &Plan,
+    pool: &Pool,
+    bound: &Bound,
+) -> Result<(), AllocError>
+    ensures { Pushes result text.old text.new (spec.queue_text plan.now pool.now bound.now) }
+{
+    let vector = bound.vector();
+    if !vector.fits(plan) {
+        return Ok(());
+    }
+    let queue = pool.queue;
+    let total = vector.total(plan);
+    if total == 0 {
+        return write!(text, ", queue {queue}: no job waits in it");
+    }
+    write!(text, ", queue {queue}: ")?;
+    push_most(text, bound, total)?;
+    text.push_str(" (")?;
+    push_payers(alloc, text, plan, vector)?;
+    text.push_str(")")
+}
+
+/// Appends the number of jobs of a bound.
+pub(crate) fn push_most(text: &mut String, bound: &Bound, total: u64) -> Result<(), AllocError>
+    ensures { Pushes result text.old text.new (spec.most_text bound.now total) }
+{
+    match bound {
+        Bound::Standing(_) if total == 1 => text.push_str("up to 1 job waits at once"),
+        Bound::Standing(_) => write!(text, "up to {total} jobs wait at once"),
+        Bound::Lifetime(_) if total == 1 => text.push_str("at most 1 job is ever given to it"),
+        Bound::Lifetime(_) => write!(text, "at most {total} jobs are ever given to it"),
+    }
+}
+
+/// Appends the number of the pool's threads.
+pub(crate) fn push_threads(text: &mut String, pool: &Pool) -> Result<(), AllocError>
+    ensures { Pushes result text.old text.new (spec.threads_text pool.now) }
+{
+    let core = pool.core;
+    let max = pool.max;
+    if core != max {
+        return write!(text, "{core} to {max} threads");
+    }
+    match core {
+        1 => text.push_str("1 thread"),
+        _ => write!(text, "{core} threads"),
+    }
+}
+
+/// Appends the shares in the total of a vector, such as `200 browser, 8 from threads of web`.
+fn push_payers(
+    alloc: Global,
+    text: &mut String,
+    plan: &Plan,
+    vector: &Vector,
+) -> Result<(), AllocError>
+    requires { IsTrue (vector_fits plan.now vector.now) }
+    ensures { Pushes result text.old text.new (spec.separated (spec.payers plan.now vector.now)) }
+{
+    let Payers { clients, workers } = payers_of(alloc, plan, vector)?;
+    let mut parts = Vec::new(alloc);
+    push_clients(alloc, &mut parts, plan, &clients)?;
+    push_workers(alloc, &mut parts, plan, &workers)?;
+    push_separated(alloc, text, &parts)
+}
+
+fn push_clients(
+    alloc: Global,
+    parts: &mut Vec<String>,
+    plan: &Plan,
+    shares: &[u64],
+) -> Result<(), AllocError>
+    ensures { OnOk result
+        (map string_bytes parts.new.items
+        ≡ map string_bytes parts.old.items ++ spec.client_parts plan.now shares.now) }
+{
+    for (kind, share) in shares.iter().enumerate() {
+        push_paid(alloc, parts, *share, "", plan.client_name(kind))?;
+    }
+    Ok(())
+}
+
+fn push_workers(
+    alloc: Global,
+    parts: &mut Vec<String>,
+    plan: &Plan,
+    shares: &[u64],
+) -> Result<(), AllocError>
+    ensures { OnOk result
+        (map string_bytes parts.new.items
+        ≡ map string_bytes parts.old.items ++ spec.worker_parts plan.now shares.now) }
+{
+    for (pool, share) in shares.iter().enumerate() {
+        push_paid(
+            alloc,
+            parts,
+            *share,
+            "from threads of ",
+            plan.pool_name(pool),
+        )?;
+    }
+    Ok(())
+}
+
+/// Appends one share, unless it is 0.
+#[tactic(auto, using(std::proofs::lemmas::List::map_push))]
+fn push_paid(
+    alloc: Global,
+    parts: &mut Vec<String>,
+    share: u64,
+    from: &str,
+    name: &str,
+) -> Result<(), AllocError>
+    ensures { OnOk result
+        (map string_bytes parts.new.items
+        ≡ map string_bytes parts.old.items ++ spec.paid share from.now name.now) }
+{
+    if share == 0 {
+        return Ok(());
+    }
+    parts.push(format!(in alloc; "{share} {from}{name}")?)?;
+    Ok(())
+}
+
+/// Joins the parts with commas.
+#[tactic(auto, using(crate::proofs::Rows::row_seen))]
+fn push_separated(alloc: Global, text: &mut String, parts: &[String]) -> Result<(), AllocError>
+    ensures { Pushes result text.old text.new (spec.separated (map string_bytes parts.now)) }
+{
+    let row = parts.join(alloc, ", ")?;
+    text.push_str(&row)
+}
+
+/// Appends the line with the pools that the pool's jobs wait for, and with the number of its
+/// threads that wait.
+fn push_waits(
+    alloc: Global,
+    text: &mut String,
+    plan: &Plan,
+    number: usize,
+    pool: &Pool,
+    blocked: &Vector,
+) -> Result<(), AllocError>
+    ensures { Pushes result text.old text.new
+        (spec.waits_line plan.now number pool.now blocked.now) }
+{
+    let name = pool.name.as_str();
+    write!(text, "  {name} waits for ")?;
+    push_waited(alloc, text, plan, number)?;
+    push_left(text, plan, pool, blocked)?;
+    text.push('\n')
+}
+
+/// Appends how many core threads of a pool wait at most at gets that need a free thread.
+fn push_left(
+    text: &mut String,
+    plan: &Plan,
+    pool: &Pool,
+    blocked: &Vector,
+) -> Result<(), AllocError>
+    ensures { Pushes result text.old text.new (spec.left_text plan.now pool.now blocked.now) }
+{
+    if blocked.fits(plan) {
+        push_waiting(text, pool, blocked.total(plan))
+    } else {
+        Ok(())
+    }
+}
+
+fn push_waiting(text: &mut String, pool: &Pool, most: u64) -> Result<(), AllocError>
+    ensures { Pushes result text.old text.new (spec.waiting_text pool.now most) }
+{
+    if most == 0 {
+        return Ok(());
+    }
+    let core = pool.core;
+    let left = core.saturating_sub(most);
+    write!(
+        text,
+        ": at most {most} of its {core} core threads at once where others must go on, {left} left"
+    )
+}
+
+/// Appends the pools that jobs of this pool wait for.
+fn push_waited(
+    alloc: Global,
+    text: &mut String,
+    plan: &Plan,
+    number: usize,
+) -> Result<(), AllocError>
+    ensures { Pushes result text.old text.new (spec.waited_text plan.now number) }
+{
+    let names = waited_names(alloc, plan, number)?;
+    if names.is_empty() {
+        return text.push_str("nobody");
+    }
+    push_separated(alloc, text, &names)
+}
+
+fn waited_names(alloc: Global, plan: &Plan, number: usize) -> Result<Vec<String>, AllocError>
+    ensures { IfOk result
+        (λ names. map string_bytes names.items ≡ spec.waited_names plan.now number) }
+{
+    let mut names = Vec::new(alloc);
+    for (other, pool) in plan.pools().iter().enumerate() {
+        push_if_waited(alloc, &mut names, plan, number, other, pool)?;
+    }
+    Ok(names)
+}
+
+/// Appends the name of the other pool, if jobs of this pool wait for its jobs.
+#[tactic(auto, using(std::proofs::lemmas::List::map_push))]
+fn push_if_waited(
+    alloc: Global,
+    names: &mut Vec<String>,
+    plan: &Plan,
+    number: usize,
+    other: usize,
+    pool: &Pool,
+) -> Result<(), AllocError>
+    ensures { OnOk result
+        (map string_bytes names.new.items
+        ≡ map string_bytes names.old.items ++ spec.waited_name plan.now number (other, pool.now)) }
+{
+    if !waits_for(plan, number, other) {
+        return Ok(());
+    }
+    names.push(String::from_str(alloc, &pool.name)?)?;
+    Ok(())
+}

@@ -1,0 +1,60 @@
+//! The lines with the sizes of a fitted plan, next to the declared ones.
+
+ghost use Rattle.std.specs.Prelude.{◌≡◌, IfOk};
+ghost use Rattle.support.specs.Pushed.{Pushes};
+ghost use Rattle.report.specs.Sizes as spec;
+
+use job_bodies::{Plan, Pool};
+use std::alloc::AllocError;
+
+/// Appends a line with the sizes of each pool, such as `pool pages: core 1, max 1, queue 2 (now 1)`
+/// if the declared queue is 1, and then the number of sizes that change, such as `changes 1`.
+/// Returns that number.
+///
+/// # Errors
+///
+/// [`AllocError`] if memory runs out.
+pub fn push_sizes(text: &mut String, declared: &Plan, fit: &Plan) -> Result<u64, AllocError>
+    ensures text { Pushes result text.old text.new (spec.sizes_text declared.now fit.now) }
+    ensures changes { IfOk result (λ changes. changes ≡ spec.changes declared.now fit.now) }
+{
+    let mut changes = 0;
+    for (pool, fitted) in declared.pools().iter().zip(fit.pools()) {
+        push_pool(text, pool, fitted)?;
+        changes += pool_changes(pool, fitted);
+    }
+    writeln!(text, "changes {changes}")?;
+    Ok(changes)
+}
+
+fn push_pool(text: &mut String, declared: &Pool, fit: &Pool) -> Result<(), AllocError>
+    ensures { Pushes result text.old text.new (spec.pool_text declared.now fit.now) }
+{
+    let name = &fit.name;
+    write!(text, "pool {name}: core ")?;
+    push_size(text, declared.core, fit.core)?;
+    text.push_str(", max ")?;
+    push_size(text, declared.max, fit.max)?;
+    text.push_str(", queue ")?;
+    push_size(text, declared.queue, fit.queue)?;
+    text.push('\n')
+}
+
+fn push_size(text: &mut String, declared: u64, fit: u64) -> Result<(), AllocError>
+    ensures { Pushes result text.old text.new (spec.size_text declared fit) }
+{
+    if declared == fit {
+        write!(text, "{fit}")
+    } else {
+        write!(text, "{fit} (now {declared})")
+    }
+}
+
+/// Returns how many sizes of the pool change.
+fn pool_changes(declared: &Pool, fit: &Pool) -> u64
+    ensures { result ≡ spec.pool_changes declared.now fit.now }
+{
+    u64::from(declared.core != fit.core)
+        + u64::from(declared.max != fit.max)
+        + u64::from(declared.queue != fit.queue)
+}

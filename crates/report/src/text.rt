@@ -1,0 +1,84 @@
+//! The answer as text.
+
+ghost use Rattle.std.specs.Prelude.{IfOk, string_bytes};
+ghost use Rattle.support.specs.Pushed.{Pushes};
+ghost use Rattle.report.specs.Told as spec;
+
+use crate::finding::PlanFinding;
+use crate::safe::push_safe;
+use crate::unsafe_sizes::{push_advice, push_open};
+use crate::{push_no_sizes, push_sizes};
+use cert_text::Cert;
+use counterexample::Witness;
+use job_bodies::Plan;
+use size_search::SizesFound;
+use std::alloc::{AllocError, Global};
+
+/// Writes the finding: `SAFE`, with the bound of each queue and the shares in it; `NOT SAFE`, with
+/// the story of the witness and the sizes that would be safe; or `NOT DECIDED`, with those sizes.
+///
+/// # Errors
+///
+/// [`AllocError`] if memory runs out.
+pub fn told(alloc: Global, plan: &Plan, finding: &PlanFinding) -> Result<String, AllocError>
+    ensures { IfOk result (λ text. spec.Tells plan.now finding.now (string_bytes text)) }
+{
+    match finding {
+        PlanFinding::Safe(cert) => safe(alloc, plan, cert),
+        PlanFinding::NotSafe(witness, sizes) => not_safe(alloc, plan, witness, sizes),
+        PlanFinding::NotDecided(sizes) => not_decided(alloc, plan, sizes),
+    }
+}
+
+fn safe(alloc: Global, plan: &Plan, cert: &Cert) -> Result<String, AllocError>
+    ensures { IfOk result (λ text. spec.TellsSafe plan.now cert.now (string_bytes text)) }
+{
+    let mut text = String::from_str(alloc, "SAFE\n")?;
+    push_safe(alloc, &mut text, plan, cert)?;
+    Ok(text)
+}
+
+fn not_safe(
+    alloc: Global,
+    plan: &Plan,
+    witness: &Witness,
+    sizes: &SizesFound,
+) -> Result<String, AllocError>
+    ensures { IfOk result
+        (λ text. spec.TellsNotSafe plan.now witness.now sizes.now (string_bytes text)) }
+{
+    let story = counterexample::told(alloc, plan, witness)?;
+    let mut text = String::from_str(alloc, "NOT SAFE\n")?;
+    text.push_str(&story)?;
+    push_found(&mut text, plan, sizes)?;
+    push_advice(&mut text, plan, sizes)?;
+    Ok(text)
+}
+
+fn not_decided(alloc: Global, plan: &Plan, sizes: &SizesFound) -> Result<String, AllocError>
+    ensures { IfOk result (λ text. spec.TellsNotDecided plan.now sizes.now (string_bytes text)) }
+{
+    let mut text = String::from_str(alloc, "NOT DECIDED\n")?;
+    push_found(&mut text, plan, sizes)?;
+    push_advice(&mut text, plan, sizes)?;
+    push_open(&mut text, sizes)?;
+    Ok(text)
+}
+
+/// Appends the sizes that were found, or why there are none.
+fn push_found(text: &mut String, plan: &Plan, sizes: &SizesFound) -> Result<(), AllocError>
+    ensures { Pushes result text.old text.new (spec.sizes_part plan.now sizes.now) }
+{
+    match sizes {
+        SizesFound::Found { plan: fit, .. } => push_fit(text, plan, fit),
+        SizesFound::NotFound(cause) => push_no_sizes(text, plan, *cause),
+    }
+}
+
+fn push_fit(text: &mut String, plan: &Plan, fit: &Plan) -> Result<(), AllocError>
+    ensures { Pushes result text.old text.new (spec.fit_part plan.now fit.now) }
+{
+    text.push_str("with these sizes a certificate accepts the plan:\n")?;
+    push_sizes(text, plan, fit)?;
+    Ok(())
+}

@@ -1,0 +1,103 @@
+//! The advice for a plan whose declared sizes are not safe, or not shown to be.
+
+ghost use Rattle.support.specs.Pushed.{Pushes};
+ghost use Rattle.report.specs.AdviceText as spec;
+
+use job_bodies::{Plan, Pool};
+use size_search::{Cause, NoSizes, SizesFound};
+use std::alloc::AllocError;
+
+/// Appends what the sizes that were found, or the cause why there are none, mean for the user.
+pub(crate) fn push_advice(
+    text: &mut String,
+    plan: &Plan,
+    sizes: &SizesFound,
+) -> Result<(), AllocError>
+    ensures { Pushes result text.old text.new (spec.advice_text plan.now sizes.now) }
+{
+    match sizes {
+        SizesFound::Found { plan: fit, .. } => push_reasons(text, plan, fit),
+        SizesFound::NotFound(cause) => push_way(text, *cause),
+    }
+}
+
+/// Appends the reason for each size that grows.
+fn push_reasons(text: &mut String, plan: &Plan, fit: &Plan) -> Result<(), AllocError>
+    ensures { Pushes result text.old text.new (spec.reasons_text plan.now fit.now) }
+{
+    for (declared, fitted) in plan.pools().iter().zip(fit.pools()) {
+        push_pool(text, declared, fitted)?;
+    }
+    Ok(())
+}
+
+fn push_pool(text: &mut String, declared: &Pool, fit: &Pool) -> Result<(), AllocError>
+    ensures { Pushes result text.old text.new (spec.pool_reasons (declared.now, fit.now)) }
+{
+    push_core(text, declared, fit)?;
+    push_queue(text, declared, fit)
+}
+
+fn push_core(text: &mut String, declared: &Pool, fit: &Pool) -> Result<(), AllocError>
+    ensures { Pushes result text.old text.new (spec.core_reason declared.now fit.now) }
+{
+    if declared.core == fit.core {
+        return Ok(());
+    }
+    push_core_line(text, &declared.name, fit.core)
+}
+
+fn push_core_line(text: &mut String, name: &str, core: u64) -> Result<(), AllocError>
+    ensures { Pushes result text.old text.new (spec.core_line name.now core) }
+{
+    let most = core.saturating_sub(1);
+    writeln!(
+        text,
+        "{name}: up to {most} of its jobs may wait for jobs at once, and core {core} leaves a thread"
+    )
+}
+
+fn push_queue(text: &mut String, declared: &Pool, fit: &Pool) -> Result<(), AllocError>
+    ensures { Pushes result text.old text.new (spec.queue_reason declared.now fit.now) }
+{
+    if declared.queue == fit.queue {
+        return Ok(());
+    }
+    let name = declared.name.as_str();
+    let queue = fit.queue;
+    writeln!(
+        text,
+        "{name}: up to {queue} jobs may wait in its queue at once"
+    )
+}
+
+/// Appends what to do if sizes alone do not help.
+fn push_way(text: &mut String, cause: NoSizes) -> Result<(), AllocError>
+    ensures { Pushes result text.old text.new (spec.way_text cause) }
+{
+    match cause {
+        NoSizes::Cause(Cause::Circle(_)) => text.push_str(
+            "no certificate accepts any sizes while jobs submit jobs of their own class: write the levels as classes of their own\n",
+        ),
+        NoSizes::Cause(Cause::ClientNeverGets(_, _) | Cause::ClassNeverGets(_, _)) => text.push_str(
+            "no certificate accepts any sizes while nobody waits for these jobs: get the result, or bound them by permits (docs/PERMITS.md)\n",
+        ),
+        NoSizes::TooLarge(_) => text.push_str(
+            "fewer clients, or bodies that have fewer jobs open at one time, need less\n",
+        ),
+    }
+}
+
+/// Appends what is left undecided.
+pub(crate) fn push_open(text: &mut String, sizes: &SizesFound) -> Result<(), AllocError>
+    ensures { Pushes result text.old text.new (spec.open_text sizes.now) }
+{
+    match sizes {
+        SizesFound::NotFound(NoSizes::Cause(_)) => text.push_str(
+            "no certificate accepts this plan, whatever its sizes, and no events were found that show it wrong\n",
+        ),
+        SizesFound::Found { .. } | SizesFound::NotFound(NoSizes::TooLarge(_)) => text.push_str(
+            "no certificate was found for the declared sizes, nor events that show them wrong: they may be right\n",
+        ),
+    }
+}
