@@ -3,8 +3,9 @@
 ghost use Rattle.std.specs.Prelude.{None};
 
 use byte_streams::{InputError, IoFault};
-use sizing_cli::{MemorySink, MemorySource, ServeFault, Status};
-use sizing_words::{TextFiles, WordsFault, serve_words};
+use sizing_cli::{
+    MemorySink, MemorySource, ServeFault, Status, TextFiles, WordsFault, serve_words,
+};
 use std::alloc::Global;
 use std::test::*;
 

@@ -2,8 +2,7 @@
 #![tactic(auto)]
 
 use clap::error::ErrorKind;
-use sizing_cli::{ServeFault, StdSink, StdSource};
-use sizing_words::{StdFiles, WordsFault, serve_words};
+use sizing_cli::{ServeFault, StdFiles, StdSink, StdSource, WordsFault, serve_words};
 use std::alloc::AllocError;
 use std::process::ExitCode;
 use std::{env, io};

@@ -16,3 +16,6 @@ mod Runs
 mod AskedAnswers
 pub mod OtherSizes
 pub mod LinesInOrder
+mod JoinedTexts
+mod KnownTexts
+mod WrittenBefore

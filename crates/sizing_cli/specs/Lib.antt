@@ -16,3 +16,6 @@ pub mod ServeFault
 pub mod SoFar
 pub mod Laws
 pub mod OfSizes
+pub mod Texts
+pub mod WordsFault
+pub mod Kept

@@ -3,7 +3,7 @@
 ghost use Rattle.command_line.specs.declared.command.Command.TheVariants.{Alone};
 ghost use Rattle.sizing_cli.specs.Served.{Serves, passage};
 
-use crate::report::report;
+use crate::reviewing::report;
 use crate::status::{ServeFault, Status};
 use byte_streams::{Sink, Source, read_up_to, write_all};
 use command_line::Review;

@@ -6,7 +6,7 @@ ghost use Rattle.sizing_cli.specs.Served.{IsReadingAnswer, Serves, passage};
 
 use crate::answer::Answer;
 use crate::conforming::conform_report;
-use crate::learning::learn_report;
+use crate::inferring::learn_report;
 use crate::status::{ServeFault, Status};
 use byte_streams::{Sink, Source, read_up_to, write_all};
 use command_line::Reading;

@@ -1,0 +1,79 @@
+//! The errors of a call with the arguments of a command line.
+
+ghost use Rattle.std.specs.Prelude.{◌≡◌};
+ghost use Rattle.sizing_cli.specs.declared.fault.WordsFault.TheVariants.{Served, Words};
+ghost use Rattle.support.specs.declared.number.TheConstants.{MEMORY};
+ghost use Rattle.sizing_cli.specs.WordsFault as spec;
+
+use crate::ServeFault;
+use clap::Error;
+use clap::error::ErrorKind;
+use std::alloc::AllocError;
+
+/// The exit status for bad arguments.
+const USAGE: u8 = 2;
+/// The exit status if there is no answer.
+const NO_ANSWER: u8 = 3;
+
+/// The reason why the arguments of a command line got no complete answer. Nothing was written,
+/// except after a failure of the sink or of the certificate's file.
+#[derive(Debug, Drop)]
+pub enum WordsFault<'a> {
+    /// An error of `clap`, or a request for help. Its `Display` is `clap`'s own text for the user.
+    Words(Error),
+    /// The arguments name no command.
+    NoCommand,
+    /// Both texts are to come from standard input.
+    InputTwice,
+    /// The file of this name could not be read: fault 60.
+    Unread(&'a str),
+    /// The file of this name, to which the certificate was to be written, holds something else. It
+    /// is left as it is.
+    Occupied(&'a str),
+    /// The certificate could not be written to the file of this name: fault 61. The whole answer
+    /// was written.
+    Unwritten(&'a str),
+    /// The command ended with this fault.
+    Served(ServeFault),
+}
+
+impl WordsFault<'_> {
+    /// Returns the program's exit status: 2 for bad arguments and for help, 3 if there is no
+    /// answer.
+    pub fn code(&self) -> u8
+        ensures { spec.IsCode self.now result }
+    {
+        match self {
+            WordsFault::Words(error) if error.kind() == ErrorKind::OutOfMemory => NO_ANSWER,
+            WordsFault::Words(_)
+            | WordsFault::NoCommand
+            | WordsFault::InputTwice
+            | WordsFault::Occupied(_) => USAGE,
+            WordsFault::Unread(_) | WordsFault::Unwritten(_) | WordsFault::Served(_) => NO_ANSWER,
+        }
+    }
+}
+
+impl<'a> From<Error> for WordsFault<'a> {
+    ghost from_gives = { λ error fault. fault ≡ Words error };
+
+    fn from(error: Error) -> WordsFault<'a> {
+        WordsFault::Words(error)
+    }
+}
+
+impl<'a> From<ServeFault> for WordsFault<'a> {
+    ghost from_gives = { λ error fault. fault ≡ Served error };
+
+    fn from(fault: ServeFault) -> WordsFault<'a> {
+        WordsFault::Served(fault)
+    }
+}
+
+impl<'a> From<AllocError> for WordsFault<'a> {
+    ghost from_gives = { λ _ fault. fault ≡ Served (record { number = MEMORY }) };
+
+    fn from(error: AllocError) -> WordsFault<'a> {
+        WordsFault::Served(ServeFault::from(error))
+    }
+}

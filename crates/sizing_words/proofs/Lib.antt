@@ -1,3 +1,0 @@
-mod JoinedTexts
-mod KnownTexts
-mod WrittenBefore
