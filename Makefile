@@ -1,7 +1,7 @@
 # The commands of this repository. Only the toolchain (rt), make, gcc and python3 are needed.
 PREFIX ?= /usr/local
 PROGRAM = crates/sizing/out/sizing
-READER = crates/plan_reader/out/plan_reader
+READER = bench/plan_reader/out/plan_reader
 
 # What the programs are proved from: they are proved again where one of these is newer.
 PROGRAM_SOURCES := $(shell python3 tools/crates.py sizing)
@@ -101,4 +101,4 @@ $(READER): $(READER_SOURCES)
 
 # Removes what was built and kept in the working tree; the proofs that rt keeps on this machine stay.
 clean:
-	rm -rf out crates/*/out
+	rm -rf out crates/*/out bench/*/out

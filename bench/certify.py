@@ -4,7 +4,7 @@
 Times `sizing certify` beside the reading of its plan alone, and its peak memory beside that of `sizing check` on the
 bundle that it writes. README.md says what is measured, and what the bars are.
 
-The programs are crates/sizing/out/sizing and crates/plan_reader/out/plan_reader, or those that the environment
+The programs are crates/sizing/out/sizing and bench/plan_reader/out/plan_reader, or those that the environment
 variables SIZING and PLAN_READER name.
 
 Exit status: 0 where a certificate is found for each plan and no bar is exceeded, 1 where not, 2 where the benchmark

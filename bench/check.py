@@ -5,7 +5,7 @@ Times `sizing check` and `sizing explain` beside the reading of the same two tex
 certificate's JSON, and counts the instructions of both where valgrind is there. README.md says what is measured, and
 what the bars are.
 
-The programs are crates/sizing/out/sizing and crates/plan_reader/out/plan_reader, or those that the environment
+The programs are crates/sizing/out/sizing and bench/plan_reader/out/plan_reader, or those that the environment
 variables SIZING and PLAN_READER name.
 
 Exit status: 0 where all answers are right and no bar is exceeded, 1 where one is wrong or exceeded, 2 where the

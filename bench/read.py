@@ -4,7 +4,7 @@
 Times the reading of a plan beside the reading of its TOML alone, on texts of so many KiB each (64 to 1024; absent: 64,
 256 and 1024). README.md says what is measured.
 
-The program is crates/plan_reader/out/plan_reader, or the one that the environment variable PLAN_READER names.
+The program is bench/plan_reader/out/plan_reader, or the one that the environment variable PLAN_READER names.
 
 Exit status: 0 where all answers are right and no ratio at 1024 KiB is above 2, 1 where one is wrong or above, 2 where
 the benchmark can't be run.

@@ -67,7 +67,8 @@ def without_words(name, words, bench):
 
 def built(name):
     """The path of a crate's built program, or of the one that the environment variable of that name tells."""
-    program = Path(os.environ.get(name.upper()) or CRATES / name / "out" / name).resolve()
+    folder = BENCH if (BENCH / name).is_dir() else CRATES
+    program = Path(os.environ.get(name.upper()) or folder / name / "out" / name).resolve()
     if not os.access(program, os.X_OK) or not program.is_file():
         raise Unable(f"there is no program at {program}: `make bench` builds it")
     return program

@@ -16,6 +16,21 @@ def lines_of_crates():
     return {re.split("[: ]", line)[0]: line for line in lines if ":" in line}
 
 
+def with_bench_program(lines, name):
+    """The lines, with that of a program of bench/ if the name is of one. Its folder has the line in the file `crate`."""
+    path = f"{ROOT}/bench/{name}/crate"
+    if name in lines or not os.path.isfile(path):
+        return lines
+    with open(path, encoding="utf-8") as file:
+        return {**lines, name: file.read().strip()}
+
+
+def folder_of(name):
+    """The folder of a crate, or of a program of bench/."""
+    bench = f"{ROOT}/bench/{name}"
+    return bench if os.path.isfile(f"{bench}/crate") else f"{ROOT}/crates/{name}"
+
+
 def below(lines, names):
     """These crates and all that they stand on, of this repository."""
     found, left = set(), list(names)
@@ -31,7 +46,12 @@ def copy_crates(lines, names, room, left_out=()):
     """Copies these crates to the folder, with a crates.txt of their own, and without what is left out."""
     leave = shutil.ignore_patterns("out", *left_out)
     for name in names:
-        shutil.copytree(f"{ROOT}/crates/{name}", f"{room}/crates/{name}", ignore=leave)
+        shutil.copytree(folder_of(name), f"{room}/crates/{name}", ignore=leave)
+        # a program of bench/ has no .rt file, since those are read only in a crate that crates.txt lists
+        if os.path.isfile(f"{room}/crates/{name}/main.rt.in"):
+            os.makedirs(f"{room}/crates/{name}/src")
+            os.rename(f"{room}/crates/{name}/main.rt.in", f"{room}/crates/{name}/src/main.rt")
+            os.remove(f"{room}/crates/{name}/crate")
     shutil.copy(f"{ROOT}/HANDLES", room)
     with open(f"{room}/crates.txt", "w", encoding="utf-8") as file:
         file.writelines(f"{line}\n" for name, line in lines.items() if name in names)
@@ -40,12 +60,12 @@ def copy_crates(lines, names, room, left_out=()):
 def files_of(names):
     """The files from which these crates are proved, by their paths from the top of the repository."""
     for name in sorted(names):
-        for folder, folders, files in os.walk(f"{ROOT}/crates/{name}"):
+        for folder, folders, files in os.walk(folder_of(name)):
             folders[:] = sorted(set(folders) - {"out", "must-fail", "mutants"})
             yield from (os.path.relpath(f"{folder}/{file}", ROOT) for file in sorted(files))
     yield from ("crates.txt", "HANDLES")
 
 
 if __name__ == "__main__":
-    crates = lines_of_crates()
+    crates = with_bench_program(lines_of_crates(), *sys.argv[1:2])
     print(*files_of(below(crates, sys.argv[1:2])))
