@@ -6,7 +6,7 @@ import subprocess
 import sys
 import tempfile
 
-from crates import ROOT, below, copy_crates, lines_of_crates
+from crates import below, copy_crates, folder_of, lines_of_crates, with_bench_program
 
 TOOLS = os.path.dirname(os.path.abspath(__file__))
 # What a program is called, as LLVM builds it and as Rattle's own compiler does.
@@ -16,9 +16,10 @@ BUILDS = ("", ".by-rattle")
 @contextlib.contextmanager
 def copied(crate, left_out):
     """Gives a folder with the crate and those below it, without these folders of each crate, and how many crates it has."""
-    names = below(lines_of_crates(), [crate])
+    lines = with_bench_program(lines_of_crates(), crate)
+    names = below(lines, [crate])
     with tempfile.TemporaryDirectory(prefix="sizing-proof-") as room:
-        copy_crates(lines_of_crates(), names, room, left_out)
+        copy_crates(lines, names, room, left_out)
         yield room, len(names)
 
 
@@ -30,7 +31,7 @@ def gate(room, times):
 
 def take_programs(room, crate):
     """Copies the built programs of a crate into its folder out/."""
-    to = f"{ROOT}/crates/{crate}/out"
+    to = f"{folder_of(crate)}/out"
     os.makedirs(to, exist_ok=True)
     for ending in BUILDS:
         made = f"{room}/crates/{crate}/out/{crate}{ending}"
