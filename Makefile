@@ -15,7 +15,7 @@ help:
 	      /^[a-z_-]+:/ && said != "" { sub(/:.*/, ""); printf "make %-10s %s\n", $$0, said } \
 	      !/^#/ { said = "" }' Makefile
 
-# Runs the program on its first example as it is written, before any proof: about two minutes on a fresh machine.
+# Asks about the two plans that README.md shows, before any proof: about two minutes on a fresh machine.
 demo:
 	@examples/demo
 
