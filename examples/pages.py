@@ -30,7 +30,7 @@ STORED = (".check", ".explain", ".fit", ".refute", ".replay", ".run")
 
 
 def pages():
-    return [TOP / "README.md", *sorted((TOP / "docs").glob("*.md"))]
+    return [TOP / "README.md", TOP / "CONTRIBUTING.md", *sorted((TOP / "docs").glob("*.md"))]
 
 
 def commands_of(text):
