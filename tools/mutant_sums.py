@@ -14,9 +14,9 @@ from sources import code_of, interface_of, texts_below
 LOCK = "mutants.lock"
 HEAD = """\
 # The mutants that the prover refused, by crate. `make mutants` writes this file; docs/GATE.md says how it is used.
-# CRATE: CHECKSUM of what their results depend on, and how many were refused
+# CRATE: CHECKSUM of what their results depend on, and how many were refused; or untried, if they were not tried yet.
 """
-LINE = re.compile(r"(\w+): ([0-9a-f]{16}) (\d+)")
+LINE = re.compile(r"(\w+): (?:([0-9a-f]{16}) (\d+)|untried)")
 # All of a crate's mutants, and those that a plain `rt ci` tries.
 FOLDERS = ("mutants", "must-fail")
 
@@ -69,14 +69,14 @@ class Sums:
 
 
 def read_lock(text):
-    """Returns the checksum and the count of each crate in the text of a lock file."""
+    """Returns the checksum and the count of each crate in the text of a lock file, or None for a crate that is untried."""
     found = {}
     for line in text.splitlines():
         if line and not line.startswith("#"):
             match = LINE.fullmatch(line)
             if not match:
-                raise SystemExit(f"{LOCK}: `{line}` is not `CRATE: CHECKSUM COUNT`: run make mutants")
-            found[match[1]] = match[2], int(match[3])
+                raise SystemExit(f"{LOCK}: `{line}` is neither `CRATE: CHECKSUM COUNT` nor `CRATE: untried`: run make mutants")
+            found[match[1]] = (match[2], int(match[3])) if match[2] else None
     return found
 
 
@@ -93,5 +93,8 @@ def write_lock(entries):
     """Writes the lock file, with the crates in the order of crates.txt."""
     with open(f"{ROOT}/{LOCK}.new", "w", encoding="utf-8") as file:
         file.write(HEAD)
-        file.writelines(f"{crate}: {entries[crate][0]} {entries[crate][1]}\n" for crate in lines_of_crates() if crate in entries)
+        for crate in lines_of_crates():
+            if crate in entries:
+                entry = entries[crate]
+                file.write(f"{crate}: {entry[0]} {entry[1]}\n" if entry else f"{crate}: untried\n")
     os.replace(f"{ROOT}/{LOCK}.new", f"{ROOT}/{LOCK}")
