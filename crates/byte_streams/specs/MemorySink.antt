@@ -7,8 +7,8 @@ abbrev pub written_to : MemorySink → List ℕ
 written_to sink = sink.bytes.items
 
 -- the maximum number of bytes that a call accepts
-abbrev pub most_of : MemorySink → ℕ
-most_of sink = sink.most
+abbrev pub max_bytes_of : MemorySink → ℕ
+max_bytes_of sink = sink.max_bytes
 
 -- the number of successful calls before the next failure, if one is due
 abbrev pub calls_before_fault : MemorySink → Option ℕ

@@ -7,8 +7,8 @@ abbrev pub left : MemorySource → List ℕ
 left source = source.rest.now
 
 -- the maximum number of bytes that a call returns
-abbrev pub most_of : MemorySource → ℕ
-most_of source = source.most
+abbrev pub max_bytes_of : MemorySource → ℕ
+max_bytes_of source = source.max_bytes
 
 -- the number of successful calls before the next failure, if one is due
 abbrev pub calls_before_fault : MemorySource → Option ℕ

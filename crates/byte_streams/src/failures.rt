@@ -47,7 +47,7 @@ impl Failures {
         }
     }
 
-    pub(crate) fn raise(&mut self)
+    pub(crate) fn count_failure(&mut self)
         ensures { self.new.exact.value ≡ self.old.exact.value + 1 }
     {
         self.exact = self.exact.next();

@@ -13,24 +13,24 @@ use std::alloc::Global;
 #[derive(Drop)]
 pub struct MemorySink {
     bytes: Vec<u8>,
-    most: usize,
+    max_bytes: usize,
     fault: ScriptedFault,
     failures: Failures,
 }
 
 impl MemorySink {
-    ghost use Rattle.byte_streams.specs.MemorySink.{written_to, most_of, calls_before_fault, failure_count};
+    ghost use Rattle.byte_streams.specs.MemorySink.{written_to, max_bytes_of, calls_before_fault, failure_count};
 
     /// Creates a sink that accepts all bytes of each call, and fails only if memory runs out.
     pub fn new(alloc: Global) -> MemorySink
         ensures written { written_to result ≡ [] }
-        ensures most { most_of result ≡ 2 ^ 64 - 1 }
+        ensures max_bytes { max_bytes_of result ≡ 2 ^ 64 - 1 }
         ensures fault { calls_before_fault result ≡ None }
         ensures failures { failure_count result ≡ 0 }
     {
         MemorySink {
             bytes: Vec::new(alloc),
-            most: usize::MAX,
+            max_bytes: usize::MAX,
             fault: ScriptedFault::never(),
             failures: Failures::none(),
         }
@@ -38,20 +38,20 @@ impl MemorySink {
 
     /// Limits the number of bytes that one call accepts. With a limit of 0, each call with at least
     /// one byte fails.
-    pub fn at_most(mut self, most: usize) -> MemorySink
+    pub fn at_most(mut self, max_bytes: usize) -> MemorySink
         ensures written { written_to result ≡ written_to self }
-        ensures most { most_of result ≡ most }
+        ensures max_bytes { max_bytes_of result ≡ max_bytes }
         ensures fault { calls_before_fault result ≡ calls_before_fault self }
         ensures failures { failure_count result ≡ failure_count self }
     {
-        self.most = most;
+        self.max_bytes = max_bytes;
         self
     }
 
     /// Makes one call fail: the one after `calls` successful calls.
     pub fn failing_after(mut self, calls: u64) -> MemorySink
         ensures written { written_to result ≡ written_to self }
-        ensures most { most_of result ≡ most_of self }
+        ensures max_bytes { max_bytes_of result ≡ max_bytes_of self }
         ensures fault { calls_before_fault result ≡ Some calls }
         ensures failures { failure_count result ≡ failure_count self }
     {
@@ -75,7 +75,7 @@ impl MemorySink {
 }
 
 impl Sink for MemorySink {
-    ghost use Rattle.byte_streams.specs.MemorySink.{written_to, most_of, calls_before_fault, failure_count};
+    ghost use Rattle.byte_streams.specs.MemorySink.{written_to, max_bytes_of, calls_before_fault, failure_count};
 
     ghost written = { λ sink. Some (written_to sink) };
 
@@ -88,16 +88,16 @@ impl Sink for MemorySink {
             result bytes.now }
         ensures failed { failure_count self.new
             ≡ failure_count self.old + (if is_ok result then 0 else 1) }
-        ensures count { IfOk result (λ count. count ≡ min (length bytes.now) (most_of self.old)) }
+        ensures count { IfOk result (λ count. count ≡ min (length bytes.now) (max_bytes_of self.old)) }
         ensures fault { calls_before_fault self.old ≡ Some 0 → IsErr result }
         ensures calls { calls_before_fault self.new ≡ calls_after (calls_before_fault self.old) }
-        ensures most { most_of self.new ≡ most_of self.old }
+        ensures max_bytes { max_bytes_of self.new ≡ max_bytes_of self.old }
     {
         let is_due = self.fault.is_due();
-        let count = bytes.len().min(self.most);
+        let count = bytes.len().min(self.max_bytes);
         let takes_none = count == 0 && !bytes.is_empty();
         if is_due || takes_none || self.bytes.extend_from_slice(&bytes[..count]).is_err() {
-            self.failures.raise();
+            self.failures.count_failure();
             return Err(IoFault);
         }
         Ok(count)

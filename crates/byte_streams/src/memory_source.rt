@@ -12,46 +12,46 @@ use crate::{IoFault, Source};
 #[derive(Drop)]
 pub struct MemorySource<'a> {
     rest: &'a [u8],
-    most: usize,
+    max_bytes: usize,
     fault: ScriptedFault,
     failures: Failures,
-    ghost some: { 0 < most },
+    ghost some: { 0 < max_bytes },
 }
 
 impl<'a> MemorySource<'a> {
-    ghost use Rattle.byte_streams.specs.MemorySource.{left, most_of, calls_before_fault, failure_count};
+    ghost use Rattle.byte_streams.specs.MemorySource.{left, max_bytes_of, calls_before_fault, failure_count};
 
     /// Creates a source of `bytes`. Each call returns as many of them as fit, and never fails.
     pub fn new(bytes: &'a [u8]) -> MemorySource<'a>
         ensures left { left result ≡ bytes.now }
-        ensures most { most_of result ≡ 2 ^ 64 - 1 }
+        ensures max_bytes { max_bytes_of result ≡ 2 ^ 64 - 1 }
         ensures fault { calls_before_fault result ≡ None }
         ensures failures { failure_count result ≡ 0 }
     {
         MemorySource {
             rest: bytes,
-            most: usize::MAX,
+            max_bytes: usize::MAX,
             fault: ScriptedFault::never(),
             failures: Failures::none(),
         }
     }
 
     /// Limits the number of bytes that one call returns.
-    pub fn at_most(mut self, most: usize) -> MemorySource<'a>
-        requires { 0 < most }
+    pub fn at_most(mut self, max_bytes: usize) -> MemorySource<'a>
+        requires { 0 < max_bytes }
         ensures left { left result ≡ left self.entry }
-        ensures most { most_of result ≡ most }
+        ensures max_bytes { max_bytes_of result ≡ max_bytes }
         ensures fault { calls_before_fault result ≡ calls_before_fault self.entry }
         ensures failures { failure_count result ≡ failure_count self.entry }
     {
-        self.most = most;
+        self.max_bytes = max_bytes;
         self
     }
 
     /// Makes one call fail: the one after `calls` successful calls.
     pub fn failing_after(mut self, calls: u64) -> MemorySource<'a>
         ensures left { left result ≡ left self.entry }
-        ensures most { most_of result ≡ most_of self.entry }
+        ensures max_bytes { max_bytes_of result ≡ max_bytes_of self.entry }
         ensures fault { calls_before_fault result ≡ Some calls }
         ensures failures { failure_count result ≡ failure_count self.entry }
     {
@@ -75,7 +75,7 @@ impl<'a> MemorySource<'a> {
 }
 
 impl Source for MemorySource<'_> {
-    ghost use Rattle.byte_streams.specs.MemorySource.{left, most_of, calls_before_fault, failure_count};
+    ghost use Rattle.byte_streams.specs.MemorySource.{left, max_bytes_of, calls_before_fault, failure_count};
 
     ghost remaining = { λ source. Some (left source) };
 
@@ -88,19 +88,19 @@ impl Source for MemorySource<'_> {
         ensures failed { failure_count self.new
             ≡ failure_count self.old + (if is_ok result then 0 else 1) }
         ensures count { IfOk result (λ count.
-            count ≡ min (length piece.old) (min (most_of self.old) (length (left self.old)))) }
+            count ≡ min (length piece.old) (min (max_bytes_of self.old) (length (left self.old)))) }
         ensures copied { IfOk result (λ count.
             piece.new ≡ take count (left self.old) ++ drop count piece.old) }
         ensures fault { IsErr result ↔ (calls_before_fault self.old ≡ Some 0) }
         ensures calls { calls_before_fault self.new ≡ calls_after (calls_before_fault self.old) }
         ensures untouched { OnErr result (piece.new ≡ piece.old) }
-        ensures most { most_of self.new ≡ most_of self.old }
+        ensures max_bytes { max_bytes_of self.new ≡ max_bytes_of self.old }
     {
         if self.fault.is_due() {
-            self.failures.raise();
+            self.failures.count_failure();
             return Err(IoFault);
         }
-        let count = piece.len().min(self.most).min(self.rest.len());
+        let count = piece.len().min(self.max_bytes).min(self.rest.len());
         let (front, rest) = self.rest.split_at(count);
         piece[..count].copy_from_slice(front);
         self.rest = rest;

@@ -65,11 +65,11 @@ impl From<IoFault> for InputError {
 }
 
 /// The initial size of the buffer for an input, in bytes.
-const FIRST_ROOM: usize = 4096;
+const INITIAL_SIZE: usize = 4096;
 
 /// The maximum growth of the buffer in one step, in bytes. New space is filled with zeros, so the
 /// limit keeps a long input from needing much more memory than its own size.
-const MOST_ROOM: usize = 65_536;
+const MAX_GROWTH: usize = 65_536;
 
 /// Reads to the end of the input, or until `limit` bytes were read.
 ///
@@ -95,7 +95,7 @@ pub fn read_up_to<S: Source>(
     let mut bytes = Vec::new(alloc);
     let mut filled = 0;
     while filled < limit {
-        make_room(&mut bytes, filled, limit)?;
+        grow(&mut bytes, filled, limit)?;
         let count = read_at(source, &mut bytes, filled)?;
         if count == 0 {
             break;
@@ -109,7 +109,7 @@ pub fn read_up_to<S: Source>(
 // Extends `bytes` with zeros beyond `filled`, up to `limit`. Doubles the size until the growth
 // reaches its maximum, so that a short input takes few calls and the number of zeros stays
 // proportional to the input.
-fn make_room(bytes: &mut Vec<u8>, filled: usize, limit: usize) -> Result<(), AllocError>
+fn grow(bytes: &mut Vec<u8>, filled: usize, limit: usize) -> Result<(), AllocError>
     requires filled { filled ≤ vec_len bytes.old }
     requires below { filled < limit }
     requires within { vec_len bytes.old ≤ limit }
@@ -119,7 +119,7 @@ fn make_room(bytes: &mut Vec<u8>, filled: usize, limit: usize) -> Result<(), All
     ensures kept { take filled bytes.new.items ≡ take filled bytes.old.items }
 {
     if filled == bytes.len() {
-        let room = filled.max(FIRST_ROOM).min(MOST_ROOM);
+        let room = filled.max(INITIAL_SIZE).min(MAX_GROWTH);
         let end = filled.saturating_add(room).min(limit);
         bytes.resize(end, 0)?;
     }

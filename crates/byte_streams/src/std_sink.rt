@@ -49,7 +49,7 @@ impl<W: Write> Sink for StdSink<W> {
     fn write(&mut self, bytes: &[u8]) -> Result<usize, IoFault> {
         let outcome = write_retrying(&mut self.writer, bytes);
         if outcome.is_err() {
-            self.failures.raise();
+            self.failures.count_failure();
         }
         outcome
     }

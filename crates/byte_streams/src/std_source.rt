@@ -50,7 +50,7 @@ impl<R: Read> Source for StdSource<R> {
     fn read(&mut self, piece: &mut [u8]) -> Result<usize, IoFault> {
         let outcome = read_retrying(&mut self.reader, piece);
         if outcome.is_err() {
-            self.failures.raise();
+            self.failures.count_failure();
         }
         outcome
     }

@@ -126,9 +126,9 @@ fn std_writers(rt: HostRuntime) -> Result<(), Fail> {
 
 #[test]
 fn errors_say_what_failed(rt: HostRuntime) -> Result<(), Fail> {
-    let told = format!(in rt.alloc(); "{IoFault}/{}/{}", InputError::Memory, InputError::Fault)?;
+    let text = format!(in rt.alloc(); "{IoFault}/{}/{}", InputError::Memory, InputError::Fault)?;
     assert_eq!(rt;
-        told.as_str(),
+        text.as_str(),
         "input or output failed/out of memory/the input could not be read"
     );
     Ok(())

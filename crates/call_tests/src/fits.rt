@@ -118,7 +118,7 @@ fn fit_smallest(alloc: Global, plan: &Plan, cert: &Cert) -> Result<Answer, Alloc
 
 // Returns the widened, the fitted and the smallest sizes, and those of a copy.
 fn answers(alloc: Global, plan: Plan, cert: &Cert) -> Result<[Answer; 4], AllocError> {
-    let copy = Answer::Sizes(sizes_of(&plan.copied(alloc)?));
+    let copy = Answer::Sizes(sizes_of(&plan.try_clone(alloc)?));
     let wide = widen(alloc, &plan, cert)?;
     let least = fit_smallest(alloc, &plan, cert)?;
     Ok([wide, fit(alloc, plan, cert)?, least, copy])

@@ -349,7 +349,7 @@ fn what_is_accepted(rt: HostRuntime) -> Result<(), Fail> {
 fn what_is_certified(rt: HostRuntime) -> Result<(), Fail> {
     for (plan, cert, _, is_accepted) in JUDGED.iter().copied() {
         let (plan, cert) = read(rt.alloc(), plan, cert)?;
-        let handed_in = shown(rt.alloc(), &plan, &cert)?;
+        let handed_in = debug_text(rt.alloc(), &plan, &cert)?;
         let (certified, handed_back) = certified(rt.alloc(), plan, cert)?;
         assert_eq!(rt; certified, is_accepted);
         assert_eq!(rt; handed_back, handed_in);
@@ -360,12 +360,12 @@ fn what_is_certified(rt: HostRuntime) -> Result<(), Fail> {
 // Returns whether the plan is certified, and the returned plan and certificate.
 fn certified(alloc: Global, plan: Plan, cert: Cert) -> Result<(bool, String), AllocError> {
     match Certified::check(plan, cert) {
-        Ok(both) => Ok((true, shown(alloc, both.plan(), both.cert())?)),
-        Err((plan, cert)) => Ok((false, shown(alloc, &plan, &cert)?)),
+        Ok(both) => Ok((true, debug_text(alloc, both.plan(), both.cert())?)),
+        Err((plan, cert)) => Ok((false, debug_text(alloc, &plan, &cert)?)),
     }
 }
 
-fn shown(alloc: Global, plan: &Plan, cert: &Cert) -> Result<String, AllocError> {
+fn debug_text(alloc: Global, plan: &Plan, cert: &Cert) -> Result<String, AllocError> {
     format!(in alloc; "{plan:?} {cert:?}")
 }
 

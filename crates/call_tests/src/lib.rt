@@ -20,7 +20,7 @@ mod pools;
 #[cfg(test)]
 mod stairs;
 #[cfg(test)]
-mod told_notes;
+mod note_lines;
 #[cfg(test)]
 mod witnesses;
 #[cfg(test)]

@@ -95,7 +95,7 @@ fn standing(alloc: Global, client: u64) -> Result<Vector, AllocError> {
     })
 }
 
-fn told(alloc: Global, found: Option<Witness>) -> Result<String, AllocError> {
+fn witness_text(alloc: Global, found: Option<Witness>) -> Result<String, AllocError> {
     match found {
         Some(witness) => {
             let events = witness.events.len();
@@ -142,7 +142,7 @@ fn lists_that_are_witnesses(rt: HostRuntime) -> Result<(), Fail> {
         let events = Vec::from_slice(alloc, events)?;
         let members = Vec::from_slice(alloc, members)?;
         let found = confirmed(alloc, &plan, events, members, &[])?;
-        assert_eq!(rt; told(alloc, found)?.as_str(), wanted);
+        assert_eq!(rt; witness_text(alloc, found)?.as_str(), wanted);
     }
     Ok(())
 }
@@ -155,7 +155,7 @@ fn a_witness_ends_at_its_first_refusal(rt: HostRuntime) -> Result<(), Fail> {
     events.push(Event::Take(0))?;
     events.push(Event::Take(5))?;
     let found = confirmed(rt.alloc(), &plan, events, Vec::new(rt.alloc()), &[])?;
-    assert_eq!(rt; told(rt.alloc(), found)?.as_str(), "Refused(0) after 7");
+    assert_eq!(rt; witness_text(rt.alloc(), found)?.as_str(), "Refused(0) after 7");
     Ok(())
 }
 
@@ -179,7 +179,7 @@ fn a_standing_vector_shows_that_jobs_wait_for_ever(rt: HostRuntime) -> Result<()
         let members = Vec::from_slice(alloc, &[0, 1])?;
         let found = confirmed(alloc, &plan, events, members, &vectors)?;
         assert_eq!(rt;
-            told(alloc, found)?.as_str(),
+            witness_text(alloc, found)?.as_str(),
             wanted,
             "{count} clients that weigh {client}"
         );

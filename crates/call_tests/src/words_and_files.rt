@@ -36,9 +36,9 @@ client 0
 
 /// Files, by name.
 #[derive(Clone, Copy)]
-struct Kept;
+struct FakeFiles;
 
-impl TextFiles for Kept {
+impl TextFiles for FakeFiles {
     ghost content = { λ _ _. None };
 
     ghost made = { λ _ _ _. Unit {0} };
@@ -189,7 +189,7 @@ fn texts_come_from_files(rt: HostRuntime) -> Result<(), Fail> {
     for (words, given, status, written) in ANSWERS.iter().copied() {
         let mut source = MemorySource::new(given.as_bytes());
         let mut sink = MemorySink::new(rt.alloc());
-        let ended = serve_words(&rt, rt.alloc(), words, &Kept, &mut source, &mut sink);
+        let ended = serve_words(&rt, rt.alloc(), words, &FakeFiles, &mut source, &mut sink);
         let text = String::from_utf8_lossy(rt.alloc(), sink.written())?;
         assert_eq!(rt; text.as_str(), written, "{words:?}");
         assert!(rt; matches!(ended, Ok(found) if found == status), "{words:?}");
@@ -253,11 +253,11 @@ fn words_without_an_answer(rt: HostRuntime) -> Result<(), Fail> {
     for (words, wanted, code) in NO_ANSWERS.iter().copied() {
         let mut source = MemorySource::new(b"");
         let mut sink = MemorySink::new(rt.alloc());
-        let ended = serve_words(&rt, rt.alloc(), words, &Kept, &mut source, &mut sink);
+        let ended = serve_words(&rt, rt.alloc(), words, &FakeFiles, &mut source, &mut sink);
         let Err(fault) = ended else {
             return Err(Fail::from("an answer"));
         };
-        let told = match &fault {
+        let text = match &fault {
             WordsFault::Words(error) => format!(in rt.alloc(); "words {:?}", error.kind())?,
             WordsFault::NoCommand => String::from_str(rt.alloc(), "no command")?,
             WordsFault::InputTwice => String::from_str(rt.alloc(), "input twice")?,
@@ -266,7 +266,7 @@ fn words_without_an_answer(rt: HostRuntime) -> Result<(), Fail> {
             WordsFault::Unwritten(name) => format!(in rt.alloc(); "unwritten {name}")?,
             WordsFault::Served(ServeFault { number }) => format!(in rt.alloc(); "fault {number}")?,
         };
-        assert_eq!(rt; told.as_str(), wanted, "{words:?}");
+        assert_eq!(rt; text.as_str(), wanted, "{words:?}");
         assert_eq!(rt; fault.code(), code, "{words:?}");
         assert!(rt; sink.written().is_empty(), "{words:?}");
     }
@@ -281,10 +281,10 @@ fn an_unwritten_certificate(rt: HostRuntime) -> Result<(), Fail> {
         let words = ["sizing", "ask", "--certificate", name, "plan.toml"];
         let mut source = MemorySource::new(b"");
         let mut sink = MemorySink::new(rt.alloc());
-        let ended = serve_words(&rt, rt.alloc(), &words, &Kept, &mut source, &mut sink);
+        let ended = serve_words(&rt, rt.alloc(), &words, &FakeFiles, &mut source, &mut sink);
         let text = String::from_utf8_lossy(rt.alloc(), sink.written())?;
         assert_eq!(rt; text.as_str(), ASKED);
-        assert!(rt; matches!(ended, Err(WordsFault::Unwritten(told)) if told == name));
+        assert!(rt; matches!(ended, Err(WordsFault::Unwritten(file)) if file == name));
     }
     Ok(())
 }

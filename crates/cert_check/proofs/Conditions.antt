@@ -13,7 +13,7 @@ use Rattle.soundness.specs.declared.note.Section.TheVariants as section
 use Rattle.soundness.specs.declared.note.Note.{Note}
 use Rattle.soundness.specs.Conditions.{note, in_section, bound_section, pool_conditions, failing}
 use Rattle.soundness.specs.Accepted.{is_nil}
-use Rattle.cert_check.specs.Holding.{pool_holds}
+use Rattle.cert_check.specs.PoolConditions.{pool_holds}
 
 -- a note whose left is greater than its right
 abbrev is_failing : Note → Bool

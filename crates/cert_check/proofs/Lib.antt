@@ -1,5 +1,5 @@
 pub mod Pools
-pub mod Telling
+pub mod AppendedTexts
 pub mod Conditions
 pub mod Yes
 pub mod Standing

@@ -14,48 +14,48 @@ rest_passes test pools i = list_all (λ entry. test entry.0) (enumerate_from i (
 
 -- if pool i passes, the pools after it decide
 pub passes_more : (test : ℕ → Bool) (pools : List Pool) (i : ℕ) (all : Bool) → i < length pools → test i ≡ true → rest_passes test pools i ≡ all → rest_passes test pools (i + 1) ≡ all
-passes_more test pools i all inside passes so_far =
-    sym (turn (list_all (λ entry. test entry.0)) pools i inside ∙ ap (λ (b : Bool). b && rest_passes test pools (i + 1)) passes) ∙ so_far
+passes_more test pools i all inside passes prior =
+    sym (turn (list_all (λ entry. test entry.0)) pools i inside ∙ ap (λ (b : Bool). b && rest_passes test pools (i + 1)) passes) ∙ prior
 
 -- if pool i fails, the pools from index i on fail
 pub fails_here : (test : ℕ → Bool) (pools : List Pool) (i : ℕ) (all : Bool) → i < length pools → test i ≡ false → rest_passes test pools i ≡ all → false ≡ all
-fails_here test pools i all inside fails so_far =
-    sym (turn (list_all (λ entry. test entry.0)) pools i inside ∙ ap (λ (b : Bool). b && rest_passes test pools (i + 1)) fails) ∙ so_far
+fails_here test pools i all inside fails prior =
+    sym (turn (list_all (λ entry. test entry.0)) pools i inside ∙ ap (λ (b : Bool). b && rest_passes test pools (i + 1)) fails) ∙ prior
 
 -- past the last pool, the test has passed
 pub passes_all : (test : ℕ → Bool) (pools : List Pool) (i : ℕ) (all : Bool) → length pools ≤ i → rest_passes test pools i ≡ all → true ≡ all
-passes_all test pools i all past so_far = sym (at_drop_all (λ (ps : List Pool). list_all (λ entry. test entry.0) (enumerate_from i ps)) pools i past) ∙ so_far
+passes_all test pools i all past prior = sym (at_drop_all (λ (ps : List Pool). list_all (λ entry. test entry.0) (enumerate_from i ps)) pools i past) ∙ prior
 
 -- the result so far, pool i and the pools after it decide together
-pub decides_more : (test : ℕ → Bool) (pools : List Pool) (i : ℕ) (so_far all : Bool) → i < length pools → (so_far && rest_passes test pools i) ≡ all
-    → ((so_far && test i) && rest_passes test pools (i + 1)) ≡ all
-decides_more test pools i so_far all inside before =
-    and-assoc so_far (test i) (rest_passes test pools (i + 1)) ∙ (sym (ap (λ (b : Bool). so_far && b) (turn (list_all (λ entry. test entry.0)) pools i inside)) ∙ before)
+pub decides_more : (test : ℕ → Bool) (pools : List Pool) (i : ℕ) (prior all : Bool) → i < length pools → (prior && rest_passes test pools i) ≡ all
+    → ((prior && test i) && rest_passes test pools (i + 1)) ≡ all
+decides_more test pools i prior all inside before =
+    and-assoc prior (test i) (rest_passes test pools (i + 1)) ∙ (sym (ap (λ (b : Bool). prior && b) (turn (list_all (λ entry. test entry.0)) pools i inside)) ∙ before)
   where
     and-assoc : (a b c : Bool) → ((a && b) && c) ≡ (a && (b && c))
     and-assoc true b c = refl
     and-assoc false b c = refl
 
 -- past the last pool, the result so far is the result of all pools
-pub decides_all : (test : ℕ → Bool) (pools : List Pool) (i : ℕ) (so_far all : Bool) → length pools ≤ i → (so_far && rest_passes test pools i) ≡ all → so_far ≡ all
-decides_all test pools i so_far all past before =
-    sym (and-true so_far) ∙ (sym (ap (λ (b : Bool). so_far && b) (at_drop_all (λ (ps : List Pool). list_all (λ entry. test entry.0) (enumerate_from i ps)) pools i past)) ∙ before)
+pub decides_all : (test : ℕ → Bool) (pools : List Pool) (i : ℕ) (prior all : Bool) → length pools ≤ i → (prior && rest_passes test pools i) ≡ all → prior ≡ all
+decides_all test pools i prior all past before =
+    sym (and-true prior) ∙ (sym (ap (λ (b : Bool). prior && b) (at_drop_all (λ (ps : List Pool). list_all (λ entry. test entry.0) (enumerate_from i ps)) pools i past)) ∙ before)
   where
     and-true : (a : Bool) → (a && true) ≡ a
     and-true true = refl
     and-true false = refl
 
 -- the values of f at the pools from index i on
-abbrev pub rest_given : {Y : Type 0} → (ℕ → Y) → List Pool → ℕ → List Y
-rest_given f pools i = map (λ entry. f entry.0) (enumerate_from i (drop i pools))
+abbrev pub rest_of_results : {Y : Type 0} → (ℕ → Y) → List Pool → ℕ → List Y
+rest_of_results f pools i = map (λ entry. f entry.0) (enumerate_from i (drop i pools))
 
 -- the loop appends the value at pool i
-pub given_more : {Y : Type 0} (f : ℕ → Y) (pools : List Pool) (i : ℕ) (front all : List Y) → i < length pools → front ++ rest_given f pools i ≡ all → (front ++ f i ∷ []) ++ rest_given f pools (i + 1) ≡ all
-given_more {Y} f pools i front all inside so_far =
-    append_assoc front (f i ∷ []) (rest_given f pools (i + 1))
-    ∙ (sym (ap (λ (ys : List Y). front ++ ys) (turn (map (λ entry. f entry.0)) pools i inside)) ∙ so_far)
+pub results_more : {Y : Type 0} (f : ℕ → Y) (pools : List Pool) (i : ℕ) (front all : List Y) → i < length pools → front ++ rest_of_results f pools i ≡ all → (front ++ f i ∷ []) ++ rest_of_results f pools (i + 1) ≡ all
+results_more {Y} f pools i front all inside prior =
+    append_assoc front (f i ∷ []) (rest_of_results f pools (i + 1))
+    ∙ (sym (ap (λ (ys : List Y). front ++ ys) (turn (map (λ entry. f entry.0)) pools i inside)) ∙ prior)
 
 -- past the last pool, the list is complete
-pub given_all : {Y : Type 0} (f : ℕ → Y) (pools : List Pool) (i : ℕ) (front all : List Y) → length pools ≤ i → front ++ rest_given f pools i ≡ all → front ≡ all
-given_all {Y} f pools i front all past so_far =
-    sym (append-nil front) ∙ (sym (ap (λ (ys : List Y). front ++ ys) (at_drop_all (λ (ps : List Pool). map (λ entry. f entry.0) (enumerate_from i ps)) pools i past)) ∙ so_far)
+pub results_all : {Y : Type 0} (f : ℕ → Y) (pools : List Pool) (i : ℕ) (front all : List Y) → length pools ≤ i → front ++ rest_of_results f pools i ≡ all → front ≡ all
+results_all {Y} f pools i front all past prior =
+    sym (append-nil front) ∙ (sym (ap (λ (ys : List Y). front ++ ys) (at_drop_all (λ (ps : List Pool). map (λ entry. f entry.0) (enumerate_from i ps)) pools i past)) ∙ prior)

@@ -17,7 +17,7 @@ use Rattle.cert_text.proofs.Fitting.{parts_fit}
 use Rattle.soundness.specs.Headline.{RefusesNothing, JavaRefusesNothing}
 use Rattle.soundness.proofs.Bounded.{bounded_plans_refuse_nothing}
 use Rattle.soundness.proofs.JavaBounded.{bounded_plans_java_refuse_nothing}
-use Rattle.cert_check.specs.Standing.{stands, accepted_standing}
+use Rattle.cert_check.specs.Standing.{is_valid_standing_vector, accepted_standing}
 use Rattle.cert_check.proofs.Pools.{rest_passes, passes_all}
 
 -- the left of the row is at most its right
@@ -42,24 +42,24 @@ not_failing : (b : Bool) → not b ≡ true → b ≡ false
 not_failing true e = absurd cc
 not_failing false e = refl
 
-stands_hold : (plan : Plan) (p : ℕ) (bound : Bound) → stands plan p bound ≡ true → AllHold (bound_rows plan p bound)
-stands_hold plan p (Standing v) e = λ x i. ltb-false x.right x.left (not_failing (fails x) (list_all_at_In holds e i))
-stands_hold plan p (Lifetime v) e = absurd cc
+valid_standing_vector_holds : (plan : Plan) (p : ℕ) (bound : Bound) → is_valid_standing_vector plan p bound ≡ true → AllHold (bound_rows plan p bound)
+valid_standing_vector_holds plan p (Standing v) e = λ x i. ltb-false x.right x.left (not_failing (fails x) (list_all_at_In holds e i))
+valid_standing_vector_holds plan p (Lifetime v) e = absurd cc
 
 -- if all pools passed the test, the certificate is accepted
 pub passed_all : (plan : Plan) (cert : Cert) (i : ℕ) → IsTrue (cert_fits plan cert) → length plan.pools ≤ i
-    → rest_passes (λ p. stands plan p (pool_cert_at cert p).bound) plan.pools i ≡ rest_passes (λ p. stands plan p (pool_cert_at cert p).bound) plan.pools 0 → accepted_standing plan cert ≡ true
-passed_all plan cert i fits past so_far =
-    let test : ℕ → Bool = λ p. stands plan p (pool_cert_at cert p).bound in
-    and_from (cert_fits plan cert) (list_all (λ entry. test entry.0) (enumerate_from 0 plan.pools)) fits (sym (passes_all test plan.pools i _ past so_far))
+    → rest_passes (λ p. is_valid_standing_vector plan p (pool_cert_at cert p).bound) plan.pools i ≡ rest_passes (λ p. is_valid_standing_vector plan p (pool_cert_at cert p).bound) plan.pools 0 → accepted_standing plan cert ≡ true
+passed_all plan cert i fits past prior =
+    let test : ℕ → Bool = λ p. is_valid_standing_vector plan p (pool_cert_at cert p).bound in
+    and_from (cert_fits plan cert) (list_all (λ entry. test entry.0) (enumerate_from 0 plan.pools)) fits (sym (passes_all test plan.pools i _ past prior))
 
 -- then each pool has a bound that holds
 bounds_hold : (plan : Plan) (cert : Cert) → accepted_standing plan cert ≡ true → (p : ℕ) → p < length plan.pools → IsTrue (vector_fits plan (bound_vector (pool_cert_at cert p).bound)) × AllHold (bound_rows plan p (pool_cert_at cert p).bound)
 bounds_hold plan cert e p inside =
-    let test = λ (p : ℕ). stands plan p (pool_cert_at cert p).bound in
+    let test = λ (p : ℕ). is_valid_standing_vector plan p (pool_cert_at cert p).bound in
     let parts = and_parts (cert_fits plan cert) (list_all (λ entry. test entry.0) (enumerate_from 0 plan.pools)) e in (
       ((parts_fit plan cert parts.0).pools p inside).bound,
-      stands_hold plan p (pool_cert_at cert p).bound
+      valid_standing_vector_holds plan p (pool_cert_at cert p).bound
           (list_all_at_In (λ entry. test entry.0) parts.1 (In-enumerate_from 0 plan.pools p (pool_at plan p) p (slice_get-get_or plan.pools p no_pool inside) (zero-add p))),
     )
 

@@ -1,4 +1,4 @@
-pub mod Holding
+pub mod PoolConditions
 pub mod Standing
 pub mod Verdict
 pub mod Text

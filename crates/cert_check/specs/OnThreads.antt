@@ -5,7 +5,7 @@ use Rattle.plan_text.specs.PlanOf.{plan_of}
 use Rattle.cert_text.specs.Cert.{Cert}
 use Rattle.cert_text.specs.CertOf.{cert_of}
 use Rattle.cert_check.specs.declared.on_threads.PoolCheck.{PoolCheck}
-use Rattle.cert_check.specs.Holding.{pool_holds}
+use Rattle.cert_check.specs.PoolConditions.{pool_holds}
 use Rattle.cert_check.specs.Verdict.{pool_line}
 
 -- the result of the check of pool p

@@ -9,10 +9,10 @@ use Rattle.weights.specs.Standing.{standing_rows}
 use Rattle.cert_text.specs.Cert.{Cert, cert_fits, pool_cert_at}
 
 -- pool p has a standing vector whose rows all hold
-abbrev pub stands : Plan → ℕ → Bound → Bool
-stands plan p (Standing v) = list_all (λ row. not (fails row)) (standing_rows plan p v)
-stands plan p (Lifetime v) = false
+abbrev pub is_valid_standing_vector : Plan → ℕ → Bound → Bool
+is_valid_standing_vector plan p (Standing v) = list_all (λ row. not (fails row)) (standing_rows plan p v)
+is_valid_standing_vector plan p (Lifetime v) = false
 
 -- the certificate fits the plan, and each pool has a standing vector whose rows all hold
 abbrev pub accepted_standing : Plan → Cert → Bool
-accepted_standing plan cert = cert_fits plan cert && list_all (λ entry. stands plan entry.0 (pool_cert_at cert entry.0).bound) (enumerate_from 0 plan.pools)
+accepted_standing plan cert = cert_fits plan cert && list_all (λ entry. is_valid_standing_vector plan entry.0 (pool_cert_at cert entry.0).bound) (enumerate_from 0 plan.pools)

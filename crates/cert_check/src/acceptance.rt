@@ -8,7 +8,7 @@ ghost use Rattle.cert_text.specs.Cert.{cert_fits, pool_cert_at};
 ghost use Rattle.soundness.specs.Conditions.{failing};
 ghost use Rattle.soundness.specs.Accepted.{is_nil, accepted};
 ghost use Rattle.soundness.specs.Headline.{Promises, RefusesNothing, JavaRefusesNothing};
-ghost use Rattle.cert_check.specs.Holding.{pool_holds};
+ghost use Rattle.cert_check.specs.PoolConditions.{pool_holds};
 ghost use Rattle.cert_check.specs.Standing as spec;
 
 use cert_text::Cert;
@@ -62,19 +62,19 @@ pub fn accepts_standing(plan: &Plan, cert: &Cert) -> bool
     ensures refuses_nothing { IsTrue result → RefusesNothing plan.now }
     ensures java_refuses_nothing { IsTrue result → JavaRefusesNothing plan.now }
 {
-    cert.fits(plan) && all_pools_stand(plan, cert)
+    cert.fits(plan) && has_valid_standing_vectors(plan, cert)
 }
 
-fn all_pools_stand(plan: &Plan, cert: &Cert) -> bool
+fn has_valid_standing_vectors(plan: &Plan, cert: &Cert) -> bool
     requires { IsTrue (cert_fits plan.now cert.now) }
     ensures exact { result
-        ≡ list_all (λ entry. spec.stands plan.now entry.0 (pool_cert_at cert.now entry.0).bound)
+        ≡ list_all (λ entry. spec.is_valid_standing_vector plan.now entry.0 (pool_cert_at cert.now entry.0).bound)
         (enumerate_from 0 plan.now.pools) }
     ensures refuses_nothing { IsTrue result → RefusesNothing plan.now }
     ensures java_refuses_nothing { IsTrue result → JavaRefusesNothing plan.now }
 {
     for pool in 0..plan.pools().len() {
-        if !stands(plan, pool, &cert.pool_at(pool).bound) {
+        if !is_valid_standing_vector(plan, pool, &cert.pool_at(pool).bound) {
             return false;
         }
     }
@@ -82,10 +82,10 @@ fn all_pools_stand(plan: &Plan, cert: &Cert) -> bool
 }
 
 /// Returns whether the bound is a standing vector whose conditions all hold.
-fn stands(plan: &Plan, pool: usize, bound: &Bound) -> bool
+fn is_valid_standing_vector(plan: &Plan, pool: usize, bound: &Bound) -> bool
     requires fits { IsTrue (vector_fits plan.now (bound_vector bound.now)) }
     requires pool { pool < length plan.now.pools }
-    ensures { result ≡ spec.stands plan.now pool bound.now }
+    ensures { result ≡ spec.is_valid_standing_vector plan.now pool bound.now }
 {
     match bound {
         Bound::Standing(vector) => vector.standing_fault(plan, pool).is_none(),

@@ -4,7 +4,7 @@ ghost use Rattle.std.specs.Prelude.{◌≡◌, ◌≢◌, IfOk, IfErr, IsTrue, O
 ghost use Rattle.cert_check.specs.declared.from_bytes.CheckFault.TheVariants.{Memory};
 ghost use Rattle.cert_check.specs.Check as spec;
 
-use crate::texts::read_texts;
+use crate::parse::read_texts;
 use crate::{Verdict, verdict};
 use cert_text::CertFault;
 use job_bodies::PlanFault;

@@ -11,9 +11,9 @@ mod certified;
 mod from_bytes;
 mod judge;
 mod on_threads;
+mod parse;
 mod pool_gate;
 mod text;
-mod texts;
 
 pub use acceptance::{accepts, accepts_standing};
 pub use answer::{PoolLine, Verdict};

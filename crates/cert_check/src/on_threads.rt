@@ -11,7 +11,7 @@ ghost use Rattle.cert_check.specs.OnThreads.{AreChecked, IsRead, pool_check};
 
 use crate::acceptance::pool_holds;
 use crate::judge::pool_line;
-use crate::texts::read_texts;
+use crate::parse::read_texts;
 use crate::{CheckFault, PoolGate, PoolLine, Verdict};
 use cert_text::Cert;
 use job_bodies::Plan;
@@ -97,13 +97,13 @@ fn check_pools<R: Threads + Sync, G: PoolGate>(
     requires fits { IsTrue (cert_fits plan.now cert.now) }
     ensures { IfOk result (λ found. AreChecked plan.now cert.now found.items) }
 {
-    let mut found = nothing_found(alloc, plan.pools().len())?;
-    fill_places(rt, workers, plan, cert, gate, &mut found);
+    let mut found = empty_results(alloc, plan.pools().len())?;
+    check_pools_into(rt, workers, plan, cert, gate, &mut found);
     Ok(found)
 }
 
 /// Writes the result of each pool to its index.
-fn fill_places<R: Threads + Sync, G: PoolGate>(
+fn check_pools_into<R: Threads + Sync, G: PoolGate>(
     rt: &R,
     workers: usize,
     plan: &Plan,
@@ -132,7 +132,7 @@ fn fill_places<R: Threads + Sync, G: PoolGate>(
 }
 
 /// Returns a list of one `None` for each pool.
-fn nothing_found(alloc: Global, pools: usize) -> Result<Vec<Option<PoolCheck>>, AllocError>
+fn empty_results(alloc: Global, pools: usize) -> Result<Vec<Option<PoolCheck>>, AllocError>
     ensures { IfOk result (λ found. vec_len found ≡ pools) }
 {
     let mut found = Vec::new(alloc);

@@ -12,7 +12,7 @@ use least_vectors::{Levels, blocked_vector, pool_bound};
 use std::alloc::{AllocError, Global};
 use std::sync::Wait;
 use std::sync::atomic::{AtomicBool, Ordering};
-use weights::{Bound, Vector, class_got};
+use weights::{Bound, Vector, submitted_class};
 
 /// The data that all workers of a round share.
 #[derive(Clone, Copy)]
@@ -87,7 +87,7 @@ impl Round<'_> {
         let rank_before = self.rank.saturating_sub(1);
         for action in body {
             if let Action::Get(submit) = action {
-                let class = class_got(body, *submit);
+                let class = submitted_class(body, *submit);
                 let has_counted = reaches(self.reach_before, class, rank_before);
                 if has_counted != reaches(self.reach, class, self.rank) {
                     return false;

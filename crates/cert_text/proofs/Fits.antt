@@ -4,8 +4,8 @@ use Rattle.std.specs.List.{list_all, enumerate_from}
 use Rattle.std.proofs.lemmas.Bool.{and_from, and_parts, eqb-true, eq-eqb}
 use Rattle.std.proofs.lemmas.Option.{slice_get-get_or, slice_get_within, get_or_from_slice_get}
 use Rattle.serde_json.specs.Data.{Data}
-use Rattle.support.specs.Reading.{holds_or, some_or}
-use Rattle.support.proofs.Steps.{bind_ok, holds_ok, given_same}
+use Rattle.support.specs.Reading.{ensure, ok_or}
+use Rattle.support.proofs.Steps.{bind_ok, holds_ok, ok_injective}
 use Rattle.support.proofs.ReadElements.{read_length, read_at}
 use Rattle.job_bodies.specs.Plan.{Plan, Class, Client, no_class, no_client}
 use Rattle.job_bodies.proofs.Passing.{EachPlace, both_passed, list_all_from, list_all_enumerated_from}
@@ -31,9 +31,9 @@ use Rattle.cert_text.specs.CertOf.{document_of, cert_of_value, cert_of}
 elements_counted : (count : ℕ) (value : Data) (values : List Data) → elements_of count value ≡ Ok values → length values ≡ count
 unfolding elements_of
 elements_counted count value values e =
-    let found = bind_ok (some_or (as_list value) wrong_shape) _ _ e in
-    let counted = both_passed (holds_or (length found.0 == count) wrong_shape) _ values found.2 in
-    ap (λ (xs : List Data). length xs) (sym (given_same {F = CertFault} found.0 values counted.1)) ∙ eqb-true _ _ (holds_ok _ wrong_shape counted.0)
+    let found = bind_ok (ok_or (as_list value) wrong_shape) _ _ e in
+    let counted = both_passed (ensure (length found.0 == count) wrong_shape) _ values found.2 in
+    ap (λ (xs : List Data). length xs) (sym (ok_injective {F = CertFault} found.0 values counted.1)) ∙ eqb-true _ _ (holds_ok _ wrong_shape counted.0)
 
 numbers_counted : (count : ℕ) (value : Data) (numbers : List ℕ) → numbers_of count value ≡ Ok numbers → length numbers ≡ count
 unfolding numbers_of
@@ -95,20 +95,20 @@ vector_read plan value v e =
     let clients = bind_ok (client_rows plan at_clients.0) _ _ at_clients.2 in
     let made : Vector = record { workers = workers.0; classes = classes.0; clients = clients.0 } in
     let shaped : has_shape plan made ≡ true = rows_shape plan made (numbers_counted _ _ workers.0 workers.1) (class_rows_read plan at_classes.0 classes.0 classes.1) (client_rows_read plan at_clients.0 clients.0 clients.1) in
-    subst (λ (w : Vector). has_shape plan w ≡ true) (given_same {F = CertFault} made v clients.2) shaped
+    subst (λ (w : Vector). has_shape plan w ≡ true) (ok_injective {F = CertFault} made v clients.2) shaped
 
 standing_read : (plan : Plan) (pool : Data) (bound : Bound) → standing_of plan pool ≡ Ok bound → has_shape plan (bound_vector bound) ≡ true
 unfolding standing_of
 standing_read plan pool bound e =
     let at_vector = bind_ok (value_at (codes "standing") pool) _ _ e in
     let vector = bind_ok (vector_of plan at_vector.0) _ _ at_vector.2 in
-    subst (λ (b : Bound). has_shape plan (bound_vector b) ≡ true) (given_same {F = CertFault} (Standing vector.0) bound vector.2) (vector_read plan at_vector.0 vector.0 vector.1)
+    subst (λ (b : Bound). has_shape plan (bound_vector b) ≡ true) (ok_injective {F = CertFault} (Standing vector.0) bound vector.2) (vector_read plan at_vector.0 vector.0 vector.1)
 
 lifetime_read : (plan : Plan) (value : Data) (bound : Bound) → lifetime_of plan value ≡ Ok bound → has_shape plan (bound_vector bound) ≡ true
 unfolding lifetime_of
 lifetime_read plan value bound e =
     let vector = bind_ok (vector_of plan value) _ _ e in
-    subst (λ (b : Bound). has_shape plan (bound_vector b) ≡ true) (given_same {F = CertFault} (Lifetime vector.0) bound vector.2) (vector_read plan value vector.0 vector.1)
+    subst (λ (b : Bound). has_shape plan (bound_vector b) ≡ true) (ok_injective {F = CertFault} (Lifetime vector.0) bound vector.2) (vector_read plan value vector.0 vector.1)
 
 either_read : (plan : Plan) (pool : Data) (found : Option Data) (bound : Bound) → lifetime_or_standing plan pool found ≡ Ok bound → has_shape plan (bound_vector bound) ≡ true
 either_read plan pool (Some value) bound e = lifetime_read plan value bound e
@@ -130,7 +130,7 @@ pool_read version plan value pool e =
     let blocked = bind_ok (vector_of plan at_blocked.0) _ _ at_blocked.2 in
     let made : PoolCert = record { bound = bound.0; blocked = blocked.0 } in
     let shaped : pool_has_shape plan made ≡ true = and_from _ _ (bound_read version plan value bound.0 bound.1) (vector_read plan at_blocked.0 blocked.0 blocked.1) in
-    subst (λ (p : PoolCert). pool_has_shape plan p ≡ true) (given_same {F = CertFault} made pool blocked.2) shaped
+    subst (λ (p : PoolCert). pool_has_shape plan p ≡ true) (ok_injective {F = CertFault} made pool blocked.2) shaped
 
 pools_read : (version : Version) (plan : Plan) (value : Data) (pools : List PoolCert) → pools_of version plan value ≡ Ok pools → (length pools ≡ length plan.pools) × EachPlace pools (λ p pool. pool_has_shape plan pool ≡ true)
 unfolding pools_of
@@ -160,7 +160,7 @@ ranks_read plan value ranks e =
     (eq-eqb _ _ (numbers_counted _ _ pools.0 pools.1))
     (eq-eqb _ _ (numbers_counted _ _ reach.0 reach.1)))
     (eq-eqb _ _ (numbers_counted _ _ levels.0 levels.1)) in
-    subst (λ (r : Ranks). ranks_have_shape plan r ≡ true) (given_same {F = CertFault} made ranks levels.2) shaped
+    subst (λ (r : Ranks). ranks_have_shape plan r ≡ true) (ok_injective {F = CertFault} made ranks levels.2) shaped
 
 -- a pool with the right shape and small numbers fits
 pool_fits_of : (plan : Plan) (pool : PoolCert) → pool_has_shape plan pool ≡ true → pool_has_small_numbers pool ≡ true → pool_cert_fits plan pool ≡ true
@@ -184,7 +184,7 @@ shape_fits version plan value cert e small =
     let at_ranks = bind_ok (value_at (codes "ranks") value) _ _ pools.2 in
     let ranks = bind_ok (ranks_of plan at_ranks.0) _ _ at_ranks.2 in
     let made : Cert = record { pools = pools.0; ranks = ranks.0 } in
-    let same : made ≡ cert = given_same {F = CertFault} made cert ranks.2 in
+    let same : made ≡ cert = ok_injective {F = CertFault} made cert ranks.2 in
     let sizes = and_parts (list_all pool_has_small_numbers made.pools) (ranks_have_small_numbers made.ranks) (subst (λ (c : Cert). (list_all pool_has_small_numbers c.pools && ranks_have_small_numbers c.ranks) ≡ true) (sym same) small) in
     let pools_are = pools_read version plan at_pools.0 pools.0 pools.1 in
     let fit : cert_fits plan made ≡ true =
@@ -199,9 +199,9 @@ unfolding cert_of_value
 value_fits plan value cert e =
     let version = bind_ok (version_of value) _ _ e in
     let shape = bind_ok (shape_of version.0 plan value) _ _ version.2 in
-    let sizes = both_passed (holds_or (cert_has_small_numbers shape.0) (fault WEIGHT_TOO_LARGE)) _ cert shape.2 in
+    let sizes = both_passed (ensure (cert_has_small_numbers shape.0) (fault WEIGHT_TOO_LARGE)) _ cert shape.2 in
     let fit = shape_fits version.0 plan value shape.0 shape.1 (holds_ok _ (fault WEIGHT_TOO_LARGE) sizes.0) in
-    subst (λ (c : Cert). cert_fits plan c ≡ true) (given_same {F = CertFault} shape.0 cert sizes.1) fit
+    subst (λ (c : Cert). cert_fits plan c ≡ true) (ok_injective {F = CertFault} shape.0 cert sizes.1) fit
 
 pub cert_read_fits : (bytes : List ℕ) (plan : Plan) (cert : Cert) → cert_of bytes plan ≡ Ok cert → cert_fits plan cert ≡ true
 unfolding cert_of

@@ -7,6 +7,6 @@ pub mod ReadsBack
 pub mod Blank
 pub mod Readable
 pub mod CanonicalTexts
-pub mod Fronts
+pub mod Prefixes
 pub mod Pushing
 mod Samples

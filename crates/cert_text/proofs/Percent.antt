@@ -26,8 +26,8 @@ record IsBareData (d : Data) : Type 0 where
 record IsBareKey (key : List ℕ) : Type 0 where
   text : IsBare (quoted key)
 
-both_bare : (front back : List ℕ) → IsBare front → IsBare back → IsBare (front ++ back)
-both_bare front back first second = record { bare = rw (list_any-append (nat_eq 37) front back, first.bare, second.bare) refl }
+both_bare : (prefix back : List ℕ) → IsBare prefix → IsBare back → IsBare (prefix ++ back)
+both_bare prefix back first second = record { bare = rw (list_any-append (nat_eq 37) prefix back, first.bare, second.bare) refl }
 
 glyph_bare : (n : ℕ) → nat_eq 37 (digit_glyph false (n % 10)) ≡ false
 glyph_bare n = rw (lt-ltb (n % 10) 10 (omega arith)) (ne_eqb 37 (48 + n % 10) (λ e. omega arith))
@@ -67,10 +67,10 @@ rows_bare : (rows : List (List ℕ)) → IsBareData (rows_data rows)
 rows_bare rows = list_bare numbers_data rows numbers_bare
 
 -- a member with its key and value, and the text after it
-member_bare : (front key : List ℕ) (d : Data) (rest : List ℕ) → IsBare front → IsBareKey key → IsBareData d → IsBare rest → IsBare (front ++ (quoted key ++ 58 ∷ (compact_text d ++ rest)))
-member_bare front key d rest before name here behind =
-    let tail : IsBare (58 ∷ (compact_text d ++ rest)) = record { bare = (both_bare (compact_text d) rest here.text behind).bare } in
-    both_bare front _ before (both_bare (quoted key) _ name.text tail)
+member_bare : (prefix key : List ℕ) (d : Data) (rest : List ℕ) → IsBare prefix → IsBareKey key → IsBareData d → IsBare rest → IsBare (prefix ++ (quoted key ++ 58 ∷ (compact_text d ++ rest)))
+member_bare prefix key d rest before name here remaining =
+    let tail : IsBare (58 ∷ (compact_text d ++ rest)) = record { bare = (both_bare (compact_text d) rest here.text remaining).bare } in
+    both_bare prefix _ before (both_bare (quoted key) _ name.text tail)
 
 nothing_bare : IsBare []
 nothing_bare = record { bare = refl }

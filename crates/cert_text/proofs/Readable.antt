@@ -82,9 +82,9 @@ pub record IsKey (key : List ℕ) : Type 0 where
 pub record IsBefore (j k : List ℕ) : Type 0 where
   pub order : slice_cmp nat_cmp k j ≡ Greater
 
-member_utf8 : (front key : List ℕ) (d : Data) (rest : List ℕ) → IsUtf8 front → IsKey key → IsUtf8 (compact_text d) → IsUtf8 rest → IsUtf8 (front ++ (quoted key ++ 58 ∷ (compact_text d ++ rest)))
-member_utf8 front key d rest before name here behind =
-    IsUtf8-append front _ before (IsUtf8-append (quoted key) _ name.utf8 (IsUtf8-append (58 ∷ []) _ (IsUtf8-are_ascii (58 ∷ []) refl) (IsUtf8-append (compact_text d) rest here behind)))
+member_utf8 : (prefix key : List ℕ) (d : Data) (rest : List ℕ) → IsUtf8 prefix → IsKey key → IsUtf8 (compact_text d) → IsUtf8 rest → IsUtf8 (prefix ++ (quoted key ++ 58 ∷ (compact_text d ++ rest)))
+member_utf8 prefix key d rest before name here remaining =
+    IsUtf8-append prefix _ before (IsUtf8-append (quoted key) _ name.utf8 (IsUtf8-append (58 ∷ []) _ (IsUtf8-are_ascii (58 ∷ []) refl) (IsUtf8-append (compact_text d) rest here remaining)))
 
 brace_utf8 : IsUtf8 (123 ∷ [])
 brace_utf8 = IsUtf8-are_ascii (123 ∷ []) refl

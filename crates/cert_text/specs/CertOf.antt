@@ -4,7 +4,7 @@ use Rattle.std.specs.Str.{is_utf8}
 use Rattle.serde_json.specs.Data.{Data}
 use Rattle.serde_json.specs.Read.{read}
 use Rattle.support.specs.declared.number.TheConstants.{NOT_JSON, WEIGHT_TOO_LARGE, CERT_TOO_LONG}
-use Rattle.support.specs.Reading.{◌>>=◌, holds_or, some_or}
+use Rattle.support.specs.Reading.{◌>>=◌, ensure, ok_or}
 use Rattle.job_bodies.specs.Plan.{Plan}
 use Rattle.cert_text.specs.Cert.{Cert}
 use Rattle.cert_text.specs.declared.fault.CertFault.{CertFault}
@@ -16,16 +16,16 @@ use Rattle.cert_text.specs.Sizes.{cert_has_small_numbers}
 
 -- the bytes if they are UTF-8
 abbrev pub text_of : List ℕ → Result (List ℕ) CertFault
-text_of bytes = holds_or (is_utf8 bytes) (fault NOT_JSON) >>= λ _. Ok bytes
+text_of bytes = ensure (is_utf8 bytes) (fault NOT_JSON) >>= λ _. Ok bytes
 
 -- the JSON value of a text
 abbrev pub json_of : List ℕ → Result Data CertFault
-json_of text = some_or (read text) (fault NOT_JSON)
+json_of text = ok_or (read text) (fault NOT_JSON)
 
 -- the JSON value of bytes, up to the limit of their length
 unfoldable pub document_of : List ℕ → Result Data CertFault
 document_of bytes =
-    holds_or (nat_le (length bytes) MAX_CERT_BYTES) (fault CERT_TOO_LONG) >>= λ _.
+    ensure (nat_le (length bytes) MAX_CERT_BYTES) (fault CERT_TOO_LONG) >>= λ _.
     text_of bytes >>= λ text.
     json_of text
 
@@ -34,7 +34,7 @@ unfoldable pub cert_of_value : Data → Plan → Result Cert CertFault
 cert_of_value value plan =
     version_of value >>= λ version.
     shape_of version plan value >>= λ cert.
-    holds_or (cert_has_small_numbers cert) (fault WEIGHT_TOO_LARGE) >>= λ _.
+    ensure (cert_has_small_numbers cert) (fault WEIGHT_TOO_LARGE) >>= λ _.
     Ok cert
 
 -- the certificate that the bytes represent, for a plan, or the first fault

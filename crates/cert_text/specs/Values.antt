@@ -4,7 +4,7 @@ use Rattle.std.specs.Prelude.{ℕ, suc, ◌==◌, List, [], ◌∷◌, length, o
 use Rattle.serde_json.specs.Data.{Data, Items, no_items, item, Members, no_members, member}
 use Rattle.serde_json.specs.Find.{get, as_number, as_u64, as_array, as_object}
 use Rattle.support.specs.declared.number.TheConstants.{WRONG_SHAPE}
-use Rattle.support.specs.Reading.{◌>>=◌, holds_or, some_or}
+use Rattle.support.specs.Reading.{◌>>=◌, ensure, ok_or}
 use Rattle.cert_text.specs.declared.fault.CertFault.{CertFault}
 
 abbrev pub fault : ℕ → CertFault
@@ -16,7 +16,7 @@ wrong_shape = fault WRONG_SHAPE
 
 -- an unsigned 64-bit integer
 abbrev pub number_of : Data → Result ℕ CertFault
-number_of value = some_or (option_and_then as_u64 (as_number value)) wrong_shape
+number_of value = ok_or (option_and_then as_u64 (as_number value)) wrong_shape
 
 -- the elements of a list
 abbrev pub elements : Items → List Data
@@ -30,8 +30,8 @@ as_list value = option_map elements (as_array value)
 -- the elements of a list of length `count`
 unfoldable pub elements_of : ℕ → Data → Result (List Data) CertFault
 elements_of count value =
-    some_or (as_list value) wrong_shape >>= λ values.
-    holds_or (length values == count) wrong_shape >>= λ _.
+    ok_or (as_list value) wrong_shape >>= λ values.
+    ensure (length values == count) wrong_shape >>= λ _.
     Ok values
 
 -- the number of members of an object
@@ -42,9 +42,9 @@ count_members (member key value rest) = suc (count_members rest)
 -- the value is an object with `count` keys
 unfoldable pub check_keys : ℕ → Data → Result (Unit {0}) CertFault
 check_keys count value =
-    some_or (as_object value) wrong_shape >>= λ members.
-    holds_or (count_members members == count) wrong_shape
+    ok_or (as_object value) wrong_shape >>= λ members.
+    ensure (count_members members == count) wrong_shape
 
 -- the value at a key
 abbrev pub value_at : List ℕ → Data → Result Data CertFault
-value_at key value = some_or (get key value) wrong_shape
+value_at key value = ok_or (get key value) wrong_shape

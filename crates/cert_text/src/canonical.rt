@@ -14,9 +14,9 @@ ghost use Rattle.cert_text.specs.CertText as spec;
 ghost use Rattle.cert_text.specs.Canonical.{BeginsAs, bound_text, version_text, IsCanonical};
 
 use crate::canonical_numbers::{
-    CanonicalError, behind, behind_byte, behind_comma, leading_numbers, list_for, not_canonical,
+    CanonicalError, strip_bytes, strip_byte, strip_comma, parse_numbers, list_with_capacity, non_canonical_error,
 };
-use crate::canonical_vectors::leading_vector;
+use crate::canonical_vectors::parse_vector;
 use crate::version::version_number;
 use crate::{Cert, PoolCert};
 use job_bodies::{MAX_CERT_BYTES, Plan};
@@ -24,7 +24,7 @@ use std::alloc::Global;
 use weights::{Bound, Ranks};
 
 /// Parses the bound that follows a pool's blocked vector, and returns it with the rest of the text.
-fn leading_bound<'a>(
+fn parse_bound<'a>(
     alloc: Global,
     plan: &Plan,
     text: &'a [u8],
@@ -32,16 +32,16 @@ fn leading_bound<'a>(
     ensures text { IfOk result (λ read. text.now ≡ bound_text read.0 ++ read.1.now) }
     ensures fits { IfOk result (λ read. IsTrue (vector_fits plan.now (bound_vector read.0))) }
 {
-    if let Ok(rest) = behind(text, b",\"standing\":") {
-        let (vector, rest) = leading_vector(alloc, plan, rest)?;
+    if let Ok(rest) = strip_bytes(text, b",\"standing\":") {
+        let (vector, rest) = parse_vector(alloc, plan, rest)?;
         return Ok((Bound::Standing(vector), rest));
     }
-    let rest = behind(text, b",\"lifetime\":")?;
-    let (vector, rest) = leading_vector(alloc, plan, rest)?;
+    let rest = strip_bytes(text, b",\"lifetime\":")?;
+    let (vector, rest) = parse_vector(alloc, plan, rest)?;
     Ok((Bound::Lifetime(vector), rest))
 }
 
-fn leading_pool<'a>(
+fn parse_pool<'a>(
     alloc: Global,
     plan: &Plan,
     text: &'a [u8],
@@ -49,14 +49,14 @@ fn leading_pool<'a>(
     ensures text { IfOk result (λ read. BeginsAs text.now (spec.pool_data read.0) read.1.now) }
     ensures fits { IfOk result (λ read. IsTrue (pool_cert_fits plan.now read.0)) }
 {
-    let rest = behind(text, b"{\"blocked\":")?;
-    let (blocked, rest) = leading_vector(alloc, plan, rest)?;
-    let (bound, rest) = leading_bound(alloc, plan, rest)?;
-    let rest = behind_byte(rest, b'}')?;
+    let rest = strip_bytes(text, b"{\"blocked\":")?;
+    let (blocked, rest) = parse_vector(alloc, plan, rest)?;
+    let (bound, rest) = parse_bound(alloc, plan, rest)?;
+    let rest = strip_byte(rest, b'}')?;
     Ok((PoolCert { bound, blocked }, rest))
 }
 
-fn leading_pools<'a>(
+fn parse_pools<'a>(
     alloc: Global,
     plan: &Plan,
     text: &'a [u8],
@@ -67,18 +67,18 @@ fn leading_pools<'a>(
     ensures fit { IfOk result (λ read. IsTrue (list_all (pool_cert_fits plan.now) read.0.items)) }
 {
     let count = plan.pools().len();
-    let mut pools = list_for(alloc, count, text)?;
-    let mut rest = behind_byte(text, b'[')?;
+    let mut pools = list_with_capacity(alloc, count, text)?;
+    let mut rest = strip_byte(text, b'[')?;
     for place in 0..count {
-        let element = behind_comma(rest, place)?;
-        let (pool, behind) = leading_pool(alloc, plan, element)?;
+        let element = strip_comma(rest, place)?;
+        let (pool, remaining) = parse_pool(alloc, plan, element)?;
         pools.push(pool)?;
-        rest = behind;
+        rest = remaining;
     }
-    Ok((pools, behind_byte(rest, b']')?))
+    Ok((pools, strip_byte(rest, b']')?))
 }
 
-fn leading_ranks<'a>(
+fn parse_ranks<'a>(
     alloc: Global,
     plan: &Plan,
     text: &'a [u8],
@@ -86,13 +86,13 @@ fn leading_ranks<'a>(
     ensures text { IfOk result (λ read. BeginsAs text.now (spec.ranks_data read.0) read.1.now) }
     ensures fit { IfOk result (λ read. IsTrue (ranks_fit plan.now read.0)) }
 {
-    let rest = behind(text, b"{\"levels\":")?;
-    let (levels, rest) = leading_numbers(alloc, plan.classes().len(), rest)?;
-    let rest = behind(rest, b",\"pools\":")?;
-    let (pools, rest) = leading_numbers(alloc, plan.pools().len(), rest)?;
-    let rest = behind(rest, b",\"reach\":")?;
-    let (reach, rest) = leading_numbers(alloc, plan.classes().len(), rest)?;
-    let rest = behind_byte(rest, b'}')?;
+    let rest = strip_bytes(text, b"{\"levels\":")?;
+    let (levels, rest) = parse_numbers(alloc, plan.classes().len(), rest)?;
+    let rest = strip_bytes(rest, b",\"pools\":")?;
+    let (pools, rest) = parse_numbers(alloc, plan.pools().len(), rest)?;
+    let rest = strip_bytes(rest, b",\"reach\":")?;
+    let (reach, rest) = parse_numbers(alloc, plan.classes().len(), rest)?;
+    let rest = strip_byte(rest, b'}')?;
     let ranks = Ranks {
         pools,
         reach,
@@ -103,18 +103,18 @@ fn leading_ranks<'a>(
 
 /// Strips the version that the certificate needs, with its key and the closing brace, and returns
 /// the rest.
-fn behind_version<'a>(cert: &Cert, text: &'a [u8]) -> Result<&'a [u8], CanonicalError>
+fn strip_version<'a>(cert: &Cert, text: &'a [u8]) -> Result<&'a [u8], CanonicalError>
     ensures { IfOk result (λ rest. text.now ≡ version_text cert.now ++ rest.now) }
 {
     if version_number(cert) == 2 {
-        behind(text, b",\"version\":2}")
+        strip_bytes(text, b",\"version\":2}")
     } else {
-        behind(text, b",\"version\":1}")
+        strip_bytes(text, b",\"version\":1}")
     }
 }
 
 /// Parses a certificate at the start of a text, and returns it with the rest.
-fn leading_cert<'a>(
+fn parse_cert<'a>(
     alloc: Global,
     plan: &Plan,
     text: &'a [u8],
@@ -122,12 +122,12 @@ fn leading_cert<'a>(
     ensures text { IfOk result (λ read. BeginsAs text.now (spec.cert_data read.0) read.1.now) }
     ensures fits { IfOk result (λ read. IsTrue (cert_fits plan.now read.0)) }
 {
-    let rest = behind(text, b"{\"pools\":")?;
-    let (pools, rest) = leading_pools(alloc, plan, rest)?;
-    let rest = behind(rest, b",\"ranks\":")?;
-    let (ranks, rest) = leading_ranks(alloc, plan, rest)?;
+    let rest = strip_bytes(text, b"{\"pools\":")?;
+    let (pools, rest) = parse_pools(alloc, plan, rest)?;
+    let rest = strip_bytes(rest, b",\"ranks\":")?;
+    let (ranks, rest) = parse_ranks(alloc, plan, rest)?;
     let cert = Cert { pools, ranks };
-    let rest = behind_version(&cert, rest)?;
+    let rest = strip_version(&cert, rest)?;
     Ok((cert, rest))
 }
 
@@ -144,15 +144,15 @@ fn is_blank(text: &[u8]) -> bool
 }
 
 /// Parses a certificate for this plan. White space may follow it.
-pub fn canonical_cert(alloc: Global, text: &[u8], plan: &Plan) -> Result<Cert, CanonicalError>
+pub fn parse_canonical_cert(alloc: Global, text: &[u8], plan: &Plan) -> Result<Cert, CanonicalError>
     ensures { IfOk result (IsCanonical plan.now text.now) }
 {
     if text.len() > MAX_CERT_BYTES {
-        return Err(not_canonical());
+        return Err(non_canonical_error());
     }
-    let (cert, rest) = leading_cert(alloc, plan, text)?;
+    let (cert, rest) = parse_cert(alloc, plan, text)?;
     if !is_blank(rest) {
-        return Err(not_canonical());
+        return Err(non_canonical_error());
     }
     Ok(cert)
 }

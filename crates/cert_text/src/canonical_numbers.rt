@@ -20,59 +20,59 @@ pub struct NotCanonical;
 pub type CanonicalError = ReadError<NotCanonical>;
 
 /// Returns the error for a text that is not in canonical form.
-pub fn not_canonical() -> CanonicalError {
+pub fn non_canonical_error() -> CanonicalError {
     ReadError::Fault(NotCanonical)
 }
 
 /// Strips a prefix and returns the rest.
-pub fn behind<'a>(text: &'a [u8], front: &[u8]) -> Result<&'a [u8], CanonicalError>
-    ensures { IfOk result (λ rest. text.now ≡ front.now ++ rest.now) }
+pub fn strip_bytes<'a>(text: &'a [u8], prefix: &[u8]) -> Result<&'a [u8], CanonicalError>
+    ensures { IfOk result (λ rest. text.now ≡ prefix.now ++ rest.now) }
 {
-    match text.strip_prefix(front) {
+    match text.strip_prefix(prefix) {
         Some(rest) => Ok(rest),
-        None => Err(not_canonical()),
+        None => Err(non_canonical_error()),
     }
 }
 
 /// Strips the first byte and returns the rest.
 #[inline(always)]
-pub fn behind_byte(text: &[u8], byte: u8) -> Result<&[u8], CanonicalError>
+pub fn strip_byte(text: &[u8], byte: u8) -> Result<&[u8], CanonicalError>
     ensures { IfOk result (λ rest. text.now ≡ byte ∷ rest.now) }
 {
     match text.split_first() {
         Some((first, rest)) if *first == byte => Ok(rest),
-        _ => Err(not_canonical()),
+        _ => Err(non_canonical_error()),
     }
 }
 
 /// Strips the comma before the list element at index `place` and returns the rest. The first
 /// element has no comma.
 #[inline(always)]
-pub fn behind_comma(text: &[u8], place: usize) -> Result<&[u8], CanonicalError>
+pub fn strip_comma(text: &[u8], place: usize) -> Result<&[u8], CanonicalError>
     ensures { IfOk result (λ rest. text.now ≡ comma_if (nat_lt 0 place) ++ rest.now) }
 {
     if place == 0 {
         Ok(text)
     } else {
-        behind_byte(text, b',')
+        strip_byte(text, b',')
     }
 }
 
 /// Creates an empty list with room for `count` elements. Fails if the text has fewer than `count`
 /// bytes, so that a short text never causes a large allocation.
-pub fn list_for<T>(alloc: Global, count: usize, text: &[u8]) -> Result<Vec<T>, CanonicalError>
+pub fn list_with_capacity<T>(alloc: Global, count: usize, text: &[u8]) -> Result<Vec<T>, CanonicalError>
     ensures items { IfOk result (λ list. list.items ≡ []) }
     ensures len { IfOk result (λ list. vec_len list ≡ 0) }
     ensures capacity { IfOk result (λ list. vec_capacity list ≡ count) }
 {
     if text.len() < count {
-        return Err(not_canonical());
+        return Err(non_canonical_error());
     }
     Ok(Vec::with_capacity(alloc, count)?)
 }
 
 #[inline(always)]
-fn leading_digit(text: &[u8]) -> Option<(u64, &[u8])>
+fn parse_digit(text: &[u8]) -> Option<(u64, &[u8])>
     ensures digit { IfSome result (λ read. read.0 < 10) }
     ensures text { IfSome result (λ read. text.now ≡ (48 + read.0) ∷ read.1.now) }
 {
@@ -84,30 +84,30 @@ fn leading_digit(text: &[u8]) -> Option<(u64, &[u8])>
 
 /// Parses a number at the start of a text, and returns it with the rest.
 #[inline(always)]
-fn leading_number(text: &[u8]) -> Result<(u64, &[u8]), CanonicalError>
+fn parse_number(text: &[u8]) -> Result<(u64, &[u8]), CanonicalError>
     ensures text { IfOk result (λ read. text.now ≡ decimal read.0 ++ read.1.now) }
     ensures small { IfOk result (λ read. IsTrue (is_small read.0)) }
 {
-    let Some((first, behind)) = leading_digit(text) else {
-        return Err(not_canonical());
+    let Some((first, remaining)) = parse_digit(text) else {
+        return Err(non_canonical_error());
     };
     if first == 0 {
-        return Ok((0, behind));
+        return Ok((0, remaining));
     }
     let mut value = first;
-    let mut rest = behind;
-    'digits: while let Some((digit, behind)) = leading_digit(rest) {
+    let mut rest = remaining;
+    'digits: while let Some((digit, remaining)) = parse_digit(rest) {
         value = value * 10 + digit;
         if value > MAX_WEIGHT {
-            return Err(not_canonical());
+            return Err(non_canonical_error());
         }
-        rest = behind;
+        rest = remaining;
     }
     Ok((value, rest))
 }
 
 /// Parses a list of `count` numbers at the start of a text, and returns it with the rest.
-pub fn leading_numbers(
+pub fn parse_numbers(
     alloc: Global,
     count: usize,
     text: &[u8],
@@ -116,13 +116,13 @@ pub fn leading_numbers(
     ensures count { IfOk result (λ read. length read.0.items ≡ count) }
     ensures small { IfOk result (λ read. IsTrue (list_all is_small read.0.items)) }
 {
-    let mut numbers = list_for(alloc, count, text)?;
-    let mut rest = behind_byte(text, b'[')?;
+    let mut numbers = list_with_capacity(alloc, count, text)?;
+    let mut rest = strip_byte(text, b'[')?;
     for place in 0..count {
-        let element = behind_comma(rest, place)?;
-        let (number, behind) = leading_number(element)?;
+        let element = strip_comma(rest, place)?;
+        let (number, remaining) = parse_number(element)?;
         numbers.push_reserved(number);
-        rest = behind;
+        rest = remaining;
     }
-    Ok((numbers, behind_byte(rest, b']')?))
+    Ok((numbers, strip_byte(rest, b']')?))
 }

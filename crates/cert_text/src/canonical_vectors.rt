@@ -8,7 +8,7 @@ ghost use Rattle.cert_text.specs.CertText as spec;
 ghost use Rattle.cert_text.specs.Canonical.{BeginsAs, AreRows};
 
 use crate::canonical_numbers::{
-    CanonicalError, behind, behind_byte, behind_comma, leading_numbers, list_for,
+    CanonicalError, strip_bytes, strip_byte, strip_comma, parse_numbers, list_with_capacity,
 };
 use crate::vectors::{class_points, client_points};
 use job_bodies::Plan;
@@ -16,7 +16,7 @@ use std::alloc::Global;
 use weights::Vector;
 
 /// Parses a row for each class.
-fn leading_class_rows<'a>(
+fn parse_class_rows<'a>(
     alloc: Global,
     plan: &Plan,
     text: &'a [u8],
@@ -30,19 +30,19 @@ fn leading_class_rows<'a>(
         (λ read. IsTrue (list_all (list_all is_small) (map (λ row. row.items) read.0.items))) }
 {
     let count = plan.classes().len();
-    let mut rows = list_for(alloc, count, text)?;
-    let mut rest = behind_byte(text, b'[')?;
+    let mut rows = list_with_capacity(alloc, count, text)?;
+    let mut rest = strip_byte(text, b'[')?;
     for place in 0..count {
-        let element = behind_comma(rest, place)?;
-        let (row, behind) = leading_numbers(alloc, class_points(plan, place), element)?;
+        let element = strip_comma(rest, place)?;
+        let (row, remaining) = parse_numbers(alloc, class_points(plan, place), element)?;
         rows.push(row)?;
-        rest = behind;
+        rest = remaining;
     }
-    Ok((rows, behind_byte(rest, b']')?))
+    Ok((rows, strip_byte(rest, b']')?))
 }
 
 /// Parses a row for each kind of client.
-fn leading_client_rows<'a>(
+fn parse_client_rows<'a>(
     alloc: Global,
     plan: &Plan,
     text: &'a [u8],
@@ -56,19 +56,19 @@ fn leading_client_rows<'a>(
         (λ read. IsTrue (list_all (list_all is_small) (map (λ row. row.items) read.0.items))) }
 {
     let count = plan.clients().len();
-    let mut rows = list_for(alloc, count, text)?;
-    let mut rest = behind_byte(text, b'[')?;
+    let mut rows = list_with_capacity(alloc, count, text)?;
+    let mut rest = strip_byte(text, b'[')?;
     for place in 0..count {
-        let element = behind_comma(rest, place)?;
-        let (row, behind) = leading_numbers(alloc, client_points(plan, place), element)?;
+        let element = strip_comma(rest, place)?;
+        let (row, remaining) = parse_numbers(alloc, client_points(plan, place), element)?;
         rows.push(row)?;
-        rest = behind;
+        rest = remaining;
     }
-    Ok((rows, behind_byte(rest, b']')?))
+    Ok((rows, strip_byte(rest, b']')?))
 }
 
 /// Parses a vector at the start of a text, and returns it with the rest.
-pub fn leading_vector<'a>(
+pub fn parse_vector<'a>(
     alloc: Global,
     plan: &Plan,
     text: &'a [u8],
@@ -76,13 +76,13 @@ pub fn leading_vector<'a>(
     ensures text { IfOk result (λ read. BeginsAs text.now (spec.vector_data read.0) read.1.now) }
     ensures fits { IfOk result (λ read. IsTrue (vector_fits plan.now read.0)) }
 {
-    let rest = behind(text, b"{\"classes\":")?;
-    let (classes, rest) = leading_class_rows(alloc, plan, rest)?;
-    let rest = behind(rest, b",\"clients\":")?;
-    let (clients, rest) = leading_client_rows(alloc, plan, rest)?;
-    let rest = behind(rest, b",\"workers\":")?;
-    let (workers, rest) = leading_numbers(alloc, plan.pools().len(), rest)?;
-    let rest = behind_byte(rest, b'}')?;
+    let rest = strip_bytes(text, b"{\"classes\":")?;
+    let (classes, rest) = parse_class_rows(alloc, plan, rest)?;
+    let rest = strip_bytes(rest, b",\"clients\":")?;
+    let (clients, rest) = parse_client_rows(alloc, plan, rest)?;
+    let rest = strip_bytes(rest, b",\"workers\":")?;
+    let (workers, rest) = parse_numbers(alloc, plan.pools().len(), rest)?;
+    let rest = strip_byte(rest, b'}')?;
     let vector = Vector {
         workers,
         classes,

@@ -1,6 +1,6 @@
 //! The JSON value of a certificate's text.
 
-ghost use Rattle.support.specs.Given.{Gives};
+ghost use Rattle.support.specs.Results.{Gives};
 ghost use Rattle.serde_json.specs.View.{view};
 ghost use Rattle.cert_text.specs.CertOf as spec;
 

@@ -7,7 +7,7 @@ ghost use Rattle.cert_text.specs.Values as spec;
 
 use std::fmt;
 use support::number::WRONG_SHAPE;
-use support::{Head, ReadError};
+use support::{FaultHead, ReadError};
 
 /// The first fault of a certificate's text.
 #[derive(Clone, Copy, Debug, PartialEq, Eq)]
@@ -21,7 +21,7 @@ impl fmt::Display for CertFault {
     ghost output = { λ fault. Some (head fault.number) };
 
     fn fmt<W: fmt::Write>(&self, f: &mut fmt::Formatter<W>) -> fmt::Result {
-        let head = Head(self.number);
+        let head = FaultHead(self.number);
         write!(f, "{head}")
     }
 }

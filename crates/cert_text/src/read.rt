@@ -1,13 +1,13 @@
 //! Parsing a certificate.
 
 ghost use Rattle.std.specs.Prelude.{◌≡◌, ◌≢◌, IfOk, IfErr, IsTrue, Ok, Err};
-ghost use Rattle.support.specs.Given.{Gives};
+ghost use Rattle.support.specs.Results.{Gives};
 ghost use Rattle.cert_text.specs.Cert.{cert_fits};
 ghost use Rattle.serde_json.specs.View.{view};
 ghost use Rattle.cert_text.specs.CertOf as spec;
 
 use crate::Cert;
-use crate::canonical::canonical_cert;
+use crate::canonical::parse_canonical_cert;
 use crate::document::document_of;
 use crate::fault::{CertError, CertFault, fault};
 use crate::shape::shape_of;
@@ -52,7 +52,7 @@ pub fn read_cert(alloc: Global, bytes: &[u8], plan: &Plan) -> Result<Cert, CertF
 fn cert_of(alloc: Global, bytes: &[u8], plan: &Plan) -> Result<Cert, CertError>
     ensures { Gives (λ cert. cert) result (spec.cert_of bytes.now plan.now) }
 {
-    match canonical_cert(alloc, bytes, plan) {
+    match parse_canonical_cert(alloc, bytes, plan) {
         Ok(cert) => Ok(cert),
         Err(ReadError::Memory) => Err(ReadError::Memory),
         Err(ReadError::Fault(_)) => cert_of_json(alloc, bytes, plan),

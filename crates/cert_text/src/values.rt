@@ -2,7 +2,7 @@
 //! known keys.
 
 ghost use Rattle.std.specs.Prelude.{◌≡◌, map, option_map};
-ghost use Rattle.support.specs.Given.{Gives};
+ghost use Rattle.support.specs.Results.{Gives};
 ghost use Rattle.serde_json.specs.Find.{as_object};
 ghost use Rattle.serde_json.specs.View.{view};
 ghost use Rattle.cert_text.specs.Values as spec;

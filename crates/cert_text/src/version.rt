@@ -2,7 +2,7 @@
 
 ghost use Rattle.std.specs.Prelude.{◌≡◌};
 ghost use Rattle.std.specs.List.{list_any};
-ghost use Rattle.support.specs.Given.{Gives};
+ghost use Rattle.support.specs.Results.{Gives};
 ghost use Rattle.serde_json.specs.View.{view};
 ghost use Rattle.weights.specs.Bound.{is_lifetime};
 ghost use Rattle.cert_text.specs.CertText.{version_number};

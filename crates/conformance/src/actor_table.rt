@@ -12,7 +12,7 @@ ghost use Rattle.conformance.specs.Left.{AreJobsAmong, AreRoundsAmong};
 
 use recordings::{RecordedActor, RecordedDeed};
 use std::alloc::{AllocError, Global};
-use support::NumberTable;
+use support::IdMap;
 
 /// An unsettled actor. It is open, or it has ended and waits for a job of its path.
 #[derive(Drop)]
@@ -48,8 +48,8 @@ impl KeptActor {
 /// The unsettled actors, by number.
 #[derive(Drop)]
 pub(crate) struct ActorTable {
-    pub(crate) jobs: NumberTable<KeptActor>,
-    pub(crate) rounds: NumberTable<KeptActor>,
+    pub(crate) jobs: IdMap<KeptActor>,
+    pub(crate) rounds: IdMap<KeptActor>,
 }
 
 impl ActorTable {
@@ -58,8 +58,8 @@ impl ActorTable {
         ensures { (one : RecordedActor) → in_table result one ≡ None }
     {
         ActorTable {
-            jobs: NumberTable::new(alloc),
-            rounds: NumberTable::new(alloc),
+            jobs: IdMap::new(alloc),
+            rounds: IdMap::new(alloc),
         }
     }
 
@@ -206,7 +206,7 @@ impl ActorTable {
     }
 }
 
-fn numbers_of(alloc: Global, actors: &NumberTable<KeptActor>) -> Result<Vec<usize>, AllocError>
+fn numbers_of(alloc: Global, actors: &IdMap<KeptActor>) -> Result<Vec<usize>, AllocError>
     ensures all { IfOk result (λ numbers.
         (number : ℕ)
         → is_some (value_at actors.now number) ≡ true

@@ -11,7 +11,7 @@ ghost use Rattle.conformance.specs.Kept.{Keeps, AreTaken, classes_in, is_settled
 use crate::{Deed, PathFamily};
 use recordings::{RecordedActor, RecordedDeed};
 use std::alloc::{AllocError, Global};
-use support::NumberTable;
+use support::IdMap;
 
 /// The classes that a job can belong to.
 #[derive(Drop)]
@@ -23,7 +23,7 @@ pub(crate) struct JobClasses {
 /// The classes of the settled jobs whose submitters are not settled, by job number.
 #[derive(Drop)]
 pub(crate) struct ClassTable {
-    jobs: NumberTable<JobClasses>,
+    jobs: IdMap<JobClasses>,
     alloc: Global,
 }
 
@@ -33,7 +33,7 @@ impl ClassTable {
         ensures { (job : ℕ) → classes_in result job ≡ None }
     {
         ClassTable {
-            jobs: NumberTable::new(alloc),
+            jobs: IdMap::new(alloc),
             alloc,
         }
     }

@@ -12,12 +12,12 @@ use crate::other_kinds::OtherKinds;
 use job_bodies::Plan;
 use recordings::Line;
 use std::alloc::{AllocError, Global};
-use support::NumberTable;
+use support::IdMap;
 
 /// The kind of each open round, or `None` for an open round of no kind.
 #[derive(Drop)]
 pub(crate) struct OpenRounds {
-    kinds: NumberTable<Option<usize>>,
+    kinds: IdMap<Option<usize>>,
 }
 
 impl OpenRounds {
@@ -26,7 +26,7 @@ impl OpenRounds {
         ensures { (kinds : List (Option ℕ)) → spec.AreOpen kinds [] result }
     {
         OpenRounds {
-            kinds: NumberTable::new(alloc),
+            kinds: IdMap::new(alloc),
         }
     }
 

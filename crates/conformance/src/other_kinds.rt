@@ -10,12 +10,12 @@ use crate::{Settled, first_client};
 use job_bodies::Plan;
 use recordings::RecordedActor;
 use std::alloc::{AllocError, Global};
-use support::NumberTable;
+use support::IdMap;
 
 /// The kinds of the rounds that belong to another kind than the first of their label.
 #[derive(Drop)]
 pub(crate) struct OtherKinds {
-    kinds: NumberTable<usize>,
+    kinds: IdMap<usize>,
     /// True if there is such a round.
     pub(crate) has_any: bool,
 }
@@ -26,7 +26,7 @@ impl OtherKinds {
         ensures { (plan : plans.Plan) → spec.AreOtherKinds plan [] result }
     {
         OtherKinds {
-            kinds: NumberTable::new(alloc),
+            kinds: IdMap::new(alloc),
             has_any: false,
         }
     }

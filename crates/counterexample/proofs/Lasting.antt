@@ -6,7 +6,7 @@ use Rattle.std.proofs.lemmas.Bool.{and_parts, eqb-true}
 use Rattle.support.proofs.Members.{list_any_at_In, In-from_list_any}
 use Rattle.job_bodies.specs.Plan.{Plan, pool_at}
 use Rattle.job_bodies.specs.WellFormed.{IsWellFormed}
-use Rattle.job_bodies.proofs.Bodies.{IsOrdered, ordered}
+use Rattle.job_bodies.proofs.Bodies.{HasValidBodies, ordered}
 use Rattle.pool_machine.proofs.Events.{started_below}
 use Rattle.written_machine.specs.State.{Stage, State, job_at, pool_of, pool_seen, is_queued, is_queued_in, threads}
 use Rattle.written_machine.specs.Reach.{IsReached}
@@ -35,7 +35,7 @@ abbrev threads_for_max : Plan → State → List ℕ → ℕ → ℕ
 threads_for_max plan s members q = cond (queues_member plan s members q) (threads plan s q) (pool_at plan q).max
 
 -- a pool with a queued job has at least core threads
-queued_at_core : (plan : Plan) (s : State) (j q : ℕ) → IsOrdered plan → Kept plan s → is_queued_in plan q (job_at s j) ≡ true → (q < length plan.pools) × ((pool_at plan q).core ≤ threads plan s q)
+queued_at_core : (plan : Plan) (s : State) (j q : ℕ) → HasValidBodies plan → Kept plan s → is_queued_in plan q (job_at s j) ≡ true → (q < length plan.pools) × ((pool_at plan q).core ≤ threads plan s q)
 queued_at_core plan s j q ordered kept is_in =
     let own = pool_of plan (job_at s j).class in
     let parts = and_parts (is_queued (job_at s j).stage) (eqb own q) is_in in
@@ -81,7 +81,7 @@ module _ (plan : Plan) (s : State) (members : List ℕ) (well_formed : IsWellFor
       (λ is_queue. let found = known q is_queue in ((queued_at_core plan s found.0 q (ordered plan well_formed) has_kept found.2).1, (has_kept.pools q inside).within_max))
       ((ordered plan well_formed).max q inside)
 
-  low_ordered : IsOrdered low
+  low_ordered : HasValidBodies low
   low_ordered = ordered-lowered plan most (ordered plan well_formed) between
 
   -- the maximum of a pool with a queued member

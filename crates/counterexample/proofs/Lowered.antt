@@ -6,8 +6,8 @@ use Rattle.std.proofs.lemmas.Grind.{common_steps}
 use Rattle.job_bodies.specs.declared.action.Action.{Action}
 use Rattle.job_bodies.specs.declared.action.Action.TheVariants as action
 use Rattle.job_bodies.specs.Plan.{Pool, Plan, no_pool, pool_at, class_at, client_at}
-use Rattle.job_bodies.specs.Lawful.{IsLawful}
-use Rattle.job_bodies.proofs.Bodies.{IsOrdered}
+use Rattle.job_bodies.specs.ValidBody.{IsValidBody}
+use Rattle.job_bodies.proofs.Bodies.{HasValidBodies}
 use Rattle.pool_machine.specs.declared.offer.Offer.{Offer}
 use Rattle.pool_machine.specs.declared.offer.Offer.TheVariants as offer
 use Rattle.pool_machine.specs.PoolState.{PoolView, new_pool, answer}
@@ -75,13 +75,13 @@ max-lowered plan most p inside = max_from most 0 plan.pools p inside ∙ ap most
 pub start-lowered : (plan : Plan) (most : ℕ → ℕ) → start (lowered plan most) ≡ start plan
 start-lowered plan most = ap (λ (parts : List PoolPart). record (start plan) { pools = parts }) (parts_from most 0 plan.pools)
 
-lawful-lowered : (plan : Plan) (most : ℕ → ℕ) (body : List Action) → IsLawful plan body → IsLawful (lowered plan most) body
-lawful-lowered plan most body lawful = record { short = lawful.short; work = lawful.work; submit = lawful.submit; behind = lawful.behind; of_submit = lawful.of_submit; once = lawful.once }
+valid-lowered : (plan : Plan) (most : ℕ → ℕ) (body : List Action) → IsValidBody plan body → IsValidBody (lowered plan most) body
+valid-lowered plan most body valid = record { short = valid.short; work = valid.work; submit = valid.submit; behind = valid.behind; of_submit = valid.of_submit; once = valid.once }
 
-pub ordered-lowered : (plan : Plan) (most : ℕ → ℕ) → IsOrdered plan → IsBetween plan most → IsOrdered (lowered plan most)
+pub ordered-lowered : (plan : Plan) (most : ℕ → ℕ) → HasValidBodies plan → IsBetween plan most → HasValidBodies (lowered plan most)
 ordered-lowered plan most ordered between = record {
-  classes = λ k. lawful-lowered plan most (class_at plan k).body (ordered.classes k);
-  clients = λ c. lawful-lowered plan most (client_at plan c).body (ordered.clients c);
+  classes = λ k. valid-lowered plan most (class_at plan k).body (ordered.classes k);
+  clients = λ c. valid-lowered plan most (client_at plan c).body (ordered.clients c);
   pools = λ k inside. let some = ordered.pools k inside in omega (arith, length-lowered plan most);
   core = λ p inside. let some = ordered.core p (there p inside) in omega (arith, core-lowered plan most p);
   max = λ p inside. let high = (between p (there p inside)).0 in omega (arith, core-lowered plan most p, max-lowered plan most p (there p inside));
@@ -144,7 +144,7 @@ StartsBelow plan most s = (a : Parent) (body : List Action) (i k : ℕ) → Stan
 stands-lowered : (plan : Plan) (most : ℕ → ℕ) (s : State) (a : Parent) (body : List Action) (i : ℕ) (there : Option Action) → StandsAt plan s a body i there → StandsAt (lowered plan most) s a body i there
 stands-lowered plan most s a body i there at = record { stands = at.stands; is_there = at.is_there }
 
-pub happens-lowered : (plan : Plan) (most : ℕ → ℕ) (s s' : State) (e : Event) (o : Outcome) → IsOrdered plan → IsBetween plan most → StartsBelow plan most s → Happens plan s e s' o → step plan s e ≡ Some (s', o) → Happens (lowered plan most) s e s' o
+pub happens-lowered : (plan : Plan) (most : ℕ → ℕ) (s s' : State) (e : Event) (o : Outcome) → HasValidBodies plan → IsBetween plan most → StartsBelow plan most s → Happens plan s e s' o → step plan s e ≡ Some (s', o) → Happens (lowered plan most) s e s' o
 happens-lowered plan most s s' e o ordered between below (works a body i u at) is_step = works a body i u (stands-lowered plan most s a body i (Some (action.Work u)) at)
 happens-lowered plan most s s' e o ordered between below (starts a body i k at room) is_step =
     let q = pool_of plan k in

@@ -6,7 +6,7 @@ use Rattle.job_bodies.specs.declared.action.Action.{Action}
 use Rattle.job_bodies.specs.declared.action.Action.TheVariants as action
 use Rattle.job_bodies.specs.Plan.{Plan, pool_at}
 use Rattle.job_bodies.specs.WellFormed.{IsWellFormed}
-use Rattle.job_bodies.proofs.Bodies.{IsOrdered, ordered}
+use Rattle.job_bodies.proofs.Bodies.{HasValidBodies, ordered}
 use Rattle.pool_machine.specs.declared.offer.Offer.TheVariants as offer
 use Rattle.pool_machine.specs.PoolState.{answer}
 use Rattle.pool_machine.proofs.Events.{started_below}
@@ -21,7 +21,7 @@ use Rattle.written_machine.proofs.Kept.{Kept}
 use Rattle.written_machine.proofs.KeptStart.{kept_start}
 use Rattle.written_machine.proofs.KeptStep.{kept_step}
 use Rattle.written_machine.proofs.Reached.{replay_none, kept}
-use Rattle.weights.specs.declared.at_get.AtGet.TheVariants.{GivesBack}
+use Rattle.weights.specs.declared.get_return.GetReturn.TheVariants.{DoneWeight}
 use Rattle.soundness.proofs.BoundLaws.{standing_laws}
 use Rattle.soundness.proofs.NoRefusal.{standing_refuses_nothing}
 use Rattle.soundness.proofs.ReachedLaws.{balanced}
@@ -54,7 +54,7 @@ pub starts_below_core : (plan : Plan) (s : State) (a : Parent) (body : List Acti
 starts_below_core plan s a body i k well_formed reached standing at starts =
     let laws = standing_laws plan (pool_of plan k) standing.vector standing.hold in
     ⊎_elim (λ below. below)
-    (λ full. absurd (standing_refuses_nothing plan standing.vector s a body i k (ordered plan well_formed) laws (kept plan s well_formed reached) (balanced GivesBack plan standing.vector s well_formed laws.laws reached) at full))
+    (λ full. absurd (standing_refuses_nothing plan standing.vector s a body i k (ordered plan well_formed) laws (kept plan s well_formed reached) (balanced DoneWeight plan standing.vector s well_formed laws.laws reached) at full))
     (started_when (pool_seen plan s (pool_of plan k)) starts)
 
 -- the maximums of the plan in which the maximum of the pool is its core
@@ -65,7 +65,7 @@ between_cond : (b : Bool) (low high : ℕ) → low ≤ high → (low ≤ cond b 
 between_cond true low high h = (omega arith, h)
 between_cond false low high h = (h, omega arith)
 
-between_core : (plan : Plan) (p : ℕ) → IsOrdered plan → IsBetween plan (core_for_max plan p)
+between_core : (plan : Plan) (p : ℕ) → HasValidBodies plan → IsBetween plan (core_for_max plan p)
 between_core plan p ordered q inside = between_cond (eqb q p) (pool_at plan q).core (pool_at plan q).max (ordered.max q inside)
 
 below_cond : (b : Bool) (n low high : ℕ) → (b ≡ true → n < low) → (n < low) ⊎ (n < high) → (n < cond b low high) ⊎ (n < low)

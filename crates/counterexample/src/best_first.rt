@@ -205,7 +205,7 @@ impl<'a> BestFirst<'a> {
         number: usize,
         branch: Branch,
     ) -> Result<Option<Bad>, AllocError> {
-        let mut walk = reached.walk.copied(self.alloc)?;
+        let mut walk = reached.walk.try_clone(self.alloc)?;
         match walk.choose(branch.place, branch.behind)? {
             Stepped::Refused => return Ok(Some(Bad::Refused)),
             Stepped::Nothing => return Ok(None),

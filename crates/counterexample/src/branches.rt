@@ -23,13 +23,13 @@ pub(crate) struct Branch {
 
 impl<'a> Walk<'a> {
     /// Returns a copy of the walk in the same state, with an empty script.
-    pub(crate) fn copied(&self, alloc: Global) -> Result<Walk<'a>, AllocError> {
+    pub(crate) fn try_clone(&self, alloc: Global) -> Result<Walk<'a>, AllocError> {
         let mut ready = Vec::with_capacity(alloc, self.ready.len())?;
         for actors in &self.ready {
             ready.push(Vec::from_slice(alloc, actors)?)?;
         }
         Ok(Walk {
-            machine: self.machine.copied(alloc)?,
+            machine: self.machine.try_clone(alloc)?,
             choices: self.choices,
             script: Script::nothing(alloc),
             ready,

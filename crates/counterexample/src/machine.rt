@@ -78,7 +78,7 @@ impl<'a> Machine<'a> {
     }
 
     /// Returns a copy of the machine.
-    pub(crate) fn copied(&self, alloc: Global) -> Result<Machine<'a>, AllocError> {
+    pub(crate) fn try_clone(&self, alloc: Global) -> Result<Machine<'a>, AllocError> {
         let mut pools = Vec::with_capacity(alloc, self.pools.len())?;
         for pool in &self.pools {
             pools.push(pool.copied()?)?;

@@ -2,7 +2,7 @@
 
 use crate::entry::{PlacedEntry, list_of};
 use crate::notes::Notes;
-use job_bodies::is_lawful_name;
+use job_bodies::is_valid_name;
 use std::alloc::{AllocError, Global};
 use support::number::{BAD_NAME, DOUBLE_NAME};
 
@@ -16,7 +16,7 @@ pub(crate) fn name(
         return Ok(());
     };
     let place = entry.value_place("name");
-    if !is_lawful_name(name) {
+    if !is_valid_name(name) {
         let rule = name_rule(notes.alloc, name)?;
         return entry.tell(notes, BAD_NAME, place, &rule);
     }
@@ -35,7 +35,7 @@ pub(crate) fn name(
 pub(crate) fn name_rule(alloc: Global, name: &str) -> Result<String, AllocError> {
     let lawful = lawful_of(alloc, name)?;
     let rule = "a name is a small letter and at most 31 small letters, digits and _ behind it";
-    if is_lawful_name(&lawful) {
+    if is_valid_name(&lawful) {
         format!(in alloc; "{rule}, as {lawful}")
     } else {
         String::from_str(alloc, rule)

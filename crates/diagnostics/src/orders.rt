@@ -2,7 +2,7 @@
 
 use crate::names::name_rule;
 use crate::near::meant;
-use job_bodies::{MAX_WORK, is_lawful_name};
+use job_bodies::{MAX_WORK, is_valid_name};
 use std::alloc::{AllocError, Global};
 
 /// An action as it is written.
@@ -43,11 +43,11 @@ pub(crate) fn order_of(text: &str) -> Option<Order<'_>> {
     } = words_of(text);
     match (verb, count) {
         ("work", 2) if is_length(first) => Some(Order::Work),
-        ("submit", 2) if is_lawful_name(first) => Some(Order::Submit(first)),
-        ("submit", 4) if word == "as" && is_lawful_name(first) && is_lawful_name(slot) => {
+        ("submit", 2) if is_valid_name(first) => Some(Order::Submit(first)),
+        ("submit", 4) if word == "as" && is_valid_name(first) && is_valid_name(slot) => {
             Some(Order::SubmitAs(first, slot))
         }
-        ("get", 2) if is_lawful_name(first) => Some(Order::Get(first)),
+        ("get", 2) if is_valid_name(first) => Some(Order::Get(first)),
         _ => None,
     }
 }
@@ -136,7 +136,7 @@ fn submit_slip(
     if class == "as" && count == 3 {
         return format!(in alloc; "a submit names a class before as: write submit CLASS as {word}");
     }
-    if !is_lawful_name(class) {
+    if !is_valid_name(class) {
         return name_rule(alloc, class);
     }
     if count == 4 && word == "as" {

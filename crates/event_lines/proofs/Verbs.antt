@@ -3,13 +3,13 @@ use Rattle.std.proofs.Common.{◌≡◌, ◌≢◌, ℕ, true, List, [], ◌∷�
 use Rattle.job_bodies.specs.Plan.{Plan}
 use Rattle.written_machine.specs.declared.event.Event.{Event}
 use Rattle.written_machine.specs.declared.event.Event.TheVariants.{Client, Job, Take, Retire}
-use Rattle.line_words.specs.Pieces.{first_line, behind_line}
+use Rattle.line_words.specs.Pieces.{first_line, after_line}
 use Rattle.line_words.specs.Number.{number_of, split_number_line}
 use Rattle.event_lines.specs.Words.{members_in}
 use Rattle.event_lines.specs.EventLine.{Line, Happens, Stuck, pool_named, event_of, stuck_of, line_of_verb, line_of, split_event_line}
 use Rattle.event_lines.specs.LineText.{line_text}
 use Rattle.line_words.proofs.Splits.{has_no}
-use Rattle.line_words.proofs.FirstPieces.{place, first_behind, first_and_more}
+use Rattle.line_words.proofs.FirstPieces.{place, first_after, first_and_more}
 use Rattle.event_lines.proofs.WrittenLines.{by_verb, read_line_is_text}
 
 -- ---- a whole line
@@ -60,10 +60,10 @@ actor_line : (plan : Plan) (text word number : List ℕ) (event : ℕ → Event)
     → line_of plan (word ++ first_line number) ≡ option_map Happens (option_map event (number_of (first_line number)))
     → split_event_line plan text ≡ option_map {U = Line × List ℕ} (λ read. (Happens (event read.0), read.1)) (split_number_line number)
 actor_line plan text word number event is plain said =
-    let first = first_behind word number plain in
+    let first = first_after word number plain in
     let line : line_of plan (first_line text) ≡ option_map Happens (option_map event (number_of (first_line number))) = ap (λ (t : List ℕ). line_of plan (first_line t)) is ∙ ap (line_of plan) first.0 ∙ said in
-    let behind : behind_line text ≡ behind_line number = ap behind_line is ∙ first.1 in
-    rw (line, behind) (by_number (number_of (first_line number)) (behind_line number))
+    let behind : after_line text ≡ after_line number = ap after_line is ∙ first.1 in
+    rw (line, behind) (by_number (number_of (first_line number)) (after_line number))
   where
     by_number : (o : Option ℕ) (rest : List ℕ) → option_map {U = Line × List ℕ} (λ line. (line, rest)) (option_map Happens (option_map event o)) ≡ option_map {U = Line × List ℕ} (λ read. (Happens (event read.0), read.1)) (option_map {U = ℕ × List ℕ} (λ n. (n, rest)) o)
     by_number None rest = refl

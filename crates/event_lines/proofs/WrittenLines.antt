@@ -11,11 +11,11 @@ use Rattle.job_bodies.specs.WellFormed.{are_distinct}
 use Rattle.written_machine.specs.declared.event.Event.{Event}
 use Rattle.written_machine.specs.declared.event.Event.TheVariants.{Client, Job, Take, Retire}
 use Rattle.line_words.specs.Pieces.{is_space, split_space, words_of}
-use Rattle.line_words.specs.Number.{number_of, is_lawful_number}
+use Rattle.line_words.specs.Number.{number_of, is_valid_number}
 use Rattle.event_lines.specs.EventLine.{Line, Happens, Stuck, pool_named, event_of, stuck_of, line_of_verb, line_of}
 use Rattle.event_lines.specs.Words.{all_of}
 use Rattle.event_lines.specs.LineText.{event_text, line_text, is_lawful_event, is_lawful_line}
-use Rattle.line_words.proofs.Splits.{has_no, has_no-append, cut_at, cut_joined, joined_behind, flat_map-map, is_piece}
+use Rattle.line_words.proofs.Splits.{has_no, has_no-append, cut_at, cut_joined, joined_after, flat_map-map, is_piece}
 use Rattle.line_words.proofs.FirstSpace.{splits, split_parts}
 use Rattle.line_words.proofs.Partial.{map_some}
 use Rattle.line_words.proofs.WrittenNumbers.{number_read, number_written, decimal_has_no}
@@ -60,7 +60,7 @@ name_written plan p distinct within =
 -- ---- members
 -- the words are the digits of valid numbers
 abbrev AreMembers : List (List ℕ) → List ℕ → Type 0
-AreMembers words members = (list_all is_lawful_number members ≡ true) × (words ≡ map decimal members)
+AreMembers words members = (list_all is_valid_number members ≡ true) × (words ≡ map decimal members)
 
 members_read : (words : List (List ℕ)) (members : List ℕ) → all_of number_of words ≡ Some members → AreMembers words members
 members_read [] [] read = (refl, refl)
@@ -72,15 +72,15 @@ members_read (word ∷ words) members read =
     let others = members_read words more.0 more.1 in
     subst (λ (ms : List ℕ). AreMembers (word ∷ words) ms) more.2 (and_from _ _ one.0 others.0, ap₂ (λ (x : List ℕ) (xs : List (List ℕ)). x ∷ xs) one.1 others.1))
 
-members_written : (members : List ℕ) → list_all is_lawful_number members ≡ true → all_of number_of (map decimal members) ≡ Some members
-members_written [] lawful = refl
-members_written (n ∷ members) lawful =
-    let parts = and_parts (is_lawful_number n) (list_all is_lawful_number members) lawful in
+members_written : (members : List ℕ) → list_all is_valid_number members ≡ true → all_of number_of (map decimal members) ≡ Some members
+members_written [] valid = refl
+members_written (n ∷ members) valid =
+    let parts = and_parts (is_valid_number n) (list_all is_valid_number members) valid in
     rw (number_written n parts.0, members_written members parts.1) refl
 
 -- the text after `stuck`
 behind_stuck : (n : ℕ) (members : List ℕ) → 32 ∷ join_with_byte 32 (map decimal (n ∷ members)) ≡ flat_map (λ m. 32 ∷ decimal m) (n ∷ members)
-behind_stuck n members = joined_behind 32 (decimal n) (map decimal members) ∙ flat_map-map (λ x. 32 ∷ x) decimal (n ∷ members)
+behind_stuck n members = joined_after 32 (decimal n) (map decimal members) ∙ flat_map-map (λ x. 32 ∷ x) decimal (n ∷ members)
 
 -- words that are the digits of members make up the text of the question
 words_read : (rest : List ℕ) (members : List ℕ) → words_of rest ≡ map decimal members → (nat_le 1 (length members) ≡ true) × (32 ∷ rest ≡ flat_map (λ m. 32 ∷ decimal m) members)
@@ -89,17 +89,17 @@ words_read rest [] same = absurd (omega (arith, length-slice_split is_space rest
 words_read rest (n ∷ members) same =
     (le-leb 1 _ (omega arith), ap (λ (r : List ℕ). 32 ∷ r) (sym (join_with_byte-slice_split 32 rest) ∙ ap (join_with_byte 32) same) ∙ behind_stuck n members)
 
-digits_without_space : (members : List ℕ) → list_all is_lawful_number members ≡ true → list_all (has_no 32) (map decimal members) ≡ true
-digits_without_space [] lawful = refl
-digits_without_space (n ∷ members) lawful =
-    let parts = and_parts (is_lawful_number n) (list_all is_lawful_number members) lawful in
+digits_without_space : (members : List ℕ) → list_all is_valid_number members ≡ true → list_all (has_no 32) (map decimal members) ≡ true
+digits_without_space [] valid = refl
+digits_without_space (n ∷ members) valid =
+    let parts = and_parts (is_valid_number n) (list_all is_valid_number members) valid in
     and_from _ _ (decimal_has_no 32 n (omega arith) parts.0) (digits_without_space members parts.1)
 
-words_written : (n : ℕ) (members : List ℕ) → list_all is_lawful_number (n ∷ members) ≡ true → words_of (decimal n ++ flat_map (λ m. 32 ∷ decimal m) members) ≡ map decimal (n ∷ members)
+words_written : (n : ℕ) (members : List ℕ) → list_all is_valid_number (n ∷ members) ≡ true → words_of (decimal n ++ flat_map (λ m. 32 ∷ decimal m) members) ≡ map decimal (n ∷ members)
 unfolding words_of
-words_written n members lawful =
+words_written n members valid =
     let same : join_with_byte 32 (map decimal (n ∷ members)) ≡ decimal n ++ flat_map (λ m. 32 ∷ decimal m) members = ap (drop 1) (behind_stuck n members) in
-    ap (cut_at 32) (sym same) ∙ cut_joined 32 (decimal n) (map decimal members) (digits_without_space (n ∷ members) lawful)
+    ap (cut_at 32) (sym same) ∙ cut_joined 32 (decimal n) (map decimal members) (digits_without_space (n ∷ members) valid)
 
 -- ---- a verb and the rest
 -- the verb and the rest are the text of the valid event
@@ -182,22 +182,22 @@ by_verb plan verb rest none = ap (λ o. option_and_then (λ words. line_of_verb 
 -- if the pool names are distinct, the text of a valid line parses as that line
 pub text_reads_as_line : (plan : Plan) (line : Line) → are_distinct (pool_names plan) ≡ true → is_lawful_line plan line ≡ true → line_of plan (line_text plan line) ≡ Some line
 unfolding line_of_verb event_of stuck_of
-text_reads_as_line plan (Happens (Client c)) distinct lawful = by_verb plan (codes "client") (decimal c) refl ∙ ap (λ o. option_map Happens (option_map (λ n. Client n) o)) (number_written c lawful)
-text_reads_as_line plan (Happens (Job j)) distinct lawful = by_verb plan (codes "job") (decimal j) refl ∙ ap (λ o. option_map Happens (option_map (λ n. Job n) o)) (number_written j lawful)
-text_reads_as_line plan (Happens (Take p)) distinct lawful = by_verb plan (codes "take") ((pool_at plan p).name) refl ∙ ap (λ o. option_map Happens (option_map (λ n. Take n) o)) (name_written plan p distinct lawful)
-text_reads_as_line plan (Happens (Retire p)) distinct lawful = by_verb plan (codes "retire") ((pool_at plan p).name) refl ∙ ap (λ o. option_map Happens (option_map (λ n. Retire n) o)) (name_written plan p distinct lawful)
-text_reads_as_line plan (Stuck []) distinct lawful = absurd cc
-text_reads_as_line plan (Stuck (n ∷ members)) distinct lawful =
-    let parts = and_parts (nat_le 1 (length (n ∷ members))) (list_all is_lawful_number (n ∷ members)) lawful in
+text_reads_as_line plan (Happens (Client c)) distinct valid = by_verb plan (codes "client") (decimal c) refl ∙ ap (λ o. option_map Happens (option_map (λ n. Client n) o)) (number_written c valid)
+text_reads_as_line plan (Happens (Job j)) distinct valid = by_verb plan (codes "job") (decimal j) refl ∙ ap (λ o. option_map Happens (option_map (λ n. Job n) o)) (number_written j valid)
+text_reads_as_line plan (Happens (Take p)) distinct valid = by_verb plan (codes "take") ((pool_at plan p).name) refl ∙ ap (λ o. option_map Happens (option_map (λ n. Take n) o)) (name_written plan p distinct valid)
+text_reads_as_line plan (Happens (Retire p)) distinct valid = by_verb plan (codes "retire") ((pool_at plan p).name) refl ∙ ap (λ o. option_map Happens (option_map (λ n. Retire n) o)) (name_written plan p distinct valid)
+text_reads_as_line plan (Stuck []) distinct valid = absurd cc
+text_reads_as_line plan (Stuck (n ∷ members)) distinct valid =
+    let parts = and_parts (nat_le 1 (length (n ∷ members))) (list_all is_valid_number (n ∷ members)) valid in
     by_verb plan (codes "stuck") (decimal n ++ flat_map (λ m. 32 ∷ decimal m) members) refl
     ∙ ap (λ (words : List (List ℕ)). option_map Stuck (all_of number_of words)) (words_written n members parts.1)
     ∙ ap (λ o. option_map Stuck o) (members_written (n ∷ members) parts.1)
 
 -- ---- the bytes of a line
-members_on_one_line : (members : List ℕ) → list_all is_lawful_number members ≡ true → has_no 10 (flat_map (λ n. 32 ∷ decimal n) members) ≡ true
-members_on_one_line [] lawful = refl
-members_on_one_line (n ∷ members) lawful =
-    let parts = and_parts (is_lawful_number n) (list_all is_lawful_number members) lawful in
+members_on_one_line : (members : List ℕ) → list_all is_valid_number members ≡ true → has_no 10 (flat_map (λ n. 32 ∷ decimal n) members) ≡ true
+members_on_one_line [] valid = refl
+members_on_one_line (n ∷ members) valid =
+    let parts = and_parts (is_valid_number n) (list_all is_valid_number members) valid in
     has_no-append 10 (decimal n) _ (decimal_has_no 10 n (omega arith) parts.0) (members_on_one_line members parts.1)
 
 -- the name of the pool has no newline
@@ -209,9 +209,9 @@ name_on_one_line plan p names within = AllPass-from_list_all has_plain_name plan
 
 -- the text of a valid line is not empty and has no newline
 pub line_on_one_line : (plan : Plan) (line : Line) → list_all has_plain_name plan.pools ≡ true → is_lawful_line plan line ≡ true → is_piece 10 (line_text plan line) ≡ true
-line_on_one_line plan (Happens (Client c)) names lawful = and_from _ _ (lt-ltb 0 _ (omega arith)) (decimal_has_no 10 c (omega arith) lawful)
-line_on_one_line plan (Happens (Job j)) names lawful = and_from _ _ (lt-ltb 0 _ (omega arith)) (decimal_has_no 10 j (omega arith) lawful)
-line_on_one_line plan (Happens (Take p)) names lawful = and_from _ _ (lt-ltb 0 _ (omega arith)) (name_on_one_line plan p names lawful)
-line_on_one_line plan (Happens (Retire p)) names lawful = and_from _ _ (lt-ltb 0 _ (omega arith)) (name_on_one_line plan p names lawful)
-line_on_one_line plan (Stuck members) names lawful =
-    and_from _ _ (lt-ltb 0 _ (omega arith)) (members_on_one_line members (and_parts (nat_le 1 (length members)) (list_all is_lawful_number members) lawful).1)
+line_on_one_line plan (Happens (Client c)) names valid = and_from _ _ (lt-ltb 0 _ (omega arith)) (decimal_has_no 10 c (omega arith) valid)
+line_on_one_line plan (Happens (Job j)) names valid = and_from _ _ (lt-ltb 0 _ (omega arith)) (decimal_has_no 10 j (omega arith) valid)
+line_on_one_line plan (Happens (Take p)) names valid = and_from _ _ (lt-ltb 0 _ (omega arith)) (name_on_one_line plan p names valid)
+line_on_one_line plan (Happens (Retire p)) names valid = and_from _ _ (lt-ltb 0 _ (omega arith)) (name_on_one_line plan p names valid)
+line_on_one_line plan (Stuck members) names valid =
+    and_from _ _ (lt-ltb 0 _ (omega arith)) (members_on_one_line members (and_parts (nat_le 1 (length members)) (list_all is_valid_number members) valid).1)

@@ -5,9 +5,9 @@ use Rattle.std.proofs.lemmas.Bool.{and_parts, and_from}
 use Rattle.std.proofs.lemmas.Bool.Decides.{nat_tests}
 use Rattle.std.proofs.lemmas.List.{length_push}
 use Rattle.std.proofs.lemmas.List.Splits.{join_with_byte-slice_split, length-slice_split}
-use Rattle.support.specs.Reading.{◌>>=◌, some_or, read_each}
+use Rattle.support.specs.Reading.{◌>>=◌, ok_or, read_each}
 use Rattle.job_bodies.specs.Plan.{Plan, Pool, pool_names}
-use Rattle.job_bodies.specs.WellFormed.{is_name_byte, is_lawful_name, is_lawful_pool, has_lawful_sizes, are_distinct}
+use Rattle.job_bodies.specs.WellFormed.{is_name_byte, is_valid_name, is_valid_pool, has_valid_sizes, are_distinct}
 use Rattle.line_words.specs.Pieces.{is_newline, without_last_newline, lines_of}
 use Rattle.event_lines.specs.EventLine.{Line, line_of, line_at, event_lines}
 use Rattle.event_lines.specs.LineText.{line_text, lines_text, is_lawful_line}
@@ -21,7 +21,7 @@ then_ok : {A B F : Type 0} (r : Result A F) (f : A → Result B F) (y : B) → (
 then_ok (Ok x) f y e = (x, refl, e)
 then_ok (Err fault) f y e = absurd cc
 
-some_of_ok : {A F : Type 0} (o : Option A) (fault : F) (x : A) → some_or o fault ≡ Ok x → o ≡ Some x
+some_of_ok : {A F : Type 0} (o : Option A) (fault : F) (x : A) → ok_or o fault ≡ Ok x → o ≡ Some x
 some_of_ok (Some y) fault x e = let same : y ≡ x = cc in ap (λ (z : _). Some z) same
 some_of_ok None fault x e = absurd cc
 
@@ -42,16 +42,16 @@ read_texts_are_lines plan i (text ∷ texts) lines read =
 
 texts_read_as_lines : (plan : Plan) (i : ℕ) (lines : List Line) → are_distinct (pool_names plan) ≡ true → list_all (is_lawful_line plan) lines ≡ true
     → read_each (line_at plan) i (map (line_text plan) lines) ≡ Ok lines
-texts_read_as_lines plan i [] distinct lawful = refl
-texts_read_as_lines plan i (line ∷ lines) distinct lawful =
-    let parts = and_parts (is_lawful_line plan line) (list_all (is_lawful_line plan) lines) lawful in
+texts_read_as_lines plan i [] distinct valid = refl
+texts_read_as_lines plan i (line ∷ lines) distinct valid =
+    let parts = and_parts (is_lawful_line plan line) (list_all (is_lawful_line plan) lines) valid in
     rw (text_reads_as_line plan line distinct parts.0, texts_read_as_lines plan (i + 1) lines distinct parts.1) refl
 
 pieces_of_lines : (plan : Plan) (lines : List Line) → list_all has_plain_name plan.pools ≡ true → list_all (is_lawful_line plan) lines ≡ true
     → list_all (is_piece 10) (map (line_text plan) lines) ≡ true
-pieces_of_lines plan [] names lawful = refl
-pieces_of_lines plan (line ∷ lines) names lawful =
-    let parts = and_parts (is_lawful_line plan line) (list_all (is_lawful_line plan) lines) lawful in
+pieces_of_lines plan [] names valid = refl
+pieces_of_lines plan (line ∷ lines) names valid =
+    let parts = and_parts (is_lawful_line plan line) (list_all (is_lawful_line plan) lines) valid in
     and_from _ _ (line_on_one_line plan line names parts.0) (pieces_of_lines plan lines names parts.1)
 
 whole_pieces : (pieces : List (List ℕ)) → list_all (is_piece 10) pieces ≡ true → list_all (has_no 10) pieces ≡ true
@@ -104,25 +104,25 @@ texts_read plan (b ∷ text) lines read = read_lines_are_text plan (b ∷ text) 
 read_back : (plan : Plan) (text : List ℕ) (line : Line) (lines : List Line) → are_distinct (pool_names plan) ≡ true → list_all has_plain_name plan.pools ≡ true → list_all (is_lawful_line plan) (line ∷ lines) ≡ true
     → 0 < length text → without_last_newline text ≡ joined plan (line ∷ lines) → event_lines plan text ≡ Ok (line ∷ lines)
 unfolding event_lines
-read_back plan text line lines distinct names lawful some same =
+read_back plan text line lines distinct names valid some same =
     let cut : lines_of text ≡ map (line_text plan) (line ∷ lines) =
     lines_of_some text some ∙ ap (cut_at 10) same
-    ∙ cut_joined 10 (line_text plan line) (map (line_text plan) lines) (whole_pieces (map (line_text plan) (line ∷ lines)) (pieces_of_lines plan (line ∷ lines) names lawful))
+    ∙ cut_joined 10 (line_text plan line) (map (line_text plan) lines) (whole_pieces (map (line_text plan) (line ∷ lines)) (pieces_of_lines plan (line ∷ lines) names valid))
     in
-    ap (λ (texts : List (List ℕ)). read_each (line_at plan) 0 texts) cut ∙ texts_read_as_lines plan 0 (line ∷ lines) distinct lawful
+    ap (λ (texts : List (List ℕ)). read_each (line_at plan) 0 texts) cut ∙ texts_read_as_lines plan 0 (line ∷ lines) distinct valid
 
 texts_written : (plan : Plan) (text : List ℕ) (lines : List Line) → are_distinct (pool_names plan) ≡ true → list_all has_plain_name plan.pools ≡ true → list_all (is_lawful_line plan) lines ≡ true
     → (text ≡ lines_text plan lines) ⊎ (text ++ 10 ∷ [] ≡ lines_text plan lines) → event_lines plan text ≡ Ok lines
 unfolding event_lines lines_of
-texts_written plan text [] distinct names lawful (inl same) = ap (event_lines plan) same
-texts_written plan text [] distinct names lawful (inr same) = absurd (omega (arith, length_push text 10, ap (λ (l : List ℕ). length l) same))
-texts_written plan text (line ∷ lines) distinct names lawful (inl same) =
+texts_written plan text [] distinct names valid (inl same) = ap (event_lines plan) same
+texts_written plan text [] distinct names valid (inr same) = absurd (omega (arith, length_push text 10, ap (λ (l : List ℕ). length l) same))
+texts_written plan text (line ∷ lines) distinct names valid (inl same) =
     let whole : text ≡ joined plan (line ∷ lines) ++ 10 ∷ [] = same ∙ sym (joined_is plan line lines) in
-    read_back plan text line lines distinct names lawful (omega (arith, length_push (joined plan (line ∷ lines)) 10, ap (λ (l : List ℕ). length l) whole)) (ap without_last_newline whole ∙ cut_off (joined plan (line ∷ lines)))
-texts_written plan text (line ∷ lines) distinct names lawful (inr same) =
+    read_back plan text line lines distinct names valid (omega (arith, length_push (joined plan (line ∷ lines)) 10, ap (λ (l : List ℕ). length l) whole)) (ap without_last_newline whole ∙ cut_off (joined plan (line ∷ lines)))
+texts_written plan text (line ∷ lines) distinct names valid (inr same) =
     let whole : text ≡ joined plan (line ∷ lines) = same_fronts text (joined plan (line ∷ lines)) 10 (same ∙ sym (joined_is plan line lines)) in
-    let ends = joined_ends 10 (line_text plan line) (map (line_text plan) lines) (pieces_of_lines plan (line ∷ lines) names lawful) in
-    read_back plan text line lines distinct names lawful (omega (arith, ends.0, ap (λ (l : List ℕ). length l) whole)) (ap without_last_newline whole ∙ stays (joined plan (line ∷ lines)) ends.1)
+    let ends = joined_ends 10 (line_text plan line) (map (line_text plan) lines) (pieces_of_lines plan (line ∷ lines) names valid) in
+    read_back plan text line lines distinct names valid (omega (arith, ends.0, ap (λ (l : List ℕ). length l) whole)) (ap without_last_newline whole ∙ stays (joined plan (line ∷ lines)) ends.1)
 
 -- ---- the names of a plan
 name_byte : (b : ℕ) → is_name_byte b ≡ true → not (b == 10) ≡ true
@@ -134,11 +134,11 @@ name_bytes (b ∷ name) h =
     let parts = and_parts (is_name_byte b) (list_all is_name_byte name) h in
     and_from _ _ (name_byte b parts.0) (name_bytes name parts.1)
 
-names_on_one_line : (pools : List Pool) → list_all is_lawful_pool pools ≡ true → list_all has_plain_name pools ≡ true
-names_on_one_line [] lawful = refl
-names_on_one_line (pool ∷ pools) lawful =
-    let parts = and_parts (is_lawful_pool pool) (list_all is_lawful_pool pools) lawful in
-    let name = and_parts (is_lawful_name pool.name) (has_lawful_sizes pool) parts.0 in
+names_on_one_line : (pools : List Pool) → list_all is_valid_pool pools ≡ true → list_all has_plain_name pools ≡ true
+names_on_one_line [] valid = refl
+names_on_one_line (pool ∷ pools) valid =
+    let parts = and_parts (is_valid_pool pool) (list_all is_valid_pool pools) valid in
+    let name = and_parts (is_valid_name pool.name) (has_valid_sizes pool) parts.0 in
     and_from _ _ (name_bytes pool.name (and_parts _ (list_all is_name_byte pool.name) name.0).1) (names_on_one_line pools parts.1)
 
 pub canonical : EventLinesAreCanonical

@@ -1,14 +1,14 @@
 -- The content of an event line: an event, or the question whether some jobs wait only for each other.
 use Rattle.std.specs.Prelude.{ℕ, ◌+◌, if◌then◌else◌, List, map, position, codes, Option, Some, None, Result, Ok, Err, option_map, option_and_then}
 use Rattle.std.specs.Str.{bytes_eq}
-use Rattle.support.specs.Reading.{some_or, read_each}
+use Rattle.support.specs.Reading.{ok_or, read_each}
 use Rattle.job_bodies.specs.Plan.{Plan}
 use Rattle.written_machine.specs.declared.event.Event.{Event}
 use Rattle.written_machine.specs.declared.event.Event.TheVariants as event
 use Rattle.event_lines.specs.declared.event_line.EventLine.{EventLine}
 use Rattle.event_lines.specs.declared.event_line.EventLine.TheVariants as code
 use Rattle.event_lines.specs.declared.lines.BadEventLine.{BadEventLine}
-use Rattle.line_words.specs.Pieces.{lines_of, split_space, first_line, behind_line}
+use Rattle.line_words.specs.Pieces.{lines_of, split_space, first_line, after_line}
 use Rattle.line_words.specs.Number.{number_of}
 use Rattle.event_lines.specs.Words.{members_in}
 
@@ -49,11 +49,11 @@ line_of plan text = option_and_then (λ words. line_of_verb plan words.0 words.1
 
 -- the content of the first line, and the text after it
 abbrev pub split_event_line : Plan → List ℕ → Option (Line × List ℕ)
-split_event_line plan text = option_map (λ line. (line, behind_line text)) (line_of plan (first_line text))
+split_event_line plan text = option_map (λ line. (line, after_line text)) (line_of plan (first_line text))
 
 -- the content of the line at an index of a text, or its number, counted from 1
 abbrev pub line_at : Plan → ℕ → List ℕ → Result Line ℕ
-line_at plan place text = some_or (line_of plan text) (place + 1)
+line_at plan place text = ok_or (line_of plan text) (place + 1)
 
 -- the lines of a text, or the number of the first malformed line, counted from 1
 unfoldable pub event_lines : Plan → List ℕ → Result (List Line) ℕ
@@ -72,4 +72,4 @@ lines_read plan text = map (line_of plan) (lines_of text)
 
 -- the lines, or the number of the first malformed one, counted from 1, if the first line has index i
 abbrev pub all_from : ℕ → List (Option Line) → Result (List Line) ℕ
-all_from i lines = read_each (λ place line. some_or line (place + 1)) i lines
+all_from i lines = read_each (λ place line. ok_or line (place + 1)) i lines

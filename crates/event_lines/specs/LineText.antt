@@ -1,7 +1,7 @@
 -- The canonical text of event lines, and the valid lines.
 use Rattle.std.specs.Prelude.{ℕ, Bool, ◌&&◌, nat_lt, nat_le, List, [], ◌∷◌, ◌++◌, length, codes, decimal, flat_map}
 use Rattle.std.specs.List.{list_all}
-use Rattle.line_words.specs.Number.{is_lawful_number}
+use Rattle.line_words.specs.Number.{is_valid_number}
 use Rattle.job_bodies.specs.Plan.{Plan, pool_at}
 use Rattle.written_machine.specs.declared.event.Event.{Event}
 use Rattle.written_machine.specs.declared.event.Event.TheVariants.{Client, Job, Take, Retire}
@@ -25,12 +25,12 @@ lines_text plan lines = flat_map (λ line. line_text plan line ++ 10 ∷ []) lin
 
 -- the number of the event is within the limit, or the pool of the event exists
 abbrev pub is_lawful_event : Plan → Event → Bool
-is_lawful_event plan (Client c) = is_lawful_number c
-is_lawful_event plan (Job j) = is_lawful_number j
+is_lawful_event plan (Client c) = is_valid_number c
+is_lawful_event plan (Job j) = is_valid_number j
 is_lawful_event plan (Take p) = nat_lt p (length plan.pools)
 is_lawful_event plan (Retire p) = nat_lt p (length plan.pools)
 
 -- a valid event, or a question with at least one job, whose numbers are valid
 abbrev pub is_lawful_line : Plan → Line → Bool
 is_lawful_line plan (Happens event) = is_lawful_event plan event
-is_lawful_line plan (Stuck members) = nat_le 1 (length members) && list_all is_lawful_number members
+is_lawful_line plan (Stuck members) = nat_le 1 (length members) && list_all is_valid_number members

@@ -4,7 +4,7 @@ use Rattle.std.specs.Option.{option_map}
 use Rattle.job_bodies.specs.declared.action.Action.{Action}
 use Rattle.job_bodies.specs.declared.action.Action.TheVariants.{Work, Submit, Get}
 use Rattle.job_bodies.specs.Plan.{Plan}
-use Rattle.job_bodies.proofs.Bodies.{IsOrdered}
+use Rattle.job_bodies.proofs.Bodies.{HasValidBodies}
 use Rattle.written_machine.specs.declared.parent.Parent.{Parent}
 use Rattle.written_machine.specs.declared.parent.Parent.TheVariants as parent
 use Rattle.written_machine.specs.declared.event.Event.{Event}
@@ -25,7 +25,7 @@ use Rattle.interleaving.proofs.Older.{Settled}
 use Rattle.interleaving.proofs.Finishes.{finish_commutes}
 use Rattle.interleaving.proofs.ViewPools.{take_commutes, retire_commutes}
 
-module _ (plan : Plan) (s : State) (ordered : IsOrdered plan) (kept : Kept plan s) (settled : Settled plan s) where
+module _ (plan : Plan) (s : State) (ordered : HasValidBodies plan) (kept : Kept plan s) (settled : Settled plan s) where
   end_commutes : (a : Parent) (body : List Action) (i : ℕ) → point plan s a ≡ Some (record { body = body; position = i }) → option_map (seen_after plan) (ended plan s a) ≡ ended_in plan (live_view plan s) a
   end_commutes (parent.Client c) body i stands = loop_commutes plan s c (slice_get s.clients c)
   end_commutes (parent.Job j) body i stands = finish_commutes plan s j body i kept settled stands (pool_of_made plan s j ordered kept (standing_made plan s j body i stands))
@@ -35,8 +35,8 @@ module _ (plan : Plan) (s : State) (ordered : IsOrdered plan) (kept : Kept plan 
   act_commutes a body i None stands there = end_commutes a body i stands
   act_commutes a body i (Some (Work u)) stands there = ap (λ (v : View). Some (v, outcome.Worked u)) (move_seen plan s a body i (i + 1) stands)
   act_commutes a body i (Some (Submit k)) stands there =
-      let lawful = lawful_point plan s a body i ordered stands in
-      ap Some (submit_commutes plan s a body i k kept stands (ordered.pools k (lawful.submit i k there)))
+      let valid = lawful_point plan s a body i ordered stands in
+      ap Some (submit_commutes plan s a body i k kept stands (ordered.pools k (valid.submit i k there)))
   act_commutes a body i (Some (Get t)) stands there = get_commutes plan s a body i t (lawful_point plan s a body i ordered stands) kept stands there
 
   stand_commutes : (a : Parent) (o : Option Point) → point plan s a ≡ o → option_map (seen_after plan) (stepped plan s a o) ≡ step_actor plan (live_view plan s) a o

@@ -7,7 +7,7 @@ use Rattle.std.proofs.lemmas.Option.{same_Some}
 use Rattle.support.proofs.LastPlace.{last_where_none}
 use Rattle.job_bodies.specs.declared.action.Action.{Action}
 use Rattle.job_bodies.specs.declared.action.Action.TheVariants.{Work, Submit, Get}
-use Rattle.job_bodies.specs.Plan.{Plan, submits, gets, is_got}
+use Rattle.job_bodies.specs.Plan.{Plan, submits, gets, has_get_of}
 use Rattle.job_bodies.specs.WellFormed.{IsWellFormed}
 use Rattle.written_machine.specs.declared.parent.Parent.{Parent}
 use Rattle.written_machine.specs.State.{Stage, Made, State, job_at, is_made_by, child}
@@ -44,16 +44,16 @@ none_left_at plan s a body i g w reached stands asks k = false_from_ne_true (is_
     let found = live_unclaimed s a i k made made.stage (sym (ap (is_live_child a i) (view_at plan s k)) ∙ live) in
     ⊎_elim found.1 (λ latest. absurd (omega (arith, latest.0))) (((settled plan s w reached).actors a body i stands).settled g i k asks (job_made s k found.1) found.0))
 
-get_of : (body : List Action) (t : ℕ) → is_got body t ≡ true → (g : ℕ) × (slice_get body g ≡ Some (Get t))
+get_of : (body : List Action) (t : ℕ) → has_get_of body t ≡ true → (g : ℕ) × (slice_get body g ≡ Some (Get t))
 get_of [] t e = absurd cc
-get_of (action ∷ body) t e = ⊎_elim (λ here. (0, ap Some (is_get action t here))) (λ later. let found = get_of body t later in (suc found.0, found.1)) (or_cases (gets t action) (is_got body t) e)
+get_of (action ∷ body) t e = ⊎_elim (λ here. (0, ap Some (is_get action t here))) (λ later. let found = get_of body t later in (suc found.0, found.1)) (or_cases (gets t action) (has_get_of body t) e)
   where
     is_get : (action : Action) (t : ℕ) → gets t action ≡ true → action ≡ Get t
     is_get (Work u) t e = absurd cc
     is_get (Submit k) t e = absurd cc
     is_get (Get u) t e = ap Get (sym (eqb-true t u e))
 
-none_left_in_state : (plan : Plan) (s : State) (a : Parent) (x : Point) → IsWellFormed plan → IsReached plan s → point_in plan (live_view plan s) a ≡ Some x → is_got x.body x.position ≡ true → live_child (live_view plan s).jobs a x.position ≡ None
+none_left_in_state : (plan : Plan) (s : State) (a : Parent) (x : Point) → IsWellFormed plan → IsReached plan s → point_in plan (live_view plan s) a ≡ Some x → has_get_of x.body x.position ≡ true → live_child (live_view plan s).jobs a x.position ≡ None
 none_left_in_state plan s a x w reached stands asked =
     let get = get_of x.body x.position asked in
     let jobs = (live_view plan s).jobs in
@@ -65,10 +65,10 @@ pub none_left : (plan : Plan) (view : View) (a : Parent) (next : NextAction) →
 none_left plan view a next of w e asked =
     let found = point_of_next (point_in plan view a) next e in
     let x = found.0 in
-    let names : (submits (slice_get x.body x.position) && is_got x.body x.position) ≡ true = ap (λ (p : NextAction). p.asked) found.2 ∙ asked in
+    let names : (submits (slice_get x.body x.position) && has_get_of x.body x.position) ≡ true = ap (λ (p : NextAction). p.asked) found.2 ∙ asked in
     let gone : live_child view.jobs a x.position ≡ None =
     subst (λ (v : View). point_in plan v a ≡ Some x → live_child v.jobs a x.position ≡ None) of.2
-    (λ stands. none_left_in_state plan of.0 a x w of.1 stands (and_parts (submits (slice_get x.body x.position)) (is_got x.body x.position) names).1) found.1 in
+    (λ stands. none_left_in_state plan of.0 a x w of.1 stands (and_parts (submits (slice_get x.body x.position)) (has_get_of x.body x.position) names).1) found.1 in
     subst (λ n. live_child view.jobs a n ≡ None) (ap (λ (p : NextAction). p.position) found.2) gone
 
 -- ---- at the get

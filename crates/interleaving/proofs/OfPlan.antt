@@ -8,8 +8,8 @@ use Rattle.std.proofs.lemmas.Option.{same_Some}
 use Rattle.job_bodies.specs.declared.action.Action.TheVariants.{Submit, Get}
 use Rattle.job_bodies.specs.Plan.{Plan}
 use Rattle.job_bodies.specs.WellFormed.{IsWellFormed}
-use Rattle.job_bodies.specs.Lawful.{IsLawful}
-use Rattle.job_bodies.proofs.Bodies.{IsOrdered, ordered}
+use Rattle.job_bodies.specs.ValidBody.{IsValidBody}
+use Rattle.job_bodies.proofs.Bodies.{HasValidBodies, ordered}
 use Rattle.written_machine.specs.declared.parent.Parent.{Parent}
 use Rattle.written_machine.specs.declared.parent.Parent.TheVariants as parent
 use Rattle.pool_machine.specs.PoolState.{PoolView}
@@ -34,23 +34,23 @@ as_many_pools plan view of = subst (λ v. length v.pools ≡ length plan.pools) 
 
 -- ---- bodies
 
-lawful_phase : (plan : Plan) (k : ℕ) (phase : Phase) (at : Point) → IsOrdered plan → point_of_phase plan k phase ≡ Some at → IsLawful plan at.body
-lawful_phase plan k phase.Queued at o e = absurd cc
-lawful_phase plan k (phase.At i) at o e = subst (λ (x : Point). IsLawful plan x.body) (same_Some _ at e) (o.classes k)
-lawful_phase plan k phase.Done at o e = absurd cc
+valid_phase : (plan : Plan) (k : ℕ) (phase : Phase) (at : Point) → HasValidBodies plan → point_of_phase plan k phase ≡ Some at → IsValidBody plan at.body
+valid_phase plan k phase.Queued at o e = absurd cc
+valid_phase plan k (phase.At i) at o e = subst (λ (x : Point). IsValidBody plan x.body) (same_Some _ at e) (o.classes k)
+valid_phase plan k phase.Done at o e = absurd cc
 
-lawful_job : (plan : Plan) (job : Option JobView) (at : Point) → IsOrdered plan → point_of_live_job plan job ≡ Some at → IsLawful plan at.body
-lawful_job plan None at o e = absurd cc
-lawful_job plan (Some job) at o e = lawful_phase plan job.class job.phase at o e
+valid_job : (plan : Plan) (job : Option JobView) (at : Point) → HasValidBodies plan → point_of_live_job plan job ≡ Some at → IsValidBody plan at.body
+valid_job plan None at o e = absurd cc
+valid_job plan (Some job) at o e = valid_phase plan job.class job.phase at o e
 
-lawful_client : (plan : Plan) (found : Option _) (at : Point) → IsOrdered plan → option_map (point_of_client plan) found ≡ Some at → IsLawful plan at.body
-lawful_client plan None at o e = absurd cc
-lawful_client plan (Some client) at o e = subst (λ (x : Point). IsLawful plan x.body) (same_Some _ at e) (o.clients client.kind)
+valid_client : (plan : Plan) (found : Option _) (at : Point) → HasValidBodies plan → option_map (point_of_client plan) found ≡ Some at → IsValidBody plan at.body
+valid_client plan None at o e = absurd cc
+valid_client plan (Some client) at o e = subst (λ (x : Point). IsValidBody plan x.body) (same_Some _ at e) (o.clients client.kind)
 
 -- the body of an actor is valid
-lawful_point : (plan : Plan) (view : View) (a : Parent) (at : Point) → IsOrdered plan → point_in plan view a ≡ Some at → IsLawful plan at.body
-lawful_point plan view (parent.Client c) at o e = lawful_client plan (slice_get view.clients c) at o e
-lawful_point plan view (parent.Job j) at o e = lawful_job plan (live_job view.jobs j) at o e
+lawful_point : (plan : Plan) (view : View) (a : Parent) (at : Point) → HasValidBodies plan → point_in plan view a ≡ Some at → IsValidBody plan at.body
+lawful_point plan view (parent.Client c) at o e = valid_client plan (slice_get view.clients c) at o e
+lawful_point plan view (parent.Job j) at o e = valid_job plan (live_job view.jobs j) at o e
 
 -- the point at which an actor has this next action
 pub point_of_next : (at : Option Point) (next : NextAction) → option_map next_action_at at ≡ Some next → (x : Point) × (at ≡ Some x) × (next_action_at x ≡ next)
@@ -62,8 +62,8 @@ pub pool_of_submit : (plan : Plan) (view : View) (a : Parent) (next : NextAction
 pool_of_submit plan view a next k of w e submits =
     let o = ordered plan w in
     let found = point_of_next (point_in plan view a) next e in
-    let lawful = lawful_point plan view a found.0 o found.1 in
-    let class = lawful.submit found.0.position k (ap (λ (p : NextAction). p.action) found.2 ∙ submits) in
+    let valid = lawful_point plan view a found.0 o found.1 in
+    let class = valid.submit found.0.position k (ap (λ (p : NextAction). p.action) found.2 ∙ submits) in
     let pools = as_many_pools plan view of in
     let inside = o.pools k class in
     omega arith
@@ -72,8 +72,8 @@ pool_of_submit plan view a next k of w e submits =
 pub past_start : (plan : Plan) (view : View) (a : Parent) (next : NextAction) (t : ℕ) → IsWellFormed plan → option_map next_action_at (point_in plan view a) ≡ Some next → next.action ≡ Some (Get t) → 0 < next.position
 past_start plan view a next t w e gets =
     let found = point_of_next (point_in plan view a) next e in
-    let lawful = lawful_point plan view a found.0 (ordered plan w) found.1 in
-    let behind = lawful.behind found.0.position t (ap (λ (p : NextAction). p.action) found.2 ∙ gets) in
+    let valid = lawful_point plan view a found.0 (ordered plan w) found.1 in
+    let behind = valid.behind found.0.position t (ap (λ (p : NextAction). p.action) found.2 ∙ gets) in
     let same = ap (λ (p : NextAction). p.position) found.2 in
     omega (arith, behind, same)
 

@@ -9,7 +9,7 @@ use Rattle.support.proofs.LastPlace.{last_where_push, last_where_push_fails}
 use Rattle.job_bodies.specs.declared.action.Action.{Action}
 use Rattle.job_bodies.specs.declared.action.Action.TheVariants.{Submit, Get}
 use Rattle.job_bodies.specs.Plan.{Plan, class_at}
-use Rattle.job_bodies.specs.Lawful.{IsLawful}
+use Rattle.job_bodies.specs.ValidBody.{IsValidBody}
 use Rattle.written_machine.specs.declared.parent.Parent.{Parent}
 use Rattle.written_machine.specs.declared.parent.Parent.TheVariants as parent
 use Rattle.written_machine.specs.State.{Stage, Made, State, no_job, no_client_state, job_at, is_unfinished, is_made_by, child}
@@ -164,9 +164,9 @@ passes_get body i g t there is_there other e above =
     ⊎_elim (λ (same : i ≡ g). absurd (other (same_Some there (Get t) (sym is_there ∙ ap (slice_get body) same ∙ e)))) (λ (apart : i ≢ g). omega arith) (cases_eq i g)
 
 -- the actor submits a job at position i
-pub older_submits : (plan : Plan) (jobs : List Made) (a : Parent) (body : List Action) (i k : ℕ) (stage : Stage) → IsLawful plan body → slice_get body i ≡ Some (Submit k) → stage ≢ Claimed → Older jobs a body i
+pub older_submits : (plan : Plan) (jobs : List Made) (a : Parent) (body : List Action) (i k : ℕ) (stage : Stage) → IsValidBody plan body → slice_get body i ≡ Some (Submit k) → stage ≢ Claimed → Older jobs a body i
     → Older (jobs ++ new_job k a i stage ∷ []) a body (i + 1)
-older_submits plan jobs a body i k stage lawful there unclaimed older =
+older_submits plan jobs a body i k stage valid there unclaimed older =
     let new = new_job k a i stage in
     let jobs' : List Made = jobs ++ new ∷ [] in
     let long = length_push jobs new in
@@ -186,7 +186,7 @@ older_submits plan jobs a body i k stage lawful there unclaimed older =
           let is_last : length jobs ≡ j = omega arith in
           let here : is_made_by a t new ≡ true = ap (is_made_by a t) (sym (last j is_last)) ∙ made in
           let slot : t ≡ i = (maker_of new a t here).1 in
-          let behind = lawful.behind g t e in
+          let behind = valid.behind g t e in
           inr (omega arith, omega arith, last_where_push (is_made_by a t) jobs new here ∙ ap Some is_last))
           (cases_lt j (length jobs));
       asked = λ t j inside made claimed. ⊎_elim

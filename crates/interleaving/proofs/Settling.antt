@@ -7,8 +7,8 @@ use Rattle.support.specs.Places.{places_where, last_of}
 use Rattle.job_bodies.specs.declared.action.Action.{Action}
 use Rattle.job_bodies.specs.declared.action.Action.TheVariants.{Work, Submit, Get}
 use Rattle.job_bodies.specs.Plan.{Plan}
-use Rattle.job_bodies.specs.Lawful.{IsLawful}
-use Rattle.job_bodies.proofs.Bodies.{IsOrdered}
+use Rattle.job_bodies.specs.ValidBody.{IsValidBody}
+use Rattle.job_bodies.proofs.Bodies.{HasValidBodies}
 use Rattle.written_machine.specs.declared.parent.Parent.{Parent}
 use Rattle.written_machine.specs.declared.parent.Parent.TheVariants as parent
 use Rattle.written_machine.specs.declared.event.Event.{Event}
@@ -135,9 +135,9 @@ new_is_childless plan s a body i k stage kept stands t j inside made =
     let earlier : length jobs < j = subst (λ (b : Parent). IsLater b j) (sym made_by) (parents j inside) in
     absurd (omega arith)
 
-settled_submits : (plan : Plan) (s : State) (a : Parent) (body : List Action) (i k : ℕ) (stage : Stage) → IsLawful plan body → Kept plan s → point plan s a ≡ Some (record { body = body; position = i }) → slice_get body i ≡ Some (Submit k) → stage ≢ Claimed
+settled_submits : (plan : Plan) (s : State) (a : Parent) (body : List Action) (i k : ℕ) (stage : Stage) → IsValidBody plan body → Kept plan s → point plan s a ≡ Some (record { body = body; position = i }) → slice_get body i ≡ Some (Submit k) → stage ≢ Claimed
     → Settled plan s → Settled plan (with_job (new_job k a i stage) (with_position a (i + 1) s))
-settled_submits plan s a body i k stage lawful kept stands there unclaimed settled =
+settled_submits plan s a body i k stage valid kept stands there unclaimed settled =
     let moved = with_position a (i + 1) s in
     let jobs = moved_jobs a (i + 1) s in
     let new = new_job k a i stage in
@@ -148,7 +148,7 @@ settled_submits plan s a body i k stage lawful kept stands there unclaimed settl
       actors = λ b body' n e. ⊎_elim
           (λ now. older_none jobs' b body' n (λ t j inside made. new_is_childless plan s a body i k stage kept stands t j inside (ap (λ x. is_made_by x t (get_or jobs' j no_job)) (sym now.0) ∙ made)))
           (λ before. ⊎_elim
-          (λ same. older_at jobs' b a body' body n (i + 1) same.0 same.1 same.2 (older_submits plan jobs a body i k stage lawful there unclaimed (stays a body i (settled.actors a body i stands))))
+          (λ same. older_at jobs' b a body' body n (i + 1) same.0 same.1 same.2 (older_submits plan jobs a body i k stage valid there unclaimed (stays a body i (settled.actors a body i stands))))
           (λ other. older_stays jobs jobs' b body' n (same_made-pushed jobs new b (λ f. other.0 (sym f))) (stays b body' n (settled.actors b body' n other.1)))
           (standing-moved plan s a body i (i + 1) stands b body' n before))
           (standing-pushed plan moved new b body' n e);
@@ -221,7 +221,7 @@ settled_start plan = record {
   makers = λ j c inside made. absurd (omega arith);
 }
 
-pub settled_step : (plan : Plan) (s s' : State) (o : Outcome) {e : Event} → IsOrdered plan → Kept plan s → Settled plan s → Happens plan s e s' o → Settled plan s'
+pub settled_step : (plan : Plan) (s s' : State) (o : Outcome) {e : Event} → HasValidBodies plan → Kept plan s → Settled plan s → Happens plan s e s' o → Settled plan s'
 settled_step plan s s' o ordered kept settled (works a body i u at) =
     settled_moved plan s a body i (i + 1) at.stands (λ g t e below above. (omega arith, passes_get body i g t (Work u) at.is_there (λ f. absurd cc) e above)) settled
 settled_step plan s s' o ordered kept settled (starts a body i k at below) =

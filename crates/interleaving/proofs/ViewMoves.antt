@@ -4,7 +4,7 @@ use Rattle.std.specs.Option.{option_map}
 use Rattle.job_bodies.specs.declared.action.Action.{Action}
 use Rattle.job_bodies.specs.declared.action.Action.TheVariants.{Get}
 use Rattle.job_bodies.specs.Plan.{Plan, client_at}
-use Rattle.job_bodies.specs.Lawful.{IsLawful}
+use Rattle.job_bodies.specs.ValidBody.{IsValidBody}
 use Rattle.written_machine.specs.declared.client_state.ClientState.{ClientState}
 use Rattle.written_machine.specs.declared.parent.Parent.{Parent}
 use Rattle.written_machine.specs.declared.parent.Parent.TheVariants as parent
@@ -78,11 +78,11 @@ got_commutes plan s a body i t j Done stands is_child unclaimed e =
     ap (λ v. Some (v, Got j)) (claimed_seen plan s a body i j stands e) ∙ sym (ap (got_in view a i j) (done_seen s a t j (standing_asks plan s a body i stands) is_child e))
 got_commutes plan s a body i t j Claimed stands is_child unclaimed e = absurd (unclaimed e)
 
-pub get_commutes : (plan : Plan) (s : State) (a : Parent) (body : List Action) (i t : ℕ) → IsLawful plan body → Kept plan s → point plan s a ≡ Some (record { body = body; position = i }) → slice_get body i ≡ Some (Get t)
+pub get_commutes : (plan : Plan) (s : State) (a : Parent) (body : List Action) (i t : ℕ) → IsValidBody plan body → Kept plan s → point plan s a ≡ Some (record { body = body; position = i }) → slice_get body i ≡ Some (Get t)
     → option_map (seen_after plan) (got_child s a i (child s a t)) ≡ got_child_in (live_view plan s) a i (live_child (live_view plan s).jobs a t)
-get_commutes plan s a body i t lawful kept stands there =
+get_commutes plan s a body i t valid kept stands there =
     let view = live_view plan s in
-    let found = (kept.actors a body i stands).ready i t (le_refl i) (lawful.behind i t there) there in
+    let found = (kept.actors a body i stands).ready i t (le_refl i) (valid.behind i t there) there in
     let j = found.number in
     let is_child : child s a t ≡ Some j = found.is_child in
     ap (λ o. option_map (seen_after plan) (got_child s a i o)) is_child

@@ -8,7 +8,7 @@ use Rattle.support.proofs.Sums.{count_by-agree_at}
 use Rattle.job_bodies.specs.declared.action.Action.{Action}
 use Rattle.job_bodies.specs.declared.action.Action.TheVariants.{Work, Submit, Get}
 use Rattle.job_bodies.specs.Plan.{Plan, no_pool, pool_at, class_at}
-use Rattle.job_bodies.proofs.Bodies.{IsOrdered}
+use Rattle.job_bodies.proofs.Bodies.{HasValidBodies}
 use Rattle.pool_machine.specs.PoolState.{PoolView, new_pool}
 use Rattle.written_machine.specs.declared.parent.Parent.TheVariants as parent
 use Rattle.interleaving.specs.declared.job_view.Phase.TheVariants as phase
@@ -65,7 +65,7 @@ list_all_agree : {X : Type 0} (p q : X → Bool) (xs : List X) → ((x : X) → 
 list_all_agree p q [] same = refl
 list_all_agree p q (x ∷ xs) same = ap₂ (λ a b. a && b) (same x) (list_all_agree p q xs same)
 
-module _ (plan : Plan) (s : State) (members : List ℕ) (ordered : IsOrdered plan) (kept : Kept plan s) where
+module _ (plan : Plan) (s : State) (members : List ℕ) (ordered : HasValidBodies plan) (kept : Kept plan s) where
   -- a job at a get
   waits_at_seen : (j i : ℕ) (action : Option Action) → (job_at s j).stage ≡ At i → slice_get (class_at plan (job_at s j).class).body i ≡ action
       → waits_at s members (parent.Job j) action ≡ waits_at_in (live_view plan s) members (parent.Job j) action

@@ -2,7 +2,7 @@
 use Rattle.std.specs.Prelude.{◌≡◌, ℕ, ◌<◌, ◌&&◌, ◌⊎◌, List, Some, IsSome, slice_get}
 use Rattle.job_bodies.specs.declared.action.Action.{Action}
 use Rattle.job_bodies.specs.declared.action.Action.TheVariants.{Submit}
-use Rattle.job_bodies.specs.Plan.{Plan, submits, is_got}
+use Rattle.job_bodies.specs.Plan.{Plan, submits, has_get_of}
 use Rattle.written_machine.specs.declared.event.Event.{Event}
 use Rattle.written_machine.specs.declared.event.Event.TheVariants.{Client, Job, Take, Retire}
 use Rattle.written_machine.specs.declared.parent.Parent.{Parent}
@@ -20,7 +20,7 @@ IsAmong clients jobs (parent.Job j) = j < jobs
 
 -- the position in the body, the action there, and whether it is a submit whose job a get of the body requests
 abbrev pub next_action_in : List Action → ℕ → NextAction
-next_action_in body i = record { position = i; action = slice_get body i; asked = submits (slice_get body i) && is_got body i }
+next_action_in body i = record { position = i; action = slice_get body i; asked = submits (slice_get body i) && has_get_of body i }
 
 abbrev pub next_action_at : Point → NextAction
 next_action_at at = next_action_in at.body at.position

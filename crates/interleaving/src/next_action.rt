@@ -10,7 +10,7 @@ ghost use Rattle.interleaving.specs.NextAction.{IsAmong, next_action_in};
 
 use crate::plans::{body_of_class, body_of_kind};
 use crate::{Phase, World};
-use job_bodies::{Action, Plan, is_got};
+use job_bodies::{Action, Plan, has_get_of};
 use written_machine::Parent;
 
 /// The position of an actor, and its action there, which is `None` at the end of the body.
@@ -31,7 +31,7 @@ impl NextAction {
         NextAction {
             position,
             action,
-            asked: matches!(action, Some(Action::Submit(_))) && is_got(body, position),
+            asked: matches!(action, Some(Action::Submit(_))) && has_get_of(body, position),
         }
     }
 }

@@ -1,7 +1,7 @@
 //! The events of a pool.
 
 ghost use Rattle.std.specs.Prelude.{◌≡◌, length, map, All, IsTrue, IfOk};
-ghost use Rattle.job_bodies.specs.WellFormed.{IsWellFormed, has_lawful_sizes};
+ghost use Rattle.job_bodies.specs.WellFormed.{IsWellFormed, has_valid_sizes};
 ghost use Rattle.pool_machine.specs.PoolState.{new_pool, taken, retired};
 ghost use Rattle.interleaving.specs.ViewStep.{pool_in, took_in, let_go_in};
 
@@ -13,7 +13,7 @@ use written_machine::Outcome;
 
 /// Creates the pools. Each has an empty queue; a prestarted pool has `core` idle workers.
 pub(crate) fn new_pools(alloc: Global, pools: &[Pool]) -> Result<Vec<PoolState>, AllocError>
-    requires { All (λ pool. IsTrue (has_lawful_sizes pool)) pools.now }
+    requires { All (λ pool. IsTrue (has_valid_sizes pool)) pools.now }
     ensures { IfOk result (λ new. new.items ≡ map new_pool pools.now) }
 {
     let mut new = Vec::with_capacity(alloc, pools.len())?;

@@ -9,13 +9,13 @@ use Rattle.job_bodies.specs.declared.action.Action.{Action}
 use Rattle.job_bodies.specs.declared.action.Action.TheVariants.{Work, Submit, Get}
 use Rattle.job_bodies.specs.declared.limits.TheConstants.{MAX_SIZE, MAX_WORK}
 use Rattle.job_bodies.specs.Plan.{Pool, Plan, no_pool, no_class, no_client, pool_at, class_at, client_at, submits, gets}
-use Rattle.job_bodies.specs.Lawful.{IsLawful}
-use Rattle.job_bodies.specs.WellFormed.{is_within, is_lawful_action, is_lawful_body, is_lawful_pool, is_lawful_class, is_lawful_client, IsWellFormed}
+use Rattle.job_bodies.specs.ValidBody.{IsValidBody}
+use Rattle.job_bodies.specs.WellFormed.{is_within, is_valid_action, is_valid_body, is_valid_pool, is_valid_class, is_valid_client, IsWellFormed}
 
 -- every body is valid, every class has a pool, and every size and count is in range
-pub record IsOrdered (plan : Plan) : Type 0 where
-  pub classes : (k : ℕ) → IsLawful plan (class_at plan k).body
-  pub clients : (c : ℕ) → IsLawful plan (client_at plan c).body
+pub record HasValidBodies (plan : Plan) : Type 0 where
+  pub classes : (k : ℕ) → IsValidBody plan (class_at plan k).body
+  pub clients : (c : ℕ) → IsValidBody plan (client_at plan c).body
   pub pools : (k : ℕ) → k < length plan.classes → (class_at plan k).pool < length plan.pools
   pub core : (p : ℕ) → p < length plan.pools → 1 ≤ (pool_at plan p).core
   pub max : (p : ℕ) → p < length plan.pools → (pool_at plan p).core ≤ (pool_at plan p).max
@@ -51,11 +51,11 @@ list_all_enumerated test n (y ∷ xs) (suc i) x h e =
     rw place (list_all_enumerated test (n + 1) xs i x (and_parts (test (n, y)) _ h).1 e)
 
 -- the action at each position of a valid body is valid there
-pub lawful_action : (classes : ℕ) (body : List Action) (i : ℕ) (action : Action) → is_lawful_body classes body ≡ true → slice_get body i ≡ Some action → is_lawful_action classes body i action ≡ true
-lawful_action classes body i action h e =
-    let test : ℕ × Action → Bool = λ entry. is_lawful_action classes body entry.0 entry.1 in
-    let found : is_lawful_action classes body (0 + i) action ≡ true = list_all_enumerated test 0 body i action (and_parts _ _ h).1 e in
-    subst (λ (j : ℕ). is_lawful_action classes body j action ≡ true) (zero-add i) found
+pub valid_action : (classes : ℕ) (body : List Action) (i : ℕ) (action : Action) → is_valid_body classes body ≡ true → slice_get body i ≡ Some action → is_valid_action classes body i action ≡ true
+valid_action classes body i action h e =
+    let test : ℕ × Action → Bool = λ entry. is_valid_action classes body entry.0 entry.1 in
+    let found : is_valid_action classes body (0 + i) action ≡ true = list_all_enumerated test 0 body i action (and_parts _ _ h).1 e in
+    subst (λ (j : ℕ). is_valid_action classes body j action ≡ true) (zero-add i) found
 
 -- no earlier get names the submit
 none_before : (body : List Action) (g h t : ℕ) → g < h → h < length body → slice_get body g ≡ Some (Get t) → list_any (gets t) (take h body) ≡ true
@@ -66,56 +66,56 @@ none_before body g h t earlier inside e =
     list_any_at (gets t) (take h body) g (Get t) (omega arith) names
 
 -- the conditions of a valid get
-record IsLawfulGet (body : List Action) (g t : ℕ) : Type 0 where
+record IsValidGet (body : List Action) (g t : ℕ) : Type 0 where
   behind : t < g
   of_submit : submits (slice_get body t) ≡ true
   first : list_any (gets t) (take g body) ≡ false
 
-lawful_get : (classes : ℕ) (body : List Action) (g t : ℕ) → is_lawful_body classes body ≡ true → slice_get body g ≡ Some (Get t) → IsLawfulGet body g t
-lawful_get classes body g t h e =
-    let p = and_parts _ _ (lawful_action classes body g (Get t) h e) in
+valid_get : (classes : ℕ) (body : List Action) (g t : ℕ) → is_valid_body classes body ≡ true → slice_get body g ≡ Some (Get t) → IsValidGet body g t
+valid_get classes body g t h e =
+    let p = and_parts _ _ (valid_action classes body g (Get t) h e) in
     let q = and_parts _ _ p.0 in
     record { behind = ltb-true t g q.0; of_submit = q.1; first = not-true _ p.1 }
 
-pub lawful_body : (plan : Plan) (body : List Action) → is_lawful_body (length plan.classes) body ≡ true → IsLawful plan body
-lawful_body plan body h = record {
+pub valid_body : (plan : Plan) (body : List Action) → is_valid_body (length plan.classes) body ≡ true → IsValidBody plan body
+valid_body plan body h = record {
   short = leb-true _ _ (and_parts _ _ h).0;
-  work = λ i u e. within_bounds 1 MAX_WORK u (lawful_action _ body i (Work u) h e);
-  submit = λ i k e. ltb-true _ _ (lawful_action _ body i (Submit k) h e);
-  behind = λ g t e. (lawful_get _ body g t h e).behind;
-  of_submit = λ g t e. (lawful_get _ body g t h e).of_submit;
-  once = λ g h' t earlier e f. both_ways _ (lawful_get _ body h' t h f).first (none_before body g h' t earlier (slice_get_within body h' _ f) e);
+  work = λ i u e. within_bounds 1 MAX_WORK u (valid_action _ body i (Work u) h e);
+  submit = λ i k e. ltb-true _ _ (valid_action _ body i (Submit k) h e);
+  behind = λ g t e. (valid_get _ body g t h e).behind;
+  of_submit = λ g t e. (valid_get _ body g t h e).of_submit;
+  once = λ g h' t earlier e f. both_ways _ (valid_get _ body h' t h f).first (none_before body g h' t earlier (slice_get_within body h' _ f) e);
 }
 
 -- an empty body is valid
-empty_body : (plan : Plan) → IsLawful plan []
-empty_body plan = lawful_body plan [] refl
+empty_body : (plan : Plan) → IsValidBody plan []
+empty_body plan = valid_body plan [] refl
 
-class_body : (plan : Plan) → IsWellFormed plan → (k : ℕ) → IsLawful plan (class_at plan k).body
+class_body : (plan : Plan) → IsWellFormed plan → (k : ℕ) → IsValidBody plan (class_at plan k).body
 class_body plan w k = elim (cases_lt k (length plan.classes)) [
-  | inl inside ↦ lawful_body plan _ (and_parts _ _ (list_all_get (is_lawful_class plan) plan.classes k _ w.classes (slice_get-get_or plan.classes k no_class inside))).1
+  | inl inside ↦ valid_body plan _ (and_parts _ _ (list_all_get (is_valid_class plan) plan.classes k _ w.classes (slice_get-get_or plan.classes k no_class inside))).1
   | inr past ↦ let e : class_at plan k ≡ no_class = get_or_past plan.classes k no_class past in
       rw e (empty_body plan)
 ]
 
-client_body : (plan : Plan) → IsWellFormed plan → (c : ℕ) → IsLawful plan (client_at plan c).body
+client_body : (plan : Plan) → IsWellFormed plan → (c : ℕ) → IsValidBody plan (client_at plan c).body
 client_body plan w c = elim (cases_lt c (length plan.clients)) [
-  | inl inside ↦ lawful_body plan _ (and_parts _ _ (list_all_get (is_lawful_client plan) plan.clients c _ w.clients (slice_get-get_or plan.clients c no_client inside))).1
+  | inl inside ↦ valid_body plan _ (and_parts _ _ (list_all_get (is_valid_client plan) plan.clients c _ w.clients (slice_get-get_or plan.clients c no_client inside))).1
   | inr past ↦ let e : client_at plan c ≡ no_client = get_or_past plan.clients c no_client past in
       rw e (empty_body plan)
 ]
 
 -- the sizes of a pool
-record AreLawfulSizes (pool : Pool) : Type 0 where
+record AreValidSizes (pool : Pool) : Type 0 where
   core : 1 ≤ pool.core
   max : pool.core ≤ pool.max
   most_max : pool.max ≤ MAX_SIZE
   queue : 1 ≤ pool.queue
   most_queue : pool.queue ≤ MAX_SIZE
 
-pool_sizes : (plan : Plan) → IsWellFormed plan → (p : ℕ) → p < length plan.pools → AreLawfulSizes (pool_at plan p)
+pool_sizes : (plan : Plan) → IsWellFormed plan → (p : ℕ) → p < length plan.pools → AreValidSizes (pool_at plan p)
 pool_sizes plan w p inside =
-    let sizes = (and_parts _ _ (list_all_get is_lawful_pool plan.pools p _ w.pools (slice_get-get_or plan.pools p no_pool inside))).1 in
+    let sizes = (and_parts _ _ (list_all_get is_valid_pool plan.pools p _ w.pools (slice_get-get_or plan.pools p no_pool inside))).1 in
     let threads_and_queue = and_parts _ _ sizes in
     let core_and_max = and_parts _ _ threads_and_queue.0 in
     let core = within_bounds 1 MAX_SIZE _ core_and_max.0 in
@@ -125,13 +125,13 @@ pool_sizes plan w p inside =
 
 class_pool : (plan : Plan) → IsWellFormed plan → (k : ℕ) → k < length plan.classes → (class_at plan k).pool < length plan.pools
 class_pool plan w k inside =
-    ltb-true _ _ (and_parts _ _ (and_parts _ _ (list_all_get (is_lawful_class plan) plan.classes k _ w.classes (slice_get-get_or plan.classes k no_class inside))).0).1
+    ltb-true _ _ (and_parts _ _ (and_parts _ _ (list_all_get (is_valid_class plan) plan.classes k _ w.classes (slice_get-get_or plan.classes k no_class inside))).0).1
 
 client_count : (plan : Plan) → IsWellFormed plan → (c : ℕ) → c < length plan.clients → (1 ≤ (client_at plan c).count) × ((client_at plan c).count ≤ MAX_SIZE)
 client_count plan w c inside =
-    within_bounds 1 MAX_SIZE _ (and_parts _ _ (and_parts _ _ (list_all_get (is_lawful_client plan) plan.clients c _ w.clients (slice_get-get_or plan.clients c no_client inside))).0).1
+    within_bounds 1 MAX_SIZE _ (and_parts _ _ (and_parts _ _ (list_all_get (is_valid_client plan) plan.clients c _ w.clients (slice_get-get_or plan.clients c no_client inside))).0).1
 
-pub ordered : (plan : Plan) → IsWellFormed plan → IsOrdered plan
+pub ordered : (plan : Plan) → IsWellFormed plan → HasValidBodies plan
 ordered plan w = record {
   classes = class_body plan w;
   clients = client_body plan w;

@@ -5,7 +5,7 @@ use Rattle.std.specs.List.{list_all, list_any, enumerate_from}
 use Rattle.std.specs.Str.{bytes_eq}
 use Rattle.std.proofs.lemmas.Bool.{and_parts, and_from, leb-true, le-leb, not-true, not_from_false}
 use Rattle.std.proofs.lemmas.Option.{slice_get-map}
-use Rattle.support.specs.Reading.{◌>>=◌, holds_or, check_each}
+use Rattle.support.specs.Reading.{◌>>=◌, ensure, check_each}
 use Rattle.job_bodies.specs.declared.action.Action.{Action}
 use Rattle.job_bodies.specs.declared.action.Action.TheVariants.{Work, Submit, Get}
 use Rattle.job_bodies.specs.declared.fault.PlanFault.{PlanFault}
@@ -14,7 +14,7 @@ use Rattle.job_bodies.specs.declared.fault.Part.TheVariants as part
 use Rattle.support.specs.declared.number.TheConstants.{BAD_NUMBER, NO_SUCH_POOL}
 use Rattle.job_bodies.specs.declared.limits.TheConstants.{MAX_POOLS, MAX_CLASSES, MAX_ACTIONS, MAX_SIZE}
 use Rattle.job_bodies.specs.Plan.{Class, Client, Plan}
-use Rattle.job_bodies.specs.WellFormed.{is_within, is_lawful_name, has_lawful_sizes, are_distinct, is_lawful_action, is_lawful_pool, is_lawful_class, is_lawful_client, IsWellFormed}
+use Rattle.job_bodies.specs.WellFormed.{is_within, is_valid_name, has_valid_sizes, are_distinct, is_valid_action, is_valid_pool, is_valid_class, is_valid_client, IsWellFormed}
 use Rattle.job_bodies.specs.Checks.{at_entry, check_name, check_length, check_action, check_body}
 use Rattle.job_bodies.specs.Build.{check_counts, check_lengths, check_entries, check_bodies, build}
 use Rattle.job_bodies.proofs.Bodies.{list_all_get, list_all_enumerated}
@@ -23,27 +23,27 @@ use Rattle.job_bodies.proofs.DistinctNames.{distinct_before, distinct_from}
 
 -- ---- names and numbers: an entry's name, and one other test
 abbrev check_entry : {X : Type 0} → (X → List ℕ) → (X → Bool) → Part → ℕ → List X → ℕ → X → Result (Unit {0}) PlanFault
-check_entry name test part number xs index x = check_name (take index (map name xs)) part index (name x) >>= λ _. holds_or (test x) (at_entry part index number)
+check_entry name test part number xs index x = check_name (take index (map name xs)) part index (name x) >>= λ _. ensure (test x) (at_entry part index number)
 
-record AreLawful {X : Type 0} (name : X → List ℕ) (test : X → Bool) (xs : List X) : Type 0 where
+record AreValid {X : Type 0} (name : X → List ℕ) (test : X → Bool) (xs : List X) : Type 0 where
   distinct : are_distinct (map name xs) ≡ true
-  names : EachPlace xs (λ i x. is_lawful_name (name x) ≡ true)
+  names : EachPlace xs (λ i x. is_valid_name (name x) ≡ true)
   tests : EachPlace xs (λ i x. test x ≡ true)
 
-entries_passed : {X : Type 0} (name : X → List ℕ) (test : X → Bool) (part : Part) (number : ℕ) (xs : List X) → check_each (check_entry name test part number xs) 0 xs ≡ Ok tt → AreLawful name test xs
+entries_passed : {X : Type 0} (name : X → List ℕ) (test : X → Bool) (part : Part) (number : ℕ) (xs : List X) → check_each (check_entry name test part number xs) 0 xs ≡ Ok tt → AreValid name test xs
 entries_passed {X} name test part number xs h =
     let check = check_entry name test part number xs in
     let steps : (i : ℕ) (x : X) → slice_get xs i ≡ Some x → (check_name (take i (map name xs)) part i (name x) ≡ Ok tt) × (test x ≡ true) =
     λ i x e. let p = both_passed (check_name (take i (map name xs)) part i (name x)) _ tt (each_passed check xs h i x e) in (p.0, test_passed (test x) _ p.1) in
-    let names : (i : ℕ) (x : X) → slice_get xs i ≡ Some x → (is_lawful_name (name x) ≡ true) × (list_any (bytes_eq (name x)) (take i (map name xs)) ≡ false) =
-    λ i x e. let p = both_passed (holds_or (is_lawful_name (name x)) _) _ tt (steps i x e).0 in (test_passed _ _ p.0, not-true _ (test_passed _ _ p.1)) in
+    let names : (i : ℕ) (x : X) → slice_get xs i ≡ Some x → (is_valid_name (name x) ≡ true) × (list_any (bytes_eq (name x)) (take i (map name xs)) ≡ false) =
+    λ i x e. let p = both_passed (ensure (is_valid_name (name x)) _) _ tt (steps i x e).0 in (test_passed _ _ p.0, not-true _ (test_passed _ _ p.1)) in
     record {
       distinct = distinct_from (map name xs) (λ i y e. let found = mapped_get name xs i y e in rw (← found.2) (names i found.0 found.1).1);
       names = λ i x e. (names i x e).0;
       tests = λ i x e. (steps i x e).1;
     }
 
-entries_pass : {X : Type 0} (name : X → List ℕ) (test : X → Bool) (part : Part) (number : ℕ) (xs : List X) → AreLawful name test xs → check_each (check_entry name test part number xs) 0 xs ≡ Ok tt
+entries_pass : {X : Type 0} (name : X → List ℕ) (test : X → Bool) (part : Part) (number : ℕ) (xs : List X) → AreValid name test xs → check_each (check_entry name test part number xs) 0 xs ≡ Ok tt
 entries_pass name test part number xs w = each_passes (check_entry name test part number xs) xs (λ i x e.
     let named : slice_get (map name xs) i ≡ Some (name x) = slice_get-map name xs i ∙ ap (λ o. option_map name o) e in
     let new = not_from_false _ (distinct_before (map name xs) w.distinct i (name x) named) in
@@ -57,35 +57,35 @@ lengths_pass : {X : Type 0} (body : X → List Action) (part : Part) (xs : List 
 lengths_pass body part xs h = each_passes (λ index x. check_length part index (body x)) xs (λ i x e. test_passes _ _ (h i x e))
 
 -- ---- bodies
-action_passed : (classes : ℕ) (part : Part) (index : ℕ) (body : List Action) (i : ℕ) (action : Action) → check_action classes part index body i action ≡ Ok tt → is_lawful_action classes body i action ≡ true
+action_passed : (classes : ℕ) (part : Part) (index : ℕ) (body : List Action) (i : ℕ) (action : Action) → check_action classes part index body i action ≡ Ok tt → is_valid_action classes body i action ≡ true
 action_passed classes part index body i (Work u) h = test_passed _ _ h
 action_passed classes part index body i (Submit k) h = test_passed _ _ h
 action_passed classes part index body i (Get t) h = test_passed _ _ h
 
-action_passes : (classes : ℕ) (part : Part) (index : ℕ) (body : List Action) (i : ℕ) (action : Action) → is_lawful_action classes body i action ≡ true → check_action classes part index body i action ≡ Ok tt
+action_passes : (classes : ℕ) (part : Part) (index : ℕ) (body : List Action) (i : ℕ) (action : Action) → is_valid_action classes body i action ≡ true → check_action classes part index body i action ≡ Ok tt
 action_passes classes part index body i (Work u) h = test_passes _ _ h
 action_passes classes part index body i (Submit k) h = test_passes _ _ h
 action_passes classes part index body i (Get t) h = test_passes _ _ h
 
 -- the actions of the body are valid
-abbrev are_lawful_actions : ℕ → List Action → Bool
-are_lawful_actions classes body = list_all (λ entry. is_lawful_action classes body entry.0 entry.1) (enumerate_from 0 body)
+abbrev are_valid_actions : ℕ → List Action → Bool
+are_valid_actions classes body = list_all (λ entry. is_valid_action classes body entry.0 entry.1) (enumerate_from 0 body)
 
-body_passed : (classes : ℕ) (part : Part) (index : ℕ) (body : List Action) → check_body classes part index body ≡ Ok tt → are_lawful_actions classes body ≡ true
+body_passed : (classes : ℕ) (part : Part) (index : ℕ) (body : List Action) → check_body classes part index body ≡ Ok tt → are_valid_actions classes body ≡ true
 body_passed classes part index body h =
-    list_all_enumerated_from (λ entry. is_lawful_action classes body entry.0 entry.1) 0 body (λ i action e.
+    list_all_enumerated_from (λ entry. is_valid_action classes body entry.0 entry.1) 0 body (λ i action e.
     let place : 0 + i ≡ i = zero-add i in
     rw place (action_passed classes part index body i action (each_passed (check_action classes part index body) body h i action e)))
 
-body_passes : (classes : ℕ) (part : Part) (index : ℕ) (body : List Action) → are_lawful_actions classes body ≡ true → check_body classes part index body ≡ Ok tt
+body_passes : (classes : ℕ) (part : Part) (index : ℕ) (body : List Action) → are_valid_actions classes body ≡ true → check_body classes part index body ≡ Ok tt
 body_passes classes part index body h = each_passes (check_action classes part index body) body (λ i action e.
-    let found : is_lawful_action classes body (0 + i) action ≡ true = list_all_enumerated (λ entry. is_lawful_action classes body entry.0 entry.1) 0 body i action h e in
-    action_passes classes part index body i action (subst (λ (k : ℕ). is_lawful_action classes body k action ≡ true) (zero-add i) found))
+    let found : is_valid_action classes body (0 + i) action ≡ true = list_all_enumerated (λ entry. is_valid_action classes body entry.0 entry.1) 0 body i action h e in
+    action_passes classes part index body i action (subst (λ (k : ℕ). is_valid_action classes body k action ≡ true) (zero-add i) found))
 
-bodies_passed : {X : Type 0} (body : X → List Action) (classes : ℕ) (part : Part) (xs : List X) → check_each (λ index x. check_body classes part index (body x)) 0 xs ≡ Ok tt → EachPlace xs (λ i x. are_lawful_actions classes (body x) ≡ true)
+bodies_passed : {X : Type 0} (body : X → List Action) (classes : ℕ) (part : Part) (xs : List X) → check_each (λ index x. check_body classes part index (body x)) 0 xs ≡ Ok tt → EachPlace xs (λ i x. are_valid_actions classes (body x) ≡ true)
 bodies_passed body classes part xs h i x e = body_passed classes part i (body x) (each_passed (λ index x. check_body classes part index (body x)) xs h i x e)
 
-bodies_pass : {X : Type 0} (body : X → List Action) (classes : ℕ) (part : Part) (xs : List X) → EachPlace xs (λ i x. are_lawful_actions classes (body x) ≡ true) → check_each (λ index x. check_body classes part index (body x)) 0 xs ≡ Ok tt
+bodies_pass : {X : Type 0} (body : X → List Action) (classes : ℕ) (part : Part) (xs : List X) → EachPlace xs (λ i x. are_valid_actions classes (body x) ≡ true) → check_each (λ index x. check_body classes part index (body x)) 0 xs ≡ Ok tt
 bodies_pass body classes part xs h = each_passes (λ index x. check_body classes part index (body x)) xs (λ i x e. body_passes classes part i (body x) (h i x e))
 
 -- ---- the whole plan
@@ -112,13 +112,13 @@ all_pass plan p =
 pub well_formed : (plan built : Plan) → build plan ≡ Ok built → IsWellFormed plan
 well_formed plan built h =
     let p = all_passed plan built h in
-    let few_pools = both_passed (holds_or (nat_le (length plan.pools) MAX_POOLS) _) _ tt p.counts in
-    let few = both_passed (holds_or (nat_le (length plan.classes) MAX_CLASSES) _) _ tt few_pools.1 in
+    let few_pools = both_passed (ensure (nat_le (length plan.pools) MAX_POOLS) _) _ tt p.counts in
+    let few = both_passed (ensure (nat_le (length plan.classes) MAX_CLASSES) _) _ tt few_pools.1 in
     let lengths = both_passed (check_each (λ index class. check_length part.Class index class.body) 0 plan.classes) _ tt p.lengths in
-    let pool_entries = both_passed (check_each (check_entry (λ pool. pool.name) has_lawful_sizes part.Pool BAD_NUMBER plan.pools) 0 plan.pools) _ tt p.entries in
+    let pool_entries = both_passed (check_each (check_entry (λ pool. pool.name) has_valid_sizes part.Pool BAD_NUMBER plan.pools) 0 plan.pools) _ tt p.entries in
     let entries = both_passed (check_each (check_entry (λ class. class.name) (λ class. nat_lt class.pool (length plan.pools)) part.Class NO_SUCH_POOL plan.classes) 0 plan.classes) _ tt pool_entries.1 in
     let bodies = both_passed (check_each (λ index class. check_body (length plan.classes) part.Class index class.body) 0 plan.classes) _ tt p.bodies in
-    let pools = entries_passed (λ pool. pool.name) has_lawful_sizes part.Pool BAD_NUMBER plan.pools pool_entries.0 in
+    let pools = entries_passed (λ pool. pool.name) has_valid_sizes part.Pool BAD_NUMBER plan.pools pool_entries.0 in
     let classes = entries_passed (λ class. class.name) (λ class. nat_lt class.pool (length plan.pools)) part.Class NO_SUCH_POOL plan.classes entries.0 in
     let clients = entries_passed (λ client. client.name) (λ client. is_within 1 MAX_SIZE client.count) part.Client BAD_NUMBER plan.clients entries.1 in
     let class_lengths = lengths_passed (λ class. class.body) part.Class plan.classes lengths.0 in
@@ -132,27 +132,27 @@ well_formed plan built h =
       pool_names = pools.distinct;
       class_names = classes.distinct;
       client_names = clients.distinct;
-      pools = list_all_from is_lawful_pool plan.pools (λ i pool e. and_from _ _ (pools.names i pool e) (pools.tests i pool e));
-      classes = list_all_from (is_lawful_class plan) plan.classes (λ i class e. and_from _ _ (and_from _ _ (classes.names i class e) (classes.tests i class e)) (and_from _ _ (class_lengths i class e) (class_bodies i class e)));
-      clients = list_all_from (is_lawful_client plan) plan.clients (λ i client e. and_from _ _ (and_from _ _ (clients.names i client e) (clients.tests i client e)) (and_from _ _ (client_lengths i client e) (client_bodies i client e)));
+      pools = list_all_from is_valid_pool plan.pools (λ i pool e. and_from _ _ (pools.names i pool e) (pools.tests i pool e));
+      classes = list_all_from (is_valid_class plan) plan.classes (λ i class e. and_from _ _ (and_from _ _ (classes.names i class e) (classes.tests i class e)) (and_from _ _ (class_lengths i class e) (class_bodies i class e)));
+      clients = list_all_from (is_valid_client plan) plan.clients (λ i client e. and_from _ _ (and_from _ _ (clients.names i client e) (clients.tests i client e)) (and_from _ _ (client_lengths i client e) (client_bodies i client e)));
     }
 
 -- a well-formed plan is built
 pub builds : (plan : Plan) → IsWellFormed plan → build plan ≡ Ok plan
 builds plan w =
-    let pools : AreLawful (λ pool. pool.name) has_lawful_sizes plan.pools = record {
+    let pools : AreValid (λ pool. pool.name) has_valid_sizes plan.pools = record {
       distinct = w.pool_names;
-      names = λ i pool e. (and_parts _ _ (list_all_get is_lawful_pool plan.pools i pool w.pools e)).0;
-      tests = λ i pool e. (and_parts _ _ (list_all_get is_lawful_pool plan.pools i pool w.pools e)).1;
+      names = λ i pool e. (and_parts _ _ (list_all_get is_valid_pool plan.pools i pool w.pools e)).0;
+      tests = λ i pool e. (and_parts _ _ (list_all_get is_valid_pool plan.pools i pool w.pools e)).1;
     } in
-    let class_parts = λ (i : ℕ) (class : Class) (e : slice_get plan.classes i ≡ Some class). and_parts _ _ (list_all_get (is_lawful_class plan) plan.classes i class w.classes e) in
-    let classes : AreLawful (λ class. class.name) (λ class. nat_lt class.pool (length plan.pools)) plan.classes = record {
+    let class_parts = λ (i : ℕ) (class : Class) (e : slice_get plan.classes i ≡ Some class). and_parts _ _ (list_all_get (is_valid_class plan) plan.classes i class w.classes e) in
+    let classes : AreValid (λ class. class.name) (λ class. nat_lt class.pool (length plan.pools)) plan.classes = record {
       distinct = w.class_names;
       names = λ i class e. (and_parts _ _ (class_parts i class e).0).0;
       tests = λ i class e. (and_parts _ _ (class_parts i class e).0).1;
     } in
-    let client_parts = λ (i : ℕ) (client : Client) (e : slice_get plan.clients i ≡ Some client). and_parts _ _ (list_all_get (is_lawful_client plan) plan.clients i client w.clients e) in
-    let clients : AreLawful (λ client. client.name) (λ client. is_within 1 MAX_SIZE client.count) plan.clients = record {
+    let client_parts = λ (i : ℕ) (client : Client) (e : slice_get plan.clients i ≡ Some client). and_parts _ _ (list_all_get (is_valid_client plan) plan.clients i client w.clients e) in
+    let clients : AreValid (λ client. client.name) (λ client. is_within 1 MAX_SIZE client.count) plan.clients = record {
       distinct = w.client_names;
       names = λ i client e. (and_parts _ _ (client_parts i client e).0).0;
       tests = λ i client e. (and_parts _ _ (client_parts i client e).0).1;
@@ -163,7 +163,7 @@ builds plan w =
           (lengths_pass (λ class. class.body) part.Class plan.classes (λ i class e. (and_parts _ _ (class_parts i class e).1).0))
           (lengths_pass (λ client. client.body) part.Client plan.clients (λ i client e. (and_parts _ _ (client_parts i client e).1).0));
       entries = both_pass _ _ tt
-          (entries_pass (λ pool. pool.name) has_lawful_sizes part.Pool BAD_NUMBER plan.pools pools)
+          (entries_pass (λ pool. pool.name) has_valid_sizes part.Pool BAD_NUMBER plan.pools pools)
           (both_pass _ _ tt
           (entries_pass (λ class. class.name) (λ class. nat_lt class.pool (length plan.pools)) part.Class NO_SUCH_POOL plan.classes classes)
           (entries_pass (λ client. client.name) (λ client. is_within 1 MAX_SIZE client.count) part.Client BAD_NUMBER plan.clients clients));

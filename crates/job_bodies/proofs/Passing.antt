@@ -2,7 +2,7 @@
 use Rattle.std.proofs.Common.{◌≡◌, ◌+◌, ℕ, zero, suc, Bool, true, false, List, [], ◌∷◌, map, slice_get, Some, Result, Ok, Err, refl, sym, ap, subst, ◌∙◌, arith, zero-add}
 use Rattle.std.specs.List.{list_all, list_any, enumerate_from}
 use Rattle.std.proofs.lemmas.Bool.{and_from, or_parts}
-use Rattle.support.specs.Reading.{◌>>=◌, holds_or, check_each}
+use Rattle.support.specs.Reading.{◌>>=◌, ensure, check_each}
 
 -- both steps passed
 pub both_passed : {B F : Type 0} (r : Result (Unit {0}) F) (next : Unit {0} → Result B F) (y : B) → (r >>= next) ≡ Ok y → (r ≡ Ok tt) × (next tt ≡ Ok y)
@@ -13,11 +13,11 @@ pub both_pass : {B F : Type 0} (r : Result (Unit {0}) F) (next : Unit {0} → Re
 both_pass (Ok u) next y first second = second
 both_pass (Err fault) next y first second = cc
 
-pub test_passed : {F : Type 0} (b : Bool) (fault : F) → holds_or b fault ≡ Ok tt → b ≡ true
+pub test_passed : {F : Type 0} (b : Bool) (fault : F) → ensure b fault ≡ Ok tt → b ≡ true
 test_passed true fault h = refl
 test_passed false fault h = cc
 
-pub test_passes : {F : Type 0} (b : Bool) (fault : F) → b ≡ true → holds_or b fault ≡ Ok tt
+pub test_passes : {F : Type 0} (b : Bool) (fault : F) → b ≡ true → ensure b fault ≡ Ok tt
 test_passes true fault h = refl
 test_passes false fault h = cc
 

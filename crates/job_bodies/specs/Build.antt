@@ -1,6 +1,6 @@
 -- The result of `Plan::build`: the plan of these lists, or the first fault.
 use Rattle.std.specs.Prelude.{nat_le, List, length, take, map, Result, Ok}
-use Rattle.support.specs.Reading.{◌>>=◌, holds_or, check_each}
+use Rattle.support.specs.Reading.{◌>>=◌, ensure, check_each}
 use Rattle.job_bodies.specs.declared.fault.PlanFault.{PlanFault}
 use Rattle.job_bodies.specs.declared.fault.Part.TheVariants as part
 use Rattle.support.specs.declared.number.TheConstants.{TOO_MANY}
@@ -9,15 +9,15 @@ use Rattle.job_bodies.specs.Plan.{Pool, Class, Client, Plan}
 use Rattle.job_bodies.specs.Checks.{at_text, check_pool, check_class, check_client, check_length, check_body}
 
 -- the given lists as a plan
-abbrev pub given : List Pool → List Class → List Client → Plan
-given pools classes clients = record { pools = pools; classes = classes; clients = clients }
+abbrev pub plan_of_lists : List Pool → List Class → List Client → Plan
+plan_of_lists pools classes clients = record { pools = pools; classes = classes; clients = clients }
 
 -- no list is too long
 abbrev pub check_counts : Plan → Result (Unit {0}) PlanFault
 check_counts plan =
-    holds_or (nat_le (length plan.pools) MAX_POOLS) (at_text TOO_MANY) >>= λ _.
-    holds_or (nat_le (length plan.classes) MAX_CLASSES) (at_text TOO_MANY) >>= λ _.
-    holds_or (nat_le (length plan.clients) MAX_CLIENT_KINDS) (at_text TOO_MANY)
+    ensure (nat_le (length plan.pools) MAX_POOLS) (at_text TOO_MANY) >>= λ _.
+    ensure (nat_le (length plan.classes) MAX_CLASSES) (at_text TOO_MANY) >>= λ _.
+    ensure (nat_le (length plan.clients) MAX_CLIENT_KINDS) (at_text TOO_MANY)
 
 -- no body is too long
 abbrev pub check_lengths : Plan → Result (Unit {0}) PlanFault

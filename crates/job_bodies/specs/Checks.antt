@@ -2,7 +2,7 @@
 use Rattle.std.specs.Prelude.{ℕ, not, nat_lt, nat_le, List, length, None, Some, Result}
 use Rattle.std.specs.List.{list_any}
 use Rattle.std.specs.Str.{bytes_eq}
-use Rattle.support.specs.Reading.{◌>>=◌, holds_or, check_each}
+use Rattle.support.specs.Reading.{◌>>=◌, ensure, check_each}
 use Rattle.job_bodies.specs.declared.action.Action.{Action}
 use Rattle.job_bodies.specs.declared.action.Action.TheVariants.{Work, Submit, Get}
 use Rattle.job_bodies.specs.declared.fault.PlanFault.{PlanFault}
@@ -11,7 +11,7 @@ use Rattle.job_bodies.specs.declared.fault.Part.TheVariants as part
 use Rattle.support.specs.declared.number.TheConstants.{TOO_MANY, BAD_NAME, DOUBLE_NAME, BAD_NUMBER, NO_SUCH_POOL, NO_SUCH_CLASS, SLOT_EMPTY}
 use Rattle.job_bodies.specs.declared.limits.TheConstants.{MAX_ACTIONS, MAX_SIZE, MAX_WORK}
 use Rattle.job_bodies.specs.Plan.{Pool, Class, Client}
-use Rattle.job_bodies.specs.WellFormed.{is_lawful_name, has_lawful_sizes, is_within, is_lawful_get}
+use Rattle.job_bodies.specs.WellFormed.{is_valid_name, has_valid_sizes, is_within, is_valid_get}
 
 -- a fault of the text, or of the plan as a whole
 abbrev pub at_text : ℕ → PlanFault
@@ -28,32 +28,32 @@ at_action part index action number = record { number = number; part = part; inde
 -- the name is valid, and differs from the earlier names of its list
 abbrev pub check_name : List (List ℕ) → Part → ℕ → List ℕ → Result (Unit {0}) PlanFault
 check_name earlier part index name =
-    holds_or (is_lawful_name name) (at_entry part index BAD_NAME) >>= λ _. holds_or (not (list_any (bytes_eq name) earlier)) (at_entry part index DOUBLE_NAME)
+    ensure (is_valid_name name) (at_entry part index BAD_NAME) >>= λ _. ensure (not (list_any (bytes_eq name) earlier)) (at_entry part index DOUBLE_NAME)
 
 -- a pool, after pools with the earlier names
 abbrev pub check_pool : List (List ℕ) → ℕ → Pool → Result (Unit {0}) PlanFault
 check_pool earlier index pool =
-    check_name earlier part.Pool index pool.name >>= λ _. holds_or (has_lawful_sizes pool) (at_entry part.Pool index BAD_NUMBER)
+    check_name earlier part.Pool index pool.name >>= λ _. ensure (has_valid_sizes pool) (at_entry part.Pool index BAD_NUMBER)
 
 -- a class's name and its pool, one of `pools`
 abbrev pub check_class : ℕ → List (List ℕ) → ℕ → Class → Result (Unit {0}) PlanFault
 check_class pools earlier index class =
-    check_name earlier part.Class index class.name >>= λ _. holds_or (nat_lt class.pool pools) (at_entry part.Class index NO_SUCH_POOL)
+    check_name earlier part.Class index class.name >>= λ _. ensure (nat_lt class.pool pools) (at_entry part.Class index NO_SUCH_POOL)
 
 -- the name and the count of a kind of client
 abbrev pub check_client : List (List ℕ) → ℕ → Client → Result (Unit {0}) PlanFault
 check_client earlier index client =
-    check_name earlier part.Client index client.name >>= λ _. holds_or (is_within 1 MAX_SIZE client.count) (at_entry part.Client index BAD_NUMBER)
+    check_name earlier part.Client index client.name >>= λ _. ensure (is_within 1 MAX_SIZE client.count) (at_entry part.Client index BAD_NUMBER)
 
 -- the body has at most the maximum number of actions
 abbrev pub check_length : Part → ℕ → List Action → Result (Unit {0}) PlanFault
-check_length part index body = holds_or (nat_le (length body) MAX_ACTIONS) (at_entry part index TOO_MANY)
+check_length part index body = ensure (nat_le (length body) MAX_ACTIONS) (at_entry part index TOO_MANY)
 
 -- the action at position i of the body, in a plan with this number of classes
 abbrev pub check_action : ℕ → Part → ℕ → List Action → ℕ → Action → Result (Unit {0}) PlanFault
-check_action classes part index body i (Work u) = holds_or (is_within 1 MAX_WORK u) (at_action part index i BAD_NUMBER)
-check_action classes part index body i (Submit k) = holds_or (nat_lt k classes) (at_action part index i NO_SUCH_CLASS)
-check_action classes part index body i (Get t) = holds_or (is_lawful_get body i t) (at_action part index i SLOT_EMPTY)
+check_action classes part index body i (Work u) = ensure (is_within 1 MAX_WORK u) (at_action part index i BAD_NUMBER)
+check_action classes part index body i (Submit k) = ensure (nat_lt k classes) (at_action part index i NO_SUCH_CLASS)
+check_action classes part index body i (Get t) = ensure (is_valid_get body i t) (at_action part index i SLOT_EMPTY)
 
 -- a whole body
 abbrev pub check_body : ℕ → Part → ℕ → List Action → Result (Unit {0}) PlanFault

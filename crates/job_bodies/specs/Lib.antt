@@ -1,7 +1,7 @@
 pub mod Plan
 pub mod WellFormed
-pub mod Lawful
-pub mod Got
+pub mod ValidBody
+pub mod GetTable
 pub mod Checks
 pub mod Build
 pub mod FaultText

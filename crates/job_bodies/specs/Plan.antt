@@ -66,8 +66,8 @@ class_of_submit (Some (Submit k)) = k
 class_of_submit _ = 0
 
 -- the class of the job that a get of the submit at position t waits for
-abbrev pub class_got : List Action → ℕ → ℕ
-class_got body t = class_of_submit (slice_get body t)
+abbrev pub submitted_class : List Action → ℕ → ℕ
+submitted_class body t = class_of_submit (slice_get body t)
 
 -- whether the action is a get of the submit at position t
 abbrev pub gets : ℕ → Action → Bool
@@ -75,5 +75,5 @@ gets t (Get u) = t == u
 gets t _ = false
 
 -- whether one of the actions is a get of the submit at position t
-abbrev pub is_got : List Action → ℕ → Bool
-is_got body t = list_any (gets t) body
+abbrev pub has_get_of : List Action → ℕ → Bool
+has_get_of body t = list_any (gets t) body

@@ -6,7 +6,7 @@ use Rattle.std.specs.Str.{bytes_eq}
 use Rattle.job_bodies.specs.declared.action.Action.{Action}
 use Rattle.job_bodies.specs.declared.action.Action.TheVariants.{Work, Submit, Get}
 use Rattle.job_bodies.specs.declared.limits.TheConstants.{MAX_POOLS, MAX_CLASSES, MAX_CLIENT_KINDS, MAX_ACTIONS, MAX_SIZE, MAX_WORK, MAX_NAME_BYTES}
-use Rattle.job_bodies.specs.Plan.{Pool, Class, Client, Plan, submits, is_got}
+use Rattle.job_bodies.specs.Plan.{Pool, Class, Client, Plan, submits, has_get_of}
 
 abbrev pub is_within : ℕ → ℕ → ℕ → Bool
 is_within low high n = nat_le low n && nat_le n high
@@ -20,38 +20,38 @@ abbrev pub is_name_byte : ℕ → Bool
 is_name_byte b = is_letter b || is_within 48 57 b || b == 95
 
 -- a letter followed by name bytes, within the limit on its length
-abbrev pub is_lawful_name : List ℕ → Bool
-is_lawful_name name = is_within 1 MAX_NAME_BYTES (length name) && is_letter (slice_index name 0) && list_all is_name_byte name
+abbrev pub is_valid_name : List ℕ → Bool
+is_valid_name name = is_within 1 MAX_NAME_BYTES (length name) && is_letter (slice_index name 0) && list_all is_name_byte name
 
 abbrev pub are_distinct : List (List ℕ) → Bool
 are_distinct [] = true
 are_distinct (x ∷ xs) = not (list_any (bytes_eq x) xs) && are_distinct xs
 
 -- core at least 1, max at least core, a queue of at least 1, none above the limit
-abbrev pub has_lawful_sizes : Pool → Bool
-has_lawful_sizes pool = is_within 1 MAX_SIZE pool.core && is_within pool.core MAX_SIZE pool.max && is_within 1 MAX_SIZE pool.queue
+abbrev pub has_valid_sizes : Pool → Bool
+has_valid_sizes pool = is_within 1 MAX_SIZE pool.core && is_within pool.core MAX_SIZE pool.max && is_within 1 MAX_SIZE pool.queue
 
-abbrev pub is_lawful_pool : Pool → Bool
-is_lawful_pool pool = is_lawful_name pool.name && has_lawful_sizes pool
+abbrev pub is_valid_pool : Pool → Bool
+is_valid_pool pool = is_valid_name pool.name && has_valid_sizes pool
 
 -- a get at position i names an earlier submit of its body that no earlier get names
-abbrev pub is_lawful_get : List Action → ℕ → ℕ → Bool
-is_lawful_get body i t = nat_lt t i && submits (slice_get body t) && not (is_got (take i body) t)
+abbrev pub is_valid_get : List Action → ℕ → ℕ → Bool
+is_valid_get body i t = nat_lt t i && submits (slice_get body t) && not (has_get_of (take i body) t)
 
 -- the action at position i of the body is valid, in a plan with this number of classes
-abbrev pub is_lawful_action : ℕ → List Action → ℕ → Action → Bool
-is_lawful_action classes body i (Work u) = is_within 1 MAX_WORK u
-is_lawful_action classes body i (Submit k) = nat_lt k classes
-is_lawful_action classes body i (Get t) = is_lawful_get body i t
+abbrev pub is_valid_action : ℕ → List Action → ℕ → Action → Bool
+is_valid_action classes body i (Work u) = is_within 1 MAX_WORK u
+is_valid_action classes body i (Submit k) = nat_lt k classes
+is_valid_action classes body i (Get t) = is_valid_get body i t
 
-abbrev pub is_lawful_body : ℕ → List Action → Bool
-is_lawful_body classes body = nat_le (length body) MAX_ACTIONS && list_all (λ entry. is_lawful_action classes body entry.0 entry.1) (enumerate_from 0 body)
+abbrev pub is_valid_body : ℕ → List Action → Bool
+is_valid_body classes body = nat_le (length body) MAX_ACTIONS && list_all (λ entry. is_valid_action classes body entry.0 entry.1) (enumerate_from 0 body)
 
-abbrev pub is_lawful_class : Plan → Class → Bool
-is_lawful_class plan class = is_lawful_name class.name && nat_lt class.pool (length plan.pools) && is_lawful_body (length plan.classes) class.body
+abbrev pub is_valid_class : Plan → Class → Bool
+is_valid_class plan class = is_valid_name class.name && nat_lt class.pool (length plan.pools) && is_valid_body (length plan.classes) class.body
 
-abbrev pub is_lawful_client : Plan → Client → Bool
-is_lawful_client plan client = is_lawful_name client.name && is_within 1 MAX_SIZE client.count && is_lawful_body (length plan.classes) client.body
+abbrev pub is_valid_client : Plan → Client → Bool
+is_valid_client plan client = is_valid_name client.name && is_within 1 MAX_SIZE client.count && is_valid_body (length plan.classes) client.body
 
 pub record IsWellFormed (plan : Plan) : Type 0 where
   pub few_pools : length plan.pools ≤ MAX_POOLS
@@ -60,6 +60,6 @@ pub record IsWellFormed (plan : Plan) : Type 0 where
   pub pool_names : IsTrue (are_distinct (map (λ pool. pool.name) plan.pools))
   pub class_names : IsTrue (are_distinct (map (λ class. class.name) plan.classes))
   pub client_names : IsTrue (are_distinct (map (λ client. client.name) plan.clients))
-  pub pools : IsTrue (list_all is_lawful_pool plan.pools)
-  pub classes : IsTrue (list_all (is_lawful_class plan) plan.classes)
-  pub clients : IsTrue (list_all (is_lawful_client plan) plan.clients)
+  pub pools : IsTrue (list_all is_valid_pool plan.pools)
+  pub classes : IsTrue (list_all (is_valid_class plan) plan.classes)
+  pub clients : IsTrue (list_all (is_valid_client plan) plan.clients)

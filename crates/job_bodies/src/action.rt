@@ -29,8 +29,8 @@ impl Action {
 }
 
 /// Returns whether one of these actions is a get of the submit at this position of their body.
-pub fn is_got(actions: &[Action], submit: usize) -> bool
-    ensures { result ≡ spec.is_got actions.now submit }
+pub fn has_get_of(actions: &[Action], submit: usize) -> bool
+    ensures { result ≡ spec.has_get_of actions.now submit }
 {
     actions.iter().any(|action| action.gets(submit))
 }

@@ -5,10 +5,10 @@ ghost use Rattle.support.specs.Reading.{check_each};
 ghost use Rattle.job_bodies.specs.declared.fault.Part.TheVariants as part;
 ghost use Rattle.job_bodies.specs.Plan as spec;
 ghost use Rattle.job_bodies.specs.Checks.{check_pool, check_class, check_client, check_length, check_body};
-ghost use Rattle.job_bodies.specs.Build.{given, check_counts, check_lengths, check_entries, check_bodies};
+ghost use Rattle.job_bodies.specs.Build.{plan_of_lists, check_counts, check_lengths, check_entries, check_bodies};
 
 use crate::checks::{check_body, check_class, check_client, check_length, check_pool};
-use crate::fault::holds_or;
+use crate::fault::ensure;
 use crate::limits::{MAX_CLASSES, MAX_CLIENT_KINDS, MAX_POOLS};
 use crate::{Class, Client, Part, PlanFault, Pool};
 use support::number::TOO_MANY;
@@ -19,14 +19,14 @@ pub(crate) fn check_counts(
     classes: &[Class],
     clients: &[Client],
 ) -> Result<(), PlanFault>
-    ensures { result ≡ check_counts (given pools.now classes.now clients.now) }
+    ensures { result ≡ check_counts (plan_of_lists pools.now classes.now clients.now) }
 {
     let few_pools = pools.len() <= MAX_POOLS;
-    holds_or(few_pools, PlanFault::at_text(TOO_MANY))?;
+    ensure(few_pools, PlanFault::at_text(TOO_MANY))?;
     let few_classes = classes.len() <= MAX_CLASSES;
-    holds_or(few_classes, PlanFault::at_text(TOO_MANY))?;
+    ensure(few_classes, PlanFault::at_text(TOO_MANY))?;
     let few_clients = clients.len() <= MAX_CLIENT_KINDS;
-    holds_or(few_clients, PlanFault::at_text(TOO_MANY))
+    ensure(few_clients, PlanFault::at_text(TOO_MANY))
 }
 
 #[tactic(auto, using(crate::proofs::Loops::check_each_turn))]
@@ -54,7 +54,7 @@ fn check_client_lengths(clients: &[Client]) -> Result<(), PlanFault>
 /// Checks that no body is too long.
 pub(crate) fn check_lengths(classes: &[Class], clients: &[Client]) -> Result<(), PlanFault>
     ensures { (pools : List spec.Pool)
-        → result ≡ check_lengths (given pools classes.now clients.now) }
+        → result ≡ check_lengths (plan_of_lists pools classes.now clients.now) }
 {
     check_class_lengths(classes)?;
     check_client_lengths(clients)
@@ -99,7 +99,7 @@ pub(crate) fn check_entries(
     classes: &[Class],
     clients: &[Client],
 ) -> Result<(), PlanFault>
-    ensures { result ≡ check_entries (given pools.now classes.now clients.now) }
+    ensures { result ≡ check_entries (plan_of_lists pools.now classes.now clients.now) }
 {
     check_pools(pools)?;
     check_classes(pools.len(), classes)?;
@@ -132,7 +132,7 @@ fn check_client_bodies(classes: usize, clients: &[Client]) -> Result<(), PlanFau
 /// Checks the bodies, action by action.
 pub(crate) fn check_bodies(classes: &[Class], clients: &[Client]) -> Result<(), PlanFault>
     ensures { (pools : List spec.Pool)
-        → result ≡ check_bodies (given pools classes.now clients.now) }
+        → result ≡ check_bodies (plan_of_lists pools classes.now clients.now) }
 {
     check_class_bodies(classes)?;
     check_client_bodies(classes.len(), clients)

@@ -3,15 +3,15 @@
 ghost use Rattle.std.specs.Prelude.{◌≡◌, ◌<◌, ◌++◌, ◌∷◌, [], List, length, map, take, slice_index_or};
 ghost use Rattle.job_bodies.specs.declared.action.Action.{Action};
 ghost use Rattle.job_bodies.specs.declared.action.Action.TheVariants.{Work};
-ghost use Rattle.job_bodies.specs.Plan.{no_pool, no_class, no_client, is_got};
-ghost use Rattle.job_bodies.specs.WellFormed.{is_lawful_get};
-ghost use Rattle.job_bodies.specs.Got.{IsTableOf};
+ghost use Rattle.job_bodies.specs.Plan.{no_pool, no_class, no_client, has_get_of};
+ghost use Rattle.job_bodies.specs.WellFormed.{is_valid_get};
+ghost use Rattle.job_bodies.specs.GetTable.{IsTableOf};
 ghost use Rattle.job_bodies.specs.Checks.{check_pool, check_class, check_client, check_length, check_action, check_body};
 
-use crate::fault::holds_or;
+use crate::fault::ensure;
 use crate::limits::{MAX_ACTIONS, MAX_SIZE, MAX_WORK, is_within};
 use crate::names::check_name;
-use crate::{Action, Class, Client, Part, PlanFault, Pool, is_got};
+use crate::{Action, Class, Client, Part, PlanFault, Pool, has_get_of};
 use support::number::{BAD_NUMBER, NO_SUCH_CLASS, NO_SUCH_POOL, SLOT_EMPTY, TOO_MANY};
 
 /// Checks that the pool at this index has a unique, valid name and valid sizes.
@@ -22,8 +22,8 @@ pub(crate) fn check_pool(pools: &[Pool], index: usize) -> Result<(), PlanFault>
 {
     let pool = &pools[index];
     check_name(pools, Part::Pool, index, &pool.name)?;
-    let lawful = pool.has_lawful_sizes();
-    holds_or(lawful, PlanFault::at_entry(Part::Pool, index, BAD_NUMBER))
+    let valid = pool.has_valid_sizes();
+    ensure(valid, PlanFault::at_entry(Part::Pool, index, BAD_NUMBER))
 }
 
 /// Checks that the class at this index has a unique, valid name and belongs to one of `pools`
@@ -36,7 +36,7 @@ pub(crate) fn check_class(pools: usize, classes: &[Class], index: usize) -> Resu
     let class = &classes[index];
     check_name(classes, Part::Class, index, &class.name)?;
     let found = class.pool < pools;
-    holds_or(found, PlanFault::at_entry(Part::Class, index, NO_SUCH_POOL))
+    ensure(found, PlanFault::at_entry(Part::Class, index, NO_SUCH_POOL))
 }
 
 /// Checks that the kind of client at this index has a unique, valid name and a valid count.
@@ -47,8 +47,8 @@ pub(crate) fn check_client(clients: &[Client], index: usize) -> Result<(), PlanF
 {
     let client = &clients[index];
     check_name(clients, Part::Client, index, &client.name)?;
-    let lawful = is_within(1, MAX_SIZE, client.count);
-    holds_or(lawful, PlanFault::at_entry(Part::Client, index, BAD_NUMBER))
+    let valid = is_within(1, MAX_SIZE, client.count);
+    ensure(valid, PlanFault::at_entry(Part::Client, index, BAD_NUMBER))
 }
 
 /// Checks that the body has at most the maximum number of actions.
@@ -56,18 +56,18 @@ pub(crate) fn check_length(part: Part, index: usize, body: &[Action]) -> Result<
     ensures { result ≡ check_length part index body.now }
 {
     let short = body.len() <= MAX_ACTIONS;
-    holds_or(short, PlanFault::at_entry(part, index, TOO_MANY))
+    ensure(short, PlanFault::at_entry(part, index, TOO_MANY))
 }
 
 /// Returns whether one of these actions is a get of the submit. Uses their table for every position
 /// that a valid body can have.
-fn is_got_by(actions: &[Action], got: &[bool; MAX_ACTIONS], submit: usize) -> bool
+fn has_get_in_table(actions: &[Action], got: &[bool; MAX_ACTIONS], submit: usize) -> bool
     requires { IsTableOf actions.now got.now }
-    ensures { result ≡ is_got actions.now submit }
+    ensures { result ≡ has_get_of actions.now submit }
 {
     match got.get(submit) {
         Some(got) => *got,
-        None => is_got(actions, submit),
+        None => has_get_of(actions, submit),
     }
 }
 
@@ -86,14 +86,14 @@ fn add_to_table(got: &mut [bool; MAX_ACTIONS], action: Action)
 
 /// Returns whether a get at this position names an earlier submit of its body that no earlier get
 /// names.
-fn is_lawful_get(body: &[Action], got: &[bool; MAX_ACTIONS], position: usize, submit: usize) -> bool
+fn is_valid_get(body: &[Action], got: &[bool; MAX_ACTIONS], position: usize, submit: usize) -> bool
     requires position { position < length body.now }
     requires table { IsTableOf (take position body.now) got.now }
-    ensures { result ≡ is_lawful_get body.now position submit }
+    ensures { result ≡ is_valid_get body.now position submit }
 {
     submit < position
         && matches!(body[submit], Action::Submit(_))
-        && !is_got_by(&body[..position], got, submit)
+        && !has_get_in_table(&body[..position], got, submit)
 }
 
 /// Checks the action at this position.
@@ -110,12 +110,12 @@ fn check_action(
     ensures { let action = slice_index_or body.now position (Work 0) in
         result ≡ check_action classes part index body.now position action }
 {
-    let (lawful, number) = match body[position] {
+    let (valid, number) = match body[position] {
         Action::Work(units) => (is_within(1, MAX_WORK, u64::from(units)), BAD_NUMBER),
         Action::Submit(class) => (class < classes, NO_SUCH_CLASS),
-        Action::Get(submit) => (is_lawful_get(body, got, position, submit), SLOT_EMPTY),
+        Action::Get(submit) => (is_valid_get(body, got, position, submit), SLOT_EMPTY),
     };
-    holds_or(lawful, PlanFault::at_action(part, index, position, number))
+    ensure(valid, PlanFault::at_action(part, index, position, number))
 }
 
 /// Checks the actions of the body, in order.

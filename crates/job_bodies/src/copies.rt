@@ -11,7 +11,7 @@ impl Pool {
     /// # Errors
     ///
     /// Returns [`AllocError`] if memory runs out.
-    pub fn copied(&self, alloc: Global) -> Result<Pool, AllocError>
+    pub fn try_clone(&self, alloc: Global) -> Result<Pool, AllocError>
         ensures { IfOk result (λ copy. copy ≡ self.now) }
     {
         Ok(Pool {
@@ -25,7 +25,7 @@ impl Pool {
 }
 
 impl Class {
-    fn copied(&self, alloc: Global) -> Result<Class, AllocError>
+    fn try_clone(&self, alloc: Global) -> Result<Class, AllocError>
         ensures { IfOk result (λ copy. copy ≡ self.now) }
     {
         Ok(Class {
@@ -37,7 +37,7 @@ impl Class {
 }
 
 impl Client {
-    fn copied(&self, alloc: Global) -> Result<Client, AllocError>
+    fn try_clone(&self, alloc: Global) -> Result<Client, AllocError>
         ensures { IfOk result (λ copy. copy ≡ self.now) }
     {
         Ok(Client {
@@ -55,42 +55,42 @@ impl Plan {
     /// # Errors
     ///
     /// Returns [`AllocError`] if memory runs out.
-    pub fn copied(&self, alloc: Global) -> Result<Plan, AllocError>
+    pub fn try_clone(&self, alloc: Global) -> Result<Plan, AllocError>
         ensures { IfOk result (λ copy. copy ≡ self.now) }
     {
-        let pools = copied_pools(alloc, self.pools())?;
-        let classes = copied_classes(alloc, self.classes())?;
-        let clients = copied_clients(alloc, self.clients())?;
+        let pools = try_clone_pools(alloc, self.pools())?;
+        let classes = try_clone_classes(alloc, self.classes())?;
+        let clients = try_clone_clients(alloc, self.clients())?;
         Ok(Plan::of_well_formed(pools, classes, clients))
     }
 }
 
-fn copied_pools(alloc: Global, pools: &[Pool]) -> Result<Vec<Pool>, AllocError>
+fn try_clone_pools(alloc: Global, pools: &[Pool]) -> Result<Vec<Pool>, AllocError>
     ensures { IfOk result (λ copies. copies.items ≡ pools.now) }
 {
     let mut copies = Vec::with_capacity(alloc, pools.len())?;
     for pool in pools {
-        copies.push(pool.copied(alloc)?)?;
+        copies.push(pool.try_clone(alloc)?)?;
     }
     Ok(copies)
 }
 
-fn copied_classes(alloc: Global, classes: &[Class]) -> Result<Vec<Class>, AllocError>
+fn try_clone_classes(alloc: Global, classes: &[Class]) -> Result<Vec<Class>, AllocError>
     ensures { IfOk result (λ copies. copies.items ≡ classes.now) }
 {
     let mut copies = Vec::with_capacity(alloc, classes.len())?;
     for class in classes {
-        copies.push(class.copied(alloc)?)?;
+        copies.push(class.try_clone(alloc)?)?;
     }
     Ok(copies)
 }
 
-fn copied_clients(alloc: Global, clients: &[Client]) -> Result<Vec<Client>, AllocError>
+fn try_clone_clients(alloc: Global, clients: &[Client]) -> Result<Vec<Client>, AllocError>
     ensures { IfOk result (λ copies. copies.items ≡ clients.now) }
 {
     let mut copies = Vec::with_capacity(alloc, clients.len())?;
     for client in clients {
-        copies.push(client.copied(alloc)?)?;
+        copies.push(client.try_clone(alloc)?)?;
     }
     Ok(copies)
 }

@@ -1,7 +1,7 @@
 //! The faults of a plan, with their places.
 
 ghost use Rattle.std.specs.Prelude.{◌≡◌};
-ghost use Rattle.support.specs.Reading.{holds_or};
+ghost use Rattle.support.specs.Reading.{ensure};
 ghost use Rattle.job_bodies.specs.Checks.{at_text, at_entry, at_action};
 
 /// The part of a plan that has a fault.
@@ -68,8 +68,8 @@ impl PlanFault {
 }
 
 /// Returns the fault unless `holds` is true.
-pub(crate) fn holds_or(holds: bool, fault: PlanFault) -> Result<(), PlanFault>
-    ensures { result ≡ holds_or holds fault }
+pub(crate) fn ensure(holds: bool, fault: PlanFault) -> Result<(), PlanFault>
+    ensures { result ≡ ensure holds fault }
 {
     if holds { Ok(()) } else { Err(fault) }
 }

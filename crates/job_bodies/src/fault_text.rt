@@ -5,16 +5,16 @@ ghost use Rattle.job_bodies.specs.FaultText.{part_text, action_text, fault_line}
 
 use crate::{Part, PlanFault};
 use std::fmt;
-use support::Head;
+use support::FaultHead;
 
 /// The entry that has a fault.
 #[derive(Clone, Copy)]
-struct AtEntry {
+struct FaultEntry {
     part: Part,
     index: usize,
 }
 
-impl fmt::Display for AtEntry {
+impl fmt::Display for FaultEntry {
     ghost output = { λ at. Some (part_text at.part at.index) };
 
     fn fmt<W: fmt::Write>(&self, f: &mut fmt::Formatter<W>) -> fmt::Result {
@@ -48,8 +48,8 @@ impl fmt::Display for PlanFault {
     ghost output = { λ fault. Some (fault_line fault) };
 
     fn fmt<W: fmt::Write>(&self, f: &mut fmt::Formatter<W>) -> fmt::Result {
-        let head = Head(self.number);
-        let entry = AtEntry {
+        let head = FaultHead(self.number);
+        let entry = FaultEntry {
             part: self.part,
             index: self.index,
         };

@@ -3,7 +3,7 @@
 //!
 //! [`Plan::build`] creates a plan from lists or returns their first fault. The type [`Plan`]
 //! guarantees that a plan is well-formed, so the crates above do not check it again. A reader of a
-//! text makes the same checks with [`is_lawful_name`], [`Pool::has_lawful_sizes`] and
+//! text makes the same checks with [`is_valid_name`], [`Pool::has_valid_sizes`] and
 //! [`is_within`].
 #![tactic(auto)]
 
@@ -18,7 +18,7 @@ mod limits;
 mod names;
 mod plan;
 
-pub use action::{Action, is_got};
+pub use action::{Action, has_get_of};
 pub use fault::{Part, PlanFault};
 pub use laws::limits_are_stated;
 pub use limits::{
@@ -28,5 +28,5 @@ pub use limits::{
     MAX_RUN_CARRIERS, MAX_RUN_CLIENTS, MAX_RUN_EVENTS, MAX_SIZE, MAX_STATES, MAX_WEIGHT, MAX_WORK,
     MAX_WORKERS, is_within,
 };
-pub use names::is_lawful_name;
+pub use names::is_valid_name;
 pub use plan::{Class, Client, Plan, Pool};

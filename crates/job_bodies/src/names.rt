@@ -4,10 +4,10 @@
 ghost use Rattle.std.specs.Prelude.{◌≡◌, ◌≤◌, ℕ, List, length, map, take};
 ghost use Rattle.std.specs.List.{list_all, list_any};
 ghost use Rattle.std.specs.Str.{bytes_eq};
-ghost use Rattle.job_bodies.specs.WellFormed.{is_letter, is_name_byte, is_lawful_name};
+ghost use Rattle.job_bodies.specs.WellFormed.{is_letter, is_name_byte, is_valid_name};
 ghost use Rattle.job_bodies.specs.Checks.{check_name};
 
-use crate::fault::holds_or;
+use crate::fault::ensure;
 use crate::limits::{MAX_NAME_BYTES, is_within};
 use crate::{Class, Client, Part, PlanFault, Pool};
 use support::number::{BAD_NAME, DOUBLE_NAME};
@@ -32,8 +32,8 @@ fn are_name_bytes(bytes: &[u8]) -> bool
 
 /// Returns whether the text is a valid name: a letter from `a` to `z` followed by at most 31 bytes,
 /// each of them one of `a` to `z`, `0` to `9` and `_`.
-pub fn is_lawful_name(name: &str) -> bool
-    ensures { result ≡ is_lawful_name name.now }
+pub fn is_valid_name(name: &str) -> bool
+    ensures { result ≡ is_valid_name name.now }
 {
     let bytes = name.as_bytes();
     is_within(1, MAX_NAME_BYTES as u64, bytes.len() as u64)
@@ -90,8 +90,8 @@ pub(crate) fn check_name<T: Named>(
     requires { index ≤ length entries.now }
     ensures { result ≡ check_name (take index (map T.name_of entries.now)) part index name.now }
 {
-    let lawful = is_lawful_name(name);
-    holds_or(lawful, PlanFault::at_entry(part, index, BAD_NAME))?;
+    let valid = is_valid_name(name);
+    ensure(valid, PlanFault::at_entry(part, index, BAD_NAME))?;
     let new = !has_name(&entries[..index], name);
-    holds_or(new, PlanFault::at_entry(part, index, DOUBLE_NAME))
+    ensure(new, PlanFault::at_entry(part, index, DOUBLE_NAME))
 }

@@ -2,8 +2,8 @@
 
 ghost use Rattle.std.specs.Prelude.{◌≡◌, ◌↔◌, ◌<◌, IsOk, IfOk, IsSome, IfSome, IfNone, length, string_bytes};
 ghost use Rattle.job_bodies.specs.Plan as spec;
-ghost use Rattle.job_bodies.specs.WellFormed.{IsWellFormed, has_lawful_sizes};
-ghost use Rattle.job_bodies.specs.Build.{given, build};
+ghost use Rattle.job_bodies.specs.WellFormed.{IsWellFormed, has_valid_sizes};
+ghost use Rattle.job_bodies.specs.Build.{plan_of_lists, build};
 
 use crate::build::{check_bodies, check_counts, check_entries, check_lengths};
 use crate::limits::{MAX_SIZE, is_within};
@@ -44,8 +44,8 @@ impl Model for Pool {
 impl Pool {
     /// Returns whether the sizes are in range: core from 1, the maximum from core, the queue from
     /// 1, each up to 1,000,000.
-    pub fn has_lawful_sizes(&self) -> bool
-        ensures { result ≡ has_lawful_sizes self.now }
+    pub fn has_valid_sizes(&self) -> bool
+        ensures { result ≡ has_valid_sizes self.now }
     {
         is_within(1, MAX_SIZE, self.core)
             && is_within(self.core, MAX_SIZE, self.max)
@@ -115,7 +115,7 @@ impl Model for Plan {
 
     ghost view = { λ p. record { pools = p.pools.items; classes = p.classes.items; clients = p.clients.items } };
 
-    ghost invariant = { λ p. IsWellFormed (given p.pools.items p.classes.items p.clients.items) };
+    ghost invariant = { λ p. IsWellFormed (plan_of_lists p.pools.items p.classes.items p.clients.items) };
 }
 
 impl Plan {
@@ -140,10 +140,10 @@ impl Plan {
         classes: Vec<Class>,
         clients: Vec<Client>,
     ) -> Result<Plan, PlanFault>
-        ensures exact { result ≡ build (given pools.items classes.items clients.items) }
-        ensures lists { IfOk result (λ plan. plan ≡ given pools.items classes.items clients.items) }
+        ensures exact { result ≡ build (plan_of_lists pools.items classes.items clients.items) }
+        ensures lists { IfOk result (λ plan. plan ≡ plan_of_lists pools.items classes.items clients.items) }
         ensures well_formed { IsOk result
-            ↔ IsWellFormed (given pools.items classes.items clients.items) }
+            ↔ IsWellFormed (plan_of_lists pools.items classes.items clients.items) }
     {
         check_counts(&pools, &classes, &clients)?;
         check_lengths(&classes, &clients)?;
@@ -155,8 +155,8 @@ impl Plan {
     /// Creates a plan from lists that are known to be well-formed. It serves readers that have made
     /// the checks already.
     pub fn of_well_formed(pools: Vec<Pool>, classes: Vec<Class>, clients: Vec<Client>) -> Plan
-        requires { IsWellFormed (given pools.items classes.items clients.items) }
-        ensures { result ≡ given pools.items classes.items clients.items }
+        requires { IsWellFormed (plan_of_lists pools.items classes.items clients.items) }
+        ensures { result ≡ plan_of_lists pools.items classes.items clients.items }
     {
         Plan {
             pools,
@@ -167,7 +167,7 @@ impl Plan {
 
     /// Replaces the pools of the plan. Allocates nothing, and drops the old pools.
     pub fn with_pools(self, pools: Vec<Pool>) -> Plan
-        requires { IsWellFormed (given pools.items self.classes self.clients) }
+        requires { IsWellFormed (plan_of_lists pools.items self.classes self.clients) }
         ensures { result ≡ record self { pools = pools.items } }
     {
         Plan {

@@ -4,9 +4,9 @@ use Rattle.std.specs.List.{All, cons_option, filter, filter_map, list_all, list_
 use Rattle.std.specs.Str.{bytes_eq}
 use Rattle.std.proofs.lemmas.Bool.{and_parts}
 use Rattle.job_bodies.specs.declared.limits.TheConstants.{MAX_POOLS, MAX_SIZE}
-use Rattle.job_bodies.specs.Build.{given}
+use Rattle.job_bodies.specs.Build.{plan_of_lists}
 use Rattle.job_bodies.specs.Plan.{Pool, Class, Client}
-use Rattle.job_bodies.specs.WellFormed.{is_within, is_lawful_name, has_lawful_sizes, is_lawful_pool, are_distinct, IsWellFormed}
+use Rattle.job_bodies.specs.WellFormed.{is_within, is_valid_name, has_valid_sizes, is_valid_pool, are_distinct, IsWellFormed}
 use Rattle.recordings.specs.declared.pool_sizes.PoolSizes.{PoolSizes}
 use Rattle.recordings.specs.LineText.{is_lawful_line, has_lawful_numbers}
 use Rattle.recordings.specs.RecordingLine.{RecordedLine, line_of, lines_read}
@@ -48,13 +48,13 @@ in_range low number below =
     let under : into_range low number ≤ MAX_SIZE = omega (arith, below) in
     grind (arith, above, under)
 
-pool_is_lawful : (name : List ℕ) (sizes : PoolSizes) → is_lawful_name name ≡ true → is_lawful_pool (pool_seen name sizes) ≡ true
+pool_is_lawful : (name : List ℕ) (sizes : PoolSizes) → is_valid_name name ≡ true → is_valid_pool (pool_seen name sizes) ≡ true
 pool_is_lawful name sizes lawful =
     let core = into_range 1 sizes.core in
     let max = into_range core sizes.max in
     let queue = into_range 1 sizes.capacity in
     let below : core ≤ MAX_SIZE = omega arith in
-    both (is_lawful_name name) (has_lawful_sizes (pool_seen name sizes)) lawful
+    both (is_valid_name name) (has_valid_sizes (pool_seen name sizes)) lawful
     (both (is_within 1 MAX_SIZE core && is_within core MAX_SIZE max) (is_within 1 MAX_SIZE queue)
     (both (is_within 1 MAX_SIZE core) (is_within core MAX_SIZE max) (in_range 1 sizes.core (omega arith)) (in_range core sizes.max below)) (in_range 1 sizes.capacity (omega arith)))
 
@@ -63,28 +63,28 @@ still_all : {X : Type 0} (test kept : X → Bool) (items : List X) → list_all 
 still_all test kept [] all = refl
 still_all test kept (item ∷ items) all = grind (arith, all, still_all test kept items)
 
-firsts_are_lawful : (pools : List Pool) → list_all is_lawful_pool pools ≡ true → list_all is_lawful_pool (firsts pools) ≡ true
+firsts_are_lawful : (pools : List Pool) → list_all is_valid_pool pools ≡ true → list_all is_valid_pool (firsts pools) ≡ true
 firsts_are_lawful [] all = refl
 firsts_are_lawful (pool ∷ pools) all =
-    let parts = and_parts (is_lawful_pool pool) (list_all is_lawful_pool pools) all in
-    both (is_lawful_pool pool) (list_all is_lawful_pool (filter (has_other_name pool) (firsts pools))) parts.0
-    (still_all is_lawful_pool (has_other_name pool) (firsts pools) (firsts_are_lawful pools parts.1))
+    let parts = and_parts (is_valid_pool pool) (list_all is_valid_pool pools) all in
+    both (is_valid_pool pool) (list_all is_valid_pool (filter (has_other_name pool) (firsts pools))) parts.0
+    (still_all is_valid_pool (has_other_name pool) (firsts pools) (firsts_are_lawful pools parts.1))
 
-of_line : (one : RecordedLine) (pools : List Pool) → is_lawful_line one ≡ true → list_all is_lawful_pool pools ≡ true → list_all is_lawful_pool (cons_option (pool_of_line one) pools) ≡ true
+of_line : (one : RecordedLine) (pools : List Pool) → is_lawful_line one ≡ true → list_all is_valid_pool pools ≡ true → list_all is_valid_pool (cons_option (pool_of_line one) pools) ≡ true
 of_line (line.Pool name sizes) pools lawful all =
-    both (is_lawful_pool (pool_seen name sizes)) (list_all is_lawful_pool pools) (pool_is_lawful name sizes (and_parts (is_lawful_name name) (has_lawful_numbers sizes) lawful).0) all
+    both (is_valid_pool (pool_seen name sizes)) (list_all is_valid_pool pools) (pool_is_lawful name sizes (and_parts (is_valid_name name) (has_lawful_numbers sizes) lawful).0) all
 of_line other pools lawful all = all
 
-of_text : (one : Option RecordedLine) (text : List ℕ) (lines : List RecordedLine) → line_of text ≡ one → list_all is_lawful_pool (filter_map pool_of_line lines) ≡ true
-    → list_all is_lawful_pool (filter_map pool_of_line (cons_option one lines)) ≡ true
+of_text : (one : Option RecordedLine) (text : List ℕ) (lines : List RecordedLine) → line_of text ≡ one → list_all is_valid_pool (filter_map pool_of_line lines) ≡ true
+    → list_all is_valid_pool (filter_map pool_of_line (cons_option one lines)) ≡ true
 of_text None text lines is all = all
 of_text (Some one) text lines is all = of_line one (filter_map pool_of_line lines) ((canonical text one).0 is).0 all
 
-of_texts : (texts : List (List ℕ)) → list_all is_lawful_pool (filter_map pool_of_line (filter_map (λ (one : Option RecordedLine). one) (map line_of texts))) ≡ true
+of_texts : (texts : List (List ℕ)) → list_all is_valid_pool (filter_map pool_of_line (filter_map (λ (one : Option RecordedLine). one) (map line_of texts))) ≡ true
 of_texts [] = refl
 of_texts (text ∷ texts) = of_text (line_of text) text (filter_map (λ (one : Option RecordedLine). one) (map line_of texts)) refl (of_texts texts)
 
-pools_make_a_plan : (text : List ℕ) (pools : List Pool) → pools ≡ pools_seen (lines_of text) → length pools ≤ MAX_POOLS → IsWellFormed (given pools [] [])
+pools_make_a_plan : (text : List ℕ) (pools : List Pool) → pools ≡ pools_seen (lines_of text) → length pools ≤ MAX_POOLS → IsWellFormed (plan_of_lists pools [] [])
 unfolding pools_seen
 pools_make_a_plan text pools same few =
     let read = filter_map pool_of_line (lines_of text) in
@@ -95,14 +95,14 @@ pools_make_a_plan text pools same few =
       pool_names = subst (λ (ps : List Pool). are_distinct (names ps) ≡ true) (sym same) (firsts_are_distinct read);
       class_names = refl;
       client_names = refl;
-      pools = subst (λ (ps : List Pool). list_all is_lawful_pool ps ≡ true) (sym same) (firsts_are_lawful read (of_texts (whole_lines text)));
+      pools = subst (λ (ps : List Pool). list_all is_valid_pool ps ≡ true) (sym same) (firsts_are_lawful read (of_texts (whole_lines text)));
       classes = refl;
       clients = refl;
     }
 
 -- If the parts do not form a plan, there is a class or a kind, and the lines name it.
 pub unplanned_actors : (text : List ℕ) (pools : List Pool) (classes : List Class) (clients : List Client) → pools ≡ pools_seen (lines_of text) → length pools ≤ MAX_POOLS → All (IsNamedClass (lines_of text)) classes
-    → All (IsNamedClient (lines_of text)) clients → (IsWellFormed (given pools classes clients) → ⊥) → HasActors (lines_of text)
+    → All (IsNamedClient (lines_of text)) clients → (IsWellFormed (plan_of_lists pools classes clients) → ⊥) → HasActors (lines_of text)
 unplanned_actors text pools [] [] same few class_names client_names none = absurd (none (pools_make_a_plan text pools same few))
 unplanned_actors text pools [] (client ∷ clients) same few class_names client_names none = let one = client_names 0 client (omega arith) in (one.label, inl one.begun)
 unplanned_actors text pools (class ∷ classes) clients same few class_names client_names none = let one = class_names 0 class (omega arith) in (one.label, inr (one.pool.name, one.submitted))

@@ -8,8 +8,8 @@ use Rattle.std.proofs.lemmas.List.Folds.{list_any_at}
 use Rattle.std.proofs.lemmas.Option.{same_Some, slice_get_within, slice_get-map, get_or_from_slice_get}
 use Rattle.job_bodies.specs.declared.action.Action.{Action}
 use Rattle.job_bodies.specs.declared.action.Action.TheVariants.{Work, Submit, Get}
-use Rattle.job_bodies.specs.Plan.{submits, is_got}
-use Rattle.job_bodies.specs.WellFormed.{is_lawful_get}
+use Rattle.job_bodies.specs.Plan.{submits, has_get_of}
+use Rattle.job_bodies.specs.WellFormed.{is_valid_get}
 use Rattle.conformance.specs.declared.deed.Deed.{Deed}
 use Rattle.conformance.specs.declared.deed.Deed.TheVariants as deed
 use Rattle.conformance.specs.Path.{keeps, stays, IsDeedOf, IsOfBody}
@@ -62,7 +62,7 @@ record IsGetAt (path : List Deed) (p t : ℕ) : Type 0 where
 get_at : (path : List Deed) → HasBody path → (p t : ℕ) → slice_get path p ≡ Some (deed.Gets t) → IsGetAt path p t
 get_at path has p t e =
     let action : slice_get (body_of path) p ≡ Some (Get t) = slice_get-map action_of path p ∙ ap (option_map action_of) e in
-    let lawful = and_parts (nat_lt t p && submits (slice_get (body_of path) t)) (not (is_got (take p (body_of path)) t)) (has.gets p t action) in
+    let lawful = and_parts (nat_lt t p && submits (slice_get (body_of path) t)) (not (has_get_of (take p (body_of path)) t)) (has.gets p t action) in
     let parts = and_parts (nat_lt t p) (submits (slice_get (body_of path) t)) lawful.0 in record { behind = parts.0; submit = parts.1 }
 
 -- ---- all actions of the body are kept

@@ -1,7 +1,7 @@
 //! The pairs of an action of a body and a step of a path that may correspond.
 
 use conformance::Deed;
-use job_bodies::{Action, is_got};
+use job_bodies::{Action, has_get_of};
 
 /// Returns the index in the path of the get for the submit at index `submit`.
 pub(crate) fn get_of(path: &[Deed], submit: usize) -> Option<usize> {
@@ -52,7 +52,7 @@ fn may_be_one(
 fn are_submits_alike(body: &[Action], path: &[Deed], submit: usize, place: usize) -> bool {
     match (body.get(submit), path.get(place)) {
         (Some(Action::Submit(class)), Some(deed)) => {
-            deed.submits(*class) && is_got(body, submit) == get_of(path, place).is_some()
+            deed.submits(*class) && has_get_of(body, submit) == get_of(path, place).is_some()
         }
         _ => false,
     }

@@ -18,7 +18,7 @@ use conformance::is_of_family;
 use job_bodies::MAX_CLIENT_KINDS;
 use recordings::Line;
 use std::alloc::{AllocError, Global};
-use support::NumberTable;
+use support::IdMap;
 
 /// Counters for the rounds of each label. As long as each label has one kind, these are also the
 /// rounds of each kind.
@@ -26,7 +26,7 @@ use support::NumberTable;
 pub(crate) struct LabelRounds {
     labels: Vec<String>,
     /// The label number of each open round, by round number.
-    about: NumberTable<usize>,
+    about: IdMap<usize>,
     /// The number of rounds that have begun.
     begun: usize,
     /// The counters of each label that a plan has room for, by label number.
@@ -46,7 +46,7 @@ impl LabelRounds {
         let counts = no_counts(alloc, MAX_CLIENT_KINDS)?;
         Ok(LabelRounds {
             labels: Vec::new(alloc),
-            about: NumberTable::new(alloc),
+            about: IdMap::new(alloc),
             begun: 0,
             counts,
             alloc,

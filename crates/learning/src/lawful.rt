@@ -2,7 +2,7 @@
 
 ghost use Rattle.std.specs.Prelude.{◌≡◌, ◌↔◌, IsTrue, take, slice_get};
 ghost use Rattle.job_bodies.specs.WellFormed as spec;
-ghost use Rattle.job_bodies.specs.Plan.{submits, is_got};
+ghost use Rattle.job_bodies.specs.Plan.{submits, has_get_of};
 ghost use Rattle.learning.specs.Lawful.{HasLawfulGets, is_lawful_at};
 
 use job_bodies::Action;
@@ -24,14 +24,14 @@ fn is_lawful_at(body: &[Action], position: usize) -> bool
     ensures { result ≡ is_lawful_at body.now position (slice_get body.now position) }
 {
     match body.get(position) {
-        Some(Action::Get(submit)) => is_lawful_get(body, position, *submit),
+        Some(Action::Get(submit)) => is_valid_get(body, position, *submit),
         _ => true,
     }
 }
 
 /// Returns true if a get at index `position` may name the submit at index `submit`.
-fn is_lawful_get(body: &[Action], position: usize, submit: usize) -> bool
-    ensures { result ≡ spec.is_lawful_get body.now position submit }
+fn is_valid_get(body: &[Action], position: usize, submit: usize) -> bool
+    ensures { result ≡ spec.is_valid_get body.now position submit }
 {
     submit < position && is_submit(body, submit) && !is_got_before(body, position, submit)
 }
@@ -43,7 +43,7 @@ fn is_submit(body: &[Action], position: usize) -> bool
 }
 
 fn is_got_before(body: &[Action], position: usize, submit: usize) -> bool
-    ensures { result ≡ is_got (take position body.now) submit }
+    ensures { result ≡ has_get_of (take position body.now) submit }
 {
     body.iter().take(position).any(|action| action.gets(submit))
 }

@@ -164,7 +164,7 @@ impl Working {
 fn copied_pools(alloc: Global, pools: &[Pool]) -> Result<Vec<Pool>, AllocError> {
     let mut copies = Vec::new(alloc);
     for pool in pools {
-        copies.push(pool.copied(alloc)?)?;
+        copies.push(pool.try_clone(alloc)?)?;
     }
     Ok(copies)
 }

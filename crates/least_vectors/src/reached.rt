@@ -6,7 +6,7 @@ use crate::Levels;
 use crate::numbers::{number_at, put_at};
 use job_bodies::{Action, Class, Plan};
 use std::alloc::{AllocError, Global};
-use weights::class_got;
+use weights::submitted_class;
 
 /// Returns the reach of each class for these ranks: the greatest of the rank of its own pool and of
 /// the reaches of the classes that its jobs get.
@@ -37,7 +37,7 @@ fn reach_of(reach: &[u64], ranks: &[u64], class: &Class) -> u64 {
     let mut reached = number_at(ranks, class.pool);
     for action in &class.body {
         if let Action::Get(submit) = action {
-            reached = reached.max(number_at(reach, class_got(&class.body, *submit)));
+            reached = reached.max(number_at(reach, submitted_class(&class.body, *submit)));
         }
     }
     reached

@@ -7,7 +7,7 @@ use crate::target::Target;
 use crate::weight::Weight;
 use job_bodies::{Action, Class, Client, MAX_WEIGHT, Plan};
 use std::alloc::{AllocError, Global};
-use weights::class_got;
+use weights::submitted_class;
 
 /// The total of a vector that does not exist, or is too heavy for every bound.
 pub(crate) const TOO_HEAVY: u64 = u64::MAX;
@@ -129,7 +129,7 @@ impl Sketch {
             Action::Work(_) => weight,
             Action::Submit(class) => weight.plus(number_at(&self.queued, class)),
             Action::Get(submit) if target.gives_back() => {
-                weight.less(number_at(&self.done, class_got(actions, submit)))
+                weight.less(number_at(&self.done, submitted_class(actions, submit)))
             }
             Action::Get(_) => weight,
         }

@@ -2,7 +2,7 @@
 
 use crate::numbers::number_at;
 use job_bodies::{Action, Class, Plan, Pool};
-use weights::class_got;
+use weights::submitted_class;
 
 /// The states in which the jobs of the pool must weigh at least 1.
 #[derive(Clone, Copy)]
@@ -138,7 +138,7 @@ impl<'a> Target<'a> {
         match (self.heavy, action) {
             (Heavy::Everywhere, _) => self.one_of(class),
             (Heavy::AtGets { reach, rank }, Action::Get(submit)) => {
-                let reached = number_at(reach, class_got(&class.body, submit));
+                let reached = number_at(reach, submitted_class(&class.body, submit));
                 if reached < rank {
                     0
                 } else {

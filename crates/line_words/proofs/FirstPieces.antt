@@ -7,7 +7,7 @@ use Rattle.std.proofs.lemmas.List.{drop_all, take_all, length-take-le, get_or-ta
 use Rattle.std.proofs.lemmas.List.Sums.{split_at_first, passes_at_first, fails_before_first, prefix_len-le-length}
 use Rattle.std.proofs.lemmas.List.Splits.{slice_split_none, slice_split_at}
 use Rattle.std.proofs.lemmas.Option.{cond_some, none-some}
-use Rattle.line_words.specs.Pieces.{is_newline, without_last_newline, lines_of, first_line, behind_line}
+use Rattle.line_words.specs.Pieces.{is_newline, without_last_newline, lines_of, first_line, after_line}
 use Rattle.line_words.proofs.Splits.{has_no, cut_at}
 use Rattle.line_words.proofs.LastNewline.{lines_of_some, cut_off, stays}
 
@@ -15,20 +15,20 @@ use Rattle.line_words.proofs.LastNewline.{lines_of_some, cut_off, stays}
 abbrev pub before : ℕ → List ℕ → List ℕ
 before c text = before_first (λ b. b == c) text
 
-abbrev pub behind : ℕ → List ℕ → List ℕ
-behind c text = after_first (λ b. b == c) text
+abbrev pub rest_after : ℕ → List ℕ → List ℕ
+rest_after c text = after_first (λ b. b == c) text
 
 abbrev pub place : ℕ → List ℕ → ℕ
 place c text = position_or_len (λ b. b == c) text
 
 -- the text has such a byte
-pub cut_there : (c : ℕ) (text : List ℕ) → place c text < length text → text ≡ before c text ++ c ∷ behind c text
+pub cut_there : (c : ℕ) (text : List ℕ) → place c text < length text → text ≡ before c text ++ c ∷ rest_after c text
 cut_there c text within =
     let here : get_or text (place c text) 0 ≡ c = eqb-true _ c (passes_at_first (λ b. b == c) text 0 within) in
-    split_at_first (λ b. b == c) text 0 within ∙ ap (λ (b : ℕ). before c text ++ b ∷ behind c text) here
+    split_at_first (λ b. b == c) text 0 within ∙ ap (λ (b : ℕ). before c text ++ b ∷ rest_after c text) here
 
 -- the text has no such byte
-pub uncut : (c : ℕ) (text : List ℕ) → length text ≤ place c text → (text ≡ before c text) × (behind c text ≡ [])
+pub uncut : (c : ℕ) (text : List ℕ) → length text ≤ place c text → (text ≡ before c text) × (rest_after c text ≡ [])
 uncut c text past = (sym (take_all (place c text) text past), drop_all (place c text + 1) text (omega arith))
 
 pub no_more_before : (c : ℕ) (text : List ℕ) → place c text ≤ length text
@@ -48,25 +48,25 @@ none_found text none =
 pub first_there : (text : List ℕ) (newline : ℕ) → position is_newline text ≡ Some newline → take newline text ≡ first_line text
 first_there text newline found = ap (λ n. take n text) (sym (place_found text newline found))
 
-pub behind_there : (text : List ℕ) (newline : ℕ) → position is_newline text ≡ Some newline → drop (newline + 1) text ≡ behind_line text
-behind_there text newline found = ap (λ n. drop (n + 1) text) (sym (place_found text newline found))
+pub after_there : (text : List ℕ) (newline : ℕ) → position is_newline text ≡ Some newline → drop (newline + 1) text ≡ after_line text
+after_there text newline found = ap (λ n. drop (n + 1) text) (sym (place_found text newline found))
 
 pub first_nowhere : (text : List ℕ) → position is_newline text ≡ None → text ≡ first_line text
 first_nowhere text none = (uncut 10 text (none_found text none)).0
 
-pub behind_nowhere : (text : List ℕ) → position is_newline text ≡ None → [] ≡ behind_line text
-behind_nowhere text none = sym (uncut 10 text (none_found text none)).1
+pub after_nowhere : (text : List ℕ) → position is_newline text ≡ None → [] ≡ after_line text
+after_nowhere text none = sym (uncut 10 text (none_found text none)).1
 
 -- a prefix without a newline
-pub first_behind : (front rest : List ℕ) → has_no 10 front ≡ true → (first_line (front ++ rest) ≡ front ++ first_line rest) × (behind_line (front ++ rest) ≡ behind_line rest)
-first_behind [] rest none = (refl, refl)
-first_behind (b ∷ front) rest none =
-    let parts = and_parts (not (b == 10)) (has_no 10 front) none in
-    let further = first_behind front rest parts.1 in
-    let one : place 10 (b ∷ (front ++ rest)) ≡ suc (place 10 (front ++ rest)) = cond-true _ _ _ parts.0 ∙ omega arith in
-    let one_more : suc (place 10 (front ++ rest)) + 1 ≡ suc (place 10 (front ++ rest) + 1) = omega arith in (
-      ap (λ n. take n (b ∷ (front ++ rest))) one ∙ ap (λ (t : List ℕ). b ∷ t) further.0,
-      ap (λ n. drop (n + 1) (b ∷ (front ++ rest))) one ∙ ap (λ n. drop n (b ∷ (front ++ rest))) one_more ∙ further.1,
+pub first_after : (prefix rest : List ℕ) → has_no 10 prefix ≡ true → (first_line (prefix ++ rest) ≡ prefix ++ first_line rest) × (after_line (prefix ++ rest) ≡ after_line rest)
+first_after [] rest none = (refl, refl)
+first_after (b ∷ prefix) rest none =
+    let parts = and_parts (not (b == 10)) (has_no 10 prefix) none in
+    let further = first_after prefix rest parts.1 in
+    let one : place 10 (b ∷ (prefix ++ rest)) ≡ suc (place 10 (prefix ++ rest)) = cond-true _ _ _ parts.0 ∙ omega arith in
+    let one_more : suc (place 10 (prefix ++ rest)) + 1 ≡ suc (place 10 (prefix ++ rest) + 1) = omega arith in (
+      ap (λ n. take n (b ∷ (prefix ++ rest))) one ∙ ap (λ (t : List ℕ). b ∷ t) further.0,
+      ap (λ n. drop (n + 1) (b ∷ (prefix ++ rest))) one ∙ ap (λ n. drop n (b ∷ (prefix ++ rest))) one_more ∙ further.1,
     )
 
 -- the text is its first line and the rest
@@ -74,16 +74,16 @@ pub first_and_more : (text : List ℕ) → text ≡ first_line text ++ drop (pla
 first_and_more text = sym (take-append-drop (place 10 text) text)
 
 -- ---- the lines
-wln_behind : (front rest : List ℕ) → 0 < length rest → without_last_newline (front ++ rest) ≡ front ++ without_last_newline rest
+wln_after : (prefix rest : List ℕ) → 0 < length rest → without_last_newline (prefix ++ rest) ≡ prefix ++ without_last_newline rest
 unfolding without_last_newline
-wln_behind front rest some =
-    let long : length (front ++ rest) - 1 ≡ length front + (length rest - 1) = omega (arith, length-append front rest) in
-    let last : get_or (front ++ rest) (length (front ++ rest) - 1) 0 ≡ get_or rest (length rest - 1) 0 = ap (λ i. get_or (front ++ rest) i 0) long ∙ get_or-append-add front rest (length rest - 1) 0 in
+wln_after prefix rest some =
+    let long : length (prefix ++ rest) - 1 ≡ length prefix + (length rest - 1) = omega (arith, length-append prefix rest) in
+    let last : get_or (prefix ++ rest) (length (prefix ++ rest) - 1) 0 ≡ get_or rest (length rest - 1) 0 = ap (λ i. get_or (prefix ++ rest) i 0) long ∙ get_or-append-add prefix rest (length rest - 1) 0 in
     elim (cases_Bool (get_or rest (length rest - 1) 0 == 10)) [
       | inl ended ↦
-          cond-true _ _ _ (ap (λ b. b == 10) last ∙ ended) ∙ ap (λ n. take n (front ++ rest)) long ∙ take-append-add front rest (length rest - 1)
-          ∙ sym (ap (λ (t : List ℕ). front ++ t) (cond-true _ _ _ ended))
-      | inr other ↦ cond-false _ _ _ (ap (λ b. b == 10) last ∙ other) ∙ sym (ap (λ (t : List ℕ). front ++ t) (cond-false _ _ _ other))
+          cond-true _ _ _ (ap (λ b. b == 10) last ∙ ended) ∙ ap (λ n. take n (prefix ++ rest)) long ∙ take-append-add prefix rest (length rest - 1)
+          ∙ sym (ap (λ (t : List ℕ). prefix ++ t) (cond-true _ _ _ ended))
+      | inr other ↦ cond-false _ _ _ (ap (λ b. b == 10) last ∙ other) ∙ sym (ap (λ (t : List ℕ). prefix ++ t) (cond-false _ _ _ other))
     ]
 
 pub no_lines : lines_of [] ≡ []
@@ -91,7 +91,7 @@ unfolding lines_of
 no_lines = refl
 
 -- the lines of a text are the first line and the lines of the text after it
-pub lines_first : (text : List ℕ) → 0 < length text → lines_of text ≡ first_line text ∷ lines_of (behind_line text)
+pub lines_first : (text : List ℕ) → 0 < length text → lines_of text ≡ first_line text ∷ lines_of (after_line text)
 lines_first text some =
     elim (cases_lt (place 10 text) (length text)) [
       | inl within ↦ newline_there (cut_there 10 text within) within
@@ -102,27 +102,27 @@ lines_first text some =
           ∙ ap₂ (λ (x : List ℕ) (xs : List (List ℕ)). x ∷ xs) whole.0 (sym (ap lines_of whole.1 ∙ no_lines))
     ]
   where
-    newline_there : text ≡ first_line text ++ 10 ∷ behind_line text → place 10 text < length text → lines_of text ≡ first_line text ∷ lines_of (behind_line text)
+    newline_there : text ≡ first_line text ++ 10 ∷ after_line text → place 10 text < length text → lines_of text ≡ first_line text ∷ lines_of (after_line text)
     newline_there cut within =
-        let front : List ℕ = first_line text in
-        let rest : List ℕ = behind_line text in
-        let plain : All (λ b. (b == 10) ≡ false) front = λ k d inside. subst (λ (b : ℕ). (b == 10) ≡ false) (sym (get_or-take (place 10 text) text k d (omega (arith, length-take-le (place 10 text) text (no_more_before 10 text))))) (fails_before_first is_newline text k d (omega (arith, length-take-le (place 10 text) text (no_more_before 10 text)))) in
+        let prefix : List ℕ = first_line text in
+        let rest : List ℕ = after_line text in
+        let plain : All (λ b. (b == 10) ≡ false) prefix = λ k d inside. subst (λ (b : ℕ). (b == 10) ≡ false) (sym (get_or-take (place 10 text) text k d (omega (arith, length-take-le (place 10 text) text (no_more_before 10 text))))) (fails_before_first is_newline text k d (omega (arith, length-take-le (place 10 text) text (no_more_before 10 text)))) in
         elim (cases_lt 0 (length rest)) [
           | inl more ↦
               lines_of_some text some
-              ∙ ap (λ (t : List ℕ). cut_at 10 (without_last_newline t)) (cut ∙ sym (append_assoc front (10 ∷ []) rest))
-              ∙ ap (cut_at 10) (wln_behind (front ++ 10 ∷ []) rest more ∙ append_assoc front (10 ∷ []) (without_last_newline rest))
-              ∙ slice_split_at is_newline front 10 (without_last_newline rest) plain refl
-              ∙ ap (λ (ls : List (List ℕ)). front ∷ ls) (sym (lines_of_some rest more))
+              ∙ ap (λ (t : List ℕ). cut_at 10 (without_last_newline t)) (cut ∙ sym (append_assoc prefix (10 ∷ []) rest))
+              ∙ ap (cut_at 10) (wln_after (prefix ++ 10 ∷ []) rest more ∙ append_assoc prefix (10 ∷ []) (without_last_newline rest))
+              ∙ slice_split_at is_newline prefix 10 (without_last_newline rest) plain refl
+              ∙ ap (λ (ls : List (List ℕ)). prefix ∷ ls) (sym (lines_of_some rest more))
           | inr none ↦
               let nothing : rest ≡ [] = nil_from_length rest (omega arith) in
               lines_of_some text some
-              ∙ ap (λ (t : List ℕ). cut_at 10 (without_last_newline t)) (cut ∙ ap (λ (t : List ℕ). front ++ 10 ∷ t) nothing)
-              ∙ ap (cut_at 10) (cut_off front)
-              ∙ slice_split_none is_newline front plain
-              ∙ ap (λ (ls : List (List ℕ)). front ∷ ls) (sym (ap lines_of nothing ∙ no_lines))
+              ∙ ap (λ (t : List ℕ). cut_at 10 (without_last_newline t)) (cut ∙ ap (λ (t : List ℕ). prefix ++ 10 ∷ t) nothing)
+              ∙ ap (cut_at 10) (cut_off prefix)
+              ∙ slice_split_none is_newline prefix plain
+              ∙ ap (λ (ls : List (List ℕ)). prefix ∷ ls) (sym (ap lines_of nothing ∙ no_lines))
         ]
 
 -- the text after the first line is shorter
-pub behind_shorter : (text : List ℕ) → 0 < length text → length (behind_line text) < length text
-behind_shorter text some = omega (arith, length-drop (place 10 text + 1) text)
+pub after_shorter : (text : List ℕ) → 0 < length text → length (after_line text) < length text
+after_shorter text some = omega (arith, length-drop (place 10 text + 1) text)

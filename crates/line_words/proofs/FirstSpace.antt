@@ -23,20 +23,20 @@ split_at text place e =
     rw (e, whole) refl
 
 -- ---- the text has a first space
-place_of_space : (front rest : List ℕ) → has_no 32 front ≡ true → position_or_len is_space (front ++ 32 ∷ rest) ≡ length front
+place_of_space : (prefix rest : List ℕ) → has_no 32 prefix ≡ true → position_or_len is_space (prefix ++ 32 ∷ rest) ≡ length prefix
 place_of_space [] rest none = refl
-place_of_space (b ∷ front) rest none =
+place_of_space (b ∷ prefix) rest none =
     let parts = and_parts (not (is_space b)) _ none in
-    rw (parts.0, place_of_space front rest parts.1) (omega arith)
+    rw (parts.0, place_of_space prefix rest parts.1) (omega arith)
 
-pub splits : (front rest : List ℕ) → has_no 32 front ≡ true → split_space (front ++ 32 ∷ rest) ≡ Some (front, rest)
+pub splits : (prefix rest : List ℕ) → has_no 32 prefix ≡ true → split_space (prefix ++ 32 ∷ rest) ≡ Some (prefix, rest)
 unfolding split_space
-splits front rest none =
-    let at = place_of_space front rest none in
-    let text : List ℕ = front ++ 32 ∷ rest in
-    let within : nat_lt (position_or_len is_space text) (length text) ≡ true = lt-ltb _ _ (omega (arith, at, length-append front (32 ∷ rest))) in
-    let before : before_first is_space text ≡ front = ap (λ n. take n text) at ∙ take_at front (32 ∷ rest) (length front) refl in
-    let after : after_first is_space text ≡ rest = ap (λ n. drop (n + 1) text) at ∙ ap (drop (length front + 1)) (sym (append_assoc front (32 ∷ []) rest)) ∙ drop_at (front ++ 32 ∷ []) rest (length front + 1) (length_push front 32) in
+splits prefix rest none =
+    let at = place_of_space prefix rest none in
+    let text : List ℕ = prefix ++ 32 ∷ rest in
+    let within : nat_lt (position_or_len is_space text) (length text) ≡ true = lt-ltb _ _ (omega (arith, at, length-append prefix (32 ∷ rest))) in
+    let before : before_first is_space text ≡ prefix = ap (λ n. take n text) at ∙ take_at prefix (32 ∷ rest) (length prefix) refl in
+    let after : after_first is_space text ≡ rest = ap (λ n. drop (n + 1) text) at ∙ ap (drop (length prefix + 1)) (sym (append_assoc prefix (32 ∷ []) rest)) ∙ drop_at (prefix ++ 32 ∷ []) rest (length prefix + 1) (length_push prefix 32) in
     ap (λ (o : Option ℕ). option_map (λ place. (take place text, drop (place + 1) text)) o) (cond-true _ _ _ within) ∙ ap₂ (λ (x y : List ℕ). Some (x, y)) before after
 
 pub split_parts : (text : List ℕ) (words : List ℕ × List ℕ) → split_space text ≡ Some words → text ≡ words.0 ++ 32 ∷ words.1

@@ -11,7 +11,7 @@ use Rattle.std.proofs.lemmas.List.Sums.{prefix_len_passes, prefix_len_stops, pre
 use Rattle.std.proofs.lemmas.Int.Digits.{digits_value_more}
 use Rattle.std.proofs.lemmas.Str.Parse.{digits_value-take-le}
 use Rattle.job_bodies.specs.declared.limits.TheConstants.{MAX_LINE_NUMBER}
-use Rattle.line_words.specs.Pieces.{is_newline, first_line, behind_line}
+use Rattle.line_words.specs.Pieces.{is_newline, first_line, after_line}
 use Rattle.line_words.specs.Number.{has_leading_zero, is_whole_number, number_of, digit_count, leading_number, split_number_line}
 use Rattle.line_words.proofs.FirstPieces.{place, no_more_before}
 use Rattle.line_words.proofs.Partial.{map_some, map_none}
@@ -66,8 +66,8 @@ pub none_past : (text : List ℕ) (i value : ℕ) → i ≤ length text → list
 unfolding leading_number
 none_past text i value inside digits e past =
     let n : ℕ = digit_count text in
-    let front : take i (take n text) ≡ take i text = take-take i n text (counted_to text i inside digits) in
-    rw (past_limit (take n text) i value (e ∙ ap (digits_value 10) (sym front)) past) refl
+    let prefix : take i (take n text) ≡ take i text = take-take i n text (counted_to text i inside digits) in
+    rw (past_limit (take n text) i value (e ∙ ap (digits_value 10) (sym prefix)) past) refl
 
 -- digits that do not begin a number are not a number
 pub none_begun : (text : List ℕ) (i : ℕ) → digit_count text ≡ i → (not (length (take i text) == 0) && not (has_leading_zero (take i text))) ≡ false → None ≡ leading_number text
@@ -92,20 +92,20 @@ stops_at_count : (text : List ℕ) → digit_count text < length text → is_asc
 stops_at_count text within = prefix_len_stops is_ascii_digit text 0 within
 
 -- the parsed number, and the rest
-pub front_read : (text : List ℕ) (n : ℕ) (rest : List ℕ) → Some (n, rest) ≡ leading_number text → (number_of (take (digit_count text) text) ≡ Some n) × (drop (digit_count text) text ≡ rest)
+pub prefix_read : (text : List ℕ) (n : ℕ) (rest : List ℕ) → Some (n, rest) ≡ leading_number text → (number_of (take (digit_count text) text) ≡ Some n) × (drop (digit_count text) text ≡ rest)
 unfolding leading_number
-front_read text n rest read =
+prefix_read text n rest read =
     let found = map_some (λ n. (n, drop (digit_count text) text)) (number_of (take (digit_count text) text)) (n, rest) (sym read) in
     let same : found.0 ≡ n = ap (λ (x : ℕ × List ℕ). x.0) found.2 in
     (found.1 ∙ ap (λ (m : ℕ). Some m) same, ap (λ (x : ℕ × List ℕ). x.1) found.2)
 
-pub front_none : (text : List ℕ) → None ≡ leading_number text → number_of (take (digit_count text) text) ≡ None
+pub prefix_none : (text : List ℕ) → None ≡ leading_number text → number_of (take (digit_count text) text) ≡ None
 unfolding leading_number
-front_none text read = map_none (λ n. (n, drop (digit_count text) text)) (number_of (take (digit_count text) text)) read
+prefix_none text read = map_none (λ n. (n, drop (digit_count text) text)) (number_of (take (digit_count text) text)) read
 
 pub whole_read : (text : List ℕ) (n : ℕ) (rest : List ℕ) → Some (n, rest) ≡ leading_number text → length rest ≡ 0 → Some n ≡ number_of text
 whole_read text n rest read none =
-    let found = front_read text n rest read in
+    let found = prefix_read text n rest read in
     let all : length text ≤ digit_count text = omega (arith, length-drop (digit_count text) text, ap (λ (t : List ℕ). length t) found.1) in
     sym (ap number_of (sym (take_all (digit_count text) text all)) ∙ found.0)
 
@@ -113,12 +113,12 @@ pub whole_none : (text : List ℕ) → None ≡ leading_number text → None ≡
 whole_none text read =
     elim (cases_lt (digit_count text) (length text)) [
       | inl within ↦ sym (no_number text (digit_count text) within (stops_at_count text within))
-      | inr all ↦ sym (ap number_of (sym (take_all (digit_count text) text all)) ∙ front_none text read)
+      | inr all ↦ sym (ap number_of (sym (take_all (digit_count text) text all)) ∙ prefix_none text read)
     ]
 
 pub whole_more : (text : List ℕ) (n : ℕ) (rest : List ℕ) → Some (n, rest) ≡ leading_number text → 0 < length rest → None ≡ number_of text
 whole_more text n rest read more =
-    let found = front_read text n rest read in
+    let found = prefix_read text n rest read in
     let within : digit_count text < length text = omega (arith, length-drop (digit_count text) text, ap (λ (t : List ℕ). length t) found.1) in
     sym (no_number text (digit_count text) within (stops_at_count text within))
 
@@ -140,17 +140,17 @@ digits_in_line text =
     ]
 
 -- the line continues after the digits
-line_goes_on : (text : List ℕ) → digit_count text < place 10 text → number_of (first_line text) ≡ None
-line_goes_on text less =
+line_continues : (text : List ℕ) → digit_count text < place 10 text → number_of (first_line text) ≡ None
+line_continues text less =
     let inside : place 10 text ≤ length text = no_more_before 10 text in
     let same : get_or (first_line text) (digit_count text) 0 ≡ get_or text (digit_count text) 0 = get_or-take (place 10 text) text (digit_count text) 0 less in
     no_number (first_line text) (digit_count text) (omega (arith, length-take-le (place 10 text) text inside)) (ap is_ascii_digit same ∙ stops_at_count text (omega arith))
 
 -- the number ends its line
 line_ends : (text : List ℕ) (n : ℕ) (rest : List ℕ) → Some (n, rest) ≡ leading_number text → place 10 text ≡ digit_count text → number_of (first_line text) ≡ Some n
-line_ends text n rest read ends = ap (λ i. number_of (take i text)) ends ∙ (front_read text n rest read).0
+line_ends text n rest read ends = ap (λ i. number_of (take i text)) ends ∙ (prefix_read text n rest read).0
 
-split_some : (text : List ℕ) (n : ℕ) (rest : List ℕ) → number_of (first_line text) ≡ Some n → rest ≡ behind_line text → Some (n, rest) ≡ split_number_line text
+split_some : (text : List ℕ) (n : ℕ) (rest : List ℕ) → number_of (first_line text) ≡ Some n → rest ≡ after_line text → Some (n, rest) ≡ split_number_line text
 split_some text n rest number is = rw (number, is) refl
 
 split_none : (text : List ℕ) → number_of (first_line text) ≡ None → None ≡ split_number_line text
@@ -159,16 +159,16 @@ split_none text none = rw none refl
 pub line_none : (text : List ℕ) → None ≡ leading_number text → None ≡ split_number_line text
 line_none text read =
     elim (cases_lt (digit_count text) (place 10 text)) [
-      | inl less ↦ split_none text (line_goes_on text less)
+      | inl less ↦ split_none text (line_continues text less)
       | inr more ↦
           let ends : place 10 text ≡ digit_count text = omega (arith, digits_in_line text) in
-          split_none text (ap (λ i. number_of (take i text)) ends ∙ front_none text read)
+          split_none text (ap (λ i. number_of (take i text)) ends ∙ prefix_none text read)
     ]
 
 -- the number ends the text
 pub line_last : (text : List ℕ) (n : ℕ) (rest : List ℕ) → Some (n, rest) ≡ leading_number text → length rest ≡ 0 → Some (n, rest) ≡ split_number_line text
 line_last text n rest read none =
-    let found = front_read text n rest read in
+    let found = prefix_read text n rest read in
     let all : length text ≤ digit_count text = omega (arith, length-drop (digit_count text) text, ap (λ (t : List ℕ). length t) found.1) in
     let ends : place 10 text ≡ digit_count text = omega (arith, digits_in_line text, no_more_before 10 text) in
     split_some text n rest (line_ends text n rest read ends) (nil_from_length rest none ∙ sym (drop_all (place 10 text + 1) text (omega arith)))
@@ -176,13 +176,13 @@ line_last text n rest read none =
 -- the byte after the digits
 at_rest : (text : List ℕ) (n : ℕ) (rest : List ℕ) → Some (n, rest) ≡ leading_number text → get_or text (digit_count text) 0 ≡ get_or rest 0 0
 at_rest text n rest read =
-    let found = front_read text n rest read in
+    let found = prefix_read text n rest read in
     ap (λ i. get_or text i 0) (omega arith) ∙ sym (get_or-drop (digit_count text) text 0 0) ∙ ap (λ (t : List ℕ). get_or t 0 0) found.1
 
 -- it is a newline
 pub line_newline : (text : List ℕ) (n : ℕ) (rest : List ℕ) → Some (n, 10 ∷ rest) ≡ leading_number text → Some (n, rest) ≡ split_number_line text
 line_newline text n rest read =
-    let found = front_read text n (10 ∷ rest) read in
+    let found = prefix_read text n (10 ∷ rest) read in
     let here : get_or text (digit_count text) 0 ≡ 10 = at_rest text n (10 ∷ rest) read in
     let ends : place 10 text ≡ digit_count text =
     elim (cases_lt (digit_count text) (place 10 text)) [
@@ -198,12 +198,12 @@ begins_with [] more newline = absurd (omega arith)
 begins_with (b ∷ rest) more newline = ap (λ (x : ℕ). x ∷ rest) newline
 
 -- it is another byte
-pub line_more : (text : List ℕ) (n : ℕ) (rest : List ℕ) → Some (n, rest) ≡ leading_number text → 0 < length rest → ((behind : List ℕ) → rest ≢ 10 ∷ behind) → None ≡ split_number_line text
+pub line_more : (text : List ℕ) (n : ℕ) (rest : List ℕ) → Some (n, rest) ≡ leading_number text → 0 < length rest → ((rest_after : List ℕ) → rest ≢ 10 ∷ rest_after) → None ≡ split_number_line text
 line_more text n rest read more other =
-    let found = front_read text n rest read in
+    let found = prefix_read text n rest read in
     let within : digit_count text < length text = omega (arith, length-drop (digit_count text) text, ap (λ (t : List ℕ). length t) found.1) in
     elim (cases_lt (digit_count text) (place 10 text)) [
-      | inl less ↦ split_none text (line_goes_on text less)
+      | inl less ↦ split_none text (line_continues text less)
       | inr most ↦
           let ends : place 10 text ≡ digit_count text = omega (arith, digits_in_line text) in
           let newline : get_or rest 0 0 ≡ 10 = sym (at_rest text n rest read) ∙ ap (λ i. get_or text i 0) (sym ends) ∙ eqb-true _ 10 (passes_at_first is_newline text 0 (omega arith)) in

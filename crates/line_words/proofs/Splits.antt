@@ -16,11 +16,11 @@ cut_at c text = slice_split (λ b. b == c) text
 pub not_this : (b c : ℕ) → not (b == c) ≡ true → (b == c) ≡ false
 not_this b c h = grind (arith, nat_tests)
 
-pub has_no-append : (c : ℕ) (front rest : List ℕ) → has_no c front ≡ true → has_no c rest ≡ true → has_no c (front ++ rest) ≡ true
-has_no-append c [] rest fronts rests = rests
-has_no-append c (b ∷ front) rest fronts rests =
-    let parts = and_parts (not (b == c)) (has_no c front) fronts in
-    and_from _ _ parts.0 (has_no-append c front rest parts.1 rests)
+pub has_no-append : (c : ℕ) (prefix rest : List ℕ) → has_no c prefix ≡ true → has_no c rest ≡ true → has_no c (prefix ++ rest) ≡ true
+has_no-append c [] rest prefixes rests = rests
+has_no-append c (b ∷ prefix) rest prefixes rests =
+    let parts = and_parts (not (b == c)) (has_no c prefix) prefixes in
+    and_from _ _ parts.0 (has_no-append c prefix rest parts.1 rests)
 
 -- a text without the byte has one part
 pub cut_nowhere : (c : ℕ) (text : List ℕ) → has_no c text ≡ true → cut_at c text ≡ text ∷ []
@@ -30,11 +30,11 @@ cut_nowhere c (b ∷ text) none =
     slice_split-cons_no (λ b. b == c) b text (not_this b c parts.0) ∙ ap (onto_first b) (cut_nowhere c text parts.1)
 
 -- the first part ends at the first such byte
-pub cut_first : (c : ℕ) (front rest : List ℕ) → has_no c front ≡ true → cut_at c (front ++ c ∷ rest) ≡ front ∷ cut_at c rest
+pub cut_first : (c : ℕ) (prefix rest : List ℕ) → has_no c prefix ≡ true → cut_at c (prefix ++ c ∷ rest) ≡ prefix ∷ cut_at c rest
 cut_first c [] rest none = slice_split-cons_yes (λ b. b == c) c rest (eq-eqb c c refl)
-cut_first c (b ∷ front) rest none =
+cut_first c (b ∷ prefix) rest none =
     let parts = and_parts (not (b == c)) _ none in
-    slice_split-cons_no (λ b. b == c) b (front ++ c ∷ rest) (not_this b c parts.0) ∙ ap (onto_first b) (cut_first c front rest parts.1)
+    slice_split-cons_no (λ b. b == c) b (prefix ++ c ∷ rest) (not_this b c parts.0) ∙ ap (onto_first b) (cut_first c prefix rest parts.1)
 
 -- parts without the byte that are joined with it are split into the same parts
 pub cut_joined : (c : ℕ) (piece : List ℕ) (pieces : List (List ℕ)) → list_all (has_no c) (piece ∷ pieces) ≡ true → cut_at c (join_with_byte c (piece ∷ pieces)) ≡ piece ∷ pieces
@@ -44,9 +44,9 @@ cut_joined c piece (next ∷ pieces) none =
     cut_first c piece (join_with_byte c (next ∷ pieces)) parts.0 ∙ ap (λ (rest : List (List ℕ)). piece ∷ rest) (cut_joined c next pieces parts.1)
 
 -- parts with the byte before each
-pub joined_behind : (c : ℕ) (piece : List ℕ) (pieces : List (List ℕ)) → c ∷ join_with_byte c (piece ∷ pieces) ≡ flat_map (λ x. c ∷ x) (piece ∷ pieces)
-joined_behind c piece [] = ap (λ (x : List ℕ). c ∷ x) (sym (append-nil piece))
-joined_behind c piece (next ∷ pieces) = ap (λ (rest : List ℕ). c ∷ (piece ++ rest)) (joined_behind c next pieces)
+pub joined_after : (c : ℕ) (piece : List ℕ) (pieces : List (List ℕ)) → c ∷ join_with_byte c (piece ∷ pieces) ≡ flat_map (λ x. c ∷ x) (piece ∷ pieces)
+joined_after c piece [] = ap (λ (x : List ℕ). c ∷ x) (sym (append-nil piece))
+joined_after c piece (next ∷ pieces) = ap (λ (rest : List ℕ). c ∷ (piece ++ rest)) (joined_after c next pieces)
 
 -- parts with the byte after each
 pub joined_before : (c : ℕ) (piece : List ℕ) (pieces : List (List ℕ)) → join_with_byte c (piece ∷ pieces) ++ c ∷ [] ≡ flat_map (λ x. x ++ c ∷ []) (piece ∷ pieces)

@@ -3,12 +3,12 @@ use Rattle.std.specs.Prelude.{ℕ, Bool, ◌==◌, ◌&&◌, not, nat_lt, nat_le
 use Rattle.std.specs.Char.{is_ascii_digit}
 use Rattle.std.specs.List.{list_all, prefix_len}
 use Rattle.std.specs.Str.Parse.{digits_value}
-use Rattle.line_words.specs.Pieces.{first_line, behind_line}
+use Rattle.line_words.specs.Pieces.{first_line, after_line}
 use Rattle.job_bodies.specs.declared.limits.TheConstants.{MAX_LINE_NUMBER}
 
 -- a number within the limit
-abbrev pub is_lawful_number : ℕ → Bool
-is_lawful_number n = nat_le n MAX_LINE_NUMBER
+abbrev pub is_valid_number : ℕ → Bool
+is_valid_number n = nat_le n MAX_LINE_NUMBER
 
 -- a 0 followed by another byte
 abbrev pub has_leading_zero : List ℕ → Bool
@@ -32,4 +32,4 @@ leading_number text = option_map (λ n. (n, drop (digit_count text) text)) (numb
 
 -- the number on the first line of a text, and the text after that line
 abbrev pub split_number_line : List ℕ → Option (ℕ × List ℕ)
-split_number_line text = option_map (λ n. (n, behind_line text)) (number_of (first_line text))
+split_number_line text = option_map (λ n. (n, after_line text)) (number_of (first_line text))

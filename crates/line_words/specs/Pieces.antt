@@ -21,8 +21,8 @@ abbrev pub first_line : List ℕ → List ℕ
 first_line text = before_first is_newline text
 
 -- the text after the first line and its newline
-abbrev pub behind_line : List ℕ → List ℕ
-behind_line text = after_first is_newline text
+abbrev pub after_line : List ℕ → List ℕ
+after_line text = after_first is_newline text
 
 -- the parts before and after the first space
 unfoldable pub split_space : List ℕ → Option (List ℕ × List ℕ)

@@ -10,8 +10,8 @@ use job_bodies::MAX_LINE_NUMBER;
 pub fn number_of(text: &[u8]) -> Option<usize>
     ensures { result ≡ spec.number_of text.now }
 {
-    let (number, behind) = leading_number(text)?;
-    if behind.is_empty() {
+    let (number, rest_after) = leading_number(text)?;
+    if rest_after.is_empty() {
         Some(number)
     } else {
         None
@@ -31,11 +31,11 @@ pub fn leading_number(text: &[u8]) -> Option<(usize, &[u8])>
         }
         count += 1;
     }
-    let (digits, behind) = text.split_at(count);
+    let (digits, rest_after) = text.split_at(count);
     if !begins_as_number(digits) {
         return None;
     }
-    Some((value, behind))
+    Some((value, rest_after))
 }
 
 fn begins_as_number(digits: &[u8]) -> bool

@@ -6,7 +6,7 @@ ghost use Rattle.line_words.specs.Pieces as spec;
 /// Splits off the first line without its newline, and returns it with the rest.
 pub fn split_line(text: &[u8]) -> (&[u8], &[u8])
     ensures line { result.0.now ≡ spec.first_line text.now }
-    ensures behind { result.1.now ≡ spec.behind_line text.now }
+    ensures rest_after { result.1.now ≡ spec.after_line text.now }
 {
     match text.iter().position(|byte| *byte == b'\n') {
         Some(newline) => (&text[..newline], &text[newline + 1..]),

@@ -7,7 +7,7 @@ use Rattle.job_bodies.specs.declared.action.Action.{Action}
 use Rattle.job_bodies.specs.declared.action.Action.TheVariants.{Work, Submit, Get}
 use Rattle.job_bodies.specs.Plan.{Plan, Class, Client, class_at, no_client}
 use Rattle.job_bodies.specs.WellFormed.{IsWellFormed}
-use Rattle.job_bodies.specs.Lawful.{IsLawful}
+use Rattle.job_bodies.specs.ValidBody.{IsValidBody}
 use Rattle.job_bodies.proofs.Bodies.{ordered}
 use Rattle.weights.specs.Ranks.{Ranks}
 use Rattle.locked_runner.specs.Complete.{rounds_of, events_of_client}
@@ -53,11 +53,11 @@ by_jobs_in plan ranks rounds c a b each = sums_within c (submitted_by rounds (ca
         scaled c client.count _ _ (scaled c (rounds_of rounds client) _ _ once)
 
 -- an action has at most 1,000,000 units of work
-work_in : (plan : Plan) (body : List Action) → IsLawful plan body → units_in body ≤ 1000000 * length body
-work_in plan body lawful = subst (λ (n : ℕ). units_in body ≤ 1000000 * n) (ones body) (sums_within 1000000 units_of (λ _. 1) body at)
+work_in : (plan : Plan) (body : List Action) → IsValidBody plan body → units_in body ≤ 1000000 * length body
+work_in plan body valid = subst (λ (n : ℕ). units_in body ≤ 1000000 * n) (ones body) (sums_within 1000000 units_of (λ _. 1) body at)
   where
     at : (i : ℕ) (action : Action) → slice_get body i ≡ Some action → units_of action ≤ 1000000 * 1
-    at i (Work u) e = let most = (lawful.work i u e).1 in omega arith
+    at i (Work u) e = let most = (valid.work i u e).1 in omega arith
     at i (Submit k) e = omega arith
     at i (Get t) e = omega arith
 
@@ -74,9 +74,9 @@ clients_in plan rounds formed = sums_within 1000000 (units_of_clients rounds) (e
   where
     of_kind : (i : ℕ) (client : Client) → slice_get plan.clients i ≡ Some client → units_of_clients rounds client ≤ 1000000 * events_of_clients rounds client
     of_kind i client e =
-        let lawful : IsLawful plan client.body = subst (λ (x : Client). IsLawful plan x.body) (get_or_from_slice_get plan.clients i client no_client e) ((ordered plan formed).clients i) in
+        let valid : IsValidBody plan client.body = subst (λ (x : Client). IsValidBody plan x.body) (get_or_from_slice_get plan.clients i client no_client e) ((ordered plan formed).clients i) in
         let r = rounds_of rounds client in
-        let in_rounds : r * units_in client.body ≤ 1000000 * (r * length client.body) = scaled 1000000 r _ _ (work_in plan client.body lawful) in
+        let in_rounds : r * units_in client.body ≤ 1000000 * (r * length client.body) = scaled 1000000 r _ _ (work_in plan client.body valid) in
         let in_events : r * units_in client.body ≤ 1000000 * events_of_client rounds client = let more = rounds_are_events r (length client.body) in omega arith in
         scaled 1000000 client.count _ _ in_events
 

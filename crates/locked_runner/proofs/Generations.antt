@@ -6,7 +6,7 @@ use Rattle.job_bodies.specs.declared.action.Action.{Action}
 use Rattle.job_bodies.specs.declared.action.Action.TheVariants.{Work, Submit, Get}
 use Rattle.job_bodies.specs.Plan.{Plan, Class, Client, class_at, no_class, no_client}
 use Rattle.job_bodies.specs.WellFormed.{IsWellFormed}
-use Rattle.job_bodies.specs.Lawful.{IsLawful}
+use Rattle.job_bodies.specs.ValidBody.{IsValidBody}
 use Rattle.job_bodies.proofs.Bodies.{ordered}
 use Rattle.locked_runner.specs.Complete.{rounds_of}
 use Rattle.soundness.specs.Drain.{of_submit}
@@ -14,17 +14,17 @@ use Rattle.locked_runner.specs.RunNumbers.{capped, AreCapped, AreCaused, submitt
 use Rattle.locked_runner.proofs.Capped.{capped_sums, capped_products}
 
 -- a body submits only classes of the plan
-submits_capped : (plan : Plan) (f g : ℕ → ℕ) (body : List Action) → IsLawful plan body → ((k : ℕ) → k < length plan.classes → capped (f k) ≡ capped (g k)) → capped (submitted f body) ≡ capped (submitted g body)
-submits_capped plan f g body lawful same = capped_sums (2 ^ 64 - 1) (of_submit f) (of_submit g) body each
+submits_capped : (plan : Plan) (f g : ℕ → ℕ) (body : List Action) → IsValidBody plan body → ((k : ℕ) → k < length plan.classes → capped (f k) ≡ capped (g k)) → capped (submitted f body) ≡ capped (submitted g body)
+submits_capped plan f g body valid same = capped_sums (2 ^ 64 - 1) (of_submit f) (of_submit g) body each
   where
     each : (i : ℕ) (action : Action) → slice_get body i ≡ Some action → capped (of_submit f action) ≡ capped (of_submit g action)
     each i (Work u) e = refl
-    each i (Submit k) e = same k (lawful.submit i k e)
+    each i (Submit k) e = same k (valid.submit i k e)
     each i (Get t) e = refl
 
-pub of_numbers : (plan : Plan) (f : ℕ → ℕ) (numbers : List ℕ) (body : List Action) → IsLawful plan body → AreCapped plan f numbers → capped (submitted (slice_index numbers) body) ≡ capped (submitted f body)
-of_numbers plan f numbers body lawful are =
-    submits_capped plan (slice_index numbers) f body lawful (λ k inside. let at : slice_index numbers k ≡ min (f k) (2 ^ 64 - 1) = are k inside in omega arith)
+pub of_numbers : (plan : Plan) (f : ℕ → ℕ) (numbers : List ℕ) (body : List Action) → IsValidBody plan body → AreCapped plan f numbers → capped (submitted (slice_index numbers) body) ≡ capped (submitted f body)
+of_numbers plan f numbers body valid are =
+    submits_capped plan (slice_index numbers) f body valid (λ k inside. let at : slice_index numbers k ≡ min (f k) (2 ^ 64 - 1) = are k inside in omega arith)
 
 abbrev pub with_jobs : (Class → ℕ) → List ℕ → Class → ℕ
 with_jobs own numbers class = own class + submitted (slice_index numbers) class.body
@@ -61,7 +61,7 @@ in_rounds plan rounds f numbers formed are = capped_sums (2 ^ 64 - 1) (submitted
   where
     each : (i : ℕ) (client : Client) → slice_get plan.clients i ≡ Some client → capped (submitted_by rounds (slice_index numbers) client) ≡ capped (submitted_by rounds f client)
     each i client e =
-        let lawful : IsLawful plan client.body = subst (λ (x : Client). IsLawful plan x.body) (get_or_from_slice_get plan.clients i client no_client e) ((ordered plan formed).clients i) in
+        let valid : IsValidBody plan client.body = subst (λ (x : Client). IsValidBody plan x.body) (get_or_from_slice_get plan.clients i client no_client e) ((ordered plan formed).clients i) in
         sym (capped_products (2 ^ 64 - 1) client.count (rounds_of rounds client) (submitted (slice_index numbers) client.body))
-        ∙ (ap (λ (x : ℕ). min (client.count * min (rounds_of rounds client * x) (2 ^ 64 - 1)) (2 ^ 64 - 1)) (of_numbers plan f numbers client.body lawful are)
+        ∙ (ap (λ (x : ℕ). min (client.count * min (rounds_of rounds client * x) (2 ^ 64 - 1)) (2 ^ 64 - 1)) (of_numbers plan f numbers client.body valid are)
         ∙ capped_products (2 ^ 64 - 1) client.count (rounds_of rounds client) (submitted f client.body))

@@ -2,8 +2,8 @@
 use Rattle.std.proofs.Common.{◌≡◌, ℕ, true, nat_le, List, [], length, map, take, codes, Ok, refl, sym, ap, subst, ◌∙◌}
 use Rattle.std.proofs.lemmas.List.{length-map}
 use Rattle.toml.specs.Data.{Data, Members, get_member}
-use Rattle.support.specs.Reading.{holds_or, some_or, check_each, read_each}
-use Rattle.support.proofs.Steps.{given, given_same, bind_ok, bind_ok_then, holds_ok}
+use Rattle.support.specs.Reading.{ensure, ok_or, check_each, read_each}
+use Rattle.support.proofs.Steps.{given, ok_injective, bind_ok, bind_ok_then, holds_ok}
 use Rattle.support.proofs.ReadElements.{read_length, read_at, read_images}
 use Rattle.job_bodies.specs.declared.fault.PlanFault.{PlanFault}
 use Rattle.job_bodies.specs.declared.fault.Part.TheVariants as part
@@ -28,16 +28,16 @@ few : (key : List ℕ) (most : ℕ) (document : Members) (values : List Data) �
 unfolding list_at
 few key most document values e =
     let found = bind_ok (list_of (get_member key document)) _ _ e in
-    let passed = bind_ok (holds_or (nat_le (length found.0) most) (at_text TOO_MANY)) _ _ found.2 in
-    let same : found.0 ≡ values = given_same {F = PlanFault} found.0 values passed.2 in
+    let passed = bind_ok (ensure (nat_le (length found.0) most) (at_text TOO_MANY)) _ _ found.2 in
+    let same : found.0 ≡ values = ok_injective {F = PlanFault} found.0 values passed.2 in
     subst (λ (vs : List Data). nat_le (length vs) most ≡ true) same (holds_ok _ _ passed.1)
 
 few_texts : (entry : Entry) (key : List ℕ) (texts : List (List ℕ)) → texts_at entry key ≡ Ok texts → nat_le (length texts) MAX_ACTIONS ≡ true
 unfolding texts_at
 few_texts entry key texts e =
     let value = bind_ok (value_at entry key) _ _ e in
-    let values = bind_ok (some_or (as_list value.0) _) _ _ value.2 in
-    let passed = bind_ok (holds_or (nat_le (length values.0) MAX_ACTIONS) _) _ _ values.2 in
+    let values = bind_ok (ok_or (as_list value.0) _) _ _ value.2 in
+    let passed = bind_ok (ensure (nat_le (length values.0) MAX_ACTIONS) _) _ _ values.2 in
     let long = read_length (action_text entry.part entry.index) 0 values.0 texts passed.2 in
     rw long (holds_ok _ _ passed.1)
 
@@ -48,7 +48,7 @@ class_short index value class e =
     let name = bind_ok (text_at entry.0 (codes "name")) _ _ entry.2 in
     let pool = bind_ok (text_at entry.0 (codes "pool")) _ _ name.2 in
     let body = bind_ok (texts_at entry.0 (codes "body")) _ _ pool.2 in
-    let same : body.0 ≡ class.body = ap (λ (c : ClassEntry). c.body) (given_same {F = PlanFault} _ class body.2) in
+    let same : body.0 ≡ class.body = ap (λ (c : ClassEntry). c.body) (ok_injective {F = PlanFault} _ class body.2) in
     subst (λ (texts : List (List ℕ)). nat_le (length texts) MAX_ACTIONS ≡ true) same (few_texts entry.0 (codes "body") body.0 body.1)
 
 client_short : (index : ℕ) (value : Data) (client : ClientEntry) → read_client index value ≡ Ok client → nat_le (length client.body) MAX_ACTIONS ≡ true
@@ -59,7 +59,7 @@ client_short index value client e =
     let count = bind_ok (number_at entry.0 (codes "count")) _ _ name.2 in
     let repeat = bind_ok (flag_at entry.0 (codes "repeat")) _ _ count.2 in
     let body = bind_ok (texts_at entry.0 (codes "body")) _ _ repeat.2 in
-    let same : body.0 ≡ client.body = ap (λ (c : ClientEntry). c.body) (given_same {F = PlanFault} _ client body.2) in
+    let same : body.0 ≡ client.body = ap (λ (c : ClientEntry). c.body) (ok_injective {F = PlanFault} _ client body.2) in
     subst (λ (texts : List (List ℕ)). nat_le (length texts) MAX_ACTIONS ≡ true) same (few_texts entry.0 (codes "body") body.0 body.1)
 
 -- entries that were read are within the limits
@@ -79,7 +79,7 @@ are_within_limits document entries e =
       classes = λ i class here. let found = read_at read_class classes.0 k.0 i class k.1 here in class_short i found.0 class found.2;
       clients = λ i client here. let found = read_at read_client clients.0 c.0 i client c.1 here in client_short i found.0 client found.2;
     } in
-    subst AreWithinLimits (given_same {F = PlanFault} _ entries c.2) short
+    subst AreWithinLimits (ok_injective {F = PlanFault} _ entries c.2) short
 
 -- ---- names and numbers
 record ClassIs (pools classes : List (List ℕ)) (index : ℕ) (class : ClassEntry) (made : Class) : Type 0 where
@@ -90,7 +90,7 @@ record ClassIs (pools classes : List (List ℕ)) (index : ℕ) (class : ClassEnt
 class_is : (pools classes : List (List ℕ)) (index : ℕ) (class : ClassEntry) (made : Class) → class_of pools classes index class ≡ Ok made → ClassIs pools classes index class made
 class_is pools classes index class made e =
     let body = bind_ok (body_of classes part.Class index class.body) _ _ e in
-    let same = given_same {F = PlanFault} _ made body.2 in
+    let same = ok_injective {F = PlanFault} _ made body.2 in
     record {
       head = ap (λ (k : Class). record { name = k.name; pool = k.pool; body = [] }) same;
       name = ap (λ (k : Class). k.name) (sym same);
@@ -105,7 +105,7 @@ record ClientIs (classes : List (List ℕ)) (index : ℕ) (client : ClientEntry)
 client_is : (classes : List (List ℕ)) (index : ℕ) (client : ClientEntry) (made : Client) → client_of classes index client ≡ Ok made → ClientIs classes index client made
 client_is classes index client made e =
     let body = bind_ok (body_of classes part.Client index client.body) _ _ e in
-    let same = given_same {F = PlanFault} _ made body.2 in
+    let same = ok_injective {F = PlanFault} _ made body.2 in
     record {
       head = ap (λ (c : Client). record { name = c.name; count = c.count; repeat = c.repeat; body = [] }) same;
       name = ap (λ (c : Client). c.name) (sym same);
@@ -124,11 +124,11 @@ ClientsPass clients = check_each (λ index client. check_client (take index (cli
 
 pools_pass : (pools : List Pool) (names : List (List ℕ)) → check_pools pools ≡ Ok names → PoolsPass pools × (map (λ pool. pool.name) pools ≡ names)
 unfolding check_pools
-pools_pass pools names e = bind_ok_then (check_each _ 0 pools) _ names e (λ passed at rest. (at, given_same {F = PlanFault} _ names rest))
+pools_pass pools names e = bind_ok_then (check_each _ 0 pools) _ names e (λ passed at rest. (at, ok_injective {F = PlanFault} _ names rest))
 
 classes_pass : (pools : List (List ℕ)) (classes : List ClassEntry) (names : List (List ℕ)) → check_classes pools classes ≡ Ok names → ClassesPass pools classes × (class_names classes ≡ names)
 unfolding check_classes
-classes_pass pools classes names e = bind_ok_then (check_each _ 0 classes) _ names e (λ passed at rest. (at, given_same {F = PlanFault} _ names rest))
+classes_pass pools classes names e = bind_ok_then (check_each _ 0 classes) _ names e (λ passed at rest. (at, ok_injective {F = PlanFault} _ names rest))
 
 clients_pass : (clients : List ClientEntry) (passed : Unit {0}) → check_clients clients ≡ Ok passed → ClientsPass clients
 unfolding check_clients
@@ -153,7 +153,7 @@ is_read entries plan e next =
     bind_ok_then (check_clients entries.clients) _ plan e2 (λ passed at_clients e3.
     bind_ok_then (read_each (class_of pools classes) 0 entries.classes) _ plan e3 (λ ks at_ks e4.
     bind_ok_then (read_each (client_of classes) 0 entries.clients) _ plan e4 (λ cs at_cs e5.
-    let same = given_same {F = PlanFault} _ plan e5 in
+    let same = ok_injective {F = PlanFault} _ plan e5 in
     next pools classes (record {
       pool_names_are = (pools_pass entries.pools pools at_pools).1;
       class_names_are = (classes_pass pools entries.classes classes at_classes).1;

@@ -11,8 +11,8 @@ take_more (x ∷ ys) (suc i) y e = ap (λ (zs : List _). x ∷ zs) (take_more ys
 -- after the value of one more element
 pub image_pushed : {V Y : Type 0} (view : V → Y) (values : List V) (value : V) (ys : List Y) (i : ℕ) (y : Y) → slice_get ys i ≡ Some y → view value ≡ y → map view values ≡ take i ys
     → map view (values ++ value ∷ []) ≡ take (i + 1) ys
-image_pushed view values value ys i y here seen so_far =
-    map_push view values value ∙ rw (so_far, seen, add-one) (sym (take_more ys i y here))
+image_pushed view values value ys i y here seen prior =
+    map_push view values value ∙ rw (prior, seen, add-one) (sym (take_more ys i y here))
 
 take_past : {Y : Type 0} (ys : List Y) (i : ℕ) → length ys ≤ i → take i ys ≡ ys
 take_past [] zero past = refl
@@ -22,7 +22,7 @@ take_past (y ∷ ys) (suc i) past = ap (λ (zs : List _). y ∷ zs) (take_past y
 
 -- after all elements
 pub image_whole : {V Y : Type 0} (view : V → Y) (values : List V) (ys : List Y) (i : ℕ) → length ys ≤ i → map view values ≡ take i ys → map view values ≡ ys
-image_whole view values ys i past so_far = so_far ∙ take_past ys i past
+image_whole view values ys i past prior = prior ∙ take_past ys i past
 
 -- an element with its index
 enumerated_from : {X Y : Type 0} (f : ℕ × X → Y) (n : ℕ) (xs : List X) (i : ℕ) (d : X) → i < length xs → slice_get (map f (enumerate_from n xs)) i ≡ Some (f (n + i, get_or xs i d))

@@ -1,14 +1,14 @@
 pub mod Tables
 pub mod NamePlaces
 pub mod Numbers
-pub mod Filling
+pub mod SlotStates
 pub mod OnLiterals
 mod Samples
-pub mod Fillings
+pub mod FilledSlots
 mod BodyLaws
 pub mod Buildable
-pub mod SpelledOrders
-pub mod ReadOrders
+pub mod SpelledActions
+pub mod ReadActions
 pub mod Members
 pub mod Images
 mod SlotNames

@@ -6,7 +6,7 @@ use Rattle.std.proofs.lemmas.Bool.Decides.{nat_tests}
 use Rattle.std.proofs.lemmas.Str.Parse.{IsNumeralModel, numerals_by_value, parse_gives}
 use Rattle.job_bodies.specs.declared.limits.TheConstants.{MAX_WORK}
 use Rattle.job_bodies.specs.WellFormed.{is_within}
-use Rattle.plan_text.specs.Orders.{are_digits, is_positive_decimal}
+use Rattle.plan_text.specs.ParsedActions.{are_digits, is_positive_decimal}
 
 -- digits form a numeral, in the form that the lemmas of std expect
 pub digits_are : IsNumeralModel (λ digits. are_digits digits ≡ true) (digits_value 10)

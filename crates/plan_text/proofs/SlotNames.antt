@@ -4,14 +4,14 @@ use Rattle.std.specs.Prelude.{decimal}
 use Rattle.std.specs.List.{list_all}
 use Rattle.std.proofs.lemmas.Bool.{and_from, le-leb}
 use Rattle.std.proofs.lemmas.Fmt.{length-decimal-le, digits_decimal, decimal_injective}
-use Rattle.job_bodies.specs.WellFormed.{is_name_byte, is_lawful_name}
-use Rattle.plan_text.proofs.SpelledOrders.{digits_in_name}
+use Rattle.job_bodies.specs.WellFormed.{is_name_byte, is_valid_name}
+use Rattle.plan_text.proofs.SpelledActions.{digits_in_name}
 use Rattle.plan_text.proofs.Numbers.{digits_are}
 use Rattle.plan_text.specs.Spelling.{slot_name}
 
 -- a slot's name is valid, and belongs to one position
-pub slot_lawful : (position : ℕ) → position < 256 → is_lawful_name (slot_name position) ≡ true
-slot_lawful position within =
+pub slot_valid : (position : ℕ) → position < 256 → is_valid_name (slot_name position) ≡ true
+slot_valid position within =
     let small : position < 2 ^ 64 = omega arith in
     let few : length (slot_name position) ≤ 32 = omega (arith, length-decimal-le 3 position (omega arith) (omega arith) small) in
     let bytes : list_all is_name_byte (decimal position) ≡ true = digits_in_name (decimal position) (digits_decimal digits_are position small) in

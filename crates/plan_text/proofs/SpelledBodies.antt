@@ -16,21 +16,21 @@ use Rattle.job_bodies.specs.declared.action.Action.TheVariants.{Work, Submit, Ge
 use Rattle.job_bodies.specs.declared.fault.PlanFault.{PlanFault}
 use Rattle.job_bodies.specs.declared.fault.Part.{Part}
 use Rattle.job_bodies.specs.Plan.{Plan, submits, gets}
-use Rattle.job_bodies.specs.WellFormed.{are_distinct, is_lawful_name, is_lawful_action, is_lawful_body}
+use Rattle.job_bodies.specs.WellFormed.{are_distinct, is_valid_name, is_valid_action, is_valid_body}
 use Rattle.job_bodies.specs.Checks.{at_action}
-use Rattle.job_bodies.specs.Lawful.{IsLawful}
-use Rattle.job_bodies.proofs.Bodies.{lawful_action, lawful_body}
+use Rattle.job_bodies.specs.ValidBody.{IsValidBody}
+use Rattle.job_bodies.proofs.Bodies.{valid_action, valid_body}
 use Rattle.job_bodies.proofs.DistinctNames.{distinct_before}
 use Rattle.job_bodies.proofs.Passing.{EachPlace, list_any_get}
 use Rattle.plan_text.specs.Checks.{place_of}
-use Rattle.plan_text.specs.Orders.{Order, work, submit, submit_as, get, order_of}
+use Rattle.plan_text.specs.ParsedActions.{ParsedAction, work, submit, submit_as, get, parse_action}
 use Rattle.plan_text.specs.Slots.{filled_by, filled}
 use Rattle.plan_text.specs.Spelling.{name_at, slot_name, action_text, body_texts}
 use Rattle.plan_text.specs.Bodies.{class_named, action_of, action_at, action_among, body_of}
-use Rattle.plan_text.proofs.Filling.{filled_more}
-use Rattle.plan_text.proofs.Fillings.{HasOrder, fills}
-use Rattle.plan_text.proofs.SpelledOrders.{spelled}
-use Rattle.plan_text.proofs.SlotNames.{slot_lawful, slot_injective}
+use Rattle.plan_text.proofs.SlotStates.{filled_more}
+use Rattle.plan_text.proofs.FilledSlots.{HasParsedAction, fills}
+use Rattle.plan_text.proofs.SpelledActions.{spelled}
+use Rattle.plan_text.proofs.SlotNames.{slot_valid, slot_injective}
 
 -- ---- names
 -- the index of a name in a list of distinct names
@@ -81,16 +81,16 @@ length-texts classes body = length-map (enumerate_from 0 body) _ ∙ length-enum
 
 -- ---- their parsed actions
 -- the parsed action at a position
-abbrev order_here : List (List ℕ) → List Action → ℕ → Action → Order
-order_here classes body i (Work units) = work units
-order_here classes body i (Submit class) = if list_any (gets i) body then submit_as (name_at classes class) (slot_name i) else submit (name_at classes class)
-order_here classes body i (Get t) = get (slot_name t)
+abbrev parsed_action_here : List (List ℕ) → List Action → ℕ → Action → ParsedAction
+parsed_action_here classes body i (Work units) = work units
+parsed_action_here classes body i (Submit class) = if list_any (gets i) body then submit_as (name_at classes class) (slot_name i) else submit (name_at classes class)
+parsed_action_here classes body i (Get t) = get (slot_name t)
 
 -- a valid body, and classes with distinct, valid names
 record IsSpelled (classes : List (List ℕ)) (body : List Action) : Type 0 where
   distinct : are_distinct classes ≡ true
-  names : EachPlace classes (λ i name. is_lawful_name name ≡ true)
-  actions : EachPlace body (λ i action. is_lawful_action (length classes) body i action ≡ true)
+  names : EachPlace classes (λ i name. is_valid_name name ≡ true)
+  actions : EachPlace body (λ i action. is_valid_action (length classes) body i action ≡ true)
   short : length body ≤ 256
   behind : (g t : ℕ) → slice_get body g ≡ Some (Get t) → t < g
   of_submit : (g t : ℕ) → slice_get body g ≡ Some (Get t) → submits (slice_get body t) ≡ true
@@ -99,24 +99,24 @@ record IsSpelled (classes : List (List ℕ)) (body : List Action) : Type 0 where
 place_within : (classes : List (List ℕ)) (body : List Action) → IsSpelled classes body → (i : ℕ) (action : Action) → slice_get body i ≡ Some action → i < 256
 place_within classes body given i action here = omega (arith, slice_get_within body i action here, given.short)
 
-order_is : (classes : List (List ℕ)) (body : List Action) → IsSpelled classes body → (i : ℕ) (action : Action) → slice_get body i ≡ Some action → order_of (action_text classes body i action) ≡ Some (order_here classes body i action)
+parsed_action_is : (classes : List (List ℕ)) (body : List Action) → IsSpelled classes body → (i : ℕ) (action : Action) → slice_get body i ≡ Some action → parse_action (action_text classes body i action) ≡ Some (parsed_action_here classes body i action)
 unfolding action_text
-order_is classes body given i (Work units) here = spelled (work units) (given.actions i (Work units) here)
-order_is classes body given i (Submit class) here =
+parsed_action_is classes body given i (Work units) here = spelled (work units) (given.actions i (Work units) here)
+parsed_action_is classes body given i (Submit class) here =
     let name = name_at classes class in
     let within : class < length classes = ltb-true class (length classes) (given.actions i (Submit class) here) in
-    let lawful = given.names class name (slice_get-get_or classes class [] within) in
+    let valid = given.names class name (slice_get-get_or classes class [] within) in
     elim (cases_Bool (list_any (gets i) body)) [
-      | inl got ↦ rw got (spelled (submit_as name (slot_name i)) (and_from _ _ lawful (slot_lawful i (place_within classes body given i (Submit class) here))))
-      | inr free ↦ rw free (subst (λ (word : List ℕ). order_of (codes "submit " ++ word) ≡ Some (submit name)) (sym (append-nil name)) (spelled (submit name) lawful))
+      | inl got ↦ rw got (spelled (submit_as name (slot_name i)) (and_from _ _ valid (slot_valid i (place_within classes body given i (Submit class) here))))
+      | inr free ↦ rw free (subst (λ (word : List ℕ). parse_action (codes "submit " ++ word) ≡ Some (submit name)) (sym (append-nil name)) (spelled (submit name) valid))
     ]
-order_is classes body given i (Get t) here = spelled (get (slot_name t)) (slot_lawful t (omega (arith, given.behind i t here, place_within classes body given i (Get t) here)))
+parsed_action_is classes body given i (Get t) here = spelled (get (slot_name t)) (slot_valid t (omega (arith, given.behind i t here, place_within classes body given i (Get t) here)))
 
-has_order : (classes : List (List ℕ)) (body : List Action) → IsSpelled classes body → (i : ℕ) (action : Action) → slice_get body i ≡ Some action → HasOrder (body_texts classes body) i (order_here classes body i action)
-has_order classes body given i action here = record {
+has_parsed_action : (classes : List (List ℕ)) (body : List Action) → IsSpelled classes body → (i : ℕ) (action : Action) → slice_get body i ≡ Some action → HasParsedAction (body_texts classes body) i (parsed_action_here classes body i action)
+has_parsed_action classes body given i action here = record {
   text = action_text classes body i action;
   here = text_here classes body i action here;
-  gives = order_is classes body given i action here;
+  gives = parsed_action_is classes body given i action here;
 }
 
 -- ---- the slots
@@ -128,11 +128,11 @@ none_or_some (Some t) = inr (t, refl)
 action_there : (body : List Action) (i : ℕ) → i < length body → (action : Action) × (slice_get body i ≡ Some action)
 action_there body i within = (get_or body i (Work 0), slice_get-get_or body i (Work 0) within)
 
-some_order : (a b : Order) (o : Option Order) → o ≡ Some a → o ≡ Some b → a ≡ b
-some_order a b o p q = cc
+some_parsed_action : (a b : ParsedAction) (o : Option ParsedAction) → o ≡ Some a → o ≡ Some b → a ≡ b
+some_parsed_action a b o p q = cc
 
 -- a submit fills only its own slot
-slot_is : (classes : List (List ℕ)) (body : List Action) (i : ℕ) (action : Action) (class slot : List ℕ) → order_here classes body i action ≡ submit_as class slot → slot ≡ slot_name i
+slot_is : (classes : List (List ℕ)) (body : List Action) (i : ℕ) (action : Action) (class slot : List ℕ) → parsed_action_here classes body i action ≡ submit_as class slot → slot ≡ slot_name i
 slot_is classes body i (Work units) class slot e = absurd cc
 slot_is classes body i (Submit k) class slot e =
     elim (cases_Bool (list_any (gets i) body)) [
@@ -151,30 +151,30 @@ slot_empty classes body given i within =
           let t = some.0 in
           let by = fills texts i (slot_name i) t (omega (arith, within, length-texts classes body)) some.1 in
           let action = action_there body t (omega (arith, within, by.before)) in
-          let has = has_order classes body given t action.0 action.1 in
+          let has = has_parsed_action classes body given t action.0 action.1 in
           let text-here = has.here in
           let submit-here = by.submitted.here in
           let same : has.text ≡ by.submitted.text = cc in
-          let order = some_order _ _ (order_of has.text) has.gives (ap order_of same ∙ by.submitted.gives) in
-          let place = slot_injective i t (omega (arith, within, given.short)) (omega (arith, within, by.before, given.short)) (slot_is classes body t action.0 by.class (slot_name i) order) in
+          let parsed_action = some_parsed_action _ _ (parse_action has.text) has.gives (ap parse_action same ∙ by.submitted.gives) in
+          let place = slot_injective i t (omega (arith, within, given.short)) (omega (arith, within, by.before, given.short)) (slot_is classes body t action.0 by.class (slot_name i) parsed_action) in
           absurd (omega (arith, place, by.before))
     ]
 
 -- a slot after one more action
 slot_more : (classes : List (List ℕ)) (body : List Action) → IsSpelled classes body → (slot : List ℕ) (i : ℕ) (action : Action) → slice_get body i ≡ Some action
-    → filled (take (i + 1) (body_texts classes body)) slot ≡ filled_by slot i (filled (take i (body_texts classes body)) slot) (Some (order_here classes body i action))
+    → filled (take (i + 1) (body_texts classes body)) slot ≡ filled_by slot i (filled (take i (body_texts classes body)) slot) (Some (parsed_action_here classes body i action))
 slot_more classes body given slot i action here =
     let texts = body_texts classes body in
-    let has = has_order classes body given i action here in
+    let has = has_parsed_action classes body given i action here in
     filled_more slot texts i has.text has.here ∙ ap (filled_by slot i (filled (take i texts) slot)) has.gives
 
 -- a submit that a get names fills its slot
-filled_first : (classes : List (List ℕ)) (body : List Action) (t class : ℕ) (before : Option ℕ) → list_any (gets t) body ≡ true → filled_by (slot_name t) t before (Some (order_here classes body t (Submit class))) ≡ Some t
+filled_first : (classes : List (List ℕ)) (body : List Action) (t class : ℕ) (before : Option ℕ) → list_any (gets t) body ≡ true → filled_by (slot_name t) t before (Some (parsed_action_here classes body t (Submit class))) ≡ Some t
 filled_first classes body t class before got = rw (got, same_slot t) refl
 
 -- a later action leaves the slot filled unless it is a get of that submit
 filled_kept : (classes : List (List ℕ)) (body : List Action) → IsSpelled classes body → (t j : ℕ) (action : Action) → slice_get body j ≡ Some action → t < j → (action ≡ Get t → ⊥)
-    → filled_by (slot_name t) j (Some t) (Some (order_here classes body j action)) ≡ Some t
+    → filled_by (slot_name t) j (Some t) (Some (parsed_action_here classes body j action)) ≡ Some t
 filled_kept classes body given t j (Work units) here after other = refl
 filled_kept classes body given t j (Submit class) here after other =
     let within = place_within classes body given j (Submit class) here in
@@ -193,8 +193,8 @@ submit_there (Some (Submit class)) e = (class, refl)
 submit_there (Some (Get t)) e = absurd cc
 
 -- the submit of a get has a get
-is_got : (body : List Action) (g t : ℕ) → slice_get body g ≡ Some (Get t) → list_any (gets t) body ≡ true
-is_got body g t here = list_any_at (gets t) body g (Get t) (slice_get_within body g (Get t) here) (ap (gets t) (get_or_from_slice_get body g (Get t) (Get t) here) ∙ eq-eqb t t refl)
+has_get_of : (body : List Action) (g t : ℕ) → slice_get body g ≡ Some (Get t) → list_any (gets t) body ≡ true
+has_get_of body g t here = list_any_at (gets t) body g (Get t) (slice_get_within body g (Get t) here) (ap (gets t) (get_or_from_slice_get body g (Get t) (Get t) here) ∙ eq-eqb t t refl)
 
 -- the slot of a submit that a get names stays filled up to that get
 filled_until : (classes : List (List ℕ)) (body : List Action) → IsSpelled classes body → (g t : ℕ) → slice_get body g ≡ Some (Get t) → (n : ℕ) → t + 1 + n ≤ g
@@ -203,7 +203,7 @@ filled_until classes body given g t here zero within =
     let texts = body_texts classes body in
     let submit-there = submit_there (slice_get body t) (given.of_submit g t here) in
     let place : t + 1 ≡ t + 1 + 0 = omega arith in
-    subst (λ (k : ℕ). filled (take k texts) (slot_name t) ≡ Some t) place (slot_more classes body given (slot_name t) t (Submit submit-there.0) submit-there.1 ∙ filled_first classes body t submit-there.0 (filled (take t texts) (slot_name t)) (is_got body g t here))
+    subst (λ (k : ℕ). filled (take k texts) (slot_name t) ≡ Some t) place (slot_more classes body given (slot_name t) t (Submit submit-there.0) submit-there.1 ∙ filled_first classes body t submit-there.0 (filled (take t texts) (slot_name t)) (has_get_of body g t here))
 filled_until classes body given g t here (suc n) within =
     let texts = body_texts classes body in
     let j = t + 1 + n in
@@ -212,7 +212,7 @@ filled_until classes body given g t here (suc n) within =
     let other : action.0 ≡ Get t → ⊥ = λ same. given.once j g t before (action.1 ∙ ap (λ (a : Action). Some a) same) here in
     let earlier = filled_until classes body given g t here n (omega (arith, before)) in
     let place : j + 1 ≡ t + 1 + suc n = omega arith in
-    let next = slot_more classes body given (slot_name t) j action.0 action.1 ∙ ap (λ (o : Option ℕ). filled_by (slot_name t) j o (Some (order_here classes body j action.0))) earlier in
+    let next = slot_more classes body given (slot_name t) j action.0 action.1 ∙ ap (λ (o : Option ℕ). filled_by (slot_name t) j o (Some (parsed_action_here classes body j action.0))) earlier in
     subst (λ (k : ℕ). filled (take k texts) (slot_name t) ≡ Some t) place (next ∙ filled_kept classes body given t j action.0 action.1 (omega arith) other)
 
 slot_filled : (classes : List (List ℕ)) (body : List Action) → IsSpelled classes body → (g t : ℕ) → slice_get body g ≡ Some (Get t) → filled (take g (body_texts classes body)) (slot_name t) ≡ Some t
@@ -226,7 +226,7 @@ class_found : (classes : List (List ℕ)) (fault : ℕ → PlanFault) → are_di
 class_found classes fault distinct class within = rw (place_is classes distinct class (ltb-true class (length classes) within), within) refl
 
 action_is : (classes : List (List ℕ)) (body : List Action) → IsSpelled classes body → (fault : ℕ → PlanFault) (i : ℕ) (action : Action) → slice_get body i ≡ Some action
-    → action_of classes (filled (take i (body_texts classes body))) fault (order_here classes body i action) ≡ Ok action
+    → action_of classes (filled (take i (body_texts classes body))) fault (parsed_action_here classes body i action) ≡ Ok action
 action_is classes body given fault i (Work units) here = refl
 action_is classes body given fault i (Submit class) here =
     let found = class_found classes fault given.distinct class (given.actions i (Submit class) here) in
@@ -240,7 +240,7 @@ action_back : (classes : List (List ℕ)) (part : Part) (index : ℕ) (body : Li
     → slice_get body i ≡ Some action → action_among classes part index (body_texts classes body) i text ≡ Ok action
 unfolding action_at
 action_back classes part index body given i text action there here =
-    let has = has_order classes body given i action here in
+    let has = has_parsed_action classes body given i action here in
     let text-here = has.here in
     let same : text ≡ has.text = cc in
     rw (same, has.gives) (action_is classes body given (at_action part index i) i action here)
@@ -267,17 +267,17 @@ read_gives read xs ys same each = read_gives_from read 0 xs ys same (λ i x y p 
 plan_with : List (List ℕ) → Plan
 plan_with classes = record { pools = []; classes = map (λ name. record { name = name; pool = 0; body = [] }) classes; clients = [] }
 
-lawful_with : (classes : List (List ℕ)) (body : List Action) → is_lawful_body (length classes) body ≡ true → IsLawful (plan_with classes) body
+valid_with : (classes : List (List ℕ)) (body : List Action) → is_valid_body (length classes) body ≡ true → IsValidBody (plan_with classes) body
 unfolding plan_with
-lawful_with classes body lawful = lawful_body (plan_with classes) body (subst (λ (n : ℕ). is_lawful_body n body ≡ true) (sym (length-map classes _)) lawful)
+valid_with classes body valid = valid_body (plan_with classes) body (subst (λ (n : ℕ). is_valid_body n body ≡ true) (sym (length-map classes _)) valid)
 
-is_spelled : (classes : List (List ℕ)) (body : List Action) → are_distinct classes ≡ true → EachPlace classes (λ i name. is_lawful_name name ≡ true) → is_lawful_body (length classes) body ≡ true → IsSpelled classes body
-is_spelled classes body distinct names lawful =
-    let is = lawful_with classes body lawful in
+is_spelled : (classes : List (List ℕ)) (body : List Action) → are_distinct classes ≡ true → EachPlace classes (λ i name. is_valid_name name ≡ true) → is_valid_body (length classes) body ≡ true → IsSpelled classes body
+is_spelled classes body distinct names valid =
+    let is = valid_with classes body valid in
     record {
       distinct = distinct;
       names = names;
-      actions = λ i action here. lawful_action (length classes) body i action lawful here;
+      actions = λ i action here. valid_action (length classes) body i action valid here;
       short = is.short;
       behind = is.behind;
       of_submit = is.of_submit;
@@ -285,9 +285,9 @@ is_spelled classes body distinct names lawful =
     }
 
 -- each text reads back to its action, and so the texts read back to the body
-pub reads_back : (classes : List (List ℕ)) (part : Part) (index : ℕ) (body : List Action) → are_distinct classes ≡ true → EachPlace classes (λ i name. is_lawful_name name ≡ true)
-    → is_lawful_body (length classes) body ≡ true → body_of classes part index (body_texts classes body) ≡ Ok body
+pub reads_back : (classes : List (List ℕ)) (part : Part) (index : ℕ) (body : List Action) → are_distinct classes ≡ true → EachPlace classes (λ i name. is_valid_name name ≡ true)
+    → is_valid_body (length classes) body ≡ true → body_of classes part index (body_texts classes body) ≡ Ok body
 unfolding body_of
-reads_back classes part index body distinct names lawful =
-    let given = is_spelled classes body distinct names lawful in
+reads_back classes part index body distinct names valid =
+    let given = is_spelled classes body distinct names valid in
     read_gives (action_among classes part index (body_texts classes body)) (body_texts classes body) body (length-texts classes body) (action_back classes part index body given)

@@ -8,7 +8,7 @@ use Rattle.toml.specs.Parse.{parse_document}
 use Rattle.support.specs.Reading.{check_each}
 use Rattle.job_bodies.specs.declared.fault.Part.TheVariants as part
 use Rattle.job_bodies.specs.Plan.{Class, Client, Plan, pool_names}
-use Rattle.job_bodies.specs.WellFormed.{is_lawful_name, is_lawful_body, is_lawful_class, is_lawful_client, IsWellFormed}
+use Rattle.job_bodies.specs.WellFormed.{is_valid_name, is_valid_body, is_valid_class, is_valid_client, IsWellFormed}
 use Rattle.job_bodies.specs.Checks.{check_pool, check_class, check_client}
 use Rattle.job_bodies.specs.Build.{check_counts, check_lengths, check_entries}
 use Rattle.job_bodies.proofs.Bodies.{list_all_get}
@@ -39,16 +39,16 @@ checked plan w =
     let classes = both_passed (check_each (λ index. check_class (length plan.pools) (take index (map (λ class. class.name) plan.classes)) index) 0 plan.classes) _ tt pools.1 in
     record { pools = pools.0; classes = classes.0; clients = classes.1 }
 
-class_parts : (plan : Plan) → IsWellFormed plan → EachPlace plan.classes (λ i class. is_lawful_class plan class ≡ true)
-class_parts plan w i class e = list_all_get (is_lawful_class plan) plan.classes i class w.classes e
+class_parts : (plan : Plan) → IsWellFormed plan → EachPlace plan.classes (λ i class. is_valid_class plan class ≡ true)
+class_parts plan w i class e = list_all_get (is_valid_class plan) plan.classes i class w.classes e
 
-client_parts : (plan : Plan) → IsWellFormed plan → EachPlace plan.clients (λ i client. is_lawful_client plan client ≡ true)
-client_parts plan w i client e = list_all_get (is_lawful_client plan) plan.clients i client w.clients e
+client_parts : (plan : Plan) → IsWellFormed plan → EachPlace plan.clients (λ i client. is_valid_client plan client ≡ true)
+client_parts plan w i client e = list_all_get (is_valid_client plan) plan.clients i client w.clients e
 
-class_body : (plan : Plan) → IsWellFormed plan → EachPlace plan.classes (λ i class. is_lawful_body (length plan.classes) class.body ≡ true)
+class_body : (plan : Plan) → IsWellFormed plan → EachPlace plan.classes (λ i class. is_valid_body (length plan.classes) class.body ≡ true)
 class_body plan w i class e = (and_parts _ _ (class_parts plan w i class e)).1
 
-client_body : (plan : Plan) → IsWellFormed plan → EachPlace plan.clients (λ i client. is_lawful_body (length plan.classes) client.body ≡ true)
+client_body : (plan : Plan) → IsWellFormed plan → EachPlace plan.clients (λ i client. is_valid_body (length plan.classes) client.body ≡ true)
 client_body plan w i client e = (and_parts _ _ (client_parts plan w i client e)).1
 
 -- the index of a class's pool is the index of its name
@@ -95,8 +95,8 @@ clients_checked plan w =
     rw (← from.2, client_names_of_entries plan) passed)
 
 -- ---- the bodies
-class_names_lawful : (plan : Plan) → IsWellFormed plan → EachPlace (class_names_of plan) (λ i name. is_lawful_name name ≡ true)
-class_names_lawful plan w i name e =
+class_names_valid : (plan : Plan) → IsWellFormed plan → EachPlace (class_names_of plan) (λ i name. is_valid_name name ≡ true)
+class_names_valid plan w i name e =
     let from = mapped_get (λ class. class.name) plan.classes i name e in
     rw (← from.2) (and_parts _ _ (and_parts _ _ (class_parts plan w i from.0 from.1)).0).0
 
@@ -106,7 +106,7 @@ as_many plan = length-map plan.classes (λ class. class.name)
 class_again : (plan : Plan) → IsWellFormed plan → (i : ℕ) (class : Class) → slice_get plan.classes i ≡ Some class
     → class_of (pool_names plan) (class_names_of plan) i (class_entry (pool_names plan) (class_names_of plan) class) ≡ Ok class
 class_again plan w i class e =
-    let body = reads_back (class_names_of plan) part.Class i class.body w.class_names (class_names_lawful plan w) (rw (as_many plan) (class_body plan w i class e)) in
+    let body = reads_back (class_names_of plan) part.Class i class.body w.class_names (class_names_valid plan w) (rw (as_many plan) (class_body plan w i class e)) in
     let within = ltb-true _ _ (and_parts _ _ (and_parts _ _ (class_parts plan w i class e)).0).1 in
     let long : length (pool_names plan) ≡ length plan.pools = length-map plan.pools (λ pool. pool.name) in
     let place = place_is (pool_names plan) w.pool_names class.pool (rw long within) in
@@ -115,7 +115,7 @@ class_again plan w i class e =
 client_again : (plan : Plan) → IsWellFormed plan → (i : ℕ) (client : Client) → slice_get plan.clients i ≡ Some client
     → client_of (class_names_of plan) i (client_entry (class_names_of plan) client) ≡ Ok client
 client_again plan w i client e =
-    let body = reads_back (class_names_of plan) part.Client i client.body w.class_names (class_names_lawful plan w) (rw (as_many plan) (client_body plan w i client e)) in
+    let body = reads_back (class_names_of plan) part.Client i client.body w.class_names (class_names_valid plan w) (rw (as_many plan) (client_body plan w i client e)) in
     rw body refl
 
 entries_again : (plan : Plan) → IsWellFormed plan → plan_of_entries (entries_in plan) ≡ Ok plan

@@ -1,7 +1,7 @@
 -- Parsing of bodies, action by action. Resolves class names to indices, and the slots of gets to the positions of their
 -- submits.
 use Rattle.std.specs.Prelude.{ℕ, nat_lt, is_none, List, length, take, Option, Result, Ok}
-use Rattle.support.specs.Reading.{◌>>=◌, holds_or, some_or, read_each}
+use Rattle.support.specs.Reading.{◌>>=◌, ensure, ok_or, read_each}
 use Rattle.job_bodies.specs.declared.action.Action.{Action}
 use Rattle.job_bodies.specs.declared.action.Action.TheVariants.{Work, Submit, Get}
 use Rattle.job_bodies.specs.declared.fault.PlanFault.{PlanFault}
@@ -12,26 +12,26 @@ use Rattle.job_bodies.specs.Plan.{Class, Client}
 use Rattle.job_bodies.specs.Checks.{at_action}
 use Rattle.plan_text.specs.Entries.{ClassEntry, ClientEntry}
 use Rattle.plan_text.specs.Checks.{place_of}
-use Rattle.plan_text.specs.Orders.{Order, work, submit, submit_as, get, order_of}
+use Rattle.plan_text.specs.ParsedActions.{ParsedAction, work, submit, submit_as, get, parse_action}
 use Rattle.plan_text.specs.Slots.{filled}
 
 -- the index of the class with this name
 abbrev pub class_named : List (List ℕ) → (ℕ → PlanFault) → List ℕ → Result ℕ PlanFault
 class_named classes fault name =
-    holds_or (nat_lt (place_of classes name) (length classes)) (fault NO_SUCH_CLASS) >>= λ _. Ok (place_of classes name)
+    ensure (nat_lt (place_of classes name) (length classes)) (fault NO_SUCH_CLASS) >>= λ _. Ok (place_of classes name)
 
 -- resolves a parsed action; slots maps each filled slot to its position
-abbrev pub action_of : List (List ℕ) → (List ℕ → Option ℕ) → (ℕ → PlanFault) → Order → Result Action PlanFault
+abbrev pub action_of : List (List ℕ) → (List ℕ → Option ℕ) → (ℕ → PlanFault) → ParsedAction → Result Action PlanFault
 action_of classes slots fault (work units) = Ok (Work units)
 action_of classes slots fault (submit class) = class_named classes fault class >>= λ k. Ok (Submit k)
 action_of classes slots fault (submit_as class slot) =
-    class_named classes fault class >>= λ k. holds_or (is_none (slots slot)) (fault SLOT_OPEN) >>= λ _. Ok (Submit k)
-action_of classes slots fault (get slot) = some_or (slots slot) (fault SLOT_EMPTY) >>= λ t. Ok (Get t)
+    class_named classes fault class >>= λ k. ensure (is_none (slots slot)) (fault SLOT_OPEN) >>= λ _. Ok (Submit k)
+action_of classes slots fault (get slot) = ok_or (slots slot) (fault SLOT_EMPTY) >>= λ t. Ok (Get t)
 
 -- parses and resolves an action; slots maps each filled slot to its position
 unfoldable pub action_at : List (List ℕ) → (List ℕ → Option ℕ) → (ℕ → PlanFault) → List ℕ → Result Action PlanFault
 action_at classes slots fault text =
-    some_or (order_of text) (fault BAD_ACTION) >>= λ order. action_of classes slots fault order
+    ok_or (parse_action text) (fault BAD_ACTION) >>= λ parsed_action. action_of classes slots fault parsed_action
 
 -- the action of the text at position i of a body, with the slots as the texts before it leave them
 abbrev pub action_among : List (List ℕ) → Part → ℕ → List (List ℕ) → ℕ → List ℕ → Result Action PlanFault

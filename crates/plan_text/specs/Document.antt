@@ -4,7 +4,7 @@ use Rattle.std.specs.List.{list_any}
 use Rattle.std.specs.Str.{bytes_eq, is_utf8}
 use Rattle.toml.specs.Data.{Data, as_array, Items, no_items, item, Members, no_members, member, get_member}
 use Rattle.toml.specs.Parse.{parse_document}
-use Rattle.support.specs.Reading.{◌>>=◌, holds_or, some_or}
+use Rattle.support.specs.Reading.{◌>>=◌, ensure, ok_or}
 use Rattle.job_bodies.specs.declared.fault.PlanFault.{PlanFault}
 use Rattle.support.specs.declared.number.TheConstants.{NOT_TOML, TOO_MANY, UNKNOWN_KEY, WRONG_TYPE}
 use Rattle.job_bodies.specs.Checks.{at_text}
@@ -26,29 +26,29 @@ as_list value = option_map elements (as_array value)
 
 -- the bytes if they are UTF-8
 abbrev pub text_of : List ℕ → Result (List ℕ) PlanFault
-text_of bytes = holds_or (is_utf8 bytes) (at_text NOT_TOML) >>= λ _. Ok bytes
+text_of bytes = ensure (is_utf8 bytes) (at_text NOT_TOML) >>= λ _. Ok bytes
 
 -- the TOML table of a text
 abbrev pub table_of : List ℕ → Result Members PlanFault
-table_of text = some_or (parse_document text) (at_text NOT_TOML)
+table_of text = ok_or (parse_document text) (at_text NOT_TOML)
 
 -- the table of a document within the limit on its length, which has only the keys of a plan
 unfoldable pub document_of : List ℕ → Result Members PlanFault
 document_of bytes =
-    holds_or (nat_le (length bytes) MAX_PLAN_BYTES) (at_text TOO_MANY) >>= λ _.
+    ensure (nat_le (length bytes) MAX_PLAN_BYTES) (at_text TOO_MANY) >>= λ _.
     text_of bytes >>= λ text.
     table_of text >>= λ document.
-    holds_or (has_only (codes "pool" ∷ codes "class" ∷ codes "client" ∷ []) document) (at_text UNKNOWN_KEY) >>= λ _.
+    ensure (has_only (codes "pool" ∷ codes "class" ∷ codes "client" ∷ []) document) (at_text UNKNOWN_KEY) >>= λ _.
     Ok document
 
 -- the elements of a top-level value that is an array, or none if the value is absent
 abbrev pub list_of : Option Data → Result (List Data) PlanFault
 list_of None = Ok []
-list_of (Some value) = some_or (as_list value) (at_text WRONG_TYPE)
+list_of (Some value) = ok_or (as_list value) (at_text WRONG_TYPE)
 
 -- the elements of the array at a key, at most `most`
 unfoldable pub list_at : List ℕ → ℕ → Members → Result (List Data) PlanFault
 list_at key most document =
     list_of (get_member key document) >>= λ values.
-    holds_or (nat_le (length values) most) (at_text TOO_MANY) >>= λ _.
+    ensure (nat_le (length values) most) (at_text TOO_MANY) >>= λ _.
     Ok values

@@ -2,7 +2,7 @@
 use Rattle.std.specs.Prelude.{ℕ, ℤ, pos, negsuc, Bool, false, nat_le, List, length, Option, None, Some, Result, Ok}
 use Rattle.toml.specs.Data.{Data, Members, get_member, as_str, as_integer, as_bool, as_table}
 use Rattle.toml.specs.View.{table_view}
-use Rattle.support.specs.Reading.{◌>>=◌, holds_or, some_or, read_each}
+use Rattle.support.specs.Reading.{◌>>=◌, ensure, ok_or, read_each}
 use Rattle.job_bodies.specs.declared.fault.PlanFault.{PlanFault}
 use Rattle.job_bodies.specs.declared.fault.Part.{Part}
 use Rattle.support.specs.declared.number.TheConstants.{TOO_MANY, UNKNOWN_KEY, MISSING_KEY, WRONG_TYPE}
@@ -33,29 +33,29 @@ count_of (negsuc n) = 0
 -- the value as an entry: a table that has only these keys
 unfoldable pub entry_of : Part → ℕ → List (List ℕ) → Data → Result Entry PlanFault
 entry_of part index keys value =
-    some_or (as_table value) (at_entry part index WRONG_TYPE) >>= λ table.
-    holds_or (has_only keys table) (at_entry part index UNKNOWN_KEY) >>= λ _.
+    ok_or (as_table value) (at_entry part index WRONG_TYPE) >>= λ table.
+    ensure (has_only keys table) (at_entry part index UNKNOWN_KEY) >>= λ _.
     Ok (record { table = table; part = part; index = index })
 
 -- the value at a required key
 abbrev pub value_at : Entry → List ℕ → Result Data PlanFault
-value_at entry key = some_or (get_member key entry.table) (fault_at entry MISSING_KEY)
+value_at entry key = ok_or (get_member key entry.table) (fault_at entry MISSING_KEY)
 
 -- the string at a key
 unfoldable pub text_at : Entry → List ℕ → Result (List ℕ) PlanFault
-text_at entry key = value_at entry key >>= λ value. some_or (as_str value) (fault_at entry WRONG_TYPE)
+text_at entry key = value_at entry key >>= λ value. ok_or (as_str value) (fault_at entry WRONG_TYPE)
 
 -- the integer at a key
 unfoldable pub number_at : Entry → List ℕ → Result ℕ PlanFault
 number_at entry key =
     value_at entry key >>= λ value.
-    some_or (as_integer value) (fault_at entry WRONG_TYPE) >>= λ number.
+    ok_or (as_integer value) (fault_at entry WRONG_TYPE) >>= λ number.
     Ok (count_of number)
 
 -- the boolean of a value, or false if there is no value
 abbrev pub flag_of : Entry → Option Data → Result Bool PlanFault
 flag_of entry None = Ok false
-flag_of entry (Some value) = some_or (as_bool value) (fault_at entry WRONG_TYPE)
+flag_of entry (Some value) = ok_or (as_bool value) (fault_at entry WRONG_TYPE)
 
 -- the boolean at a key, or false if the key is absent
 unfoldable pub flag_at : Entry → List ℕ → Result Bool PlanFault
@@ -63,12 +63,12 @@ flag_at entry key = flag_of entry (get_member key entry.table)
 
 -- the text of an action of the entry at an index
 abbrev pub action_text : Part → ℕ → ℕ → Data → Result (List ℕ) PlanFault
-action_text part index action value = some_or (as_str value) (at_action part index action WRONG_TYPE)
+action_text part index action value = ok_or (as_str value) (at_action part index action WRONG_TYPE)
 
 -- the strings at a key, up to the maximum number of actions of a body
 unfoldable pub texts_at : Entry → List ℕ → Result (List (List ℕ)) PlanFault
 texts_at entry key =
     value_at entry key >>= λ value.
-    some_or (as_list value) (fault_at entry WRONG_TYPE) >>= λ values.
-    holds_or (nat_le (length values) MAX_ACTIONS) (fault_at entry TOO_MANY) >>= λ _.
+    ok_or (as_list value) (fault_at entry WRONG_TYPE) >>= λ values.
+    ensure (nat_le (length values) MAX_ACTIONS) (fault_at entry TOO_MANY) >>= λ _.
     read_each (action_text entry.part entry.index) 0 values

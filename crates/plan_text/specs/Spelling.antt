@@ -4,7 +4,7 @@ use Rattle.std.specs.Prelude.{ℕ, if◌then◌else◌, List, [], ◌++◌, map,
 use Rattle.std.specs.List.{enumerate_from}
 use Rattle.job_bodies.specs.declared.action.Action.{Action}
 use Rattle.job_bodies.specs.declared.action.Action.TheVariants.{Work, Submit, Get}
-use Rattle.job_bodies.specs.Plan.{is_got}
+use Rattle.job_bodies.specs.Plan.{has_get_of}
 
 -- the name at an index of a list, or an empty name past the end
 abbrev pub name_at : List (List ℕ) → ℕ → List ℕ
@@ -16,7 +16,7 @@ slot_name position = codes "s" ++ decimal position
 
 -- the part of a submit after its class: its slot if a get of the body names the submit
 abbrev pub slot_part : List Action → ℕ → List ℕ
-slot_part body position = if is_got body position then codes " as " ++ slot_name position else []
+slot_part body position = if has_get_of body position then codes " as " ++ slot_name position else []
 
 -- the text of the action at a position of the body
 unfoldable pub action_text : List (List ℕ) → List Action → ℕ → Action → List ℕ

@@ -11,6 +11,6 @@ abbrev pub begins_character : ℕ → Bool
 begins_character byte = not (byte / 64 == 2)
 
 -- the position after this text: the number of newlines, and the number of characters after the last one
-pub record IsBehind (text : List ℕ) (place : TextPlace) : Type 0 where
+pub record IsPositionAfter (text : List ℕ) (place : TextPlace) : Type 0 where
   pub line : place.line ≡ 1 + count_by is_newline text
   pub column : (start : ℕ) × IsAfterLastMatch is_newline text start × (place.column ≡ 1 + count_by begins_character (drop start text))

@@ -3,17 +3,17 @@
 
 ghost use Rattle.std.specs.Prelude.{◌≡◌, List, ℕ, map, OnOk, Some};
 ghost use Rattle.support.specs.Reading as each;
-ghost use Rattle.support.specs.Given.{Gives};
+ghost use Rattle.support.specs.Results.{Gives};
 ghost use Rattle.job_bodies.specs.Checks.{at_action};
 ghost use Rattle.plan_text.specs.Bodies as spec;
 ghost use Rattle.plan_text.specs.Checks.{place_of};
-ghost use Rattle.plan_text.specs.Orders.{order_of, order_view};
+ghost use Rattle.plan_text.specs.ParsedActions.{parse_action, parsed_action_view};
 ghost use Rattle.plan_text.specs.Slots.{position_in, filled_by};
 
 use crate::entries::{ClassEntry, ClientEntry};
 use crate::fault::TextError;
 use crate::names::Names;
-use crate::order::{Order, order_of};
+use crate::parsed_action::{ParsedAction, parse_action};
 use crate::slots::Slots;
 use job_bodies::{Action, Class, Client, Part, PlanFault};
 use std::alloc::Global;
@@ -49,36 +49,36 @@ fn action_of<'a>(
     classes: &Names<'a>,
     slots: &mut Slots<'a>,
     place: ActionPlace,
-    order: Order<'a>,
+    parsed_action: ParsedAction<'a>,
 ) -> Result<Action, TextError>
     ensures action { Gives (λ action. action) result
         (spec.action_of classes.now (position_in slots.old)
-        (at_action place.part place.index place.action) (order_view order.entry)) }
+        (at_action place.part place.index place.action) (parsed_action_view parsed_action.entry)) }
     ensures slots { OnOk result
         ((slot : List ℕ)
         → position_in slots.new slot
         ≡ filled_by slot place.action (position_in slots.old slot)
-        (Some (order_view order.entry))) }
+        (Some (parsed_action_view parsed_action.entry))) }
 {
-    match order {
-        Order::Work(units) => Ok(Action::Work(units)),
-        Order::Submit(class) => {
+    match parsed_action {
+        ParsedAction::Work(units) => Ok(Action::Work(units)),
+        ParsedAction::Submit(class) => {
             let class = class_named(classes, place, class)?;
             Ok(Action::Submit(class))
         }
-        Order::SubmitAs(class, slot) => {
+        ParsedAction::SubmitAs(class, slot) => {
             let class = class_named(classes, place, class)?;
             if slots.filled(slot).is_some() {
                 return Err(place.refuses(SLOT_OPEN));
             }
-            slots.fill(slot, place.action)?;
+            slots.set_filled(slot, place.action)?;
             Ok(Action::Submit(class))
         }
-        Order::Get(slot) => {
+        ParsedAction::Get(slot) => {
             let Some(submit) = slots.filled(slot) else {
                 return Err(place.refuses(SLOT_EMPTY));
             };
-            slots.empty(slot);
+            slots.set_empty(slot);
             Ok(Action::Get(submit))
         }
     }
@@ -97,10 +97,10 @@ fn action_at<'a>(
     ensures slots { OnOk result
         ((slot : List ℕ)
         → position_in slots.new slot
-        ≡ filled_by slot place.action (position_in slots.old slot) (order_of text.now)) }
+        ≡ filled_by slot place.action (position_in slots.old slot) (parse_action text.now)) }
 {
-    match order_of(text) {
-        Some(order) => action_of(classes, slots, place, order),
+    match parse_action(text) {
+        Some(parsed_action) => action_of(classes, slots, place, parsed_action),
         None => Err(place.refuses(BAD_ACTION)),
     }
 }

@@ -2,14 +2,14 @@
 //! range, and the pool of each class must exist.
 
 ghost use Rattle.std.specs.Prelude.{◌≡◌, ◌++◌, ◌∷◌, [], OnOk, length};
-ghost use Rattle.support.specs.Given.{Gives};
+ghost use Rattle.support.specs.Results.{Gives};
 ghost use Rattle.job_bodies.specs.Checks as checks;
 ghost use Rattle.plan_text.specs.Checks as spec;
 
 use crate::entries::{ClassEntry, ClientEntry};
 use crate::fault::TextError;
 use crate::names::Names;
-use job_bodies::{MAX_SIZE, Part, PlanFault, Pool, is_lawful_name, is_within};
+use job_bodies::{MAX_SIZE, Part, PlanFault, Pool, is_valid_name, is_within};
 use std::alloc::Global;
 use support::ReadError;
 use support::number::{BAD_NAME, BAD_NUMBER, DOUBLE_NAME, NO_SUCH_POOL};
@@ -24,7 +24,7 @@ fn check_name<'a>(
     ensures check { Gives (λ _. tt) result (checks.check_name names.old part index name.now) }
     ensures names { OnOk result (names.new ≡ names.old ++ name.now ∷ []) }
 {
-    if !is_lawful_name(name) {
+    if !is_valid_name(name) {
         return Err(ReadError::Fault(PlanFault::at_entry(part, index, BAD_NAME)));
     }
     if !names.add(name)? {
@@ -38,7 +38,7 @@ fn check_pool<'a>(names: &mut Names<'a>, index: usize, pool: &'a Pool) -> Result
     ensures names { OnOk result (names.new ≡ names.old ++ pool.now.name ∷ []) }
 {
     check_name(names, Part::Pool, index, &pool.name)?;
-    if !pool.has_lawful_sizes() {
+    if !pool.has_valid_sizes() {
         return Err(ReadError::Fault(PlanFault::at_entry(Part::Pool, index, BAD_NUMBER)));
     }
     Ok(())

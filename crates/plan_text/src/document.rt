@@ -6,7 +6,7 @@ ghost use Rattle.std.specs.List.{list_any, list_all};
 ghost use Rattle.std.specs.Str.{bytes_eq};
 ghost use Rattle.toml.specs.Data.{get_member};
 ghost use Rattle.toml.specs.View.{view, table_view};
-ghost use Rattle.support.specs.Given.{Gives};
+ghost use Rattle.support.specs.Results.{Gives};
 ghost use Rattle.plan_text.specs.Document as spec;
 
 use crate::fault::TextError;

@@ -3,7 +3,7 @@
 ghost use Rattle.std.specs.Prelude.{◌≡◌, map};
 ghost use Rattle.toml.specs.View.{view, table_view};
 ghost use Rattle.support.specs.Reading as each;
-ghost use Rattle.support.specs.Given.{Gives};
+ghost use Rattle.support.specs.Results.{Gives};
 ghost use Rattle.plan_text.specs.Entries as spec;
 
 use crate::document::list_at;

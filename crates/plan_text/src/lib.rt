@@ -12,7 +12,7 @@ mod entry;
 mod fault;
 mod laws;
 mod names;
-mod order;
+mod parsed_action;
 mod outline;
 mod place;
 mod places;

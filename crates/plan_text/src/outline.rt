@@ -18,7 +18,7 @@ pub(crate) struct Key {
 #[derive(Drop)]
 pub(crate) struct Table {
     /// The offset of the header.
-    pub(crate) head: usize,
+    pub(crate) header: usize,
     /// The range of the name in the header.
     pub(crate) name: (usize, usize),
     /// Whether the header has double brackets.
@@ -28,7 +28,7 @@ pub(crate) struct Table {
 
 /// The state of the parser within a line.
 #[derive(Clone, Copy)]
-enum At {
+enum LineState {
     /// At the start.
     Begin,
     /// In a table header, after this number of brackets.
@@ -44,27 +44,27 @@ enum At {
 /// The outline so far.
 #[derive(Drop)]
 struct Outline {
-    at: At,
+    at: LineState,
     tables: Vec<Table>,
 }
 
 /// Returns the tables of a text with these tokens.
 pub(crate) fn outline_of(alloc: Global, tokens: &[Token]) -> Result<Vec<Table>, AllocError> {
     let mut outline = Outline {
-        at: At::Begin,
+        at: LineState::Begin,
         tables: Vec::new(alloc),
     };
     outline.tables.push(table_at(alloc, 0))?;
     for token in tokens.iter().copied() {
-        outline.take(alloc, token)?;
+        outline.process(alloc, token)?;
     }
     Ok(outline.tables)
 }
 
-fn table_at(alloc: Global, head: usize) -> Table {
+fn table_at(alloc: Global, header: usize) -> Table {
     Table {
-        head,
-        name: (head, head),
+        header,
+        name: (header, header),
         in_list: false,
         keys: Vec::new(alloc),
     }
@@ -81,21 +81,21 @@ fn key_at(alloc: Global, token: Token) -> Key {
 
 impl Outline {
     /// Processes the next token.
-    fn take(&mut self, alloc: Global, token: Token) -> Result<(), AllocError> {
+    fn process(&mut self, alloc: Global, token: Token) -> Result<(), AllocError> {
         match self.at {
-            At::Begin => self.begin(alloc, token),
-            At::Head(brackets) => {
-                self.head(brackets, token);
+            LineState::Begin => self.begin(alloc, token),
+            LineState::Head(brackets) => {
+                self.header(brackets, token);
                 Ok(())
             }
-            At::Key => {
-                self.behind_key(token);
+            LineState::Key => {
+                self.after_key(token);
                 Ok(())
             }
-            At::Value { depth, is_next } => self.value(depth, is_next, token),
-            At::Rest => {
+            LineState::Value { depth, is_next } => self.value(depth, is_next, token),
+            LineState::Rest => {
                 if token.kind == Kind::LineEnd {
-                    self.at = At::Begin;
+                    self.at = LineState::Begin;
                 }
                 Ok(())
             }
@@ -107,15 +107,15 @@ impl Outline {
             Kind::LineEnd => Ok(()),
             Kind::Mark(b'[') => {
                 self.tables.push(table_at(alloc, token.start))?;
-                self.at = At::Head(1);
+                self.at = LineState::Head(1);
                 Ok(())
             }
             Kind::Mark(_) => {
-                self.at = At::Rest;
+                self.at = LineState::Rest;
                 Ok(())
             }
             Kind::Word | Kind::Quoted => {
-                self.at = At::Key;
+                self.at = LineState::Key;
                 if let Some(table) = self.tables.last_mut() {
                     table.keys.push(key_at(alloc, token))?;
                 }
@@ -124,16 +124,16 @@ impl Outline {
         }
     }
 
-    fn head(&mut self, brackets: u8, token: Token) {
+    fn header(&mut self, brackets: u8, token: Token) {
         match token.kind {
-            Kind::LineEnd => self.at = At::Begin,
+            Kind::LineEnd => self.at = LineState::Begin,
             Kind::Mark(b'[') => {
-                self.at = At::Head(brackets.saturating_add(1));
+                self.at = LineState::Head(brackets.saturating_add(1));
                 if let Some(table) = self.tables.last_mut() {
                     table.in_list = true;
                 }
             }
-            Kind::Mark(_) => self.at = At::Rest,
+            Kind::Mark(_) => self.at = LineState::Rest,
             Kind::Word | Kind::Quoted => {
                 if let Some(table) = self.tables.last_mut() {
                     table.name = (token.start, token.end);
@@ -142,41 +142,41 @@ impl Outline {
         }
     }
 
-    fn behind_key(&mut self, token: Token) {
+    fn after_key(&mut self, token: Token) {
         self.at = match token.kind {
-            Kind::Mark(b'=') => At::Value {
+            Kind::Mark(b'=') => LineState::Value {
                 depth: 0,
                 is_next: true,
             },
-            Kind::LineEnd => At::Begin,
-            Kind::Mark(_) | Kind::Word | Kind::Quoted => At::Rest,
+            Kind::LineEnd => LineState::Begin,
+            Kind::Mark(_) | Kind::Word | Kind::Quoted => LineState::Rest,
         };
     }
 
     fn value(&mut self, depth: usize, is_next: bool, token: Token) -> Result<(), AllocError> {
         if token.kind == Kind::LineEnd {
             if depth == 0 {
-                self.at = At::Begin;
+                self.at = LineState::Begin;
             }
             return Ok(());
         }
         if is_next {
-            self.begins(depth, token.start)?;
+            self.record_start(depth, token.start)?;
         }
         self.at = match token.kind {
-            Kind::Mark(b'[' | b'{') => At::Value {
+            Kind::Mark(b'[' | b'{') => LineState::Value {
                 depth: depth.saturating_add(1),
                 is_next: true,
             },
-            Kind::Mark(b']' | b'}') => At::Value {
+            Kind::Mark(b']' | b'}') => LineState::Value {
                 depth: depth.saturating_sub(1),
                 is_next: false,
             },
-            Kind::Mark(b',') => At::Value {
+            Kind::Mark(b',') => LineState::Value {
                 depth,
                 is_next: true,
             },
-            Kind::Mark(_) | Kind::Word | Kind::Quoted | Kind::LineEnd => At::Value {
+            Kind::Mark(_) | Kind::Word | Kind::Quoted | Kind::LineEnd => LineState::Value {
                 depth,
                 is_next: false,
             },
@@ -185,7 +185,7 @@ impl Outline {
     }
 
     /// Records the offset of the last key's value or of one of its elements.
-    fn begins(&mut self, depth: usize, start: usize) -> Result<(), AllocError> {
+    fn record_start(&mut self, depth: usize, start: usize) -> Result<(), AllocError> {
         let Some(table) = self.tables.last_mut() else {
             return Ok(());
         };

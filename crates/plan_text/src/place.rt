@@ -2,7 +2,7 @@
 
 ghost use Rattle.std.specs.Prelude.{◌≡◌, ◌≤◌, length, count_by, take};
 ghost use Rattle.std.specs.List.{IsAfterLastMatch};
-ghost use Rattle.plan_text.specs.TextPlace.{IsBehind, is_newline, begins_character};
+ghost use Rattle.plan_text.specs.TextPlace.{IsPositionAfter, is_newline, begins_character};
 
 use std::fmt;
 
@@ -31,7 +31,7 @@ impl fmt::Display for TextPlace {
 /// Returns the position of the byte at this offset of a UTF-8 text, or of the text's end if the
 /// offset is past it.
 pub fn place_at(text: &[u8], offset: usize) -> TextPlace
-    ensures { IsBehind (take offset text.now) result }
+    ensures { IsPositionAfter (take offset text.now) result }
 {
     let before = &text[..offset.min(text.len())];
     TextPlace {
@@ -57,7 +57,7 @@ fn characters(text: &[u8]) -> usize
 /// Returns the offset of the last line of a text: after its last newline, or 0.
 fn last_line_start(text: &[u8]) -> usize
     ensures within { result ≤ length text.now }
-    ensures behind_newline { IsAfterLastMatch is_newline text.now result }
+    ensures after_newline { IsAfterLastMatch is_newline text.now result }
 {
     match text.iter().rposition(|byte| *byte == b'\n') {
         Some(newline) => newline + 1,

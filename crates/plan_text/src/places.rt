@@ -28,7 +28,7 @@ impl<'a> Places<'a> {
     /// name, such as the `[[pool]]` of a pool.
     pub fn entry(&self, list: &str, index: usize) -> Option<TextPlace> {
         let table = self.table(list, index)?;
-        Some(place_at(self.text, table.head))
+        Some(place_at(self.text, table.header))
     }
 
     /// Returns the position of a key of such a table.
@@ -62,7 +62,7 @@ impl<'a> Places<'a> {
     pub fn top(&self, name: &str) -> Option<TextPlace> {
         for table in &self.tables {
             if self.is_named(table.name, name) {
-                return Some(place_at(self.text, table.head));
+                return Some(place_at(self.text, table.header));
             }
         }
         let key = self.key_of(self.tables.first()?, name)?;

@@ -1,9 +1,9 @@
 //! Parsing a plan.
 
 ghost use Rattle.std.specs.Prelude.{◌≡◌, ◌≢◌, List, IfOk, IfErr, Ok, Err};
-ghost use Rattle.support.specs.Given.{Gives};
+ghost use Rattle.support.specs.Results.{Gives};
 ghost use Rattle.job_bodies.specs.Checks.{at_text};
-ghost use Rattle.job_bodies.specs.Build.{given};
+ghost use Rattle.job_bodies.specs.Build.{plan_of_lists};
 ghost use Rattle.job_bodies.specs.Plan as plans;
 ghost use Rattle.plan_text.specs.PlanOf as spec;
 
@@ -65,7 +65,7 @@ fn bodies_of<'p, 'd: 'p>(
     classes: Vec<ClassEntry<'d>>,
     clients: &[ClientEntry<'d>],
 ) -> Result<Bodies, TextError>
-    ensures { Gives (λ bodies. given pools.now bodies.classes.items bodies.clients.items) result
+    ensures { Gives (λ bodies. plan_of_lists pools.now bodies.classes.items bodies.clients.items) result
         (spec.plan_of_entries
         (record { pools = pools.now; classes = classes.entry.items; clients = clients.now })) }
 {
@@ -83,7 +83,7 @@ fn named_bodies<'p, 'd: 'p>(
     clients: &[ClientEntry<'d>],
 ) -> Result<Bodies, TextError>
     ensures { (pools : List plans.Pool)
-        → Gives (λ bodies. given pools bodies.classes.items bodies.clients.items) result
+        → Gives (λ bodies. plan_of_lists pools bodies.classes.items bodies.clients.items) result
         (spec.plan_of_named pool_names.now class_names.now
         (record { pools = pools; classes = classes.entry.items; clients = clients.now })) }
 {

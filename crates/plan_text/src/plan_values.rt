@@ -5,7 +5,7 @@ ghost use Rattle.toml.specs.Data.{boolean};
 ghost use Rattle.toml.specs.View.{view, table_view};
 ghost use Rattle.job_bodies.specs.declared.limits.TheConstants.{MAX_SIZE};
 ghost use Rattle.job_bodies.specs.Plan.{pool_names};
-ghost use Rattle.job_bodies.specs.WellFormed.{is_lawful_pool, is_within, IsWellFormed};
+ghost use Rattle.job_bodies.specs.WellFormed.{is_valid_pool, is_within, IsWellFormed};
 ghost use Rattle.plan_text.specs.Spelling.{name_at};
 ghost use Rattle.plan_text.specs.PlanDocument as spec;
 
@@ -15,7 +15,7 @@ use std::alloc::{AllocError, Global};
 use toml::{Table, Value};
 
 /// Inserts a value at a key.
-fn put(alloc: Global, table: &mut Table, key: &str, value: Value) -> Result<(), AllocError>
+fn insert_value(alloc: Global, table: &mut Table, key: &str, value: Value) -> Result<(), AllocError>
     ensures { OnOk result
         (table_view table.new ≡ spec.with_member key.now (view value) (table_view table.old)) }
 {
@@ -25,14 +25,14 @@ fn put(alloc: Global, table: &mut Table, key: &str, value: Value) -> Result<(), 
 }
 
 /// Inserts `true` at a key if the flag is set.
-fn put_flag(alloc: Global, table: &mut Table, key: &str, flag: bool) -> Result<(), AllocError>
+fn insert_flag(alloc: Global, table: &mut Table, key: &str, flag: bool) -> Result<(), AllocError>
     ensures { OnOk result
         (table_view table.new
         ≡ (if flag then spec.with_member key.now (boolean true) (table_view table.old) else
         table_view table.old)) }
 {
     if flag {
-        put(alloc, table, key, Value::Boolean(true))?;
+        insert_value(alloc, table, key, Value::Boolean(true))?;
     }
     Ok(())
 }
@@ -45,20 +45,20 @@ fn number_value(number: u64) -> Value
 }
 
 fn pool_value(alloc: Global, pool: &Pool) -> Result<Value, AllocError>
-    requires { is_lawful_pool pool.now ≡ true }
+    requires { is_valid_pool pool.now ≡ true }
     ensures { IfOk result (λ value. view value ≡ spec.pool_data pool.now) }
 {
     let mut table = Table::new(alloc);
-    put(alloc, &mut table, "core", number_value(pool.core))?;
-    put(alloc, &mut table, "max", number_value(pool.max))?;
-    put(
+    insert_value(alloc, &mut table, "core", number_value(pool.core))?;
+    insert_value(alloc, &mut table, "max", number_value(pool.max))?;
+    insert_value(
         alloc,
         &mut table,
         "name",
         Value::string(alloc, pool.name.as_str())?,
     )?;
-    put_flag(alloc, &mut table, "prestart", pool.prestart)?;
-    put(alloc, &mut table, "queue", number_value(pool.queue))?;
+    insert_flag(alloc, &mut table, "prestart", pool.prestart)?;
+    insert_value(alloc, &mut table, "queue", number_value(pool.queue))?;
     Ok(Value::Table(table))
 }
 
@@ -83,19 +83,19 @@ fn class_value(
         (map (λ class. class.name) classes.now) class.now) }
 {
     let mut table = Table::new(alloc);
-    put(
+    insert_value(
         alloc,
         &mut table,
         "body",
         body_value(alloc, classes, &class.body)?,
     )?;
-    put(
+    insert_value(
         alloc,
         &mut table,
         "name",
         Value::string(alloc, class.name.as_str())?,
     )?;
-    put(
+    insert_value(
         alloc,
         &mut table,
         "pool",
@@ -110,20 +110,20 @@ fn client_value(alloc: Global, classes: &[Class], client: &Client) -> Result<Val
         view value ≡ spec.client_data (map (λ class. class.name) classes.now) client.now) }
 {
     let mut table = Table::new(alloc);
-    put(
+    insert_value(
         alloc,
         &mut table,
         "body",
         body_value(alloc, classes, &client.body)?,
     )?;
-    put(alloc, &mut table, "count", number_value(client.count))?;
-    put(
+    insert_value(alloc, &mut table, "count", number_value(client.count))?;
+    insert_value(
         alloc,
         &mut table,
         "name",
         Value::string(alloc, client.name.as_str())?,
     )?;
-    put(alloc, &mut table, "repeat", Value::Boolean(client.repeat))?;
+    insert_value(alloc, &mut table, "repeat", Value::Boolean(client.repeat))?;
     Ok(Value::Table(table))
 }
 
@@ -176,8 +176,8 @@ pub fn plan_document(alloc: Global, plan: &Plan) -> Result<Table, AllocError>
     ensures document { IfOk result (λ document. table_view document ≡ spec.plan_document plan.now) }
 {
     let mut document = Table::new(alloc);
-    put(alloc, &mut document, "class", class_values(alloc, plan)?)?;
-    put(alloc, &mut document, "client", client_values(alloc, plan)?)?;
-    put(alloc, &mut document, "pool", pool_values(alloc, plan)?)?;
+    insert_value(alloc, &mut document, "class", class_values(alloc, plan)?)?;
+    insert_value(alloc, &mut document, "client", client_values(alloc, plan)?)?;
+    insert_value(alloc, &mut document, "pool", pool_values(alloc, plan)?)?;
     Ok(document)
 }

@@ -38,7 +38,7 @@ impl<'a> Slots<'a> {
     }
 
     /// Marks the slot as filled by the submit at this position.
-    pub fn fill(&mut self, slot: &'a str, position: usize) -> Result<(), AllocError>
+    pub fn set_filled(&mut self, slot: &'a str, position: usize) -> Result<(), AllocError>
         ensures { OnOk result
             ((other : List ℕ)
             → position_in self.new other
@@ -49,7 +49,7 @@ impl<'a> Slots<'a> {
     }
 
     /// Removes the slot from the map.
-    pub fn empty(&mut self, slot: &str)
+    pub fn set_empty(&mut self, slot: &str)
         ensures { (other : List ℕ)
             → position_in self.new other
             ≡ (if bytes_eq slot.now other then None else position_in self.old other) }

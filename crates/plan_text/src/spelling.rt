@@ -6,7 +6,7 @@ ghost use Rattle.toml.specs.View.{view};
 ghost use Rattle.plan_text.specs.PlanDocument.{texts_data};
 ghost use Rattle.plan_text.specs.Spelling as spec;
 
-use job_bodies::{Action, Class, is_got};
+use job_bodies::{Action, Class, has_get_of};
 use std::alloc::{AllocError, Global};
 use std::fmt;
 use toml::Value;
@@ -32,7 +32,7 @@ impl<'a> fmt::Display for SlotPart<'a> {
     ghost output = { λ slot. Some (spec.slot_part slot.body.now slot.position) };
 
     fn fmt<W: fmt::Write>(&self, f: &mut fmt::Formatter<W>) -> fmt::Result {
-        if is_got(self.body, self.position) {
+        if has_get_of(self.body, self.position) {
             write!(f, " as s{}", self.position)
         } else {
             Ok(())

@@ -5,7 +5,7 @@ use std::alloc::{AllocError, Global};
 
 /// The construct that the bytes so far leave open.
 #[derive(Clone, Copy)]
-enum Open {
+enum OpenToken {
     Nothing,
     Comment,
     /// A word that began at this offset.
@@ -55,20 +55,20 @@ impl Text {
 /// The tokens so far.
 #[derive(Drop)]
 struct Tokens {
-    open: Open,
+    open: OpenToken,
     found: Vec<Token>,
 }
 
 /// Returns the tokens of a text.
 pub(crate) fn tokens_of(alloc: Global, text: &[u8]) -> Result<Vec<Token>, AllocError> {
     let mut tokens = Tokens {
-        open: Open::Nothing,
+        open: OpenToken::Nothing,
         found: Vec::new(alloc),
     };
     for (offset, byte) in text.iter().enumerate() {
-        tokens.take(offset, *byte)?;
+        tokens.process(offset, *byte)?;
     }
-    tokens.take(text.len(), b'\n')?;
+    tokens.process(text.len(), b'\n')?;
     Ok(tokens.found)
 }
 
@@ -79,41 +79,41 @@ impl Tokens {
     }
 
     /// Processes the byte at this offset.
-    fn take(&mut self, offset: usize, byte: u8) -> Result<(), AllocError> {
+    fn process(&mut self, offset: usize, byte: u8) -> Result<(), AllocError> {
         match self.open {
-            Open::Nothing => self.begin(offset, byte),
-            Open::Comment => {
+            OpenToken::Nothing => self.begin(offset, byte),
+            OpenToken::Comment => {
                 if byte == b'\n' {
                     self.begin(offset, byte)
                 } else {
                     Ok(())
                 }
             }
-            Open::Word(start) => self.word(start, offset, byte),
-            Open::Line(text) => self.line(text, offset, byte),
-            Open::Lines(text) => self.lines(text, offset, byte),
+            OpenToken::Word(start) => self.word(start, offset, byte),
+            OpenToken::Line(text) => self.line(text, offset, byte),
+            OpenToken::Lines(text) => self.lines(text, offset, byte),
         }
     }
 
     /// Processes a byte outside any construct.
     fn begin(&mut self, offset: usize, byte: u8) -> Result<(), AllocError> {
-        self.open = Open::Nothing;
+        self.open = OpenToken::Nothing;
         match byte {
             b' ' | b'\t' | b'\r' => Ok(()),
             b'\n' => self.push(Kind::LineEnd, offset, offset),
             b'#' => {
-                self.open = Open::Comment;
+                self.open = OpenToken::Comment;
                 Ok(())
             }
             b'"' | b'\'' => {
-                self.open = Open::Line(Text::new(offset, byte));
+                self.open = OpenToken::Line(Text::new(offset, byte));
                 Ok(())
             }
             b'[' | b']' | b'{' | b'}' | b'=' | b',' | b'.' => {
                 self.push(Kind::Mark(byte), offset, offset.saturating_add(1))
             }
             _ => {
-                self.open = Open::Word(offset);
+                self.open = OpenToken::Word(offset);
                 Ok(())
             }
         }
@@ -147,7 +147,7 @@ impl Tokens {
     fn line(&mut self, text: Text, offset: usize, byte: u8) -> Result<(), AllocError> {
         if text.quotes == 1 {
             if byte == text.quote && offset == text.start.saturating_add(2) {
-                self.open = Open::Lines(Text::new(text.start, text.quote));
+                self.open = OpenToken::Lines(Text::new(text.start, text.quote));
                 return Ok(());
             }
             self.push(Kind::Quoted, text.start, offset)?;
@@ -158,17 +158,17 @@ impl Tokens {
             self.push(Kind::Quoted, text.start, offset)?;
             return self.begin(offset, byte);
         }
-        self.open = Open::Line(text.after(byte));
+        self.open = OpenToken::Line(text.after(byte));
         Ok(())
     }
 
     fn lines(&mut self, text: Text, offset: usize, byte: u8) -> Result<(), AllocError> {
         let text = text.after(byte);
         if text.quotes == 3 {
-            self.open = Open::Nothing;
+            self.open = OpenToken::Nothing;
             return self.push(Kind::Quoted, text.start, offset.saturating_add(1));
         }
-        self.open = Open::Lines(text);
+        self.open = OpenToken::Lines(text);
         Ok(())
     }
 }

@@ -3,15 +3,15 @@ use Rattle.std.proofs.Common.{arith, rules}
 use Rattle.std.proofs.lemmas.Grind.{common_steps}
 use Rattle.std.specs.Prelude.{IsTrue}
 use Rattle.job_bodies.specs.Plan.{Pool}
-use Rattle.job_bodies.specs.WellFormed.{has_lawful_sizes}
+use Rattle.job_bodies.specs.WellFormed.{has_valid_sizes}
 use Rattle.pool_machine.specs.PoolState.{PoolView, IsSound, new_pool}
 use Rattle.pool_machine.specs.Laws.{IsKept, HasSizesOf, QueuesOnlyAtCore, LoadIsOffered}
 
 pub sizes_kept : (first : PoolView) → IsKept (HasSizesOf first)
 sizes_kept first = grind (arith, common_steps)
 
-pub new_pool_sound : (pool : Pool) → IsTrue (has_lawful_sizes pool) → IsSound (new_pool pool)
-new_pool_sound pool lawful = search (rules, arith)
+pub new_pool_sound : (pool : Pool) → IsTrue (has_valid_sizes pool) → IsSound (new_pool pool)
+new_pool_sound pool valid = search (rules, arith)
 
 pub sound_kept : IsKept IsSound
 sound_kept = grind (arith, common_steps)

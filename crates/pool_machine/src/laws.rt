@@ -2,7 +2,7 @@
 
 ghost use Rattle.std.specs.Prelude.{IsTrue};
 ghost use Rattle.job_bodies.specs.Plan.{Pool};
-ghost use Rattle.job_bodies.specs.WellFormed.{has_lawful_sizes};
+ghost use Rattle.job_bodies.specs.WellFormed.{has_valid_sizes};
 ghost use Rattle.pool_machine.specs.PoolState.{PoolView, IsSound, new_pool};
 ghost use Rattle.pool_machine.specs.Laws.{IsKept, HasSizesOf, QueuesOnlyAtCore, LoadIsOffered, SaysNo};
 
@@ -14,7 +14,7 @@ pub fn sizes_stay()
 /// Proves that a pool of valid sizes never has more threads than its maximum, more idle workers
 /// than threads or more queued jobs than its capacity.
 pub fn pools_stay_sound()
-    ensures start { (pool : Pool) → IsTrue (has_lawful_sizes pool) → IsSound (new_pool pool) }
+    ensures start { (pool : Pool) → IsTrue (has_valid_sizes pool) → IsSound (new_pool pool) }
     ensures kept { IsKept IsSound }
 {}
 

@@ -3,7 +3,7 @@
 ghost use Rattle.std.specs.Prelude.{◌≡◌, ◌-◌, ◌<◌, ◌≤◌, ◌⊎◌, ◌↔◌, [], length, slice_get};
 ghost use Rattle.std.specs.Prelude.{IsTrue, IsNone, IfSome, IfNone, IfOk, OnOk, OnErr};
 ghost use Rattle.std.specs.Bool.{OnTrue, OnFalse};
-ghost use Rattle.job_bodies.specs.WellFormed.{has_lawful_sizes};
+ghost use Rattle.job_bodies.specs.WellFormed.{has_valid_sizes};
 ghost use Rattle.pool_machine.specs.PoolState.{IsSound, new_pool, answer, offered, taken, finished, retired};
 
 use crate::Offer;
@@ -59,7 +59,7 @@ impl PoolState {
     /// The sizes must be valid: `core` at least 1, the maximum at least `core` and the queue
     /// capacity at least 1, each at most `MAX_SIZE`. Allocates no memory.
     pub fn new(alloc: Global, pool: &Pool) -> PoolState
-        requires { IsTrue (has_lawful_sizes pool.now) }
+        requires { IsTrue (has_valid_sizes pool.now) }
         ensures { result ≡ new_pool pool.now }
     {
         let first_workers = pool.first_workers();

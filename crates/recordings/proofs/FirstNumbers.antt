@@ -6,8 +6,8 @@ use Rattle.std.specs.Str.Parse.{digits_value}
 use Rattle.std.proofs.lemmas.Bool.{and_parts}
 use Rattle.std.proofs.lemmas.Option.{cond_some, none-some, same_Some}
 use Rattle.job_bodies.specs.declared.limits.TheConstants.{MAX_LINE_NUMBER}
-use Rattle.line_words.specs.Number.{has_leading_zero, is_whole_number, number_of, digit_count, leading_number, is_lawful_number}
-use Rattle.line_words.proofs.Numbers.{front_read}
+use Rattle.line_words.specs.Number.{has_leading_zero, is_whole_number, number_of, digit_count, leading_number, is_valid_number}
+use Rattle.line_words.proofs.Numbers.{prefix_read}
 use Rattle.line_words.proofs.WrittenNumbers.{number_read, number_written}
 use Rattle.recordings.specs.Words.{number_then}
 use Rattle.recordings.proofs.WordByWord.{number_then_read, number_then_written}
@@ -26,12 +26,12 @@ count_of (b ∷ word) rest digits =
     let parts = and_parts (is_ascii_digit b) (list_all is_ascii_digit word) digits in
     rw (parts.0, count_of word rest parts.1) (omega arith)
 
-leading_written : (n : ℕ) (rest : List ℕ) → is_lawful_number n ≡ true → leading_number (decimal n ++ 32 ∷ rest) ≡ Some (n, 32 ∷ rest)
+leading_written : (n : ℕ) (rest : List ℕ) → is_valid_number n ≡ true → leading_number (decimal n ++ 32 ∷ rest) ≡ Some (n, 32 ∷ rest)
 unfolding leading_number
-leading_written n rest lawful =
+leading_written n rest valid =
     let word : List ℕ = decimal n in
     let text : List ℕ = word ++ 32 ∷ rest in
-    let read : number_of word ≡ Some n = number_written n lawful in
+    let read : number_of word ≡ Some n = number_written n valid in
     let count : digit_count text ≡ length word = count_of word rest (digits_are word n read) in
     let front : take (digit_count text) text ≡ word = ap (λ i. take i text) count ∙ take_at word (32 ∷ rest) (length word) refl in
     let behind : drop (digit_count text) text ≡ 32 ∷ rest = ap (λ i. drop i text) count ∙ drop_at word (32 ∷ rest) (length word) refl in
@@ -41,7 +41,7 @@ leading_written n rest lawful =
 -- followed by a space
 pub space_there : (text : List ℕ) (n : ℕ) (rest : List ℕ) → Some (n, 32 ∷ rest) ≡ leading_number text → Some (n, rest) ≡ number_then text
 space_there text n rest read =
-    let found = front_read text n (32 ∷ rest) read in
+    let found = prefix_read text n (32 ∷ rest) read in
     let number = number_read (take (digit_count text) text) n found.0 in
     let whole : text ≡ decimal n ++ 32 ∷ rest = sym (take-append-drop (digit_count text) text) ∙ ap₂ (λ (x y : List ℕ). x ++ y) number.1 found.1 in
     sym (ap number_then whole ∙ number_then_written n rest number.0)

@@ -8,9 +8,9 @@ use Rattle.std.proofs.lemmas.Bool.{and_from, cases_lt}
 use Rattle.std.proofs.lemmas.Bool.Decides.{nat_tests}
 use Rattle.std.proofs.lemmas.List.{get_or-take, length-take-le, take_rest}
 use Rattle.std.proofs.lemmas.Slice.Eq.{HasBytesAt}
-use Rattle.job_bodies.specs.WellFormed.{is_name_byte, is_lawful_name}
+use Rattle.job_bodies.specs.WellFormed.{is_name_byte, is_valid_name}
 use Rattle.job_bodies.specs.declared.limits.TheConstants.{MAX_LINE_NUMBER, MAX_NAME_BYTES}
-use Rattle.line_words.specs.Number.{is_lawful_number, is_whole_number, number_of}
+use Rattle.line_words.specs.Number.{is_valid_number, is_whole_number, number_of}
 use Rattle.line_words.proofs.Splits.{has_no, has_no-append}
 use Rattle.line_words.proofs.WrittenNumbers.{number_read, decimal_has_no}
 use Rattle.recordings.specs.declared.recording_line.RecordedActor.{RecordedActor}
@@ -41,42 +41,42 @@ ends_at (Job n) words behind = ap (λ (t : List ℕ). codes "job" ++ 32 ∷ t) (
 ends_at (Round n) words behind = ap (λ (t : List ℕ). codes "round" ++ 32 ∷ t) (sym (append_assoc (decimal n) (32 ∷ words) behind))
 
 on_one_line : (actor : RecordedActor) (words : List ℕ) → is_lawful_actor actor ≡ true → has_no 10 words ≡ true → has_no 10 (behind_actor actor words) ≡ true
-on_one_line (Job n) words lawful none = has_no-append 10 (decimal n) (32 ∷ words) (decimal_has_no 10 n (omega arith) lawful) none
-on_one_line (Round n) words lawful none = has_no-append 10 (decimal n) (32 ∷ words) (decimal_has_no 10 n (omega arith) lawful) none
+on_one_line (Job n) words valid none = has_no-append 10 (decimal n) (32 ∷ words) (decimal_has_no 10 n (omega arith) valid) none
+on_one_line (Round n) words valid none = has_no-append 10 (decimal n) (32 ∷ words) (decimal_has_no 10 n (omega arith) valid) none
 
 -- the line of an actor, from the words after its number
 first_read : (actor : RecordedActor) (words said behind : List ℕ) (line : RecordedLine) → is_lawful_actor actor ≡ true → is_lawful_line line ≡ true → line_text line ≡ behind_actor actor said → has_no 10 said ≡ true
     → words ≡ said ++ 10 ∷ behind → lines_read (behind_actor actor words) ≡ Some line ∷ lines_read behind
-first_read actor words said behind line whose lawful written none is =
+first_read actor words said behind line whose valid written none is =
     let whole : behind_actor actor words ≡ line_text line ++ 10 ∷ behind =
     ap (behind_actor actor) is ∙ ends_at actor said (10 ∷ behind) ∙ ap (λ (t : List ℕ). t ++ 10 ∷ behind) (sym written)
     in
     let first = whole_first (line_text line) behind (ap (has_no 10) written ∙ on_one_line actor said whose none) in
-    ap lines_read whole ∙ ap (map line_of) first ∙ ap (λ (l : Option RecordedLine). l ∷ lines_read behind) ((canonical (line_text line) line).1 (lawful, refl))
+    ap lines_read whole ∙ ap (map line_of) first ∙ ap (λ (l : Option RecordedLine). l ∷ lines_read behind) ((canonical (line_text line) line).1 (valid, refl))
 
-pub job_starts : (job : ℕ) (words behind : List ℕ) → is_lawful_number job ≡ true → words ≡ codes "start" ++ 10 ∷ behind → lines_read (behind_actor (Job job) words) ≡ Some (JobStarts job) ∷ lines_read behind
-job_starts job words behind lawful is = first_read (Job job) words (codes "start") behind (JobStarts job) lawful lawful refl refl is
+pub job_starts : (job : ℕ) (words behind : List ℕ) → is_valid_number job ≡ true → words ≡ codes "start" ++ 10 ∷ behind → lines_read (behind_actor (Job job) words) ≡ Some (JobStarts job) ∷ lines_read behind
+job_starts job words behind valid is = first_read (Job job) words (codes "start") behind (JobStarts job) valid valid refl refl is
 
-pub job_ends : (job : ℕ) (words behind : List ℕ) → is_lawful_number job ≡ true → words ≡ codes "end" ++ 10 ∷ behind → lines_read (behind_actor (Job job) words) ≡ Some (JobEnds job) ∷ lines_read behind
-job_ends job words behind lawful is = first_read (Job job) words (codes "end") behind (JobEnds job) lawful lawful refl refl is
+pub job_ends : (job : ℕ) (words behind : List ℕ) → is_valid_number job ≡ true → words ≡ codes "end" ++ 10 ∷ behind → lines_read (behind_actor (Job job) words) ≡ Some (JobEnds job) ∷ lines_read behind
+job_ends job words behind valid is = first_read (Job job) words (codes "end") behind (JobEnds job) valid valid refl refl is
 
-pub round_ends : (round : ℕ) (words behind : List ℕ) → is_lawful_number round ≡ true → words ≡ codes "end" ++ 10 ∷ behind → lines_read (behind_actor (Round round) words) ≡ Some (RoundEnds round) ∷ lines_read behind
-round_ends round words behind lawful is = first_read (Round round) words (codes "end") behind (RoundEnds round) lawful lawful refl refl is
+pub round_ends : (round : ℕ) (words behind : List ℕ) → is_valid_number round ≡ true → words ≡ codes "end" ++ 10 ∷ behind → lines_read (behind_actor (Round round) words) ≡ Some (RoundEnds round) ∷ lines_read behind
+round_ends round words behind valid is = first_read (Round round) words (codes "end") behind (RoundEnds round) valid valid refl refl is
 
-pub round_begins : (round : ℕ) (words rest kind behind : List ℕ) → is_lawful_number round ≡ true → words ≡ codes "begin" ++ 32 ∷ rest → is_lawful_name kind ≡ true → rest ≡ kind ++ 10 ∷ behind
+pub round_begins : (round : ℕ) (words rest kind behind : List ℕ) → is_valid_number round ≡ true → words ≡ codes "begin" ++ 32 ∷ rest → is_valid_name kind ≡ true → rest ≡ kind ++ 10 ∷ behind
     → lines_read (behind_actor (Round round) words) ≡ Some (RoundBegins round kind) ∷ lines_read behind
-round_begins round words rest kind behind lawful is name split =
-    first_read (Round round) words (codes "begin" ++ 32 ∷ kind) behind (RoundBegins round kind) lawful (and_from _ _ lawful name) refl (name_has_no 10 kind (omega arith) name)
+round_begins round words rest kind behind valid is name split =
+    first_read (Round round) words (codes "begin" ++ 32 ∷ kind) behind (RoundBegins round kind) valid (and_from _ _ valid name) refl (name_has_no 10 kind (omega arith) name)
     (is ∙ ap (λ (t : List ℕ). codes "begin" ++ 32 ∷ t) split)
 
-pub got : (actor : RecordedActor) (words rest : List ℕ) (job : ℕ) (behind : List ℕ) → is_lawful_actor actor ≡ true → words ≡ codes "got" ++ 32 ∷ rest → is_lawful_number job ≡ true → rest ≡ decimal job ++ 10 ∷ behind
+pub got : (actor : RecordedActor) (words rest : List ℕ) (job : ℕ) (behind : List ℕ) → is_lawful_actor actor ≡ true → words ≡ codes "got" ++ 32 ∷ rest → is_valid_number job ≡ true → rest ≡ decimal job ++ 10 ∷ behind
     → lines_read (behind_actor actor words) ≡ Some (Got actor job) ∷ lines_read behind
-got actor words rest job behind whose is lawful split =
-    first_read actor words (codes "got" ++ 32 ∷ decimal job) behind (Got actor job) whose (and_from _ _ whose lawful) (sym (behind_is actor (codes "got") (decimal job ∷ []))) (decimal_has_no 10 job (omega arith) lawful)
+got actor words rest job behind whose is valid split =
+    first_read actor words (codes "got" ++ 32 ∷ decimal job) behind (Got actor job) whose (and_from _ _ whose valid) (sym (behind_is actor (codes "got") (decimal job ∷ []))) (decimal_has_no 10 job (omega arith) valid)
     (is ∙ ap (λ (t : List ℕ). codes "got" ++ 32 ∷ t) split)
 
-pub submits : (actor : RecordedActor) (words : List ℕ) (job : ℕ) (second class third pool behind : List ℕ) → is_lawful_actor actor ≡ true → (is_lawful_number job ≡ true) × (words ≡ decimal job ++ 32 ∷ second)
-    → (is_lawful_name class ≡ true) × (second ≡ class ++ 32 ∷ third) → (is_lawful_name pool ≡ true) × (third ≡ pool ++ 10 ∷ behind)
+pub submits : (actor : RecordedActor) (words : List ℕ) (job : ℕ) (second class third pool behind : List ℕ) → is_lawful_actor actor ≡ true → (is_valid_number job ≡ true) × (words ≡ decimal job ++ 32 ∷ second)
+    → (is_valid_name class ≡ true) × (second ≡ class ++ 32 ∷ third) → (is_valid_name pool ≡ true) × (third ≡ pool ++ 10 ∷ behind)
     → lines_read (behind_actor actor (codes "submit" ++ 32 ∷ words)) ≡ Some (Submits actor job class pool) ∷ lines_read behind
 submits actor words job second class third pool behind whose number label name =
     let names : List ℕ = class ++ 32 ∷ pool in
@@ -114,7 +114,7 @@ whole_number digits n some first all e within = rw (all, ← e) (grind (arith, n
 
 -- a number of `count` digits, of which the first is not 0, followed by a byte
 pub number_there : (text : List ℕ) (count n end : ℕ) (behind : List ℕ) → 1 ≤ count → count ≤ length text → count ≤ 9 → (get_or text 0 0 == 48) ≡ false → list_all is_ascii_digit (take count text) ≡ true
-    → n ≡ digits_value 10 (take count text) → n < 10 ^ count → drop count text ≡ end ∷ behind → (is_lawful_number n ≡ true) × (text ≡ decimal n ++ end ∷ behind)
+    → n ≡ digits_value 10 (take count text) → n < 10 ^ count → drop count text ≡ end ∷ behind → (is_valid_number n ≡ true) × (text ≡ decimal n ++ end ∷ behind)
 number_there text count n end behind some inside few first digits e small rest =
     let most : 10 ^ count ≤ 10 ^ 9 = pow-le-pow_right (omega arith) few in
     let long : length (take count text) ≡ count = length-take-le count text inside in
@@ -126,5 +126,5 @@ number_there text count n end behind some inside few first digits e small rest =
 pub name_there : (text name behind : List ℕ) (count end : ℕ) → name ≡ take count text → drop count text ≡ end ∷ behind → text ≡ name ++ end ∷ behind
 name_there text name behind count end front rest = sym (take-append-drop count text) ∙ ap₂ (λ (x y : List ℕ). x ++ y) (sym front) rest
 
-pub lawful_name : (name : List ℕ) → 1 ≤ length name → length name ≤ MAX_NAME_BYTES → 97 ≤ get_or name 0 0 → get_or name 0 0 ≤ 122 → list_all is_name_byte name ≡ true → is_lawful_name name ≡ true
+pub lawful_name : (name : List ℕ) → 1 ≤ length name → length name ≤ MAX_NAME_BYTES → 97 ≤ get_or name 0 0 → get_or name 0 0 ≤ 122 → list_all is_name_byte name ≡ true → is_valid_name name ≡ true
 lawful_name name some short low high bytes = grind (arith, nat_tests)

@@ -133,15 +133,15 @@ got_there : (actor : RecordedActor) (got : Bool) (submitter : Option RecordedAct
 got_there actor got submitter true = own_got actor got submitter
 got_there actor got submitter false = stays got submitter
 
-behind_line : (before : List RecordedLine) (line : RecordedLine) (one : ℕ) → KeepsRules before → Keeps before line
+after_line : (before : List RecordedLine) (line : RecordedLine) (one : ℕ) → KeepsRules before → Keeps before line
     → table_behind line one (ungot_there before one) ≡ ungot_of (is_got_by_own before one || is_own_get one before line) (or_else (submitter_of before one) (submitter_by one line))
-behind_line before (Submits actor job class pool) one kept k = submitted before actor job one (job == one) (λ same. fresh_job before kept one (next_job before (Submits actor job class pool) one k same))
-behind_line before (Got actor job) one kept k = got_there actor (is_got_by_own before one) (submitter_of before one) (job == one)
-behind_line before line one kept k = stays (is_got_by_own before one) (submitter_of before one)
+after_line before (Submits actor job class pool) one kept k = submitted before actor job one (job == one) (λ same. fresh_job before kept one (next_job before (Submits actor job class pool) one k same))
+after_line before (Got actor job) one kept k = got_there actor (is_got_by_own before one) (submitter_of before one) (job == one)
+after_line before line one kept k = stays (is_got_by_own before one) (submitter_of before one)
 
 pub ungot_behind : (before : List RecordedLine) (line : RecordedLine) → KeepsRules before → Keeps before line → (job : ℕ) → table_behind line job (ungot_of (is_got_by_own before job) (submitter_of before job))
     ≡ ungot_of (is_got_by_own (before ++ line ∷ []) job) (submitter_of (before ++ line ∷ []) job)
-ungot_behind before line kept k job = behind_line before line job kept k ∙ sym (with_last before line job)
+ungot_behind before line kept k job = after_line before line job kept k ∙ sym (with_last before line job)
 
 -- ---- a get by another actor
 and_true : (a : Bool) → a ≡ (a && true)

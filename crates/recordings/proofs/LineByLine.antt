@@ -7,8 +7,8 @@ use Rattle.std.proofs.lemmas.List.Splits.{slice_split_none, slice_split_first, l
 use Rattle.std.proofs.lemmas.List.Sums.{fails_before_first, position_or_len_is, count_by-le-length}
 use Rattle.std.proofs.lemmas.Option.{cond_some, none-some}
 use Rattle.memchr.specs.Find.{IsFirstByte, is_byte}
-use Rattle.line_words.specs.Pieces.{is_newline, first_line, behind_line}
-use Rattle.line_words.proofs.FirstPieces.{place, first_there, behind_there}
+use Rattle.line_words.specs.Pieces.{is_newline, first_line, after_line}
+use Rattle.line_words.proofs.FirstPieces.{place, first_there, after_there}
 use Rattle.line_words.proofs.Splits.{has_no, cut_first}
 use Rattle.recordings.specs.WholeLines.{whole_lines}
 use Rattle.recordings.specs.RecordingLine.{line_of, lines_read}
@@ -39,9 +39,9 @@ pub whole_more : (text : List ℕ) (newline : ℕ) → position is_newline text 
 unfolding whole_lines
 whole_more text newline found =
     let within : place 10 text < length text = ltb-true _ _ (cond_some (nat_lt (place 10 text) (length text)) _ newline found).0 in
-    let split : slice_split is_newline text ≡ first_line text ∷ slice_split is_newline (behind_line text) = slice_split_first is_newline text 0 within in
-    ap (λ (parts : List (List ℕ)). take (length parts - 1) parts) split ∙ fronts_more (first_line text) (slice_split is_newline (behind_line text)) (some_parts (behind_line text))
-    ∙ ap₂ (λ (line rest : List ℕ). line ∷ take (length (slice_split is_newline rest) - 1) (slice_split is_newline rest)) (sym (first_there text newline found)) (sym (behind_there text newline found))
+    let split : slice_split is_newline text ≡ first_line text ∷ slice_split is_newline (after_line text) = slice_split_first is_newline text 0 within in
+    ap (λ (parts : List (List ℕ)). take (length parts - 1) parts) split ∙ fronts_more (first_line text) (slice_split is_newline (after_line text)) (some_parts (after_line text))
+    ∙ ap₂ (λ (line rest : List ℕ). line ∷ take (length (slice_split is_newline rest) - 1) (slice_split is_newline rest)) (sym (first_there text newline found)) (sym (after_there text newline found))
 
 -- the text begins with a line and its newline
 pub whole_first : (line rest : List ℕ) → has_no 10 line ≡ true → whole_lines (line ++ 10 ∷ rest) ≡ line ∷ whole_lines rest

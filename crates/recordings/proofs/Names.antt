@@ -5,7 +5,7 @@ use Rattle.std.specs.Str.{IsAscii, IsUtf8}
 use Rattle.std.proofs.lemmas.Bool.{and_parts, and_from, cases_Bool, cond-false}
 use Rattle.std.proofs.lemmas.Bool.Decides.{nat_tests}
 use Rattle.std.proofs.lemmas.Str.{IsUtf8-from_ascii}
-use Rattle.job_bodies.specs.WellFormed.{is_name_byte, is_lawful_name}
+use Rattle.job_bodies.specs.WellFormed.{is_name_byte, is_valid_name}
 use Rattle.line_words.proofs.Splits.{has_no}
 use Rattle.recordings.specs.Words.{name_of}
 
@@ -27,26 +27,26 @@ all_ascii [] h i = omega arith
 all_ascii (b ∷ bytes) h zero = is_ascii b (and_parts (is_name_byte b) (list_all is_name_byte bytes) h).0
 all_ascii (b ∷ bytes) h (suc i) = all_ascii bytes (and_parts (is_name_byte b) (list_all is_name_byte bytes) h).1 i
 
-name_bytes : (name : List ℕ) → is_lawful_name name ≡ true → list_all is_name_byte name ≡ true
-name_bytes name lawful = (and_parts _ (list_all is_name_byte name) lawful).1
+name_bytes : (name : List ℕ) → is_valid_name name ≡ true → list_all is_name_byte name ≡ true
+name_bytes name valid = (and_parts _ (list_all is_name_byte name) valid).1
 
 -- a name contains no space and no newline
-pub name_has_no : (c : ℕ) (name : List ℕ) → c < 48 → is_lawful_name name ≡ true → has_no c name ≡ true
-name_has_no c name low lawful = no_others c name low (name_bytes name lawful)
+pub name_has_no : (c : ℕ) (name : List ℕ) → c < 48 → is_valid_name name ≡ true → has_no c name ≡ true
+name_has_no c name low valid = no_others c name low (name_bytes name valid)
 
 -- the bytes of a name are UTF-8
 pub bytes_are_text : (bytes : List ℕ) → list_all is_name_byte bytes ≡ true → IsUtf8 bytes
 bytes_are_text bytes all = IsUtf8-from_ascii bytes (all_ascii bytes all)
 
 -- a name is UTF-8
-pub name_is_text : (name : List ℕ) → is_lawful_name name ≡ true → IsUtf8 name
-name_is_text name lawful = bytes_are_text name (name_bytes name lawful)
+pub name_is_text : (name : List ℕ) → is_valid_name name ≡ true → IsUtf8 name
+name_is_text name valid = bytes_are_text name (name_bytes name valid)
 
 -- bytes that are not UTF-8 are not a name
 pub no_name : (word : List ℕ) → ¬ (IsUtf8 word) → None ≡ name_of word
 unfolding name_of
 no_name word no_text =
-    elim (cases_Bool (is_lawful_name word)) [
-      | inl lawful ↦ absurd (no_text (name_is_text word lawful))
+    elim (cases_Bool (is_valid_name word)) [
+      | inl valid ↦ absurd (no_text (name_is_text word valid))
       | inr other ↦ sym (cond-false _ _ _ other)
     ]

@@ -3,9 +3,9 @@ use Rattle.std.proofs.Common.{◌≡◌, ℕ, Bool, true, false, cond, List, ◌
 use Rattle.std.proofs.lemmas.Option.{none-some, same_Some, cond_some}
 use Rattle.std.proofs.lemmas.Bool.{cond-true}
 use Rattle.std.proofs.lemmas.Slice.Eq.{bytes_eq-Decides}
-use Rattle.job_bodies.specs.WellFormed.{is_lawful_name}
+use Rattle.job_bodies.specs.WellFormed.{is_valid_name}
 use Rattle.line_words.specs.Pieces.{split_space}
-use Rattle.line_words.specs.Number.{number_of, is_lawful_number}
+use Rattle.line_words.specs.Number.{number_of, is_valid_number}
 use Rattle.line_words.proofs.FirstSpace.{splits, split_parts}
 use Rattle.line_words.proofs.Splits.{has_no}
 use Rattle.line_words.proofs.WrittenNumbers.{number_read, number_written, decimal_has_no}
@@ -29,48 +29,48 @@ by_word {Y} {P} text word here others y e is_it is_not = by_test (bytes_eq text 
     by_test false other read = is_not read
 
 -- ---- names
-pub name_read : (word name : List ℕ) → name_of word ≡ Some name → (is_lawful_name name ≡ true) × (word ≡ name)
+pub name_read : (word name : List ℕ) → name_of word ≡ Some name → (is_valid_name name ≡ true) × (word ≡ name)
 unfolding name_of
 name_read word name read =
-    let found = cond_some (is_lawful_name word) word name read in
-    (subst (λ (n : List ℕ). is_lawful_name n ≡ true) found.1 found.0, found.1)
+    let found = cond_some (is_valid_name word) word name read in
+    (subst (λ (n : List ℕ). is_valid_name n ≡ true) found.1 found.0, found.1)
 
-pub name_written : (name : List ℕ) → is_lawful_name name ≡ true → name_of name ≡ Some name
+pub name_written : (name : List ℕ) → is_valid_name name ≡ true → name_of name ≡ Some name
 unfolding name_of
-name_written name lawful = cond-true _ _ _ lawful
+name_written name valid = cond-true _ _ _ valid
 
 -- ---- the first of several words
-pub number_then_read : (text : List ℕ) (read : ℕ × List ℕ) → number_then text ≡ Some read → (is_lawful_number read.0 ≡ true) × (text ≡ decimal read.0 ++ 32 ∷ read.1)
+pub number_then_read : (text : List ℕ) (read : ℕ × List ℕ) → number_then text ≡ Some read → (is_valid_number read.0 ≡ true) × (text ≡ decimal read.0 ++ 32 ∷ read.1)
 unfolding number_then
 number_then_read text read e =
     let words = bind_some (split_space text) (λ words. number_of words.0 >>= λ n. Some (n, words.1)) read e in
     let number = bind_some (number_of words.0.0) (λ n. Some (n, words.0.1)) read words.2 in
     let found = number_read words.0.0 number.0 number.1 in
     let same : (number.0, words.0.1) ≡ read = same_Some _ read number.2 in
-    subst (λ (r : ℕ × List ℕ). (is_lawful_number r.0 ≡ true) × (text ≡ decimal r.0 ++ 32 ∷ r.1)) same
+    subst (λ (r : ℕ × List ℕ). (is_valid_number r.0 ≡ true) × (text ≡ decimal r.0 ++ 32 ∷ r.1)) same
     (found.0, split_parts text words.0 words.1 ∙ ap (λ (w : List ℕ). w ++ 32 ∷ words.0.1) found.1)
 
-pub number_then_written : (n : ℕ) (rest : List ℕ) → is_lawful_number n ≡ true → number_then (decimal n ++ 32 ∷ rest) ≡ Some (n, rest)
+pub number_then_written : (n : ℕ) (rest : List ℕ) → is_valid_number n ≡ true → number_then (decimal n ++ 32 ∷ rest) ≡ Some (n, rest)
 unfolding number_then
-number_then_written n rest lawful =
-    ap (λ o. o >>= λ words. number_of words.0 >>= λ m. Some (m, words.1)) (splits (decimal n) rest (decimal_has_no 32 n (omega arith) lawful))
-    ∙ ap (λ o. o >>= λ m. Some (m, rest)) (number_written n lawful)
+number_then_written n rest valid =
+    ap (λ o. o >>= λ words. number_of words.0 >>= λ m. Some (m, words.1)) (splits (decimal n) rest (decimal_has_no 32 n (omega arith) valid))
+    ∙ ap (λ o. o >>= λ m. Some (m, rest)) (number_written n valid)
 
-pub name_then_read : (text : List ℕ) (read : List ℕ × List ℕ) → name_then text ≡ Some read → (is_lawful_name read.0 ≡ true) × (text ≡ read.0 ++ 32 ∷ read.1)
+pub name_then_read : (text : List ℕ) (read : List ℕ × List ℕ) → name_then text ≡ Some read → (is_valid_name read.0 ≡ true) × (text ≡ read.0 ++ 32 ∷ read.1)
 unfolding name_then
 name_then_read text read e =
     let words = bind_some (split_space text) (λ words. name_of words.0 >>= λ name. Some (name, words.1)) read e in
     let name = bind_some (name_of words.0.0) (λ name. Some (name, words.0.1)) read words.2 in
     let found = name_read words.0.0 name.0 name.1 in
     let same : (name.0, words.0.1) ≡ read = same_Some _ read name.2 in
-    subst (λ (r : List ℕ × List ℕ). (is_lawful_name r.0 ≡ true) × (text ≡ r.0 ++ 32 ∷ r.1)) same
+    subst (λ (r : List ℕ × List ℕ). (is_valid_name r.0 ≡ true) × (text ≡ r.0 ++ 32 ∷ r.1)) same
     (found.0, split_parts text words.0 words.1 ∙ ap (λ (w : List ℕ). w ++ 32 ∷ words.0.1) found.1)
 
-pub name_then_written : (name rest : List ℕ) → is_lawful_name name ≡ true → name_then (name ++ 32 ∷ rest) ≡ Some (name, rest)
+pub name_then_written : (name rest : List ℕ) → is_valid_name name ≡ true → name_then (name ++ 32 ∷ rest) ≡ Some (name, rest)
 unfolding name_then
-name_then_written name rest lawful =
-    ap (λ o. o >>= λ words. name_of words.0 >>= λ m. Some (m, words.1)) (splits name rest (name_has_no 32 name (omega arith) lawful))
-    ∙ ap (λ o. o >>= λ m. Some (m, rest)) (name_written name lawful)
+name_then_written name rest valid =
+    ap (λ o. o >>= λ words. name_of words.0 >>= λ m. Some (m, words.1)) (splits name rest (name_has_no 32 name (omega arith) valid))
+    ∙ ap (λ o. o >>= λ m. Some (m, rest)) (name_written name valid)
 
 -- ---- after a word
 pub behind_read : (word text rest : List ℕ) → behind word text ≡ Some rest → text ≡ word ++ 32 ∷ rest
@@ -86,14 +86,14 @@ behind_written word rest none =
     ap (λ o. o >>= λ words. cond (bytes_eq words.0 word) (Some words.1) None) (splits word rest none)
     ∙ cond-true _ _ _ ((bytes_eq-Decides word word).1 refl)
 
-pub number_behind_read : (word text : List ℕ) (read : ℕ × List ℕ) → number_behind word text ≡ Some read → (is_lawful_number read.0 ≡ true) × (text ≡ word ++ 32 ∷ (decimal read.0 ++ 32 ∷ read.1))
+pub number_behind_read : (word text : List ℕ) (read : ℕ × List ℕ) → number_behind word text ≡ Some read → (is_valid_number read.0 ≡ true) × (text ≡ word ++ 32 ∷ (decimal read.0 ++ 32 ∷ read.1))
 unfolding number_behind
 number_behind_read word text read e =
     let rest = bind_some (behind word text) (λ rest. number_then rest) read e in
     let number = number_then_read rest.0 read rest.2 in
     (number.0, behind_read word text rest.0 rest.1 ∙ ap (λ (r : List ℕ). word ++ 32 ∷ r) number.1)
 
-pub number_behind_written : (word : List ℕ) (n : ℕ) (rest : List ℕ) → has_no 32 word ≡ true → is_lawful_number n ≡ true → number_behind word (word ++ 32 ∷ (decimal n ++ 32 ∷ rest)) ≡ Some (n, rest)
+pub number_behind_written : (word : List ℕ) (n : ℕ) (rest : List ℕ) → has_no 32 word ≡ true → is_valid_number n ≡ true → number_behind word (word ++ 32 ∷ (decimal n ++ 32 ∷ rest)) ≡ Some (n, rest)
 unfolding number_behind
-number_behind_written word n rest none lawful =
-    ap (λ o. o >>= λ r. number_then r) (behind_written word (decimal n ++ 32 ∷ rest) none) ∙ number_then_written n rest lawful
+number_behind_written word n rest none valid =
+    ap (λ o. o >>= λ r. number_then r) (behind_written word (decimal n ++ 32 ∷ rest) none) ∙ number_then_written n rest valid

@@ -4,7 +4,7 @@ use Rattle.std.specs.List.{join_with_byte}
 use Rattle.std.proofs.lemmas.Bool.{and_from}
 use Rattle.std.proofs.lemmas.Option.{none-some, same_Some}
 use Rattle.line_words.specs.Pieces.{split_space}
-use Rattle.line_words.specs.Number.{number_of, is_lawful_number}
+use Rattle.line_words.specs.Number.{number_of, is_valid_number}
 use Rattle.line_words.proofs.FirstSpace.{split_parts}
 use Rattle.line_words.proofs.WrittenNumbers.{number_read}
 use Rattle.recordings.specs.declared.recording_line.RecordedActor.{RecordedActor}
@@ -25,15 +25,15 @@ behind_is (Job n) word words = refl
 behind_is (Round n) word words = refl
 
 -- ---- the parsed line
-deed_read : (actor : RecordedActor) (word : List ℕ) (job : ℕ) (line : RecordedLine) → is_lawful_actor actor ≡ true → is_lawful_number job ≡ true → deed_of actor word job ≡ Some line
+deed_read : (actor : RecordedActor) (word : List ℕ) (job : ℕ) (line : RecordedLine) → is_lawful_actor actor ≡ true → is_valid_number job ≡ true → deed_of actor word job ≡ Some line
     → IsLine (behind_actor actor (word ++ 32 ∷ decimal job)) line
 unfolding deed_of
-deed_read actor word job line whose lawful read =
-    by_word word (codes "got") _ _ line read (said (codes "got") (Got actor job) (and_from _ _ whose lawful) (behind_is actor (codes "got") (decimal job ∷ [])))
-    (λ read. by_word word (codes "refused") _ _ line read (said (codes "refused") (Refused actor job) (and_from _ _ whose lawful) (behind_is actor (codes "refused") (decimal job ∷ [])))
-    (λ read. by_word word (codes "timeout") _ _ line read (said (codes "timeout") (TimedOut actor job) (and_from _ _ whose lawful) (behind_is actor (codes "timeout") (decimal job ∷ [])))
-    (λ read. by_word word (codes "interrupted") _ _ line read (said (codes "interrupted") (Interrupted actor job) (and_from _ _ whose lawful) (behind_is actor (codes "interrupted") (decimal job ∷ [])))
-    (λ read. by_word word (codes "cancel") _ _ line read (said (codes "cancel") (Cancels actor job) (and_from _ _ whose lawful) (behind_is actor (codes "cancel") (decimal job ∷ [])))
+deed_read actor word job line whose valid read =
+    by_word word (codes "got") _ _ line read (said (codes "got") (Got actor job) (and_from _ _ whose valid) (behind_is actor (codes "got") (decimal job ∷ [])))
+    (λ read. by_word word (codes "refused") _ _ line read (said (codes "refused") (Refused actor job) (and_from _ _ whose valid) (behind_is actor (codes "refused") (decimal job ∷ [])))
+    (λ read. by_word word (codes "timeout") _ _ line read (said (codes "timeout") (TimedOut actor job) (and_from _ _ whose valid) (behind_is actor (codes "timeout") (decimal job ∷ [])))
+    (λ read. by_word word (codes "interrupted") _ _ line read (said (codes "interrupted") (Interrupted actor job) (and_from _ _ whose valid) (behind_is actor (codes "interrupted") (decimal job ∷ [])))
+    (λ read. by_word word (codes "cancel") _ _ line read (said (codes "cancel") (Cancels actor job) (and_from _ _ whose valid) (behind_is actor (codes "cancel") (decimal job ∷ [])))
     (λ none. absurd (none-some line none))))))
   where
     said : (key : List ℕ) (one : RecordedLine) → is_lawful_line one ≡ true → behind_actor actor (key ++ 32 ∷ decimal job) ≡ line_text one → word ≡ key → Some one ≡ Some line
@@ -88,26 +88,26 @@ alone actor text key one line good written is same =
 more : (actor : RecordedActor) (text : List ℕ) (words : List ℕ × List ℕ) (line : RecordedLine) → split_space text ≡ Some words → IsLine (behind_actor actor (words.0 ++ 32 ∷ words.1)) line → IsLine (behind_actor actor text) line
 more actor text words line split found = (found.0, ap (behind_actor actor) (split_parts text words split) ∙ found.1)
 
-pub job_line_read : (job : ℕ) (text : List ℕ) (line : RecordedLine) → is_lawful_number job ≡ true → job_line_of job text ≡ Some line → IsLine (behind_actor (Job job) text) line
+pub job_line_read : (job : ℕ) (text : List ℕ) (line : RecordedLine) → is_valid_number job ≡ true → job_line_of job text ≡ Some line → IsLine (behind_actor (Job job) text) line
 unfolding job_line_of
-job_line_read job text line lawful read =
-    by_word text (codes "start") _ _ line read (alone (Job job) text (codes "start") (JobStarts job) line lawful refl)
-    (λ read. by_word text (codes "end") _ _ line read (alone (Job job) text (codes "end") (JobEnds job) line lawful refl)
-    (λ read. by_word text (codes "threw") _ _ line read (alone (Job job) text (codes "threw") (JobThrew job) line lawful refl)
+job_line_read job text line valid read =
+    by_word text (codes "start") _ _ line read (alone (Job job) text (codes "start") (JobStarts job) line valid refl)
+    (λ read. by_word text (codes "end") _ _ line read (alone (Job job) text (codes "end") (JobEnds job) line valid refl)
+    (λ read. by_word text (codes "threw") _ _ line read (alone (Job job) text (codes "threw") (JobThrew job) line valid refl)
     (λ read. let words = bind_some (split_space text) (λ words. act_of (Job job) words.0 words.1) line read in
-    more (Job job) text words.0 line words.1 (act_read (Job job) words.0.0 words.0.1 line lawful words.2))))
+    more (Job job) text words.0 line words.1 (act_read (Job job) words.0.0 words.0.1 line valid words.2))))
 
-pub round_line_read : (round : ℕ) (text : List ℕ) (line : RecordedLine) → is_lawful_number round ≡ true → round_line_of round text ≡ Some line → IsLine (behind_actor (Round round) text) line
+pub round_line_read : (round : ℕ) (text : List ℕ) (line : RecordedLine) → is_valid_number round ≡ true → round_line_of round text ≡ Some line → IsLine (behind_actor (Round round) text) line
 unfolding round_line_of
-round_line_read round text line lawful read =
-    by_word text (codes "end") _ _ line read (alone (Round round) text (codes "end") (RoundEnds round) line lawful refl)
+round_line_read round text line valid read =
+    by_word text (codes "end") _ _ line read (alone (Round round) text (codes "end") (RoundEnds round) line valid refl)
     (λ read. let words = bind_some _ _ line read in
     more (Round round) text words.0 line words.1
-    (by_word words.0.0 (codes "begin") _ _ line words.2 (λ is read. begins words.0.0 words.0.1 is read) (λ read. act_read (Round round) words.0.0 words.0.1 line lawful read)))
+    (by_word words.0.0 (codes "begin") _ _ line words.2 (λ is read. begins words.0.0 words.0.1 is read) (λ read. act_read (Round round) words.0.0 words.0.1 line valid read)))
   where
     begins : (word rest : List ℕ) → word ≡ codes "begin" → (name_of rest >>= λ kind. Some (RoundBegins round kind)) ≡ Some line → IsLine (behind_actor (Round round) (word ++ 32 ∷ rest)) line
     begins word rest is read =
         let kind = bind_some (name_of rest) (λ kind. Some (RoundBegins round kind)) line read in
         let name = name_read rest kind.0 kind.1 in
         subst (λ (l : RecordedLine). IsLine (behind_actor (Round round) (word ++ 32 ∷ rest)) l) (same_Some _ line kind.2)
-        (and_from _ _ lawful name.0, ap₂ (λ (w r : List ℕ). behind_actor (Round round) (w ++ 32 ∷ r)) is name.1)
+        (and_from _ _ valid name.0, ap₂ (λ (w r : List ℕ). behind_actor (Round round) (w ++ 32 ∷ r)) is name.1)

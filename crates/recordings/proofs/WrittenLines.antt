@@ -3,9 +3,9 @@ use Rattle.std.proofs.Common.{◌≡◌, ◌&&◌, ℕ, true, false, cond, List,
 use Rattle.std.specs.List.{join_with_byte}
 use Rattle.std.proofs.lemmas.Bool.{and_parts, and_from}
 use Rattle.std.proofs.lemmas.Option.{none-some, same_Some}
-use Rattle.job_bodies.specs.WellFormed.{is_lawful_name}
+use Rattle.job_bodies.specs.WellFormed.{is_valid_name}
 use Rattle.line_words.specs.Pieces.{split_space}
-use Rattle.line_words.specs.Number.{number_of, is_lawful_number}
+use Rattle.line_words.specs.Number.{number_of, is_valid_number}
 use Rattle.line_words.proofs.FirstSpace.{splits, split_parts}
 use Rattle.line_words.proofs.Splits.{has_no}
 use Rattle.line_words.proofs.WrittenNumbers.{number_read, number_written}
@@ -108,13 +108,13 @@ by_first word rest none other =
     ap (λ b. cond b (Some End) (split_space (word ++ 32 ∷ rest) >>= λ words. line_of_words words.0 words.1)) other
     ∙ ap (λ o. o >>= λ words. line_of_words words.0 words.1) (splits word rest none)
 
-job_first : (job : ℕ) (text : List ℕ) → is_lawful_number job ≡ true → line_of (codes "job" ++ 32 ∷ (decimal job ++ 32 ∷ text)) ≡ job_line_of job text
+job_first : (job : ℕ) (text : List ℕ) → is_valid_number job ≡ true → line_of (codes "job" ++ 32 ∷ (decimal job ++ 32 ∷ text)) ≡ job_line_of job text
 unfolding line_of_words
-job_first job text lawful = by_first (codes "job") (decimal job ++ 32 ∷ text) refl refl ∙ ap (λ o. o >>= λ job. job_line_of job.0 job.1) (number_then_written job text lawful)
+job_first job text valid = by_first (codes "job") (decimal job ++ 32 ∷ text) refl refl ∙ ap (λ o. o >>= λ job. job_line_of job.0 job.1) (number_then_written job text valid)
 
-round_first : (round : ℕ) (text : List ℕ) → is_lawful_number round ≡ true → line_of (codes "round" ++ 32 ∷ (decimal round ++ 32 ∷ text)) ≡ round_line_of round text
+round_first : (round : ℕ) (text : List ℕ) → is_valid_number round ≡ true → line_of (codes "round" ++ 32 ∷ (decimal round ++ 32 ∷ text)) ≡ round_line_of round text
 unfolding line_of_words
-round_first round text lawful = by_first (codes "round") (decimal round ++ 32 ∷ text) refl refl ∙ ap (λ o. o >>= λ round. round_line_of round.0 round.1) (number_then_written round text lawful)
+round_first round text valid = by_first (codes "round") (decimal round ++ 32 ∷ text) refl refl ∙ ap (λ o. o >>= λ round. round_line_of round.0 round.1) (number_then_written round text valid)
 
 other_first : (word rest : List ℕ) → has_no 32 word ≡ true → bytes_eq (word ++ 32 ∷ rest) (codes "end") ≡ false → bytes_eq word (codes "job") ≡ false → bytes_eq word (codes "round") ≡ false
     → line_of (word ++ 32 ∷ rest) ≡ other_line_of word rest
@@ -129,10 +129,10 @@ IsAct word rest =
 
 acts : (actor : RecordedActor) (word rest : List ℕ) → is_lawful_actor actor ≡ true → IsAct word rest → line_of (behind_actor actor (word ++ 32 ∷ rest)) ≡ act_of actor word rest
 unfolding job_line_of round_line_of
-acts (Job n) word rest lawful is =
-    job_first n (word ++ 32 ∷ rest) lawful ∙ rw (is.1, is.2, is.3) (ap (λ o. o >>= λ words. act_of (Job n) words.0 words.1) (splits word rest is.0))
-acts (Round n) word rest lawful is =
-    round_first n (word ++ 32 ∷ rest) lawful ∙ rw (is.2, splits word rest is.0, is.4) refl
+acts (Job n) word rest valid is =
+    job_first n (word ++ 32 ∷ rest) valid ∙ rw (is.1, is.2, is.3) (ap (λ o. o >>= λ words. act_of (Job n) words.0 words.1) (splits word rest is.0))
+acts (Round n) word rest valid is =
+    round_first n (word ++ 32 ∷ rest) valid ∙ rw (is.2, splits word rest is.0, is.4) refl
 
 -- a line of an actor parses by the words after the actor
 by_actor : (actor : RecordedActor) (line said : RecordedLine) (word : List ℕ) (words : List (List ℕ)) → line_text line ≡ join_with_byte 32 (actor_words actor (word ∷ words))
@@ -140,54 +140,54 @@ by_actor : (actor : RecordedActor) (line said : RecordedLine) (word : List ℕ) 
 by_actor actor line said word words is read = ap line_of (is ∙ sym (behind_is actor word words)) ∙ read
 
 -- an action on a job
-deed_written : (actor : RecordedActor) (word : List ℕ) (job : ℕ) → is_lawful_actor actor && is_lawful_number job ≡ true → IsAct word (decimal job) → bytes_eq word (codes "submit") ≡ false → bytes_eq word (codes "any") ≡ false
+deed_written : (actor : RecordedActor) (word : List ℕ) (job : ℕ) → is_lawful_actor actor && is_valid_number job ≡ true → IsAct word (decimal job) → bytes_eq word (codes "submit") ≡ false → bytes_eq word (codes "any") ≡ false
     → line_of (behind_actor actor (word ++ 32 ∷ decimal job)) ≡ deed_of actor word job
 unfolding act_of
-deed_written actor word job lawful is no_submit no_any =
-    let parts = and_parts (is_lawful_actor actor) (is_lawful_number job) lawful in
+deed_written actor word job valid is no_submit no_any =
+    let parts = and_parts (is_lawful_actor actor) (is_valid_number job) valid in
     acts actor word (decimal job) parts.0 is ∙ rw (no_submit, no_any, number_written job parts.1) refl
 
 text_reads_as_line : (line : RecordedLine) → is_lawful_line line ≡ true → line_of (line_text line) ≡ Some line
 unfolding line_of other_line_of job_line_of round_line_of act_of submit_of deed_of
-text_reads_as_line Head lawful = other_first (codes "recording") (codes "1") refl refl refl refl
-text_reads_as_line (Pool name sizes) lawful =
-    let parts = and_parts (is_lawful_name name) (has_lawful_numbers sizes) lawful in
+text_reads_as_line Head valid = other_first (codes "recording") (codes "1") refl refl refl refl
+text_reads_as_line (Pool name sizes) valid =
+    let parts = and_parts (is_valid_name name) (has_lawful_numbers sizes) valid in
     let back : List ℕ = join_with_byte 32 (sizes_words sizes) in
     other_first (codes "pool") (name ++ 32 ∷ back) refl refl refl refl
     ∙ bind_written _ _ (name, back) (Pool name sizes) (name_then_written name back parts.0) (bind_written _ _ sizes (Pool name sizes) (pool_sizes_written sizes parts.1) refl)
-text_reads_as_line (RoundBegins round kind) lawful =
-    let parts = and_parts (is_lawful_number round) (is_lawful_name kind) lawful in
+text_reads_as_line (RoundBegins round kind) valid =
+    let parts = and_parts (is_valid_number round) (is_valid_name kind) valid in
     round_first round (codes "begin" ++ 32 ∷ kind) parts.0 ∙ rw (splits (codes "begin") kind refl, name_written kind parts.1) refl
-text_reads_as_line (RoundEnds round) lawful = round_first round (codes "end") lawful
-text_reads_as_line (Submits actor job class pool) lawful =
-    let last = and_parts (is_lawful_actor actor && is_lawful_number job && is_lawful_name class) (is_lawful_name pool) lawful in
-    let middle = and_parts (is_lawful_actor actor && is_lawful_number job) (is_lawful_name class) last.0 in
-    let first = and_parts (is_lawful_actor actor) (is_lawful_number job) middle.0 in
+text_reads_as_line (RoundEnds round) valid = round_first round (codes "end") valid
+text_reads_as_line (Submits actor job class pool) valid =
+    let last = and_parts (is_lawful_actor actor && is_valid_number job && is_valid_name class) (is_valid_name pool) valid in
+    let middle = and_parts (is_lawful_actor actor && is_valid_number job) (is_valid_name class) last.0 in
+    let first = and_parts (is_lawful_actor actor) (is_valid_number job) middle.0 in
     let rest : List ℕ = decimal job ++ 32 ∷ (class ++ 32 ∷ pool) in
     by_actor actor (Submits actor job class pool) (Submits actor job class pool) (codes "submit") (decimal job ∷ class ∷ pool ∷ []) refl (acts actor (codes "submit") rest first.0 (refl, refl, refl, refl, refl)
     ∙ rw (number_then_written job (class ++ 32 ∷ pool) first.1, name_then_written class pool middle.1, name_written pool last.1) refl)
-text_reads_as_line (Refused actor job) lawful =
-    by_actor actor (Refused actor job) (Refused actor job) (codes "refused") (decimal job ∷ []) refl (deed_written actor (codes "refused") job lawful (refl, refl, refl, refl, refl) refl refl)
-text_reads_as_line (JobStarts job) lawful = job_first job (codes "start") lawful
-text_reads_as_line (JobEnds job) lawful = job_first job (codes "end") lawful
-text_reads_as_line (JobThrew job) lawful = job_first job (codes "threw") lawful
-text_reads_as_line (Got actor job) lawful =
-    by_actor actor (Got actor job) (Got actor job) (codes "got") (decimal job ∷ []) refl (deed_written actor (codes "got") job lawful (refl, refl, refl, refl, refl) refl refl)
-text_reads_as_line (TimedOut actor job) lawful =
-    by_actor actor (TimedOut actor job) (TimedOut actor job) (codes "timeout") (decimal job ∷ []) refl (deed_written actor (codes "timeout") job lawful (refl, refl, refl, refl, refl) refl refl)
-text_reads_as_line (Interrupted actor job) lawful =
-    by_actor actor (Interrupted actor job) (Interrupted actor job) (codes "interrupted") (decimal job ∷ []) refl (deed_written actor (codes "interrupted") job lawful (refl, refl, refl, refl, refl) refl refl)
-text_reads_as_line (Cancels actor job) lawful =
-    by_actor actor (Cancels actor job) (Cancels actor job) (codes "cancel") (decimal job ∷ []) refl (deed_written actor (codes "cancel") job lawful (refl, refl, refl, refl, refl) refl refl)
-text_reads_as_line (InvokesAny actor pool) lawful =
-    let parts = and_parts (is_lawful_actor actor) (is_lawful_name pool) lawful in
+text_reads_as_line (Refused actor job) valid =
+    by_actor actor (Refused actor job) (Refused actor job) (codes "refused") (decimal job ∷ []) refl (deed_written actor (codes "refused") job valid (refl, refl, refl, refl, refl) refl refl)
+text_reads_as_line (JobStarts job) valid = job_first job (codes "start") valid
+text_reads_as_line (JobEnds job) valid = job_first job (codes "end") valid
+text_reads_as_line (JobThrew job) valid = job_first job (codes "threw") valid
+text_reads_as_line (Got actor job) valid =
+    by_actor actor (Got actor job) (Got actor job) (codes "got") (decimal job ∷ []) refl (deed_written actor (codes "got") job valid (refl, refl, refl, refl, refl) refl refl)
+text_reads_as_line (TimedOut actor job) valid =
+    by_actor actor (TimedOut actor job) (TimedOut actor job) (codes "timeout") (decimal job ∷ []) refl (deed_written actor (codes "timeout") job valid (refl, refl, refl, refl, refl) refl refl)
+text_reads_as_line (Interrupted actor job) valid =
+    by_actor actor (Interrupted actor job) (Interrupted actor job) (codes "interrupted") (decimal job ∷ []) refl (deed_written actor (codes "interrupted") job valid (refl, refl, refl, refl, refl) refl refl)
+text_reads_as_line (Cancels actor job) valid =
+    by_actor actor (Cancels actor job) (Cancels actor job) (codes "cancel") (decimal job ∷ []) refl (deed_written actor (codes "cancel") job valid (refl, refl, refl, refl, refl) refl refl)
+text_reads_as_line (InvokesAny actor pool) valid =
+    let parts = and_parts (is_lawful_actor actor) (is_valid_name pool) valid in
     by_actor actor (InvokesAny actor pool) (InvokesAny actor pool) (codes "any") (pool ∷ []) refl (acts actor (codes "any") pool parts.0 (refl, refl, refl, refl, refl) ∙ rw (name_written pool parts.1) refl)
-text_reads_as_line (Removed job) lawful = other_first (codes "removed") (decimal job) refl refl refl refl ∙ rw (number_written job lawful) refl
-text_reads_as_line (ShutDown pool) lawful = other_first (codes "shutdown") pool refl refl refl refl ∙ rw (name_written pool lawful) refl
-text_reads_as_line (Unseen pool jobs) lawful =
-    let parts = and_parts (is_lawful_name pool) (is_lawful_number jobs) lawful in
+text_reads_as_line (Removed job) valid = other_first (codes "removed") (decimal job) refl refl refl refl ∙ rw (number_written job valid) refl
+text_reads_as_line (ShutDown pool) valid = other_first (codes "shutdown") pool refl refl refl refl ∙ rw (name_written pool valid) refl
+text_reads_as_line (Unseen pool jobs) valid =
+    let parts = and_parts (is_valid_name pool) (is_valid_number jobs) valid in
     other_first (codes "unseen") (pool ++ 32 ∷ decimal jobs) refl refl refl refl ∙ rw (name_then_written pool (decimal jobs) parts.0, number_written jobs parts.1) refl
-text_reads_as_line End lawful = refl
+text_reads_as_line End valid = refl
 
 pub canonical : RecordingLinesAreCanonical
 canonical text line = (read_line_is_text text line, λ written. ap line_of written.1 ∙ text_reads_as_line line written.0)

@@ -4,7 +4,7 @@ use Rattle.std.specs.List.{join_with_byte}
 use Rattle.std.proofs.lemmas.Bool.{and_parts, and_from}
 use Rattle.std.proofs.lemmas.Option.{none-some, same_Some}
 use Rattle.line_words.specs.Pieces.{split_space}
-use Rattle.line_words.specs.Number.{is_lawful_number}
+use Rattle.line_words.specs.Number.{is_valid_number}
 use Rattle.line_words.proofs.FirstSpace.{splits, split_parts}
 use Rattle.line_words.proofs.Splits.{has_no}
 use Rattle.recordings.specs.declared.pool_sizes.PoolSizes.{PoolSizes}
@@ -154,10 +154,10 @@ pool_sizes_read text sizes e =
 
 pub pool_sizes_written : (sizes : PoolSizes) → has_lawful_numbers sizes ≡ true → pool_sizes_of (join_with_byte 32 (sizes_words sizes)) ≡ Some sizes
 unfolding pool_sizes_of
-pool_sizes_written sizes lawful =
-    let prestarted = and_parts (is_lawful_number sizes.core && is_lawful_number sizes.max && is_lawful_number sizes.capacity) (is_lawful_number sizes.prestarted) lawful in
-    let capacity = and_parts (is_lawful_number sizes.core && is_lawful_number sizes.max) (is_lawful_number sizes.capacity) prestarted.0 in
-    let both = and_parts (is_lawful_number sizes.core) (is_lawful_number sizes.max) capacity.0 in
+pool_sizes_written sizes valid =
+    let prestarted = and_parts (is_valid_number sizes.core && is_valid_number sizes.max && is_valid_number sizes.capacity) (is_valid_number sizes.prestarted) valid in
+    let capacity = and_parts (is_valid_number sizes.core && is_valid_number sizes.max) (is_valid_number sizes.capacity) prestarted.0 in
+    let both = and_parts (is_valid_number sizes.core) (is_valid_number sizes.max) capacity.0 in
     let last : List ℕ = codes "handler" ++ 32 ∷ handler_word sizes.handler in
     let sixth : List ℕ = codes "prestarted" ++ 32 ∷ (decimal sizes.prestarted ++ 32 ∷ last) in
     let fifth : List ℕ = codes "timeout" ++ 32 ∷ (yes_no_word sizes.timeout ++ 32 ∷ sixth) in

@@ -1,8 +1,8 @@
 -- The text of a line, and the valid lines.
 use Rattle.std.specs.Prelude.{ℕ, Bool, true, false, ◌&&◌, List, [], ◌∷◌, ◌++◌, codes, decimal}
 use Rattle.std.specs.List.{join_with_byte}
-use Rattle.job_bodies.specs.WellFormed.{is_lawful_name}
-use Rattle.line_words.specs.Number.{is_lawful_number}
+use Rattle.job_bodies.specs.WellFormed.{is_valid_name}
+use Rattle.line_words.specs.Number.{is_valid_number}
 use Rattle.recordings.specs.declared.recording_line.RecordedActor.{RecordedActor}
 use Rattle.recordings.specs.declared.recording_line.RecordedActor.TheVariants.{Job, Round}
 use Rattle.recordings.specs.declared.pool_sizes.PoolSizes.{PoolSizes}
@@ -72,29 +72,29 @@ line_text line = join_with_byte 32 (line_words line)
 
 -- ---- valid lines
 abbrev pub is_lawful_actor : RecordedActor → Bool
-is_lawful_actor (Job n) = is_lawful_number n
-is_lawful_actor (Round n) = is_lawful_number n
+is_lawful_actor (Job n) = is_valid_number n
+is_lawful_actor (Round n) = is_valid_number n
 
 abbrev pub has_lawful_numbers : PoolSizes → Bool
-has_lawful_numbers sizes = is_lawful_number sizes.core && is_lawful_number sizes.max && is_lawful_number sizes.capacity && is_lawful_number sizes.prestarted
+has_lawful_numbers sizes = is_valid_number sizes.core && is_valid_number sizes.max && is_valid_number sizes.capacity && is_valid_number sizes.prestarted
 
 -- each number is within the limit, and each name is valid
 abbrev pub is_lawful_line : RecordedLine → Bool
 is_lawful_line Head = true
-is_lawful_line (Pool name sizes) = is_lawful_name name && has_lawful_numbers sizes
-is_lawful_line (RoundBegins round kind) = is_lawful_number round && is_lawful_name kind
-is_lawful_line (RoundEnds round) = is_lawful_number round
-is_lawful_line (Submits actor job class pool) = is_lawful_actor actor && is_lawful_number job && is_lawful_name class && is_lawful_name pool
-is_lawful_line (Refused actor job) = is_lawful_actor actor && is_lawful_number job
-is_lawful_line (JobStarts job) = is_lawful_number job
-is_lawful_line (JobEnds job) = is_lawful_number job
-is_lawful_line (JobThrew job) = is_lawful_number job
-is_lawful_line (Got actor job) = is_lawful_actor actor && is_lawful_number job
-is_lawful_line (TimedOut actor job) = is_lawful_actor actor && is_lawful_number job
-is_lawful_line (Interrupted actor job) = is_lawful_actor actor && is_lawful_number job
-is_lawful_line (Cancels actor job) = is_lawful_actor actor && is_lawful_number job
-is_lawful_line (InvokesAny actor pool) = is_lawful_actor actor && is_lawful_name pool
-is_lawful_line (Removed job) = is_lawful_number job
-is_lawful_line (ShutDown pool) = is_lawful_name pool
-is_lawful_line (Unseen pool jobs) = is_lawful_name pool && is_lawful_number jobs
+is_lawful_line (Pool name sizes) = is_valid_name name && has_lawful_numbers sizes
+is_lawful_line (RoundBegins round kind) = is_valid_number round && is_valid_name kind
+is_lawful_line (RoundEnds round) = is_valid_number round
+is_lawful_line (Submits actor job class pool) = is_lawful_actor actor && is_valid_number job && is_valid_name class && is_valid_name pool
+is_lawful_line (Refused actor job) = is_lawful_actor actor && is_valid_number job
+is_lawful_line (JobStarts job) = is_valid_number job
+is_lawful_line (JobEnds job) = is_valid_number job
+is_lawful_line (JobThrew job) = is_valid_number job
+is_lawful_line (Got actor job) = is_lawful_actor actor && is_valid_number job
+is_lawful_line (TimedOut actor job) = is_lawful_actor actor && is_valid_number job
+is_lawful_line (Interrupted actor job) = is_lawful_actor actor && is_valid_number job
+is_lawful_line (Cancels actor job) = is_lawful_actor actor && is_valid_number job
+is_lawful_line (InvokesAny actor pool) = is_lawful_actor actor && is_valid_name pool
+is_lawful_line (Removed job) = is_valid_number job
+is_lawful_line (ShutDown pool) = is_valid_name pool
+is_lawful_line (Unseen pool jobs) = is_valid_name pool && is_valid_number jobs
 is_lawful_line End = true

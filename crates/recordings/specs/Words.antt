@@ -1,7 +1,7 @@
 -- Parsers for the first word of a text. They return the rest after the space.
 use Rattle.std.specs.Prelude.{ℕ, if◌then◌else◌, List, Option, Some, None}
 use Rattle.std.specs.Str.{bytes_eq}
-use Rattle.job_bodies.specs.WellFormed.{is_lawful_name}
+use Rattle.job_bodies.specs.WellFormed.{is_valid_name}
 use Rattle.line_words.specs.Pieces.{split_space}
 use Rattle.line_words.specs.Number.{number_of}
 
@@ -13,7 +13,7 @@ None >>= f = None
 
 -- the word if it is a valid name
 unfoldable pub name_of : List ℕ → Option (List ℕ)
-name_of word = if is_lawful_name word then Some word else None
+name_of word = if is_valid_name word then Some word else None
 
 -- the first word as a number, and the other words
 unfoldable pub number_then : List ℕ → Option (ℕ × List ℕ)

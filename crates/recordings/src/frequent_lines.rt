@@ -6,8 +6,8 @@
 
 ghost use Rattle.std.specs.Prelude.{◌≡◌, ◌≤◌, ◌<◌, ◌+◌, ◌++◌, ◌∷◌, true, length, take, codes, decimal, Some, IfSome};
 ghost use Rattle.std.specs.List.{list_all};
-ghost use Rattle.job_bodies.specs.WellFormed.{is_name_byte, is_lawful_name};
-ghost use Rattle.line_words.specs.Number.{is_lawful_number};
+ghost use Rattle.job_bodies.specs.WellFormed.{is_name_byte, is_valid_name};
+ghost use Rattle.line_words.specs.Number.{is_valid_number};
 ghost use Rattle.recordings.specs.RecordingLine.{line_seen, lines_read};
 ghost use Rattle.recordings.specs.LineText.{behind_actor, is_lawful_actor};
 ghost use Rattle.recordings.specs.declared.recording_line.RecordedActor.TheVariants.{Job, Round};
@@ -41,7 +41,7 @@ pub(crate) fn split_frequent_line(text: &[u8]) -> Option<(Line<'_>, &[u8])>
 /// Parses the rest of a line after `job N`.
 #[inline(always)]
 fn split_job_line(job: usize, words: &[u8]) -> Option<(Line<'_>, &[u8])>
-    requires { is_lawful_number job ≡ true }
+    requires { is_valid_number job ≡ true }
     ensures { IfSome result (λ read.
         lines_read (behind_actor (Job job) words.now)
         ≡ Some (line_seen read.0) ∷ lines_read read.1.now) }
@@ -58,7 +58,7 @@ fn split_job_line(job: usize, words: &[u8]) -> Option<(Line<'_>, &[u8])>
 /// Parses the rest of a line after `round N`.
 #[inline(always)]
 fn split_round_line(round: usize, words: &[u8]) -> Option<(Line<'_>, &[u8])>
-    requires { is_lawful_number round ≡ true }
+    requires { is_valid_number round ≡ true }
     ensures { IfSome result (λ read.
         lines_read (behind_actor (Round round) words.now)
         ≡ Some (line_seen read.0) ∷ lines_read read.1.now) }
@@ -115,7 +115,7 @@ fn split_submit(actor: RecordedActor, words: &[u8]) -> Option<(Line<'_>, &[u8])>
 #[inline(always)]
 fn split_number(text: &[u8], end: u8) -> Option<(usize, &[u8])>
     ensures { IfSome result (λ read.
-        (is_lawful_number read.0 ≡ true) × (text.now ≡ decimal read.0 ++ end ∷ read.1.now)) }
+        (is_valid_number read.0 ≡ true) × (text.now ≡ decimal read.0 ++ end ∷ read.1.now)) }
 {
     let [first @ b'1'..=b'9', ..] = text else {
         return None;
@@ -147,7 +147,7 @@ fn digit_of(byte: u8) -> usize
 #[inline(always)]
 fn split_name(text: &[u8], end: u8) -> Option<(&str, &[u8])>
     ensures { IfSome result
-        (λ read. (is_lawful_name read.0.now ≡ true) × (text.now ≡ read.0.now ++ end ∷ read.1.now)) }
+        (λ read. (is_valid_name read.0.now ≡ true) × (text.now ≡ read.0.now ++ end ∷ read.1.now)) }
 {
     let (name, behind) = text.split_at(count_name_bytes(text));
     let [b'a'..=b'z', ..] = name else {

@@ -5,7 +5,7 @@ ghost use Rattle.std.specs.Option.{option_map};
 ghost use Rattle.recordings.specs.KeptState.{job_at, has_started, is_done, is_settled, offered_by, new_job, with_start, with_cancel, with_offered};
 
 use std::alloc::{AllocError, Global};
-use support::NumberTable;
+use support::IdMap;
 
 /// The state of a job that is not done.
 #[derive(Clone, Copy)]
@@ -21,7 +21,7 @@ pub(crate) struct JobState {
 #[derive(Drop)]
 pub(crate) struct Jobs {
     pub(crate) submitted: usize,
-    unfinished: NumberTable<JobState>,
+    unfinished: IdMap<JobState>,
 }
 
 impl Jobs {
@@ -32,7 +32,7 @@ impl Jobs {
     {
         Jobs {
             submitted: 0,
-            unfinished: NumberTable::new(alloc),
+            unfinished: IdMap::new(alloc),
         }
     }
 

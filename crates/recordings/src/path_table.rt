@@ -9,12 +9,12 @@ ghost use Rattle.recordings.specs.KeptPaths.{path_in};
 use crate::act::{drop_submit, note_get};
 use crate::deed::RecordedDeed;
 use std::alloc::{AllocError, Global};
-use support::NumberTable;
+use support::IdMap;
 
 /// A map from the numbers of the live rounds, or of the live jobs, to their paths.
 #[derive(Drop)]
 pub(crate) struct PathTable {
-    paths: NumberTable<Vec<RecordedDeed>>,
+    paths: IdMap<Vec<RecordedDeed>>,
     alloc: Global,
 }
 
@@ -24,7 +24,7 @@ impl PathTable {
         ensures { (n : ℕ) → path_in result n ≡ None }
     {
         PathTable {
-            paths: NumberTable::new(alloc),
+            paths: IdMap::new(alloc),
             alloc,
         }
     }

@@ -9,7 +9,7 @@ ghost use Rattle.recordings.specs.Pools.{has_name};
 
 use std::alloc::{AllocError, Global};
 use std::collections::HashSet;
-use support::NumberTable;
+use support::IdMap;
 
 /// The names of the pools that have a line.
 ///
@@ -17,7 +17,7 @@ use support::NumberTable;
 /// are in a set.
 #[derive(Drop)]
 pub(crate) struct Pools {
-    firsts: NumberTable<String>,
+    firsts: IdMap<String>,
     others: HashSet<String>,
     alloc: Global,
 }
@@ -28,7 +28,7 @@ impl Pools {
         ensures { (q : List ℕ) → has_name result q ≡ false }
     {
         Pools {
-            firsts: NumberTable::new(alloc),
+            firsts: IdMap::new(alloc),
             others: HashSet::new(alloc),
             alloc,
         }

@@ -5,14 +5,14 @@ ghost use Rattle.std.specs.Option.{option_map};
 ghost use Rattle.recordings.specs.KeptState.{round_at, offered_there};
 
 use std::alloc::{AllocError, Global};
-use support::NumberTable;
+use support::IdMap;
 
 /// The rounds of the lines so far: the number of rounds begun, and for each open round the job that
 /// it submitted in its last line.
 #[derive(Drop)]
 pub(crate) struct Rounds {
     pub(crate) begun: usize,
-    open: NumberTable<Option<usize>>,
+    open: IdMap<Option<usize>>,
 }
 
 impl Rounds {
@@ -23,7 +23,7 @@ impl Rounds {
     {
         Rounds {
             begun: 0,
-            open: NumberTable::new(alloc),
+            open: IdMap::new(alloc),
         }
     }
 

@@ -8,12 +8,12 @@ ghost use Rattle.recordings.specs.ForeignGets as spec;
 use crate::line_void::is_same_actor;
 use crate::{Line, RecordedActor};
 use std::alloc::{AllocError, Global};
-use support::NumberTable;
+use support::IdMap;
 
 /// The submitter of each job that its submitter has not got.
 #[derive(Drop)]
 pub(crate) struct Ungot {
-    submitters: NumberTable<RecordedActor>,
+    submitters: IdMap<RecordedActor>,
 }
 
 impl Ungot {
@@ -22,7 +22,7 @@ impl Ungot {
         ensures { (job : ℕ) → submitter_in result job ≡ None }
     {
         Ungot {
-            submitters: NumberTable::new(alloc),
+            submitters: IdMap::new(alloc),
         }
     }
 

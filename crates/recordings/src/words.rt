@@ -4,7 +4,7 @@ ghost use Rattle.std.specs.Prelude.{◌≡◌, option_map};
 ghost use Rattle.std.specs.Str.{bytes_eq};
 ghost use Rattle.recordings.specs.Words as spec;
 
-use job_bodies::is_lawful_name;
+use job_bodies::is_valid_name;
 use line_words::{leading_number, split_space};
 
 /// Returns whether a text is this word.
@@ -21,7 +21,7 @@ pub(crate) fn name_of(text: &[u8]) -> Option<&str>
 {
     match std::str::from_utf8(text) {
         Ok(name) => {
-            if is_lawful_name(name) {
+            if is_valid_name(name) {
                 Some(name)
             } else {
                 None

@@ -13,7 +13,7 @@ use Rattle.soundness.specs.declared.note.Note.{Note}
 use Rattle.soundness.specs.Conditions.{in_section, bound_section, pool_conditions, failing}
 use Rattle.refusal_notes.specs.Line.{line}
 use Rattle.refusal_notes.specs.Explanation.{lines}
-use Rattle.refusal_notes.proofs.Telling.{note_fails, ToldTo, told_begins, told_goes_on}
+use Rattle.refusal_notes.proofs.CollectedNotes.{note_fails, NotesTo, notes_begin, notes_continue}
 
 -- the lines of a concatenation
 lines-append : (plan : Plan) (xs ys : List Note) → lines plan (xs ++ ys) ≡ lines plan xs ++ lines plan ys
@@ -24,29 +24,29 @@ lines-append plan (x ∷ xs) ys =
 -- the old text, followed by the `count` lines of the ranks and of the first i pools
 pub record LinesTo (plan : Plan) (cert : Cert) (first text : List ℕ) (count i : ℕ) : Type 0 where
   pub notes : List Note
-  pub told : ToldTo plan cert notes i
+  pub collected : NotesTo plan cert notes i
   pub text_is : text ≡ first ++ lines plan notes
   pub count_is : count ≡ length notes
 
 pub lines_begin : (plan : Plan) (cert : Cert) (first text : List ℕ) (count : ℕ) (notes : List Note) → notes ≡ in_section section.Ranks (filter fails (rank_rows plan cert.ranks))
     → text ≡ first ++ lines plan notes → count ≡ length notes → LinesTo plan cert first text count 0
-lines_begin plan cert first text count notes ranks is many = record { notes = notes; told = told_begins plan cert notes ranks; text_is = is; count_is = many }
+lines_begin plan cert first text count notes ranks is many = record { notes = notes; collected = notes_begin plan cert notes ranks; text_is = is; count_is = many }
 
-pub lines_go_on : (plan : Plan) (cert : Cert) (first text text' : List ℕ) (count count' i : ℕ) (pool : PoolCert) (more : List Note)
+pub lines_continue : (plan : Plan) (cert : Cert) (first text text' : List ℕ) (count count' i : ℕ) (pool : PoolCert) (more : List Note)
     → IsTrue (cert_fits plan cert) → i < length cert.pools → pool ≡ get_or cert.pools i pool
     → more
     ≡ in_section (bound_section i pool.bound) (filter fails (bound_rows plan i pool.bound))
     ++ in_section (section.Blocked i) (filter fails (blocked_rows plan i (is_counted plan cert.ranks) pool.blocked))
     → text' ≡ text ++ lines plan more → count' ≡ count + length more → LinesTo plan cert first text count i → LinesTo plan cert first text' count' (i + 1)
-lines_go_on plan cert first text text' count count' i pool more fits inside here is told many so_far =
-    let added = ap (λ (ns : List Note). so_far.notes ++ ns) is ∙ sym (append_assoc so_far.notes _ _) in
+lines_continue plan cert first text text' count count' i pool more fits inside here is collected many prior =
+    let added = ap (λ (ns : List Note). prior.notes ++ ns) is ∙ sym (append_assoc prior.notes _ _) in
     record {
-      notes = so_far.notes ++ more;
-      told = told_goes_on plan cert so_far.notes (so_far.notes ++ more) i pool fits inside here added so_far.told;
-      text_is = told
-          ∙ (ap (λ (t : List ℕ). t ++ lines plan more) so_far.text_is
-          ∙ (append_assoc first (lines plan so_far.notes) (lines plan more) ∙ sym (ap (λ (t : List ℕ). first ++ t) (lines-append plan so_far.notes more))));
-      count_is = many ∙ (ap (λ (n : ℕ). n + length more) so_far.count_is ∙ sym (length-append so_far.notes more));
+      notes = prior.notes ++ more;
+      collected = notes_continue plan cert prior.notes (prior.notes ++ more) i pool fits inside here added prior.collected;
+      text_is = collected
+          ∙ (ap (λ (t : List ℕ). t ++ lines plan more) prior.text_is
+          ∙ (append_assoc first (lines plan prior.notes) (lines plan more) ∙ sym (ap (λ (t : List ℕ). first ++ t) (lines-append plan prior.notes more))));
+      count_is = many ∙ (ap (λ (n : ℕ). n + length more) prior.count_is ∙ sym (length-append prior.notes more));
     }
 
 -- after all pools
@@ -55,9 +55,9 @@ pub record AllLines (plan : Plan) (cert : Cert) (first text : List ℕ) (count :
   pub count_is : count ≡ length (failing plan cert)
 
 pub lines_end : (plan : Plan) (cert : Cert) (first text : List ℕ) (count i : ℕ) → length plan.pools ≤ i → LinesTo plan cert first text count i → AllLines plan cert first text count
-lines_end plan cert first text count i past so_far =
-    let all : so_far.notes ≡ failing plan cert =
-    so_far.told.told
+lines_end plan cert first text count i past prior =
+    let all : prior.notes ≡ failing plan cert =
+    prior.collected.collected
     ∙ ap (λ (pools : List Pool). filter note_fails (in_section section.Ranks (rank_rows plan cert.ranks) ++ flat_map (λ (entry : ℕ × Pool). pool_conditions plan cert entry.0) (enumerate_from 0 pools))) (take_all i plan.pools past)
     in
-    record { text_is = so_far.text_is ∙ ap (λ (ns : List Note). first ++ lines plan ns) all; count_is = so_far.count_is ∙ ap (λ (ns : List Note). length ns) all }
+    record { text_is = prior.text_is ∙ ap (λ (ns : List Note). first ++ lines plan ns) all; count_is = prior.count_is ∙ ap (λ (ns : List Note). length ns) all }

@@ -1,3 +1,3 @@
-pub mod Telling
+pub mod CollectedNotes
 pub mod WorkedLines
 pub mod Explaining

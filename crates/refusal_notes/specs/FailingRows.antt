@@ -6,4 +6,4 @@ use Rattle.refusal_notes.specs.declared.failing_rows.FailingRows.{FailingRows}
 
 -- the failing rows, unless memory ran out
 abbrev pub Keeps : FailingRows → List Row → Type 0
-Keeps found seen = OnOk found.kept (found.rows.items ≡ filter fails seen)
+Keeps found seen = OnOk found.outcome (found.rows.items ≡ filter fails seen)

@@ -7,8 +7,8 @@ ghost use Rattle.soundness.specs.Conditions.{failing};
 ghost use Rattle.refusal_notes.specs.Explanation as spec;
 ghost use Rattle.refusal_notes.specs.Line as line;
 
-use crate::told::{push_pool_notes, push_rank_notes};
-use crate::written::{head_of, push_condition};
+use crate::collect::{push_pool_notes, push_rank_notes};
+use crate::line_text::{head_of, push_condition};
 use crate::{Note, Section};
 use cert_text::Cert;
 use job_bodies::Plan;
@@ -86,13 +86,13 @@ fn push_lines(
             section = note.section;
             head = head_of(alloc, plan, section)?;
         }
-        push_line_behind(text, &head, plan, note)?;
+        push_line_with_head(text, &head, plan, note)?;
     }
     Ok(())
 }
 
 /// Appends the line of the note, with this head of its section.
-fn push_line_behind(
+fn push_line_with_head(
     text: &mut String,
     head: &str,
     plan: &Plan,

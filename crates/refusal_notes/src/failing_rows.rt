@@ -17,18 +17,18 @@ pub struct FailingRows {
     /// The failing rows, in order.
     rows: Vec<Row>,
     /// An error if memory ran out. Rows are then missing.
-    kept: Result<(), AllocError>,
+    outcome: Result<(), AllocError>,
 }
 
 impl FailingRows {
     /// Creates a visitor that has seen no row.
     pub fn new(alloc: Global) -> FailingRows
-        ensures kept { IsOk result.kept }
+        ensures outcome { IsOk result.outcome }
         ensures none { Keeps result [] }
     {
         FailingRows {
             rows: Vec::new(alloc),
-            kept: Ok(()),
+            outcome: Ok(()),
         }
     }
 
@@ -39,7 +39,7 @@ impl FailingRows {
             → OnOk result
             (notes.new.items ≡ notes.old.items ++ spec.in_section section (filter fails seen)) }
     {
-        self.kept?;
+        self.outcome?;
         push_section_notes(notes, section, &self.rows)
     }
 }
@@ -48,8 +48,8 @@ impl RowVisitor for FailingRows {
     ghost HasSeen = { Keeps };
 
     fn visit(&mut self, row: Row) {
-        if row.fails() && self.kept.is_ok() {
-            self.kept = self.rows.push(row).map_err(AllocError::from);
+        if row.fails() && self.outcome.is_ok() {
+            self.outcome = self.rows.push(row).map_err(AllocError::from);
         }
     }
 }

@@ -2,12 +2,12 @@
 //! and its text.
 #![tactic(auto)]
 
+mod collect;
 mod explained;
 mod failing_rows;
-mod told;
-mod written;
+mod line_text;
 
+pub use collect::notes;
 pub use explained::push_explanation;
 pub use soundness::{Note, Section};
-pub use told::notes;
-pub use written::{line, push_line};
+pub use line_text::{line, push_line};

@@ -66,14 +66,14 @@ fn in_pieces(alloc: Global, query: Query, input: &[u8], most: usize) -> Result<E
 
 fn answered(alloc: Global, query: Query, input: &[u8]) -> Result<String, AllocError> {
     let ended = whole(alloc, query, input)?;
-    let mut answer = ended.shown(alloc)?;
+    let mut answer = ended.to_text(alloc)?;
     let case = Case { input, ended };
-    push_otherwise(alloc, query, &case, &mut answer)?;
+    push_differences(alloc, query, &case, &mut answer)?;
     Ok(answer)
 }
 
 // Reports if the answer differs in pieces or, for a short input, with a failing call.
-fn push_otherwise(
+fn push_differences(
     alloc: Global,
     query: Query,
     case: &Case<'_>,
@@ -84,7 +84,7 @@ fn push_otherwise(
         answer.push_str(", but not in pieces")?;
     }
     if case.input.len() <= SHORT {
-        case.push_otherwise(alloc, query, answer)?;
+        case.push_differences(alloc, query, answer)?;
     }
     Ok(())
 }
@@ -100,11 +100,11 @@ fn checked_and_explained(alloc: Global, input: &[u8]) -> Result<String, AllocErr
 
 fn fronts(alloc: Global, query: Query, input: &[u8]) -> Result<String, AllocError> {
     let mut last = whole(alloc, query, &[])?;
-    let mut answer = last.shown(alloc)?;
+    let mut answer = last.to_text(alloc)?;
     for length in 0..input.len() {
         let ended = whole(alloc, query, &input[..length])?;
         if ended != last {
-            let shown = ended.shown(alloc)?;
+            let shown = ended.to_text(alloc)?;
             write!(answer, "\nfrom {length} bytes:\n{shown}")?;
             last = ended;
         }

@@ -9,10 +9,10 @@ use Rattle.support.specs.In.{In}
 use Rattle.support.proofs.Members.{In-append_cases, In-push_cases, In-map, In-map_from, In-flat_map_from, In-filter_from}
 use Rattle.job_bodies.specs.declared.action.Action.{Action}
 use Rattle.job_bodies.specs.declared.action.Action.TheVariants.{Submit}
-use Rattle.job_bodies.specs.Plan.{Pool, Class, Plan, no_pool, no_class, pool_at, class_at, class_got}
+use Rattle.job_bodies.specs.Plan.{Pool, Class, Plan, no_pool, no_class, pool_at, class_at, submitted_class}
 use Rattle.job_bodies.specs.WellFormed.{IsWellFormed}
-use Rattle.job_bodies.proofs.Bodies.{IsOrdered, ordered}
-use Rattle.weights.specs.declared.at_get.AtGet.TheVariants.{GivesBack}
+use Rattle.job_bodies.proofs.Bodies.{HasValidBodies, ordered}
+use Rattle.weights.specs.declared.get_return.GetReturn.TheVariants.{DoneWeight}
 use Rattle.weights.specs.declared.row.Place.TheVariants as place
 use Rattle.weights.specs.declared.row.Row.{Row}
 use Rattle.weights.specs.declared.row.Rule.TheVariants.{S1, S2, B1, B2}
@@ -48,26 +48,26 @@ use Rattle.support.proofs.Members.{In-slice_get}
 pool_part : (plan : Plan) (p : ℕ) → p < length plan.pools → pool_cert_at (steady_cert plan) p ≡ steady_pool plan
 pool_part plan p inside = get_or-map (λ (pool : Pool). steady_pool plan) plan.pools p no_pool no_pool_cert inside
 
-steady_ranks_laws : (plan : Plan) → IsOrdered plan → IsWithoutCause plan → RankLaws plan (steady_ranks plan)
+steady_ranks_laws : (plan : Plan) → HasValidBodies plan → IsWithoutCause plan → RankLaws plan (steady_ranks plan)
 steady_ranks_laws plan is_ordered free = record {
   reaches = λ k inside. let none = get_or-changed (λ (pool : Pool). zero) plan.pools (class_at plan k).pool no_pool in omega (arith, none);
-  falls = λ k i t at. let none = get_or-changed (λ (class : Class). zero) plan.classes (class_got (class_at plan k).body t) no_class in omega (arith, none);
+  falls = λ k i t at. let none = get_or-changed (λ (class : Class). zero) plan.classes (submitted_class (class_at plan k).body t) no_class in omega (arith, none);
   sinks = λ k i j at. levels_sink plan is_ordered free.no_circle k j (In-slice_get (class_at plan k).body i (Submit j) at);
 }
 
 -- ---- all rows except those of totals
 
 abbrev standing_body : Plan → ℕ → Vector → List Row
-standing_body plan p v = rows GivesBack plan v ++ map (λ (entry : ℕ × Class). row S1 (place.Class entry.0) 1 (queued_weight v entry.0)) (classes_of plan p)
+standing_body plan p v = rows DoneWeight plan v ++ map (λ (entry : ℕ × Class). row S1 (place.Class entry.0) 1 (queued_weight v entry.0)) (classes_of plan p)
 
 abbrev blocked_body : Plan → ℕ → (ℕ → ℕ → Bool) → Vector → List Row
-blocked_body plan p counted v = rows GivesBack plan v ++ flat_map (λ (entry : ℕ × Class). counted_rows counted v entry.0 entry.1) (classes_of plan p)
+blocked_body plan p counted v = rows DoneWeight plan v ++ flat_map (λ (entry : ℕ × Class). counted_rows counted v entry.0 entry.1) (classes_of plan p)
 
 -- a class of a pool, by its number
 in_pool : (plan : Plan) (p : ℕ) (entry : ℕ × Class) → In entry (classes_of plan p) → slice_get plan.classes entry.0 ≡ Some entry.1
 in_pool plan p entry at = at_number plan.classes entry (In-filter_from (λ (any : ℕ × Class). any.1.pool == p) (enumerate_from 0 plan.classes) at).0
 
-standing_holds : (plan : Plan) (p : ℕ) → IsOrdered plan → IsWithoutCause plan → AllHold (standing_body plan p (steady_vector plan))
+standing_holds : (plan : Plan) (p : ℕ) → HasValidBodies plan → IsWithoutCause plan → AllHold (standing_body plan p (steady_vector plan))
 standing_holds plan p is_ordered free x at =
     let v = steady_vector plan in
     let of_class = λ (entry : ℕ × Class). row S1 (place.Class entry.0) 1 (queued_weight v entry.0) in
@@ -77,9 +77,9 @@ standing_holds plan p is_ordered free x at =
     let found = In-map_from of_class (classes_of plan p) second in
     let stands = in_pool plan p found.0 found.1 in
     subst (λ (y : Row). y.left ≤ y.right) found.2 (queued_weighs plan is_ordered free found.0.0 (slice_get_within plan.classes found.0.0 found.0.1 stands)))
-    (In-append_cases (rows GivesBack plan v) (map of_class (classes_of plan p)) at)
+    (In-append_cases (rows DoneWeight plan v) (map of_class (classes_of plan p)) at)
 
-blocked_holds : (plan : Plan) (p : ℕ) (counted : ℕ → ℕ → Bool) → IsOrdered plan → IsWithoutCause plan → AllHold (blocked_body plan p counted (steady_vector plan))
+blocked_holds : (plan : Plan) (p : ℕ) (counted : ℕ → ℕ → Bool) → HasValidBodies plan → IsWithoutCause plan → AllHold (blocked_body plan p counted (steady_vector plan))
 blocked_holds plan p counted is_ordered free x at =
     let v = steady_vector plan in
     let of_class = λ (entry : ℕ × Class). counted_rows counted v entry.0 entry.1 in
@@ -92,12 +92,12 @@ blocked_holds plan p counted is_ordered free x at =
     let stands = in_pool plan p found.0 found.1 in
     let is : class_at plan k ≡ class = get_or_from_slice_get plan.classes k class no_class stands in
     let gets = filter (λ (entry : ℕ × Action). is_get entry.1 && counted k entry.0) (enumerate_from 0 class.body) in
-    let at_get = In-map_from (λ (entry : ℕ × Action). row B1 (place.ClassAction k entry.0) 1 (job_weight v k entry.0)) gets found.2 in
-    let among = (In-filter_from (λ (entry : ℕ × Action). is_get entry.1 && counted k entry.0) (enumerate_from 0 class.body) at_get.1).0 in
-    let within = slice_get_within class.body at_get.0.0 at_get.0.1 (at_number class.body at_get.0 among) in
+    let get_return = In-map_from (λ (entry : ℕ × Action). row B1 (place.ClassAction k entry.0) 1 (job_weight v k entry.0)) gets found.2 in
+    let among = (In-filter_from (λ (entry : ℕ × Action). is_get entry.1 && counted k entry.0) (enumerate_from 0 class.body) get_return.1).0 in
+    let within = slice_get_within class.body get_return.0.0 get_return.0.1 (at_number class.body get_return.0 among) in
     let long : length (class_at plan k).body ≡ length class.body = ap (λ (any : Class). length any.body) is in
-    subst (λ (y : Row). y.left ≤ y.right) at_get.2 (job_weighs plan is_ordered free k at_get.0.0 (slice_get_within plan.classes k class stands) (omega (arith, within, long))))
-    (In-append_cases (rows GivesBack plan v) (flat_map of_class (classes_of plan p)) at)
+    subst (λ (y : Row). y.left ≤ y.right) get_return.2 (job_weighs plan is_ordered free k get_return.0.0 (slice_get_within plan.classes k class stands) (omega (arith, within, long))))
+    (In-append_cases (rows DoneWeight plan v) (flat_map of_class (classes_of plan p)) at)
 
 -- ---- only totals fail
 
@@ -115,7 +115,7 @@ fails_at_total part rows t n hold of_total wrong at =
     (λ (final : found.0 ≡ t). ap (λ (y : Note). y.place) (sym found.2) ∙ (ap (λ (x : Row). x.place) final ∙ of_total))
     (In-push_cases rows t found.1)
 
-of_pool : (plan : Plan) (p : ℕ) (n : Note) → IsOrdered plan → IsWithoutCause plan → p < length plan.pools → ltb n.right n.left ≡ true → In n (pool_conditions plan (steady_cert plan) p) → n.place ≡ place.Total
+of_pool : (plan : Plan) (p : ℕ) (n : Note) → HasValidBodies plan → IsWithoutCause plan → p < length plan.pools → ltb n.right n.left ≡ true → In n (pool_conditions plan (steady_cert plan) p) → n.place ≡ place.Total
 of_pool plan p n is_ordered free inside wrong at =
     let v = steady_vector plan in
     let counted = is_counted plan (steady_ranks plan) in
@@ -128,7 +128,7 @@ of_pool plan p n is_ordered free inside wrong at =
     (λ second. fails_at_total (section.Blocked p) (blocked_body plan p counted v) (row B2 place.Total (total plan v) ((pool_at plan p).core - 1)) n (blocked_holds plan p counted is_ordered free) refl wrong second)
     (In-append_cases (in_section (section.Standing p) (standing_rows plan p v)) (in_section (section.Blocked p) (blocked_rows plan p counted v)) here)
 
-only_totals : (plan : Plan) → IsOrdered plan → IsWithoutCause plan → (n : Note) → In n (failing plan (steady_cert plan)) → n.place ≡ place.Total
+only_totals : (plan : Plan) → HasValidBodies plan → IsWithoutCause plan → (n : Note) → In n (failing plan (steady_cert plan)) → n.place ≡ place.Total
 only_totals plan is_ordered free n at =
     let cert = steady_cert plan in
     let found = In-filter_from (λ (y : Note). ltb y.right y.left) (conditions plan cert) at in

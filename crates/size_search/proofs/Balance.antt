@@ -6,8 +6,8 @@ use Rattle.std.proofs.lemmas.Bool.{false≢true}
 use Rattle.std.proofs.lemmas.Option.{slice_get-get_or}
 use Rattle.job_bodies.specs.declared.action.Action.{Action}
 use Rattle.job_bodies.specs.declared.action.Action.TheVariants.{Work, Submit, Get}
-use Rattle.job_bodies.specs.Plan.{Plan, submits, class_of_submit, class_got, is_got}
-use Rattle.job_bodies.specs.Lawful.{IsLawful}
+use Rattle.job_bodies.specs.Plan.{Plan, submits, class_of_submit, submitted_class, has_get_of}
+use Rattle.job_bodies.specs.ValidBody.{IsValidBody}
 use Rattle.weights.specs.Vector.{Vector, queued_weight, done_weight}
 use Rattle.size_search.specs.Steady.{open_weight, most, weight_at, weights_from}
 use Rattle.size_search.proofs.Sums.{le-greatest}
@@ -15,7 +15,7 @@ use Rattle.size_search.proofs.Opened.{rest_at, open-start, open-end, open-work, 
 
 -- each job that the body submits is got, and weighs as much done as queued
 pub record GivesAllBack (plan : Plan) (v : Vector) (body : List Action) : Type 0 where
-  pub got : (i k : ℕ) → slice_get body i ≡ Some (Submit k) → is_got body i ≡ true
+  pub got : (i k : ℕ) → slice_get body i ≡ Some (Submit k) → has_get_of body i ≡ true
   pub same : (i k : ℕ) → slice_get body i ≡ Some (Submit k) → done_weight plan v k ≡ queued_weight v k
 
 -- the submit that a get names
@@ -25,7 +25,7 @@ is_the_submit (Some (Work u)) is_submit = absurd (false≢true is_submit)
 is_the_submit (Some (Get t)) is_submit = absurd (false≢true is_submit)
 is_the_submit None is_submit = absurd (false≢true is_submit)
 
-pub submit_of : (body : List Action) (t : ℕ) → submits (slice_get body t) ≡ true → slice_get body t ≡ Some (Submit (class_got body t))
+pub submit_of : (body : List Action) (t : ℕ) → submits (slice_get body t) ≡ true → slice_get body t ≡ Some (Submit (submitted_class body t))
 submit_of body t is_submit = is_the_submit (slice_get body t) is_submit
 
 -- ---- the list of weights
@@ -50,15 +50,15 @@ least-le plan v least body last (Submit k ∷ rest) enough =
     let step : weight_at plan v least body last (Submit k ∷ rest) ≡ weight_at plan v least body last rest + queued_weight v k = refl in
     omega (arith, step, least-le plan v least body last rest enough)
 least-le plan v least body last (Get t ∷ rest) enough =
-    let step : weight_at plan v least body last (Get t ∷ rest) ≡ max least (weight_at plan v least body last rest - done_weight plan v (class_got body t)) = refl in
+    let step : weight_at plan v least body last (Get t ∷ rest) ≡ max least (weight_at plan v least body last rest - done_weight plan v (submitted_class body t)) = refl in
     omega (arith, step)
 
 -- ---- the balance
 
 -- one action keeps the balance
-before_action : (plan : Plan) (v : Vector) (least : ℕ) (body : List Action) (last : ℕ) → IsLawful plan body → GivesAllBack plan v body → most v body + least ≤ last → (i : ℕ) → i < length body
+before_action : (plan : Plan) (v : Vector) (least : ℕ) (body : List Action) (last : ℕ) → IsValidBody plan body → GivesAllBack plan v body → most v body + least ≤ last → (i : ℕ) → i < length body
     → weight_at plan v least body last (drop (suc i) body) + open_weight v body (suc i) ≡ last → weight_at plan v least body last (drop i body) + open_weight v body i ≡ last
-before_action plan v least body last lawful back enough i inside behind = by_action (get_or body i (Work 0)) (slice_get-get_or body i (Work 0) inside)
+before_action plan v least body last valid back enough i inside behind = by_action (get_or body i (Work 0)) (slice_get-get_or body i (Work 0) inside)
   where
     by_action : (x : Action) → slice_get body i ≡ Some x → weight_at plan v least body last (drop i body) + open_weight v body i ≡ last
     by_action (Work u) is_work =
@@ -67,25 +67,25 @@ before_action plan v least body last lawful back enough i inside behind = by_act
     by_action (Submit k) is_submit =
         let step : weight_at plan v least body last (drop i body) ≡ weight_at plan v least body last (drop (suc i) body) + queued_weight v k = ap (weight_at plan v least body last) (rest_at body i (Submit k) is_submit) in
         let opens : open_weight v body (suc i) ≡ open_weight v body i + queued_weight v k =
-        open-submit plan v body i k lawful is_submit ∙ ap (λ (b : Bool). open_weight v body i + cond b (queued_weight v k) 0) (back.got i k is_submit) in
+        open-submit plan v body i k valid is_submit ∙ ap (λ (b : Bool). open_weight v body i + cond b (queued_weight v k) 0) (back.got i k is_submit) in
         omega (arith, step, behind, opens)
     by_action (Get t) is_get =
-        let k = class_got body t in
+        let k = submitted_class body t in
         let step : weight_at plan v least body last (drop i body) ≡ max least (weight_at plan v least body last (drop (suc i) body) - done_weight plan v k) = ap (weight_at plan v least body last) (rest_at body i (Get t) is_get) in
-        let same = back.same t k (submit_of body t (lawful.of_submit i t is_get)) in
-        omega (arith, step, behind, same, open-get plan v body i t lawful is_get, le-greatest (open_weight v body) (length body) i (omega (arith, inside)), enough)
+        let same = back.same t k (submit_of body t (valid.of_submit i t is_get)) in
+        omega (arith, step, behind, same, open-get plan v body i t valid is_get, le-greatest (open_weight v body) (length body) i (omega (arith, inside)), enough)
 
-pub balance : (plan : Plan) (v : Vector) (least : ℕ) (body : List Action) (last : ℕ) → IsLawful plan body → GivesAllBack plan v body → most v body + least ≤ last → (n i : ℕ) → i + n ≡ length body
+pub balance : (plan : Plan) (v : Vector) (least : ℕ) (body : List Action) (last : ℕ) → IsValidBody plan body → GivesAllBack plan v body → most v body + least ≤ last → (n i : ℕ) → i + n ≡ length body
     → weight_at plan v least body last (drop i body) + open_weight v body i ≡ last
-balance plan v least body last lawful back enough zero i at =
+balance plan v least body last valid back enough zero i at =
     let here : i ≡ length body = omega (arith, at) in
     let rest : weight_at plan v least body last (drop (length body) body) ≡ last = ap (weight_at plan v least body last) (drop-length body) in
     subst (λ (j : ℕ). weight_at plan v least body last (drop j body) + open_weight v body j ≡ last) (sym here) (omega (arith, rest, open-end v body))
-balance plan v least body last lawful back enough (suc n) i at =
-    before_action plan v least body last lawful back enough i (omega (arith, at)) (balance plan v least body last lawful back enough n (suc i) (omega (arith, at)))
+balance plan v least body last valid back enough (suc n) i at =
+    before_action plan v least body last valid back enough i (omega (arith, at)) (balance plan v least body last valid back enough n (suc i) (omega (arith, at)))
 
 -- so the weight at the start is that at the end
-pub begins_as_it_ends : (plan : Plan) (v : Vector) (least : ℕ) (body : List Action) (last : ℕ) → IsLawful plan body → GivesAllBack plan v body → most v body + least ≤ last → weight_at plan v least body last body ≡ last
-begins_as_it_ends plan v least body last lawful back enough =
-    let all = balance plan v least body last lawful back enough (length body) 0 (omega arith) in
+pub begins_as_it_ends : (plan : Plan) (v : Vector) (least : ℕ) (body : List Action) (last : ℕ) → IsValidBody plan body → GivesAllBack plan v body → most v body + least ≤ last → weight_at plan v least body last body ≡ last
+begins_as_it_ends plan v least body last valid back enough =
+    let all = balance plan v least body last valid back enough (length body) 0 (omega arith) in
     omega (arith, all, open-start v body)

@@ -7,7 +7,7 @@ use Rattle.job_bodies.proofs.Bodies.{ordered}
 use Rattle.weights.specs.declared.bound.Bound.{Bound}
 use Rattle.weights.specs.declared.bound.Bound.TheVariants.{Standing, Lifetime}
 use Rattle.weights.specs.Vector.{queued_weight}
-use Rattle.weights.specs.Bound.{bound_vector, bound_at_get}
+use Rattle.weights.specs.Bound.{bound_vector, bound_get_return}
 use Rattle.cert_text.specs.Cert.{Cert, pool_cert_at}
 use Rattle.soundness.proofs.BoundLaws.{BoundLaws, bound_vector_laws}
 use Rattle.soundness.specs.Accepted.{accepted}
@@ -34,7 +34,7 @@ queued_weighs plan p (Lifetime v) laws = laws.queued
 
 -- the bound of their pool: no action makes an actor heavier, and such a job has weight in the queue
 record IsBounded (plan : Plan) (cert : Cert) (bound : Bound) (k : ℕ) : Type 0 where
-  weighed : IsWeighed (bound_at_get bound) plan (bound_vector bound) cert.ranks
+  weighed : IsWeighed (bound_get_return bound) plan (bound_vector bound) cert.ranks
   weighs : 1 ≤ queued_weight (bound_vector bound) k
 
 bounded : (plan : Plan) (cert : Cert) (k : ℕ) → IsWellFormed plan → IsTrue (accepted plan cert) → k < length plan.classes → IsBounded plan cert (pool_cert_at cert (class_at plan k).pool).bound k
@@ -57,7 +57,7 @@ no_client_does plan cert c i well is_accepted cause =
     let k = submitted.0 in
     let bound = (pool_cert_at cert (class_at plan k).pool).bound in
     let facts = bounded plan cert k well is_accepted (((ordered plan well).clients c).submit i k submitted.1) in
-    repeats_with_gets (bound_at_get bound) plan (bound_vector bound) cert.ranks c i k facts.weighed cause.repeats submitted.1 cause.never_got.not_got facts.weighs
+    repeats_with_gets (bound_get_return bound) plan (bound_vector bound) cert.ranks c i k facts.weighed cause.repeats submitted.1 cause.never_got.not_got facts.weighs
 
 client_never_gets : (plan : Plan) (c i : ℕ) → NeverGotByClients plan c i → IsBeyondSizes plan
 client_never_gets plan c i cause other cert well same is_accepted =
@@ -73,8 +73,8 @@ no_job_does plan cert k i well is_accepted cause =
     let j = submitted.0 in
     let bound = (pool_cert_at cert (class_at plan j).pool).bound in
     let facts = bounded plan cert j well is_accepted (((ordered plan well).classes k).submit i j submitted.1) in
-    none_is_lighter (bound_at_get bound) plan (bound_vector bound) cert.ranks facts.weighed cause.submitted
-    (lighter_without_get (bound_at_get bound) plan (bound_vector bound) cert.ranks k i j facts.weighed submitted.1 cause.never_got.not_got facts.weighs)
+    none_is_lighter (bound_get_return bound) plan (bound_vector bound) cert.ranks facts.weighed cause.submitted
+    (lighter_without_get (bound_get_return bound) plan (bound_vector bound) cert.ranks k i j facts.weighed submitted.1 cause.never_got.not_got facts.weighs)
 
 repeated_in : (plan other : Plan) → other.clients ≡ plan.clients → repeated_bodies plan ≡ repeated_bodies other
 repeated_in plan other same = ap (λ (clients : List Client). map (λ (client : Client). client.body) (filter (λ (client : Client). client.repeat) clients)) (sym same)

@@ -7,7 +7,7 @@ use Rattle.support.proofs.Members.{list_all_at_In, In-get_or}
 use Rattle.job_bodies.specs.declared.limits.TheConstants.{MAX_SIZE}
 use Rattle.job_bodies.specs.Plan.{Pool, Class, Client, Plan, no_pool, pool_at}
 use Rattle.job_bodies.proofs.Bodies.{within_bounds}
-use Rattle.job_bodies.specs.WellFormed.{is_lawful_name, is_within, has_lawful_sizes, is_lawful_pool, is_lawful_class, is_lawful_client, is_lawful_body, are_distinct, IsWellFormed}
+use Rattle.job_bodies.specs.WellFormed.{is_valid_name, is_within, has_valid_sizes, is_valid_pool, is_valid_class, is_valid_client, is_valid_body, are_distinct, IsWellFormed}
 use Rattle.size_search.specs.Fitted.{shape}
 use Rattle.size_search.specs.Widened.{outline}
 use Rattle.size_search.proofs.Shapes.{length-changed, list_all-agree}
@@ -28,31 +28,31 @@ length-outline plan = length-changed nameplate plan.pools
 -- ---- well-formed pools
 
 -- their names
-all_named : (pools : List Pool) → list_all is_lawful_pool pools ≡ true → list_all is_lawful_name (map (λ (pool : Pool). pool.name) pools) ≡ true
+all_named : (pools : List Pool) → list_all is_valid_pool pools ≡ true → list_all is_valid_name (map (λ (pool : Pool). pool.name) pools) ≡ true
 all_named [] all = refl
 all_named (pool ∷ pools) all =
-    let parts = and_parts (is_lawful_pool pool) (list_all is_lawful_pool pools) all in
-    and_from (is_lawful_name pool.name) (list_all is_lawful_name (map (λ (x : Pool). x.name) pools)) (and_parts (is_lawful_name pool.name) (has_lawful_sizes pool) parts.0).0 (all_named pools parts.1)
+    let parts = and_parts (is_valid_pool pool) (list_all is_valid_pool pools) all in
+    and_from (is_valid_name pool.name) (list_all is_valid_name (map (λ (x : Pool). x.name) pools)) (and_parts (is_valid_name pool.name) (has_valid_sizes pool) parts.0).0 (all_named pools parts.1)
 
 -- from their names and sizes
-all_lawful : (pools : List Pool) → list_all is_lawful_name (map (λ (pool : Pool). pool.name) pools) ≡ true → list_all has_lawful_sizes pools ≡ true → list_all is_lawful_pool pools ≡ true
-all_lawful [] named sized = refl
-all_lawful (pool ∷ pools) named sized =
-    let names = and_parts (is_lawful_name pool.name) (list_all is_lawful_name (map (λ (x : Pool). x.name) pools)) named in
-    let sizes = and_parts (has_lawful_sizes pool) (list_all has_lawful_sizes pools) sized in
-    and_from (is_lawful_pool pool) (list_all is_lawful_pool pools) (and_from (is_lawful_name pool.name) (has_lawful_sizes pool) names.0 sizes.0) (all_lawful pools names.1 sizes.1)
+all_valid : (pools : List Pool) → list_all is_valid_name (map (λ (pool : Pool). pool.name) pools) ≡ true → list_all has_valid_sizes pools ≡ true → list_all is_valid_pool pools ≡ true
+all_valid [] named sized = refl
+all_valid (pool ∷ pools) named sized =
+    let names = and_parts (is_valid_name pool.name) (list_all is_valid_name (map (λ (x : Pool). x.name) pools)) named in
+    let sizes = and_parts (has_valid_sizes pool) (list_all has_valid_sizes pools) sized in
+    and_from (is_valid_pool pool) (list_all is_valid_pool pools) (and_from (is_valid_name pool.name) (has_valid_sizes pool) names.0 sizes.0) (all_valid pools names.1 sizes.1)
 
 -- their sizes
-pub all_sized : (pools : List Pool) → list_all is_lawful_pool pools ≡ true → list_all has_lawful_sizes pools ≡ true
+pub all_sized : (pools : List Pool) → list_all is_valid_pool pools ≡ true → list_all has_valid_sizes pools ≡ true
 all_sized [] all = refl
 all_sized (pool ∷ pools) all =
-    let parts = and_parts (is_lawful_pool pool) (list_all is_lawful_pool pools) all in
-    and_from (has_lawful_sizes pool) (list_all has_lawful_sizes pools) (and_parts (is_lawful_name pool.name) (has_lawful_sizes pool) parts.0).1 (all_sized pools parts.1)
+    let parts = and_parts (is_valid_pool pool) (list_all is_valid_pool pools) all in
+    and_from (has_valid_sizes pool) (list_all has_valid_sizes pools) (and_parts (is_valid_name pool.name) (has_valid_sizes pool) parts.0).1 (all_sized pools parts.1)
 
 -- ---- the plan
 
 -- a plan that differs only in sizes is well-formed if those are valid
-pub well_formed_changed : (plan other : Plan) → IsWellFormed plan → outline other ≡ outline plan → list_all has_lawful_sizes other.pools ≡ true → IsWellFormed other
+pub well_formed_changed : (plan other : Plan) → IsWellFormed plan → outline other ≡ outline plan → list_all has_valid_sizes other.pools ≡ true → IsWellFormed other
 well_formed_changed plan other well same sized =
     let names : map (λ (pool : Pool). pool.name) other.pools ≡ map (λ (pool : Pool). pool.name) plan.pools =
     sym (names-outline other) ∙ (ap (λ (any : Plan). map (λ (pool : Pool). pool.name) any.pools) same ∙ names-outline plan) in
@@ -66,20 +66,20 @@ well_formed_changed plan other well same sized =
       pool_names = ap are_distinct names ∙ well.pool_names;
       class_names = ap (λ (xs : List Class). are_distinct (map (λ (class : Class). class.name) xs)) classes ∙ well.class_names;
       client_names = ap (λ (xs : List Client). are_distinct (map (λ (client : Client). client.name) xs)) clients ∙ well.client_names;
-      pools = all_lawful other.pools (ap (list_all is_lawful_name) names ∙ all_named plan.pools well.pools) sized;
+      pools = all_valid other.pools (ap (list_all is_valid_name) names ∙ all_named plan.pools well.pools) sized;
       classes = same_classes as_many classes ∙ well.classes;
       clients = same_clients classes clients ∙ well.clients;
     }
   where
-    same_classes : length other.pools ≡ length plan.pools → other.classes ≡ plan.classes → list_all (is_lawful_class other) other.classes ≡ list_all (is_lawful_class plan) plan.classes
+    same_classes : length other.pools ≡ length plan.pools → other.classes ≡ plan.classes → list_all (is_valid_class other) other.classes ≡ list_all (is_valid_class plan) plan.classes
     same_classes as_many classes =
-        list_all-agree (is_lawful_class other) (is_lawful_class plan) other.classes (λ class. ap₂ (λ (pools : ℕ) (all : List Class). is_lawful_name class.name && nat_lt class.pool pools && is_lawful_body (length all) class.body) as_many classes)
-        ∙ ap (list_all (is_lawful_class plan)) classes
+        list_all-agree (is_valid_class other) (is_valid_class plan) other.classes (λ class. ap₂ (λ (pools : ℕ) (all : List Class). is_valid_name class.name && nat_lt class.pool pools && is_valid_body (length all) class.body) as_many classes)
+        ∙ ap (list_all (is_valid_class plan)) classes
 
-    same_clients : other.classes ≡ plan.classes → other.clients ≡ plan.clients → list_all (is_lawful_client other) other.clients ≡ list_all (is_lawful_client plan) plan.clients
+    same_clients : other.classes ≡ plan.classes → other.clients ≡ plan.clients → list_all (is_valid_client other) other.clients ≡ list_all (is_valid_client plan) plan.clients
     same_clients classes clients =
-        list_all-agree (is_lawful_client other) (is_lawful_client plan) other.clients (λ client. ap (λ (all : List Class). is_lawful_name client.name && is_within 1 MAX_SIZE client.count && is_lawful_body (length all) client.body) classes)
-        ∙ ap (list_all (is_lawful_client plan)) clients
+        list_all-agree (is_valid_client other) (is_valid_client plan) other.clients (λ client. ap (λ (all : List Class). is_valid_name client.name && is_within 1 MAX_SIZE client.count && is_valid_body (length all) client.body) classes)
+        ∙ ap (list_all (is_valid_client plan)) clients
 
 -- plans of the same shape have the same outline
 pub outline_of_shape : (plan other : Plan) → shape other ≡ shape plan → outline other ≡ outline plan
@@ -98,9 +98,9 @@ pub record HasSizes (pool : Pool) : Type 0 where
   pub queue : 1 ≤ pool.queue
   pub most_queue : pool.queue ≤ MAX_SIZE
 
-pub has_sizes : (pool : Pool) → has_lawful_sizes pool ≡ true → HasSizes pool
-has_sizes pool lawful =
-    let parts = and_parts (is_within 1 MAX_SIZE pool.core && is_within pool.core MAX_SIZE pool.max) (is_within 1 MAX_SIZE pool.queue) lawful in
+pub has_sizes : (pool : Pool) → has_valid_sizes pool ≡ true → HasSizes pool
+has_sizes pool valid =
+    let parts = and_parts (is_within 1 MAX_SIZE pool.core && is_within pool.core MAX_SIZE pool.max) (is_within 1 MAX_SIZE pool.queue) valid in
     let front = and_parts (is_within 1 MAX_SIZE pool.core) (is_within pool.core MAX_SIZE pool.max) parts.0 in
     record {
       core = (within_bounds 1 MAX_SIZE pool.core front.0).0;
@@ -113,18 +113,18 @@ has_sizes pool lawful =
 is_within_from : (low high n : ℕ) → low ≤ n → n ≤ high → is_within low high n ≡ true
 is_within_from low high n above below = and_from _ _ (le-leb low n above) (le-leb n high below)
 
-pub lawful_from_sizes : (pool : Pool) → HasSizes pool → has_lawful_sizes pool ≡ true
-lawful_from_sizes pool sizes =
+pub valid_from_sizes : (pool : Pool) → HasSizes pool → has_valid_sizes pool ≡ true
+valid_from_sizes pool sizes =
     and_from (is_within 1 MAX_SIZE pool.core && is_within pool.core MAX_SIZE pool.max) (is_within 1 MAX_SIZE pool.queue)
     (and_from (is_within 1 MAX_SIZE pool.core) (is_within pool.core MAX_SIZE pool.max) (is_within_from 1 MAX_SIZE pool.core sizes.core (omega (arith, sizes.max, sizes.most_max))) (is_within_from pool.core MAX_SIZE pool.max sizes.max sizes.most_max))
     (is_within_from 1 MAX_SIZE pool.queue sizes.queue sizes.most_queue)
 
 -- the sizes of a pool of a well-formed plan
 pub sizes_at : (plan : Plan) (p : ℕ) → IsWellFormed plan → p < length plan.pools → HasSizes (pool_at plan p)
-sizes_at plan p well inside = has_sizes (pool_at plan p) (list_all_at_In has_lawful_sizes (all_sized plan.pools well.pools) (In-get_or plan.pools p no_pool inside))
+sizes_at plan p well inside = has_sizes (pool_at plan p) (list_all_at_In has_valid_sizes (all_sized plan.pools well.pools) (In-get_or plan.pools p no_pool inside))
 
 -- from valid sizes at each index
-pub sized_from_places : (pools : List Pool) → ((p : ℕ) → p < length pools → HasSizes (get_or pools p no_pool)) → list_all has_lawful_sizes pools ≡ true
+pub sized_from_places : (pools : List Pool) → ((p : ℕ) → p < length pools → HasSizes (get_or pools p no_pool)) → list_all has_valid_sizes pools ≡ true
 sized_from_places [] each = refl
 sized_from_places (pool ∷ pools) each =
-    and_from (has_lawful_sizes pool) (list_all has_lawful_sizes pools) (lawful_from_sizes pool (each 0 (omega arith))) (sized_from_places pools (λ p inside. each (suc p) (omega arith)))
+    and_from (has_valid_sizes pool) (list_all has_valid_sizes pools) (valid_from_sizes pool (each 0 (omega arith))) (sized_from_places pools (λ p inside. each (suc p) (omega arith)))

@@ -5,7 +5,7 @@ use Rattle.support.specs.In.{In, here, there}
 use Rattle.job_bodies.specs.declared.action.Action.{Action}
 use Rattle.job_bodies.specs.declared.action.Action.TheVariants.{Work, Submit, Get}
 use Rattle.job_bodies.specs.Plan.{Class, Plan, no_class, class_at}
-use Rattle.job_bodies.proofs.Bodies.{IsOrdered}
+use Rattle.job_bodies.proofs.Bodies.{HasValidBodies}
 use Rattle.soundness.proofs.VectorLaws.{class_of_action}
 use Rattle.size_search.specs.Submitted.{IsSubmitted, begins, follows, NoCircle}
 use Rattle.size_search.specs.Steady.{sum_below, level_above, levels_within, steady_levels}
@@ -106,7 +106,7 @@ all_submit plan met k j each at i is_met =
     (or_cases (eqb i k) (met i) is_met)
 
 -- this class has at least the level n, and enough classes were met
-deep_circle : (plan : Plan) → IsOrdered plan → NoCircle plan → (n k : ℕ) (met : ℕ → Bool) → k < length plan.classes → n ≤ level_of plan n k → length plan.classes ≤ how_many plan met + n → AllSubmit plan met k → ⊥
+deep_circle : (plan : Plan) → HasValidBodies plan → NoCircle plan → (n k : ℕ) (met : ℕ → Bool) → k < length plan.classes → n ≤ level_of plan n k → length plan.classes ≤ how_many plan met + n → AllSubmit plan met k → ⊥
 deep_circle plan ordered none zero k met inside deep many each =
     ⊎_elim
     (λ (again : met k ≡ true). none k (each k again))
@@ -124,7 +124,7 @@ deep_circle plan ordered none (suc n) k met inside deep many each =
     (all_submit plan met k found.class each found.at))
     (cases_Bool (met k))
 
-pub shallow : (plan : Plan) → IsOrdered plan → NoCircle plan → (k : ℕ) → k < length plan.classes → level_of plan (length plan.classes) k < length plan.classes
+pub shallow : (plan : Plan) → HasValidBodies plan → NoCircle plan → (k : ℕ) → k < length plan.classes → level_of plan (length plan.classes) k < length plan.classes
 shallow plan ordered none k inside =
     ⊎_elim
     (λ (low : level_of plan (length plan.classes) k < length plan.classes). low)
@@ -142,7 +142,7 @@ settled_below plan (suc n) k low =
     ∙ sym (level-step plan n k))
 
 -- the classes that a class submits have lower levels
-pub levels_sink : (plan : Plan) → IsOrdered plan → NoCircle plan → (k j : ℕ) → In (Submit j) (class_at plan k).body → get_or (steady_levels plan) j 0 + 1 ≤ get_or (steady_levels plan) k 0
+pub levels_sink : (plan : Plan) → HasValidBodies plan → NoCircle plan → (k j : ℕ) → In (Submit j) (class_at plan k).body → get_or (steady_levels plan) j 0 + 1 ≤ get_or (steady_levels plan) k 0
 levels_sink plan ordered none k j at =
     let place = place_in at in
     let inside = class_of_action plan k place.0 (Submit j) place.1 in

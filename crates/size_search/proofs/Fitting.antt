@@ -10,7 +10,7 @@ use Rattle.support.specs.In.{In}
 use Rattle.support.proofs.Members.{In-map_from, list_all_from_In}
 use Rattle.job_bodies.specs.Plan.{Pool, Class, Client, Plan, no_class, no_client, class_at, client_at}
 use Rattle.job_bodies.specs.WellFormed.{IsWellFormed}
-use Rattle.job_bodies.proofs.Bodies.{IsOrdered, ordered}
+use Rattle.job_bodies.proofs.Bodies.{HasValidBodies, ordered}
 use Rattle.job_bodies.specs.declared.limits.TheConstants.{MAX_WEIGHT}
 use Rattle.weights.specs.Vector.{Vector, class_weights, client_weights, has_shape, has_small_numbers, is_small, vector_fits}
 use Rattle.weights.specs.Ranks.{ranks_fit}
@@ -42,7 +42,7 @@ class_row-length plan v body =
 
 -- ---- the vector
 
-class_long : (plan : Plan) → IsOrdered plan → NoCircle plan → (entry : ℕ × Class) → In entry (enumerate_from 0 plan.classes) → (length (class_weights (steady_vector plan) entry.0) == length entry.1.body + 3) ≡ true
+class_long : (plan : Plan) → HasValidBodies plan → NoCircle plan → (entry : ℕ × Class) → In entry (enumerate_from 0 plan.classes) → (length (class_weights (steady_vector plan) entry.0) == length entry.1.body + 3) ≡ true
 class_long plan is_ordered none entry at =
     let stands = at_number plan.classes entry at in
     let is : class_at plan entry.0 ≡ entry.1 = get_or_from_slice_get plan.classes entry.0 entry.1 no_class stands in
@@ -50,7 +50,7 @@ class_long plan is_ordered none entry at =
     eq-eqb (length (class_weights (steady_vector plan) entry.0)) (length entry.1.body + 3)
     (ap length row ∙ (class_row-length plan (steady_vector plan) (class_at plan entry.0).body ∙ ap (λ (class : Class). length class.body + 3) is))
 
-client_long : (plan : Plan) → IsOrdered plan → (entry : ℕ × Client) → In entry (enumerate_from 0 plan.clients) → (length (client_weights (steady_vector plan) entry.0) == length entry.1.body + 1) ≡ true
+client_long : (plan : Plan) → HasValidBodies plan → (entry : ℕ × Client) → In entry (enumerate_from 0 plan.clients) → (length (client_weights (steady_vector plan) entry.0) == length entry.1.body + 1) ≡ true
 client_long plan is_ordered entry at =
     let stands = at_number plan.clients entry at in
     let is : client_at plan entry.0 ≡ entry.1 = get_or_from_slice_get plan.clients entry.0 entry.1 no_client stands in
@@ -60,7 +60,7 @@ client_long plan is_ordered entry at =
     eq-eqb (length (client_weights v entry.0)) (length entry.1.body + 1)
     (ap length row ∙ (weights-length plan v 0 client.body (client_end v client) client.body ∙ ap (λ (any : Client). length any.body + 1) is))
 
-has_its_shape : (plan : Plan) → IsOrdered plan → NoCircle plan → has_shape plan (steady_vector plan) ≡ true
+has_its_shape : (plan : Plan) → HasValidBodies plan → NoCircle plan → has_shape plan (steady_vector plan) ≡ true
 has_its_shape plan is_ordered none =
     let v = steady_vector plan in
     and_from _ _
@@ -73,7 +73,7 @@ has_its_shape plan is_ordered none =
     (list_all_from_In (λ (entry : ℕ × Class). length (class_weights v entry.0) == length entry.1.body + 3) (enumerate_from 0 plan.classes) (class_long plan is_ordered none)))
     (list_all_from_In (λ (entry : ℕ × Client). length (client_weights v entry.0) == length entry.1.body + 1) (enumerate_from 0 plan.clients) (client_long plan is_ordered))
 
-pub vector_is_fit : (plan : Plan) → IsOrdered plan → NoCircle plan → has_small_numbers (steady_vector plan) ≡ true → vector_fits plan (steady_vector plan) ≡ true
+pub vector_is_fit : (plan : Plan) → HasValidBodies plan → NoCircle plan → has_small_numbers (steady_vector plan) ≡ true → vector_fits plan (steady_vector plan) ≡ true
 vector_is_fit plan is_ordered none small = and_from (has_shape plan (steady_vector plan)) (has_small_numbers (steady_vector plan)) (has_its_shape plan is_ordered none) small
 
 -- ---- the ranks

@@ -7,7 +7,7 @@ use Rattle.job_bodies.specs.declared.action.Action.{Action}
 use Rattle.job_bodies.specs.declared.action.Action.TheVariants.{Submit}
 use Rattle.job_bodies.specs.Plan.{Plan, class_at, client_at}
 use Rattle.job_bodies.specs.WellFormed.{IsWellFormed}
-use Rattle.job_bodies.specs.Lawful.{IsLawful}
+use Rattle.job_bodies.specs.ValidBody.{IsValidBody}
 use Rattle.job_bodies.proofs.Bodies.{ordered}
 use Rattle.size_search.specs.declared.reached.Reached.{Reached}
 use Rattle.size_search.specs.Submitted.{IsSubmitted, begins, follows, repeated_bodies}
@@ -19,8 +19,8 @@ place_in here = (0, refl)
 place_in (there at) = let found = place_in at in (suc found.0, found.1)
 
 -- a class that a body submits is a class of the plan
-submits_within : (plan : Plan) (body : List Action) (k : ℕ) → IsLawful plan body → In (Submit k) body → k < length plan.classes
-submits_within plan body k lawful at = let place = place_in at in lawful.submit place.0 k place.1
+submits_within : (plan : Plan) (body : List Action) (k : ℕ) → IsValidBody plan body → In (Submit k) body → k < length plan.classes
+submits_within plan body k valid at = let place = place_in at in valid.submit place.0 k place.1
 
 pub class_submits_within : (plan : Plan) (j k : ℕ) → IsWellFormed plan → In (Submit k) (class_at plan j).body → k < length plan.classes
 class_submits_within plan j k well at = submits_within plan (class_at plan j).body k ((ordered plan well).classes j) at

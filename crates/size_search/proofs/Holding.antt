@@ -7,7 +7,7 @@ use Rattle.support.proofs.Members.{not_In_nil, In-cons_cases, In-append_cases, I
 use Rattle.job_bodies.specs.declared.action.Action.{Action}
 use Rattle.job_bodies.specs.declared.action.Action.TheVariants.{Work, Submit, Get}
 use Rattle.job_bodies.specs.Plan.{Class, Client, Plan, no_class, no_client, class_at, client_at}
-use Rattle.weights.specs.declared.at_get.AtGet.TheVariants.{GivesBack}
+use Rattle.weights.specs.declared.get_return.GetReturn.TheVariants.{DoneWeight}
 use Rattle.weights.specs.declared.row.Place.{Place}
 use Rattle.weights.specs.declared.row.Place.TheVariants as place
 use Rattle.weights.specs.declared.row.Row.{Row}
@@ -42,21 +42,21 @@ at_number xs entry at =
 
 -- ---- a vector
 
-action_holds : (plan : Plan) (v : Vector) (weight : ℕ → ℕ) (place_at : ℕ → Place) (body : List Action) (i : ℕ) (x : Action) → BodyLaws GivesBack plan v weight body → slice_get body i ≡ Some x
-    → (action_row GivesBack plan v weight place_at body i x).left ≤ (action_row GivesBack plan v weight place_at body i x).right
+action_holds : (plan : Plan) (v : Vector) (weight : ℕ → ℕ) (place_at : ℕ → Place) (body : List Action) (i : ℕ) (x : Action) → BodyLaws DoneWeight plan v weight body → slice_get body i ≡ Some x
+    → (action_row DoneWeight plan v weight place_at body i x).left ≤ (action_row DoneWeight plan v weight place_at body i x).right
 action_holds plan v weight place_at body i (Work u) laws at = laws.work i u at
 action_holds plan v weight place_at body i (Submit k) laws at = laws.submit i k at
 action_holds plan v weight place_at body i (Get t) laws at = laws.get i t at
 
-body_holds : (plan : Plan) (v : Vector) (weight : ℕ → ℕ) (place_at : ℕ → Place) (body : List Action) → BodyLaws GivesBack plan v weight body → AllHold (body_rows GivesBack plan v weight place_at body)
+body_holds : (plan : Plan) (v : Vector) (weight : ℕ → ℕ) (place_at : ℕ → Place) (body : List Action) → BodyLaws DoneWeight plan v weight body → AllHold (body_rows DoneWeight plan v weight place_at body)
 body_holds plan v weight place_at body laws x at =
-    let found = In-map_from (λ (entry : ℕ × Action). action_row GivesBack plan v weight place_at body entry.0 entry.1) (enumerate_from 0 body) at in
+    let found = In-map_from (λ (entry : ℕ × Action). action_row DoneWeight plan v weight place_at body entry.0 entry.1) (enumerate_from 0 body) at in
     subst (λ (y : Row). y.left ≤ y.right) found.2 (action_holds plan v weight place_at body found.0.0 found.0.1 laws (at_number body found.0 found.1))
 
-class_holds : (plan : Plan) (v : Vector) (k : ℕ) → VectorLaws GivesBack plan v → k < length plan.classes → AllHold (class_rows GivesBack plan v k (class_at plan k))
+class_holds : (plan : Plan) (v : Vector) (k : ℕ) → VectorLaws DoneWeight plan v → k < length plan.classes → AllHold (class_rows DoneWeight plan v k (class_at plan k))
 class_holds plan v k laws inside x at =
     let body = (class_at plan k).body in
-    let of_body = body_rows GivesBack plan v (job_weight v k) (place.ClassAction k) body in
+    let of_body = body_rows DoneWeight plan v (job_weight v k) (place.ClassAction k) body in
     ⊎_elim
     (λ first. subst (λ (y : Row). y.left ≤ y.right) (sym first) (laws.begins k inside))
     (λ later.
@@ -71,30 +71,30 @@ loop_holds v c last true holds x at =
     ⊎_elim (λ this. subst (λ (y : Row). y.left ≤ y.right) (sym this) (holds refl)) (λ none. absurd (not_In_nil none)) (In-cons_cases at)
 loop_holds v c last false holds x at = absurd (not_In_nil at)
 
-client_holds : (plan : Plan) (v : Vector) (c : ℕ) → VectorLaws GivesBack plan v → AllHold (client_rows GivesBack plan v c (client_at plan c))
+client_holds : (plan : Plan) (v : Vector) (c : ℕ) → VectorLaws DoneWeight plan v → AllHold (client_rows DoneWeight plan v c (client_at plan c))
 client_holds plan v c laws x at =
     let client = client_at plan c in
-    let of_body = body_rows GivesBack plan v (client_weight v c) (place.ClientAction c) client.body in
+    let of_body = body_rows DoneWeight plan v (client_weight v c) (place.ClientAction c) client.body in
     ⊎_elim
     (λ among. body_holds plan v (client_weight v c) (place.ClientAction c) client.body (laws.clients c) x among)
     (λ final. loop_holds v c (length client.body) client.repeat (laws.loops c) x final)
     (In-append_cases of_body _ at)
 
-pub rows_hold : (plan : Plan) (v : Vector) → VectorLaws GivesBack plan v → AllHold (rows GivesBack plan v)
+pub rows_hold : (plan : Plan) (v : Vector) → VectorLaws DoneWeight plan v → AllHold (rows DoneWeight plan v)
 rows_hold plan v laws x at =
     ⊎_elim
     (λ first.
-    let found = In-flat_map_from (λ (entry : ℕ × Class). class_rows GivesBack plan v entry.0 entry.1) (enumerate_from 0 plan.classes) first in
+    let found = In-flat_map_from (λ (entry : ℕ × Class). class_rows DoneWeight plan v entry.0 entry.1) (enumerate_from 0 plan.classes) first in
     let there_is = at_number plan.classes found.0 found.1 in
     let is : found.0.1 ≡ class_at plan found.0.0 = sym (get_or_from_slice_get plan.classes found.0.0 found.0.1 no_class there_is) in
-    class_holds plan v found.0.0 laws (slice_get_within plan.classes found.0.0 found.0.1 there_is) x (subst (λ (class : Class). In x (class_rows GivesBack plan v found.0.0 class)) is found.2))
+    class_holds plan v found.0.0 laws (slice_get_within plan.classes found.0.0 found.0.1 there_is) x (subst (λ (class : Class). In x (class_rows DoneWeight plan v found.0.0 class)) is found.2))
     (λ second.
-    let found = In-flat_map_from (λ (entry : ℕ × Client). client_rows GivesBack plan v entry.0 entry.1) (enumerate_from 0 plan.clients) second in
+    let found = In-flat_map_from (λ (entry : ℕ × Client). client_rows DoneWeight plan v entry.0 entry.1) (enumerate_from 0 plan.clients) second in
     let is : found.0.1 ≡ client_at plan found.0.0 = sym (get_or_from_slice_get plan.clients found.0.0 found.0.1 no_client (at_number plan.clients found.0 found.1)) in
-    client_holds plan v found.0.0 laws x (subst (λ (client : Client). In x (client_rows GivesBack plan v found.0.0 client)) is found.2))
+    client_holds plan v found.0.0 laws x (subst (λ (client : Client). In x (client_rows DoneWeight plan v found.0.0 client)) is found.2))
     (In-append_cases
-    (flat_map (λ (entry : ℕ × Class). class_rows GivesBack plan v entry.0 entry.1) (enumerate_from 0 plan.classes))
-    (flat_map (λ (entry : ℕ × Client). client_rows GivesBack plan v entry.0 entry.1) (enumerate_from 0 plan.clients)) at)
+    (flat_map (λ (entry : ℕ × Class). class_rows DoneWeight plan v entry.0 entry.1) (enumerate_from 0 plan.classes))
+    (flat_map (λ (entry : ℕ × Client). client_rows DoneWeight plan v entry.0 entry.1) (enumerate_from 0 plan.clients)) at)
 
 -- ---- ranks
 

@@ -5,7 +5,7 @@ use Rattle.std.proofs.lemmas.Bool.{and_parts, and_from, cases_lt}
 use Rattle.std.proofs.lemmas.List.{get_or_past}
 use Rattle.std.proofs.lemmas.Option.{same_Some}
 use Rattle.job_bodies.specs.Plan.{Pool, Plan, no_pool, pool_at, first_workers}
-use Rattle.job_bodies.specs.WellFormed.{has_lawful_sizes, IsWellFormed}
+use Rattle.job_bodies.specs.WellFormed.{has_valid_sizes, IsWellFormed}
 use Rattle.weights.specs.declared.bound.Bound.{Bound}
 use Rattle.weights.specs.declared.bound.Bound.TheVariants.{Standing, Lifetime}
 use Rattle.weights.specs.Vector.{Vector, total}
@@ -179,7 +179,7 @@ raised_least plan other cert fits = record { core = λ p. (at_pool p).0; queue =
     ]
 
 -- if a plan fits, the raised one has valid sizes
-raised_sized : (plan other : Plan) (cert : Cert) → IsWellFormed plan → IsFit plan cert other → list_all has_lawful_sizes (raised plan cert).pools ≡ true
+raised_sized : (plan other : Plan) (cert : Cert) → IsWellFormed plan → IsFit plan cert other → list_all has_valid_sizes (raised plan cert).pools ≡ true
 raised_sized plan other cert well fits = sized_from_places (raised plan cert).pools each
   where
     each : (p : ℕ) → p < length (raised plan cert).pools → HasSizes (pool_at (raised plan cert) p)
@@ -203,7 +203,7 @@ raised_sized plan other cert well fits = sized_from_places (raised plan cert).po
 -- the fitted plan is the raised plan
 record IsRaised (plan : Plan) (cert : Cert) (fit : Plan) : Type 0 where
   only_at_totals : fails_only_at_totals plan cert ≡ true
-  sized : list_all has_lawful_sizes (raised plan cert).pools ≡ true
+  sized : list_all has_valid_sizes (raised plan cert).pools ≡ true
   is : raised plan cert ≡ fit
 
 cond_Some : {X : Type 0} (b : Bool) (x y : X) → cond b (Some x) None ≡ Some y → (b ≡ true) × (x ≡ y)
@@ -213,17 +213,17 @@ cond_Some false x y e = absurd cc
 is_raised : (plan fit : Plan) (cert : Cert) → fitted plan cert ≡ Some fit → IsRaised plan cert fit
 is_raised plan fit cert e =
     let only_at_totals = fails_only_at_totals plan cert in
-    let sized = list_all has_lawful_sizes (raised plan cert).pools in
+    let sized = list_all has_valid_sizes (raised plan cert).pools in
     let found = cond_Some (only_at_totals && sized) (raised plan cert) fit e in
     let parts = and_parts only_at_totals sized found.0 in
     record { only_at_totals = parts.0; sized = parts.1; is = found.1 }
 
-pub fitted_from : (plan : Plan) (cert : Cert) → fails_only_at_totals plan cert ≡ true → list_all has_lawful_sizes (raised plan cert).pools ≡ true → fitted plan cert ≡ Some (raised plan cert)
+pub fitted_from : (plan : Plan) (cert : Cert) → fails_only_at_totals plan cert ≡ true → list_all has_valid_sizes (raised plan cert).pools ≡ true → fitted plan cert ≡ Some (raised plan cert)
 fitted_from plan cert only_at_totals sized =
-    ap (λ (b : Bool). cond b (Some (raised plan cert)) None) (and_from (fails_only_at_totals plan cert) (list_all has_lawful_sizes (raised plan cert).pools) only_at_totals sized)
+    ap (λ (b : Bool). cond b (Some (raised plan cert)) None) (and_from (fails_only_at_totals plan cert) (list_all has_valid_sizes (raised plan cert).pools) only_at_totals sized)
 
 -- a raised plan with valid sizes is well-formed
-pub raised_is_well_formed : (plan : Plan) (cert : Cert) → IsWellFormed plan → list_all has_lawful_sizes (raised plan cert).pools ≡ true → IsWellFormed (raised plan cert)
+pub raised_is_well_formed : (plan : Plan) (cert : Cert) → IsWellFormed plan → list_all has_valid_sizes (raised plan cert).pools ≡ true → IsWellFormed (raised plan cert)
 raised_is_well_formed plan cert well sized = well_formed_changed plan (raised plan cert) well (outline_of_shape plan (raised plan cert) (raised-shape plan cert)) sized
 
 fits_raised : (plan : Plan) (cert : Cert) → IsWellFormed plan → IsRaised plan cert (raised plan cert) → IsFit plan cert (raised plan cert)

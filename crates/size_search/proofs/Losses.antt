@@ -5,11 +5,11 @@ use Rattle.std.proofs.lemmas.Option.{slice_get_within, slice_get-get_or}
 use Rattle.support.proofs.Members.{In-slice_get, list_any_at_In}
 use Rattle.job_bodies.specs.declared.action.Action.{Action}
 use Rattle.job_bodies.specs.declared.action.Action.TheVariants.{Work, Submit, Get}
-use Rattle.job_bodies.specs.Plan.{Plan, submits, class_of_submit, class_got, gets, is_got}
-use Rattle.job_bodies.specs.Lawful.{IsLawful}
-use Rattle.weights.specs.declared.at_get.AtGet.{AtGet}
+use Rattle.job_bodies.specs.Plan.{Plan, submits, class_of_submit, submitted_class, gets, has_get_of}
+use Rattle.job_bodies.specs.ValidBody.{IsValidBody}
+use Rattle.weights.specs.declared.get_return.GetReturn.{GetReturn}
 use Rattle.weights.specs.Vector.{Vector, queued_weight}
-use Rattle.weights.specs.AtGet.{given_back}
+use Rattle.weights.specs.GetReturn.{returned_weight}
 use Rattle.soundness.proofs.VectorLaws.{BodyLaws}
 
 -- ---- sums over the positions below n
@@ -76,69 +76,69 @@ got_from body (suc n) s passes =
     (or_cases (gets_at s (slice_get body n)) (got_before body n s) passes)
 
 -- if no action of the body gets it, none before n does
-not_got_before : (body : List Action) (n s : ℕ) → is_got body s ≡ false → got_before body n s ≡ false
+not_got_before : (body : List Action) (n s : ℕ) → has_get_of body s ≡ false → got_before body n s ≡ false
 not_got_before body n s not_got =
     false_from_ne_true (got_before body n s)
     (λ passes.
     let found = got_from body n s passes in
-    both_ways (is_got body s) not_got (list_any_at_In (gets s) (In-slice_get body found.position (Get s) found.is_get) (eq-eqb s s refl)))
+    both_ways (has_get_of body s) not_got (list_any_at_In (gets s) (In-slice_get body found.position (Get s) found.is_get) (eq-eqb s s refl)))
 
 -- ---- the cost of submits
 
 -- the cost of a submit of class k, with or without its get
-abbrev price : AtGet → Plan → Vector → ℕ → Bool → ℕ
-price at_get plan v k true = queued_weight v k - given_back at_get plan v k
-price at_get plan v k false = queued_weight v k
+abbrev price : GetReturn → Plan → Vector → ℕ → Bool → ℕ
+price get_return plan v k true = queued_weight v k - returned_weight get_return plan v k
+price get_return plan v k false = queued_weight v k
 
-abbrev cost : AtGet → Plan → Vector → Bool → Option Action → ℕ
-cost at_get plan v got (Some (Submit k)) = price at_get plan v k got
-cost at_get plan v got (Some (Work u)) = 0
-cost at_get plan v got (Some (Get t)) = 0
-cost at_get plan v got None = 0
+abbrev cost : GetReturn → Plan → Vector → Bool → Option Action → ℕ
+cost get_return plan v got (Some (Submit k)) = price get_return plan v k got
+cost get_return plan v got (Some (Work u)) = 0
+cost get_return plan v got (Some (Get t)) = 0
+cost get_return plan v got None = 0
 
 -- the cost so far, at position n, of the submit at position s
-abbrev cost_at : AtGet → Plan → Vector → List Action → ℕ → ℕ → ℕ
-cost_at at_get plan v body n s = cost at_get plan v (got_before body n s) (slice_get body s)
+abbrev cost_at : GetReturn → Plan → Vector → List Action → ℕ → ℕ → ℕ
+cost_at get_return plan v body n s = cost get_return plan v (got_before body n s) (slice_get body s)
 
 -- the cost does not rise later
-price-or : (at_get : AtGet) (plan : Plan) (v : Vector) (k : ℕ) (now before : Bool) → price at_get plan v k (now || before) ≤ price at_get plan v k before
-price-or at_get plan v k false before = le-refl (price at_get plan v k before)
+price-or : (get_return : GetReturn) (plan : Plan) (v : Vector) (k : ℕ) (now before : Bool) → price get_return plan v k (now || before) ≤ price get_return plan v k before
+price-or get_return plan v k false before = le-refl (price get_return plan v k before)
   where
     le-refl : (n : ℕ) → n ≤ n
     le-refl n = omega arith
-price-or at_get plan v k true true =
-    let same : price at_get plan v k (true || true) ≡ price at_get plan v k true = refl in
+price-or get_return plan v k true true =
+    let same : price get_return plan v k (true || true) ≡ price get_return plan v k true = refl in
     omega (arith, same)
-price-or at_get plan v k true false =
-    let got : price at_get plan v k (true || false) ≡ queued_weight v k - given_back at_get plan v k = refl in
-    let not_got : price at_get plan v k false ≡ queued_weight v k = refl in
+price-or get_return plan v k true false =
+    let got : price get_return plan v k (true || false) ≡ queued_weight v k - returned_weight get_return plan v k = refl in
+    let not_got : price get_return plan v k false ≡ queued_weight v k = refl in
     omega (arith, got, not_got)
 
 none-le : 0 ≤ 0
 none-le = omega arith
 
-cost-or : (at_get : AtGet) (plan : Plan) (v : Vector) (now before : Bool) (x : Option Action) → cost at_get plan v (now || before) x ≤ cost at_get plan v before x
-cost-or at_get plan v now before (Some (Submit k)) = price-or at_get plan v k now before
-cost-or at_get plan v now before (Some (Work u)) = none-le
-cost-or at_get plan v now before (Some (Get t)) = none-le
-cost-or at_get plan v now before None = none-le
+cost-or : (get_return : GetReturn) (plan : Plan) (v : Vector) (now before : Bool) (x : Option Action) → cost get_return plan v (now || before) x ≤ cost get_return plan v before x
+cost-or get_return plan v now before (Some (Submit k)) = price-or get_return plan v k now before
+cost-or get_return plan v now before (Some (Work u)) = none-le
+cost-or get_return plan v now before (Some (Get t)) = none-le
+cost-or get_return plan v now before None = none-le
 
-cost_later : (at_get : AtGet) (plan : Plan) (v : Vector) (body : List Action) (n s : ℕ) → cost_at at_get plan v body (suc n) s ≤ cost_at at_get plan v body n s
-cost_later at_get plan v body n s = cost-or at_get plan v (gets_at s (slice_get body n)) (got_before body n s) (slice_get body s)
+cost_later : (get_return : GetReturn) (plan : Plan) (v : Vector) (body : List Action) (n s : ℕ) → cost_at get_return plan v body (suc n) s ≤ cost_at get_return plan v body n s
+cost_later get_return plan v body n s = cost-or get_return plan v (gets_at s (slice_get body n)) (got_before body n s) (slice_get body s)
 
-price-le : (at_get : AtGet) (plan : Plan) (v : Vector) (k : ℕ) (got : Bool) → price at_get plan v k got ≤ queued_weight v k
-price-le at_get plan v k true =
-    let got : price at_get plan v k true ≡ queued_weight v k - given_back at_get plan v k = refl in
+price-le : (get_return : GetReturn) (plan : Plan) (v : Vector) (k : ℕ) (got : Bool) → price get_return plan v k got ≤ queued_weight v k
+price-le get_return plan v k true =
+    let got : price get_return plan v k true ≡ queued_weight v k - returned_weight get_return plan v k = refl in
     omega (arith, got)
-price-le at_get plan v k false =
-    let not_got : price at_get plan v k false ≡ queued_weight v k = refl in
+price-le get_return plan v k false =
+    let not_got : price get_return plan v k false ≡ queued_weight v k = refl in
     omega (arith, not_got)
 
 -- ---- over a body
 
 -- no job that the body submits returns more than it weighed when queued
-abbrev pub NoneGains : AtGet → Plan → Vector → List Action → Type 0
-NoneGains at_get plan v body = (i k : ℕ) → slice_get body i ≡ Some (Submit k) → given_back at_get plan v k ≤ queued_weight v k
+abbrev pub NoneGains : GetReturn → Plan → Vector → List Action → Type 0
+NoneGains get_return plan v body = (i k : ℕ) → slice_get body i ≡ Some (Submit k) → returned_weight get_return plan v k ≤ queued_weight v k
 
 -- a submit names a class
 pub class_submitted : (x : Option Action) → submits x ≡ true → (k : ℕ) × (x ≡ Some (Submit k))
@@ -148,33 +148,33 @@ class_submitted (Some (Get t)) passes = absurd (false≢true passes)
 class_submitted None passes = absurd (false≢true passes)
 
 -- a get returns at most the decrease of its submit's cost
-get_pays : (at_get : AtGet) (plan : Plan) (v : Vector) (body : List Action) (n t : ℕ) → IsLawful plan body → NoneGains at_get plan v body → slice_get body n ≡ Some (Get t)
-    → cost_at at_get plan v body (suc n) t + given_back at_get plan v (class_got body t) ≤ cost_at at_get plan v body n t
-get_pays at_get plan v body n t lawful gains is_get =
-    let submitted = class_submitted (slice_get body t) (lawful.of_submit n t is_get) in
+get_pays : (get_return : GetReturn) (plan : Plan) (v : Vector) (body : List Action) (n t : ℕ) → IsValidBody plan body → NoneGains get_return plan v body → slice_get body n ≡ Some (Get t)
+    → cost_at get_return plan v body (suc n) t + returned_weight get_return plan v (submitted_class body t) ≤ cost_at get_return plan v body n t
+get_pays get_return plan v body n t valid gains is_get =
+    let submitted = class_submitted (slice_get body t) (valid.of_submit n t is_get) in
     let k = submitted.0 in
-    let names : class_got body t ≡ k = ap class_of_submit submitted.1 in
+    let names : submitted_class body t ≡ k = ap class_of_submit submitted.1 in
     let not_before : got_before body n t ≡ false = false_from_ne_true (got_before body n t)
-    (λ passes. let found = got_from body n t passes in lawful.once found.position n t found.before found.is_get is_get) in
+    (λ passes. let found = got_from body n t passes in valid.once found.position n t found.before found.is_get is_get) in
     let now : gets_at t (slice_get body n) ≡ true = ap (gets_at t) is_get ∙ eq-eqb t t refl in
     let behind : got_before body (suc n) t ≡ true = or_left (gets_at t (slice_get body n)) (got_before body n t) now in
-    let cost_before : cost_at at_get plan v body n t ≡ queued_weight v k =
-    ap (λ (got : Bool). cost at_get plan v got (slice_get body t)) not_before ∙ ap (cost at_get plan v false) submitted.1 in
-    let cost_behind : cost_at at_get plan v body (suc n) t ≡ queued_weight v k - given_back at_get plan v k =
-    ap (λ (got : Bool). cost at_get plan v got (slice_get body t)) behind ∙ ap (cost at_get plan v true) submitted.1 in
-    let given : given_back at_get plan v (class_got body t) ≡ given_back at_get plan v k = ap (given_back at_get plan v) names in
+    let cost_before : cost_at get_return plan v body n t ≡ queued_weight v k =
+    ap (λ (got : Bool). cost get_return plan v got (slice_get body t)) not_before ∙ ap (cost get_return plan v false) submitted.1 in
+    let cost_behind : cost_at get_return plan v body (suc n) t ≡ queued_weight v k - returned_weight get_return plan v k =
+    ap (λ (got : Bool). cost get_return plan v got (slice_get body t)) behind ∙ ap (cost get_return plan v true) submitted.1 in
+    let given : returned_weight get_return plan v (submitted_class body t) ≡ returned_weight get_return plan v k = ap (returned_weight get_return plan v) names in
     omega (arith, cost_before, cost_behind, given, gains t k submitted.1)
 
 -- the effect of the action at position n
-step : (at_get : AtGet) (plan : Plan) (v : Vector) (weight : ℕ → ℕ) (body : List Action) (n : ℕ) (x : Action) → IsLawful plan body → BodyLaws at_get plan v weight body → NoneGains at_get plan v body → slice_get body n ≡ Some x
-    → weight (suc n) + sum_below (cost_at at_get plan v body (suc n)) (suc n) ≤ weight n + sum_below (cost_at at_get plan v body n) n
-step at_get plan v weight body n x lawful laws gains at = by_action x at
+step : (get_return : GetReturn) (plan : Plan) (v : Vector) (weight : ℕ → ℕ) (body : List Action) (n : ℕ) (x : Action) → IsValidBody plan body → BodyLaws get_return plan v weight body → NoneGains get_return plan v body → slice_get body n ≡ Some x
+    → weight (suc n) + sum_below (cost_at get_return plan v body (suc n)) (suc n) ≤ weight n + sum_below (cost_at get_return plan v body n) n
+step get_return plan v weight body n x valid laws gains at = by_action x at
   where
     old : ℕ → ℕ
-    old = cost_at at_get plan v body n
+    old = cost_at get_return plan v body n
 
     new : ℕ → ℕ
-    new = cost_at at_get plan v body (suc n)
+    new = cost_at get_return plan v body (suc n)
 
     one_more : sum_below new (suc n) ≡ sum_below new n + new n
     one_more = refl
@@ -183,59 +183,59 @@ step at_get plan v weight body n x lawful laws gains at = by_action x at
     next = let number : suc n ≡ n + 1 = omega arith in ap weight number
 
     later : sum_below new n ≤ sum_below old n
-    later = sum_below-le new old n (cost_later at_get plan v body n)
+    later = sum_below-le new old n (cost_later get_return plan v body n)
 
     by_action : (y : Action) → slice_get body n ≡ Some y → weight (suc n) + sum_below new (suc n) ≤ weight n + sum_below old n
     by_action (Work u) is_work =
-        let free : new n ≡ 0 = ap (cost at_get plan v (got_before body (suc n) n)) is_work in
+        let free : new n ≡ 0 = ap (cost get_return plan v (got_before body (suc n) n)) is_work in
         omega (arith, one_more, next, later, free, laws.work n u is_work)
     by_action (Submit k) is_submit =
-        let paid : new n ≡ price at_get plan v k (got_before body (suc n) n) = ap (cost at_get plan v (got_before body (suc n) n)) is_submit in
-        omega (arith, one_more, next, later, paid, price-le at_get plan v k (got_before body (suc n) n), laws.submit n k is_submit)
+        let paid : new n ≡ price get_return plan v k (got_before body (suc n) n) = ap (cost get_return plan v (got_before body (suc n) n)) is_submit in
+        omega (arith, one_more, next, later, paid, price-le get_return plan v k (got_before body (suc n) n), laws.submit n k is_submit)
     by_action (Get t) is_get =
-        let free : new n ≡ 0 = ap (cost at_get plan v (got_before body (suc n) n)) is_get in
-        let pays = sum_below-le-at new old n t (given_back at_get plan v (class_got body t)) (lawful.behind n t is_get) (cost_later at_get plan v body n) (get_pays at_get plan v body n t lawful gains is_get) in
+        let free : new n ≡ 0 = ap (cost get_return plan v (got_before body (suc n) n)) is_get in
+        let pays = sum_below-le-at new old n t (returned_weight get_return plan v (submitted_class body t)) (valid.behind n t is_get) (cost_later get_return plan v body n) (get_pays get_return plan v body n t valid gains is_get) in
         omega (arith, one_more, next, free, pays, laws.get n t is_get)
 
 -- an actor has lost the cost of its submits
-lost_so_far : (at_get : AtGet) (plan : Plan) (v : Vector) (weight : ℕ → ℕ) (body : List Action) (n : ℕ) → IsLawful plan body → BodyLaws at_get plan v weight body → NoneGains at_get plan v body → n ≤ length body
-    → weight n + sum_below (cost_at at_get plan v body n) n ≤ weight 0
-lost_so_far at_get plan v weight body zero lawful laws gains within =
-    let none : sum_below (cost_at at_get plan v body 0) 0 ≡ 0 = refl in
+lost_so_far : (get_return : GetReturn) (plan : Plan) (v : Vector) (weight : ℕ → ℕ) (body : List Action) (n : ℕ) → IsValidBody plan body → BodyLaws get_return plan v weight body → NoneGains get_return plan v body → n ≤ length body
+    → weight n + sum_below (cost_at get_return plan v body n) n ≤ weight 0
+lost_so_far get_return plan v weight body zero valid laws gains within =
+    let none : sum_below (cost_at get_return plan v body 0) 0 ≡ 0 = refl in
     omega (arith, none)
-lost_so_far at_get plan v weight body (suc n) lawful laws gains within =
+lost_so_far get_return plan v weight body (suc n) valid laws gains within =
     let at = slice_get-get_or body n (Work 0) (omega (arith, within)) in
-    omega (arith, step at_get plan v weight body n _ lawful laws gains at, lost_so_far at_get plan v weight body n lawful laws gains (omega (arith, within)))
+    omega (arith, step get_return plan v weight body n _ valid laws gains at, lost_so_far get_return plan v weight body n valid laws gains (omega (arith, within)))
 
 -- so no body makes its actor heavier
-pub never_heavier : (at_get : AtGet) (plan : Plan) (v : Vector) (weight : ℕ → ℕ) (body : List Action) → IsLawful plan body → BodyLaws at_get plan v weight body → NoneGains at_get plan v body → weight (length body) ≤ weight 0
-never_heavier at_get plan v weight body lawful laws gains = omega (arith, lost_so_far at_get plan v weight body (length body) lawful laws gains (omega arith))
+pub never_heavier : (get_return : GetReturn) (plan : Plan) (v : Vector) (weight : ℕ → ℕ) (body : List Action) → IsValidBody plan body → BodyLaws get_return plan v weight body → NoneGains get_return plan v body → weight (length body) ≤ weight 0
+never_heavier get_return plan v weight body valid laws gains = omega (arith, lost_so_far get_return plan v weight body (length body) valid laws gains (omega arith))
 
 -- a body with a submit of positive cost makes it lighter
-lost_by : (at_get : AtGet) (plan : Plan) (v : Vector) (weight : ℕ → ℕ) (body : List Action) (i k : ℕ) → IsLawful plan body → BodyLaws at_get plan v weight body → NoneGains at_get plan v body → slice_get body i ≡ Some (Submit k)
-    → 1 ≤ price at_get plan v k (got_before body (length body) i) → weight (length body) < weight 0
-lost_by at_get plan v weight body i k lawful laws gains is_submit costs =
-    let costs_at : cost_at at_get plan v body (length body) i ≡ price at_get plan v k (got_before body (length body) i) = ap (cost at_get plan v (got_before body (length body) i)) is_submit in
-    let counted = term-le-sum (cost_at at_get plan v body (length body)) (length body) i (slice_get_within body i _ is_submit) in
-    omega (arith, costs, costs_at, counted, lost_so_far at_get plan v weight body (length body) lawful laws gains (omega arith))
+lost_by : (get_return : GetReturn) (plan : Plan) (v : Vector) (weight : ℕ → ℕ) (body : List Action) (i k : ℕ) → IsValidBody plan body → BodyLaws get_return plan v weight body → NoneGains get_return plan v body → slice_get body i ≡ Some (Submit k)
+    → 1 ≤ price get_return plan v k (got_before body (length body) i) → weight (length body) < weight 0
+lost_by get_return plan v weight body i k valid laws gains is_submit costs =
+    let costs_at : cost_at get_return plan v body (length body) i ≡ price get_return plan v k (got_before body (length body) i) = ap (cost get_return plan v (got_before body (length body) i)) is_submit in
+    let counted = term-le-sum (cost_at get_return plan v body (length body)) (length body) i (slice_get_within body i _ is_submit) in
+    omega (arith, costs, costs_at, counted, lost_so_far get_return plan v weight body (length body) valid laws gains (omega arith))
 
 -- such as a submit that is never got, of a class whose jobs have weight
-pub lost_without_get : (at_get : AtGet) (plan : Plan) (v : Vector) (weight : ℕ → ℕ) (body : List Action) (i k : ℕ) → IsLawful plan body → BodyLaws at_get plan v weight body → NoneGains at_get plan v body → slice_get body i ≡ Some (Submit k)
-    → is_got body i ≡ false → 1 ≤ queued_weight v k → weight (length body) < weight 0
-lost_without_get at_get plan v weight body i k lawful laws gains is_submit not_got weighs =
-    let whole : price at_get plan v k (got_before body (length body) i) ≡ queued_weight v k = ap (price at_get plan v k) (not_got_before body (length body) i not_got) in
-    lost_by at_get plan v weight body i k lawful laws gains is_submit (omega (arith, whole, weighs))
+pub lost_without_get : (get_return : GetReturn) (plan : Plan) (v : Vector) (weight : ℕ → ℕ) (body : List Action) (i k : ℕ) → IsValidBody plan body → BodyLaws get_return plan v weight body → NoneGains get_return plan v body → slice_get body i ≡ Some (Submit k)
+    → has_get_of body i ≡ false → 1 ≤ queued_weight v k → weight (length body) < weight 0
+lost_without_get get_return plan v weight body i k valid laws gains is_submit not_got weighs =
+    let whole : price get_return plan v k (got_before body (length body) i) ≡ queued_weight v k = ap (price get_return plan v k) (not_got_before body (length body) i not_got) in
+    lost_by get_return plan v weight body i k valid laws gains is_submit (omega (arith, whole, weighs))
 
 -- or one whose get returns less
-pub lost_by_child : (at_get : AtGet) (plan : Plan) (v : Vector) (weight : ℕ → ℕ) (body : List Action) (i k : ℕ) → IsLawful plan body → BodyLaws at_get plan v weight body → NoneGains at_get plan v body → slice_get body i ≡ Some (Submit k)
-    → given_back at_get plan v k < queued_weight v k → weight (length body) < weight 0
-lost_by_child at_get plan v weight body i k lawful laws gains is_submit less =
-    lost_by at_get plan v weight body i k lawful laws gains is_submit (either (got_before body (length body) i))
+pub lost_by_child : (get_return : GetReturn) (plan : Plan) (v : Vector) (weight : ℕ → ℕ) (body : List Action) (i k : ℕ) → IsValidBody plan body → BodyLaws get_return plan v weight body → NoneGains get_return plan v body → slice_get body i ≡ Some (Submit k)
+    → returned_weight get_return plan v k < queued_weight v k → weight (length body) < weight 0
+lost_by_child get_return plan v weight body i k valid laws gains is_submit less =
+    lost_by get_return plan v weight body i k valid laws gains is_submit (either (got_before body (length body) i))
   where
-    either : (got : Bool) → 1 ≤ price at_get plan v k got
+    either : (got : Bool) → 1 ≤ price get_return plan v k got
     either true =
-        let got : price at_get plan v k true ≡ queued_weight v k - given_back at_get plan v k = refl in
+        let got : price get_return plan v k true ≡ queued_weight v k - returned_weight get_return plan v k = refl in
         omega (arith, got, less)
     either false =
-        let not_got : price at_get plan v k false ≡ queued_weight v k = refl in
+        let not_got : price get_return plan v k false ≡ queued_weight v k = refl in
         omega (arith, not_got, less)

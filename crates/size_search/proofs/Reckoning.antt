@@ -5,8 +5,8 @@ use Rattle.std.proofs.lemmas.Option.{slice_get-get_or}
 use Rattle.job_bodies.specs.declared.action.Action.{Action}
 use Rattle.job_bodies.specs.declared.action.Action.TheVariants.{Work, Submit, Get}
 use Rattle.job_bodies.specs.declared.limits.TheConstants.{MAX_ACTIONS, MAX_WEIGHT}
-use Rattle.job_bodies.specs.Plan.{Plan, class_at, class_got, is_got}
-use Rattle.job_bodies.specs.Lawful.{IsLawful}
+use Rattle.job_bodies.specs.Plan.{Plan, class_at, submitted_class, has_get_of}
+use Rattle.job_bodies.specs.ValidBody.{IsValidBody}
 use Rattle.weights.specs.Vector.{Vector, queued_weight, done_weight}
 use Rattle.size_search.specs.Small.{JobsAreSmall}
 use Rattle.size_search.specs.Steady.{sum_below, greatest_upto, submitted_weight, awaited_weight, open_weight, weight_at, weights_from, level_above, levels_within}
@@ -21,17 +21,17 @@ next f i = let number : i + 1 ≡ suc i = omega arith in ap f number
 pub opened-work : (v : Vector) (body : List Action) (i u : ℕ) → slice_get body i ≡ Some (Work u) → open_weight v body i ≡ open_weight v body (i + 1)
 opened-work v body i u at = sym (next (open_weight v body) i ∙ open-work v body i u at)
 
-pub opened-submit : (plan : Plan) (v : Vector) (body : List Action) (i k : ℕ) → IsLawful plan body → slice_get body i ≡ Some (Submit k) → is_got body i ≡ true → open_weight v body i + queued_weight v k ≡ open_weight v body (i + 1)
-opened-submit plan v body i k lawful at got =
-    sym (next (open_weight v body) i ∙ (open-submit plan v body i k lawful at ∙ ap (λ (b : Bool). open_weight v body i + cond b (queued_weight v k) 0) got))
+pub opened-submit : (plan : Plan) (v : Vector) (body : List Action) (i k : ℕ) → IsValidBody plan body → slice_get body i ≡ Some (Submit k) → has_get_of body i ≡ true → open_weight v body i + queued_weight v k ≡ open_weight v body (i + 1)
+opened-submit plan v body i k valid at got =
+    sym (next (open_weight v body) i ∙ (open-submit plan v body i k valid at ∙ ap (λ (b : Bool). open_weight v body i + cond b (queued_weight v k) 0) got))
 
-pub not_opened : (plan : Plan) (v : Vector) (body : List Action) (i k : ℕ) → IsLawful plan body → slice_get body i ≡ Some (Submit k) → is_got body i ≡ false → open_weight v body i ≡ open_weight v body (i + 1)
-not_opened plan v body i k lawful at not_got =
-    let same : open_weight v body (suc i) ≡ open_weight v body i + 0 = open-submit plan v body i k lawful at ∙ ap (λ (b : Bool). open_weight v body i + cond b (queued_weight v k) 0) not_got in
+pub not_opened : (plan : Plan) (v : Vector) (body : List Action) (i k : ℕ) → IsValidBody plan body → slice_get body i ≡ Some (Submit k) → has_get_of body i ≡ false → open_weight v body i ≡ open_weight v body (i + 1)
+not_opened plan v body i k valid at not_got =
+    let same : open_weight v body (suc i) ≡ open_weight v body i + 0 = open-submit plan v body i k valid at ∙ ap (λ (b : Bool). open_weight v body i + cond b (queued_weight v k) 0) not_got in
     omega (arith, same, next (open_weight v body) i)
 
-pub closed-get : (plan : Plan) (v : Vector) (body : List Action) (i t : ℕ) → IsLawful plan body → slice_get body i ≡ Some (Get t) → open_weight v body (i + 1) + queued_weight v (class_got body t) ≡ open_weight v body i
-closed-get plan v body i t lawful at = ap (λ (n : ℕ). n + queued_weight v (class_got body t)) (next (open_weight v body) i) ∙ open-get plan v body i t lawful at
+pub closed-get : (plan : Plan) (v : Vector) (body : List Action) (i t : ℕ) → IsValidBody plan body → slice_get body i ≡ Some (Get t) → open_weight v body (i + 1) + queued_weight v (submitted_class body t) ≡ open_weight v body i
+closed-get plan v body i t valid at = ap (λ (n : ℕ). n + queued_weight v (submitted_class body t)) (next (open_weight v body) i) ∙ open-get plan v body i t valid at
 
 pub greatest-next : (f : ℕ → ℕ) (i : ℕ) → max (greatest_upto f i) (f (i + 1)) ≡ greatest_upto f (i + 1)
 greatest-next f i = ap (max (greatest_upto f i)) (next f i) ∙ sym (next (greatest_upto f) i)
@@ -61,10 +61,10 @@ cond-bound true n m within = within
 cond-bound false n m within = omega arith
 
 pub open-bound : (v : Vector) (body : List Action) (i : ℕ) → JobsAreSmall v → open_weight v body i ≤ i * MAX_WEIGHT
-open-bound v body i small = sum_below-bound (awaited_weight v body i) i MAX_WEIGHT (λ s. cond-bound (is_got (drop i body) s) (submitted_weight v (slice_get body s)) MAX_WEIGHT (submitted-bound v (slice_get body s) small))
+open-bound v body i small = sum_below-bound (awaited_weight v body i) i MAX_WEIGHT (λ s. cond-bound (has_get_of (drop i body) s) (submitted_weight v (slice_get body s)) MAX_WEIGHT (submitted-bound v (slice_get body s) small))
 
-pub greatest-open-bound : (plan : Plan) (v : Vector) (body : List Action) (n : ℕ) → IsLawful plan body → JobsAreSmall v → n ≤ length body → greatest_upto (open_weight v body) n ≤ MAX_ACTIONS * MAX_WEIGHT
-greatest-open-bound plan v body n lawful small short = greatest-bound (open_weight v body) n (MAX_ACTIONS * MAX_WEIGHT) (λ i within. omega (arith, within, short, lawful.short, open-bound v body i small))
+pub greatest-open-bound : (plan : Plan) (v : Vector) (body : List Action) (n : ℕ) → IsValidBody plan body → JobsAreSmall v → n ≤ length body → greatest_upto (open_weight v body) n ≤ MAX_ACTIONS * MAX_WEIGHT
+greatest-open-bound plan v body n valid small short = greatest-bound (open_weight v body) n (MAX_ACTIONS * MAX_WEIGHT) (λ i within. omega (arith, within, short, valid.short, open-bound v body i small))
 
 pub weight-bound : (plan : Plan) (v : Vector) (least : ℕ) (body : List Action) (last : ℕ) (rest : List Action) → JobsAreSmall v → least ≤ 1 → weight_at plan v least body last rest ≤ 1 + last + length rest * MAX_WEIGHT
 weight-bound plan v least body last [] small low = omega arith
@@ -75,7 +75,7 @@ weight-bound plan v least body last (Submit k ∷ rest) small low =
     let step : weight_at plan v least body last (Submit k ∷ rest) ≡ weight_at plan v least body last rest + queued_weight v k = refl in
     omega (arith, step, small.small k 0, weight-bound plan v least body last rest small low)
 weight-bound plan v least body last (Get t ∷ rest) small low =
-    let step : weight_at plan v least body last (Get t ∷ rest) ≡ max least (weight_at plan v least body last rest - done_weight plan v (class_got body t)) = refl in
+    let step : weight_at plan v least body last (Get t ∷ rest) ≡ max least (weight_at plan v least body last rest - done_weight plan v (submitted_class body t)) = refl in
     omega (arith, step, low, weight-bound plan v least body last rest small low)
 
 -- ---- weights, from the end of a body
@@ -113,5 +113,5 @@ pub first-weight : (plan : Plan) (v : Vector) (least : ℕ) (body : List Action)
 first-weight plan v least body last [] = refl
 first-weight plan v least body last (x ∷ rest) = refl
 
-pub behind-short : (body : List Action) (plan : Plan) (n : ℕ) → IsLawful plan body → length (drop n body) ≤ MAX_ACTIONS
-behind-short body plan n lawful = omega (arith, length-drop n body, lawful.short)
+pub behind-short : (body : List Action) (plan : Plan) (n : ℕ) → IsValidBody plan body → length (drop n body) ≤ MAX_ACTIONS
+behind-short body plan n valid = omega (arith, length-drop n body, valid.short)

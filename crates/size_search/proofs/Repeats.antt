@@ -5,13 +5,13 @@ use Rattle.support.specs.In.{In}
 use Rattle.support.proofs.Members.{In-map_from, In-filter_from}
 use Rattle.job_bodies.specs.declared.action.Action.{Action}
 use Rattle.job_bodies.specs.declared.action.Action.TheVariants.{Submit}
-use Rattle.job_bodies.specs.Plan.{Client, Plan, no_client, class_at, client_at, is_got}
-use Rattle.job_bodies.specs.Lawful.{IsLawful}
-use Rattle.job_bodies.proofs.Bodies.{IsOrdered}
-use Rattle.weights.specs.declared.at_get.AtGet.{AtGet}
-use Rattle.weights.specs.declared.at_get.AtGet.TheVariants.{GivesBack, GivesNothing}
+use Rattle.job_bodies.specs.Plan.{Client, Plan, no_client, class_at, client_at, has_get_of}
+use Rattle.job_bodies.specs.ValidBody.{IsValidBody}
+use Rattle.job_bodies.proofs.Bodies.{HasValidBodies}
+use Rattle.weights.specs.declared.get_return.GetReturn.{GetReturn}
+use Rattle.weights.specs.declared.get_return.GetReturn.TheVariants.{DoneWeight, NoWeight}
 use Rattle.weights.specs.Vector.{Vector, queued_weight, job_weight, done_weight, client_weight}
-use Rattle.weights.specs.AtGet.{given_back}
+use Rattle.weights.specs.GetReturn.{returned_weight}
 use Rattle.weights.specs.Ranks.{Ranks, level}
 use Rattle.soundness.proofs.VectorLaws.{VectorLaws, class_of_action}
 use Rattle.soundness.proofs.RankLaws.{RankLaws}
@@ -20,77 +20,77 @@ use Rattle.size_search.proofs.Circles.{position_of}
 use Rattle.size_search.proofs.Losses.{NoneGains, never_heavier, lost_without_get, lost_by_child}
 
 -- a vector of a plan, and the levels of its classes
-pub record IsWeighed (at_get : AtGet) (plan : Plan) (v : Vector) (ranks : Ranks) : Type 0 where
-  pub ordered : IsOrdered plan
-  pub vector : VectorLaws at_get plan v
+pub record IsWeighed (get_return : GetReturn) (plan : Plan) (v : Vector) (ranks : Ranks) : Type 0 where
+  pub ordered : HasValidBodies plan
+  pub vector : VectorLaws get_return plan v
   pub levels : RankLaws plan ranks
 
-given_back-le : (at_get : AtGet) (plan : Plan) (v : Vector) (k : ℕ) → given_back at_get plan v k ≤ done_weight plan v k
-given_back-le GivesBack plan v k =
-    let all : given_back GivesBack plan v k ≡ done_weight plan v k = refl in
+returned_weight-le : (get_return : GetReturn) (plan : Plan) (v : Vector) (k : ℕ) → returned_weight get_return plan v k ≤ done_weight plan v k
+returned_weight-le DoneWeight plan v k =
+    let all : returned_weight DoneWeight plan v k ≡ done_weight plan v k = refl in
     omega (arith, all)
-given_back-le GivesNothing plan v k =
-    let nothing : given_back GivesNothing plan v k ≡ 0 = refl in
+returned_weight-le NoWeight plan v k =
+    let nothing : returned_weight NoWeight plan v k ≡ 0 = refl in
     omega (arith, nothing)
 
 -- ---- jobs
 
 -- a job is not heavier at its end than in the queue, level by level
-never_gains : (at_get : AtGet) (plan : Plan) (v : Vector) (ranks : Ranks) → IsWeighed at_get plan v ranks → (n k : ℕ) → k < length plan.classes → level ranks k < n → done_weight plan v k ≤ queued_weight v k
-never_gains at_get plan v ranks weighed zero k inside low = absurd (omega (arith, low))
-never_gains at_get plan v ranks weighed (suc n) k inside low =
+never_gains : (get_return : GetReturn) (plan : Plan) (v : Vector) (ranks : Ranks) → IsWeighed get_return plan v ranks → (n k : ℕ) → k < length plan.classes → level ranks k < n → done_weight plan v k ≤ queued_weight v k
+never_gains get_return plan v ranks weighed zero k inside low = absurd (omega (arith, low))
+never_gains get_return plan v ranks weighed (suc n) k inside low =
     let body = (class_at plan k).body in
-    let lawful = weighed.ordered.classes k in
-    let children : NoneGains at_get plan v body = λ i j is_submit.
+    let valid = weighed.ordered.classes k in
+    let children : NoneGains get_return plan v body = λ i j is_submit.
     let below : level ranks j < n = omega (arith, low, weighed.levels.sinks k i j is_submit) in
-    omega (arith, given_back-le at_get plan v j, never_gains at_get plan v ranks weighed n j (lawful.submit i j is_submit) below) in
-    omega (arith, never_heavier at_get plan v (job_weight v k) body lawful (weighed.vector.classes k) children, weighed.vector.begins k inside, weighed.vector.ends k inside)
+    omega (arith, returned_weight-le get_return plan v j, never_gains get_return plan v ranks weighed n j (valid.submit i j is_submit) below) in
+    omega (arith, never_heavier get_return plan v (job_weight v k) body valid (weighed.vector.classes k) children, weighed.vector.begins k inside, weighed.vector.ends k inside)
 
-none_gains : (at_get : AtGet) (plan : Plan) (v : Vector) (ranks : Ranks) (body : List Action) → IsWeighed at_get plan v ranks → IsLawful plan body → NoneGains at_get plan v body
-none_gains at_get plan v ranks body weighed lawful i k is_submit =
-    omega (arith, given_back-le at_get plan v k, never_gains at_get plan v ranks weighed (suc (level ranks k)) k (lawful.submit i k is_submit) (omega arith))
+none_gains : (get_return : GetReturn) (plan : Plan) (v : Vector) (ranks : Ranks) (body : List Action) → IsWeighed get_return plan v ranks → IsValidBody plan body → NoneGains get_return plan v body
+none_gains get_return plan v ranks body weighed valid i k is_submit =
+    omega (arith, returned_weight-le get_return plan v k, never_gains get_return plan v ranks weighed (suc (level ranks k)) k (valid.submit i k is_submit) (omega arith))
 
 -- a job whose body loses weight is lighter at its end than in the queue
-lighter_at_end : (at_get : AtGet) (plan : Plan) (v : Vector) (ranks : Ranks) (k : ℕ) → IsWeighed at_get plan v ranks → k < length plan.classes → job_weight v k (length (class_at plan k).body) < job_weight v k 0
+lighter_at_end : (get_return : GetReturn) (plan : Plan) (v : Vector) (ranks : Ranks) (k : ℕ) → IsWeighed get_return plan v ranks → k < length plan.classes → job_weight v k (length (class_at plan k).body) < job_weight v k 0
     → done_weight plan v k < queued_weight v k
-lighter_at_end at_get plan v ranks k weighed inside lost = omega (arith, lost, weighed.vector.begins k inside, weighed.vector.ends k inside)
+lighter_at_end get_return plan v ranks k weighed inside lost = omega (arith, lost, weighed.vector.begins k inside, weighed.vector.ends k inside)
 
 -- so is one with a submit that is never got
-pub lighter_without_get : (at_get : AtGet) (plan : Plan) (v : Vector) (ranks : Ranks) (k i j : ℕ) → IsWeighed at_get plan v ranks → slice_get (class_at plan k).body i ≡ Some (Submit j) → is_got (class_at plan k).body i ≡ false
+pub lighter_without_get : (get_return : GetReturn) (plan : Plan) (v : Vector) (ranks : Ranks) (k i j : ℕ) → IsWeighed get_return plan v ranks → slice_get (class_at plan k).body i ≡ Some (Submit j) → has_get_of (class_at plan k).body i ≡ false
     → 1 ≤ queued_weight v j → done_weight plan v k < queued_weight v k
-lighter_without_get at_get plan v ranks k i j weighed is_submit not_got weighs =
+lighter_without_get get_return plan v ranks k i j weighed is_submit not_got weighs =
     let body = (class_at plan k).body in
-    let lawful = weighed.ordered.classes k in
-    lighter_at_end at_get plan v ranks k weighed (class_of_action plan k i (Submit j) is_submit)
-    (lost_without_get at_get plan v (job_weight v k) body i j lawful (weighed.vector.classes k) (none_gains at_get plan v ranks body weighed lawful) is_submit not_got weighs)
+    let valid = weighed.ordered.classes k in
+    lighter_at_end get_return plan v ranks k weighed (class_of_action plan k i (Submit j) is_submit)
+    (lost_without_get get_return plan v (job_weight v k) body i j valid (weighed.vector.classes k) (none_gains get_return plan v ranks body weighed valid) is_submit not_got weighs)
 
 -- so is one that submits such a job
-lighter_by_child : (at_get : AtGet) (plan : Plan) (v : Vector) (ranks : Ranks) (k i j : ℕ) → IsWeighed at_get plan v ranks → slice_get (class_at plan k).body i ≡ Some (Submit j) → done_weight plan v j < queued_weight v j
+lighter_by_child : (get_return : GetReturn) (plan : Plan) (v : Vector) (ranks : Ranks) (k i j : ℕ) → IsWeighed get_return plan v ranks → slice_get (class_at plan k).body i ≡ Some (Submit j) → done_weight plan v j < queued_weight v j
     → done_weight plan v k < queued_weight v k
-lighter_by_child at_get plan v ranks k i j weighed is_submit lighter =
+lighter_by_child get_return plan v ranks k i j weighed is_submit lighter =
     let body = (class_at plan k).body in
-    let lawful = weighed.ordered.classes k in
-    lighter_at_end at_get plan v ranks k weighed (class_of_action plan k i (Submit j) is_submit)
-    (lost_by_child at_get plan v (job_weight v k) body i j lawful (weighed.vector.classes k) (none_gains at_get plan v ranks body weighed lawful) is_submit (omega (arith, lighter, given_back-le at_get plan v j)))
+    let valid = weighed.ordered.classes k in
+    lighter_at_end get_return plan v ranks k weighed (class_of_action plan k i (Submit j) is_submit)
+    (lost_by_child get_return plan v (job_weight v k) body i j valid (weighed.vector.classes k) (none_gains get_return plan v ranks body weighed valid) is_submit (omega (arith, lighter, returned_weight-le get_return plan v j)))
 
 -- ---- clients that repeat
 
 -- they make no submit that is never got
-pub repeats_with_gets : (at_get : AtGet) (plan : Plan) (v : Vector) (ranks : Ranks) (c i k : ℕ) → IsWeighed at_get plan v ranks → (client_at plan c).repeat ≡ true → slice_get (client_at plan c).body i ≡ Some (Submit k)
-    → is_got (client_at plan c).body i ≡ false → 1 ≤ queued_weight v k → ⊥
-repeats_with_gets at_get plan v ranks c i k weighed repeats is_submit not_got weighs =
+pub repeats_with_gets : (get_return : GetReturn) (plan : Plan) (v : Vector) (ranks : Ranks) (c i k : ℕ) → IsWeighed get_return plan v ranks → (client_at plan c).repeat ≡ true → slice_get (client_at plan c).body i ≡ Some (Submit k)
+    → has_get_of (client_at plan c).body i ≡ false → 1 ≤ queued_weight v k → ⊥
+repeats_with_gets get_return plan v ranks c i k weighed repeats is_submit not_got weighs =
     let body = (client_at plan c).body in
-    let lawful = weighed.ordered.clients c in
-    let lost = lost_without_get at_get plan v (client_weight v c) body i k lawful (weighed.vector.clients c) (none_gains at_get plan v ranks body weighed lawful) is_submit not_got weighs in
+    let valid = weighed.ordered.clients c in
+    let lost = lost_without_get get_return plan v (client_weight v c) body i k valid (weighed.vector.clients c) (none_gains get_return plan v ranks body weighed valid) is_submit not_got weighs in
     omega (arith, lost, weighed.vector.loops c repeats)
 
 -- they submit no job that is lighter at its end than in the queue
-client_submits_none : (at_get : AtGet) (plan : Plan) (v : Vector) (ranks : Ranks) (c i k : ℕ) → IsWeighed at_get plan v ranks → (client_at plan c).repeat ≡ true → slice_get (client_at plan c).body i ≡ Some (Submit k)
+client_submits_none : (get_return : GetReturn) (plan : Plan) (v : Vector) (ranks : Ranks) (c i k : ℕ) → IsWeighed get_return plan v ranks → (client_at plan c).repeat ≡ true → slice_get (client_at plan c).body i ≡ Some (Submit k)
     → done_weight plan v k < queued_weight v k → ⊥
-client_submits_none at_get plan v ranks c i k weighed repeats is_submit lighter =
+client_submits_none get_return plan v ranks c i k weighed repeats is_submit lighter =
     let body = (client_at plan c).body in
-    let lawful = weighed.ordered.clients c in
-    let lost = lost_by_child at_get plan v (client_weight v c) body i k lawful (weighed.vector.clients c) (none_gains at_get plan v ranks body weighed lawful) is_submit (omega (arith, lighter, given_back-le at_get plan v k)) in
+    let valid = weighed.ordered.clients c in
+    let lost = lost_by_child get_return plan v (client_weight v c) body i k valid (weighed.vector.clients c) (none_gains get_return plan v ranks body weighed valid) is_submit (omega (arith, lighter, returned_weight-le get_return plan v k)) in
     omega (arith, lost, weighed.vector.loops c repeats)
 
 -- the client that has this body
@@ -114,11 +114,11 @@ repeated_by plan body from =
     }
 
 -- nor do they cause such a job, directly or through other jobs
-pub none_is_lighter : (at_get : AtGet) (plan : Plan) (v : Vector) (ranks : Ranks) → IsWeighed at_get plan v ranks → {k : ℕ} → IsSubmitted plan (repeated_bodies plan) k → done_weight plan v k < queued_weight v k → ⊥
-none_is_lighter at_get plan v ranks weighed (begins {k = k} {body = body} from at) lighter =
+pub none_is_lighter : (get_return : GetReturn) (plan : Plan) (v : Vector) (ranks : Ranks) → IsWeighed get_return plan v ranks → {k : ℕ} → IsSubmitted plan (repeated_bodies plan) k → done_weight plan v k < queued_weight v k → ⊥
+none_is_lighter get_return plan v ranks weighed (begins {k = k} {body = body} from at) lighter =
     let by = repeated_by plan body from in
     let found = position_of (subst (In (Submit k)) (sym by.same) at) in
-    client_submits_none at_get plan v ranks by.client found.0 k weighed by.repeats found.1 lighter
-none_is_lighter at_get plan v ranks weighed (follows {j = j} {k = k} known at) lighter =
+    client_submits_none get_return plan v ranks by.client found.0 k weighed by.repeats found.1 lighter
+none_is_lighter get_return plan v ranks weighed (follows {j = j} {k = k} known at) lighter =
     let found = position_of at in
-    none_is_lighter at_get plan v ranks weighed known (lighter_by_child at_get plan v ranks j found.0 k weighed found.1 lighter)
+    none_is_lighter get_return plan v ranks weighed known (lighter_by_child get_return plan v ranks j found.0 k weighed found.1 lighter)

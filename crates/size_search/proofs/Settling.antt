@@ -7,7 +7,7 @@ use Rattle.std.proofs.lemmas.Option.{slice_get-get_or, slice_get_past, get_or_fr
 use Rattle.support.proofs.Elements.{slice_get-set_same, slice_get-set_other, same_by_slice_get}
 use Rattle.support.proofs.Members.{In-get_or, list_all_at_In}
 use Rattle.job_bodies.specs.Plan.{Pool, Class, Client, Plan, no_class, no_client, class_at, client_at}
-use Rattle.job_bodies.proofs.Bodies.{IsOrdered}
+use Rattle.job_bodies.proofs.Bodies.{HasValidBodies}
 use Rattle.job_bodies.specs.declared.limits.TheConstants.{MAX_WEIGHT}
 use Rattle.weights.specs.Vector.{Vector, class_weights, is_small, has_small_numbers, vector_fits}
 use Rattle.weights.proofs.Fitting.{small_in}
@@ -29,16 +29,16 @@ with_row v m row = record v { classes = set v.classes m row }
 -- ---- one class
 
 -- the computed row is its steady row
-row_is : (plan : Plan) (v : Vector) (n m : ℕ) → IsOrdered plan → NoCircle plan → IsSettled plan v n m → level_at plan m ≡ n → m < length plan.classes
+row_is : (plan : Plan) (v : Vector) (n m : ℕ) → HasValidBodies plan → NoCircle plan → IsSettled plan v n m → level_at plan m ≡ n → m < length plan.classes
     → class_row plan v (class_at plan m).body ≡ class_weights (steady_vector plan) m
 row_is plan v n m ordered none settled of_level inside =
-    let lawful = ordered.classes m in
+    let valid = ordered.classes m in
     let same : WeighTheSame v (steady_vector plan) (class_at plan m).body = record {
       rows = λ j at.
           let place = place_in at in
-          settled.rows j (lawful.submit place.0 j place.1) (inl (omega (arith, levels_sink plan ordered none m j at, of_level)));
+          settled.rows j (valid.submit place.0 j place.1) (inl (omega (arith, levels_sink plan ordered none m j at, of_level)));
     } in
-    class_row-agree plan v (steady_vector plan) (class_at plan m).body lawful same ∙ sym (class_is plan ordered none m inside)
+    class_row-agree plan v (steady_vector plan) (class_at plan m).body valid same ∙ sym (class_is plan ordered none m inside)
 
 row_here : (v : Vector) (m : ℕ) (row : List ℕ) → m < length v.classes → class_weights (with_row v m row) m ≡ row
 row_here v m row inside = get_or_from_slice_get (set v.classes m row) m row [] (slice_get-set_same v.classes m row inside)
@@ -63,7 +63,7 @@ same_or_not k m =
     (cases_lt k m)
 
 -- the class gets it
-pub settled_put : (plan : Plan) (v : Vector) (n m : ℕ) → IsOrdered plan → NoCircle plan → IsSettled plan v n m → level_at plan m ≡ n → m < length plan.classes
+pub settled_put : (plan : Plan) (v : Vector) (n m : ℕ) → HasValidBodies plan → NoCircle plan → IsSettled plan v n m → level_at plan m ≡ n → m < length plan.classes
     → list_all is_small (class_row plan v (class_at plan m).body) ≡ true → IsSettled plan (with_row v m (class_row plan v (class_at plan m).body)) n (m + 1)
 settled_put plan v n m ordered none settled of_level inside small = record {
   as_many = length-set v.classes m (class_row plan v (class_at plan m).body) ∙ settled.as_many;
@@ -125,7 +125,7 @@ settled_next plan v n m settled all = record {
 
 -- ---- all classes
 
-pub settled_all : (plan : Plan) (v : Vector) → IsOrdered plan → NoCircle plan → IsSettled plan v (length plan.classes) 0 → v.classes ≡ (jobs plan).classes
+pub settled_all : (plan : Plan) (v : Vector) → HasValidBodies plan → NoCircle plan → IsSettled plan v (length plan.classes) 0 → v.classes ≡ (jobs plan).classes
 settled_all plan v ordered none settled = same_by_slice_get v.classes (jobs plan).classes (λ k. at_each k (cases_lt k (length plan.classes)))
   where
     at_each : (k : ℕ) → (k < length plan.classes) ⊎ (length plan.classes ≤ k) → slice_get v.classes k ≡ slice_get (jobs plan).classes k
@@ -144,7 +144,7 @@ no_others : (plan : Plan) (n : ℕ) → vector_of [] (jobs_within plan n).classe
 no_others plan zero = refl
 no_others plan (suc n) = refl
 
-pub are_jobs : (plan : Plan) (v : Vector) → IsOrdered plan → NoCircle plan → IsSettled plan v (length plan.classes) 0 → v ≡ jobs plan
+pub are_jobs : (plan : Plan) (v : Vector) → HasValidBodies plan → NoCircle plan → IsSettled plan v (length plan.classes) 0 → v ≡ jobs plan
 are_jobs plan v ordered none settled =
     ap (λ (ws : List ℕ). vector_of ws v.classes v.clients) settled.no_workers
     ∙ (ap (vector_of [] v.classes) settled.no_clients
@@ -156,7 +156,7 @@ zeros [] = refl
 zeros (x ∷ xs) = ap (λ (ns : List ℕ). zero ∷ ns) (zeros xs)
 
 -- the steady vector, from its parts
-pub vector_from : (plan : Plan) (v : Vector) (workers : List ℕ) (clients : List (List ℕ)) → IsOrdered plan → NoCircle plan → IsSettled plan v (length plan.classes) 0
+pub vector_from : (plan : Plan) (v : Vector) (workers : List ℕ) (clients : List (List ℕ)) → HasValidBodies plan → NoCircle plan → IsSettled plan v (length plan.classes) 0
     → workers ≡ replicate (length plan.pools) 0 → clients ≡ map (client_row plan v) plan.clients → vector_of workers v.classes clients ≡ steady_vector plan
 vector_from plan v workers clients ordered none settled are_zeros are_rows =
     ap (λ (ws : List ℕ). vector_of ws v.classes clients) (are_zeros ∙ zeros plan.pools)
@@ -176,7 +176,7 @@ cert_from plan v pools ranks reach levels is are_pools are_ranks are_reach are_l
     ∙ (ap (λ (any : List ℕ). cert_of (steady_cert plan).pools (steady_ranks plan).pools any levels) (are_reach ∙ zeros plan.classes)
     ∙ ap (cert_of (steady_cert plan).pools (steady_ranks plan).pools (steady_ranks plan).reach) are_levels))
 
-pub heavy_unless_fit : (plan : Plan) → IsOrdered plan → NoCircle plan → vector_fits plan (steady_vector plan) ≡ false → has_small_numbers (steady_vector plan) ≡ false
+pub heavy_unless_fit : (plan : Plan) → HasValidBodies plan → NoCircle plan → vector_fits plan (steady_vector plan) ≡ false → has_small_numbers (steady_vector plan) ≡ false
 heavy_unless_fit plan ordered none unfit =
     false_from_ne_true (has_small_numbers (steady_vector plan)) (λ small. false≢true (sym unfit ∙ vector_is_fit plan ordered none small))
 
@@ -192,7 +192,7 @@ client_here plan items c client same inside read = read ∙ (get_or_default item
 
 -- ---- a row that is too heavy
 
-pub heavy_here : (plan : Plan) (v : Vector) (n m : ℕ) → IsOrdered plan → NoCircle plan → IsSettled plan v n m → level_at plan m ≡ n → m < length plan.classes
+pub heavy_here : (plan : Plan) (v : Vector) (n m : ℕ) → HasValidBodies plan → NoCircle plan → IsSettled plan v n m → level_at plan m ≡ n → m < length plan.classes
     → list_all is_small (class_row plan v (class_at plan m).body) ≡ false → has_small_numbers (steady_vector plan) ≡ false
 heavy_here plan v n m ordered none settled of_level inside heavy =
     false_from_ne_true (has_small_numbers (steady_vector plan))

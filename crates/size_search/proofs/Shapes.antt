@@ -4,8 +4,8 @@ use Rattle.std.specs.Prelude.{◌==◌}
 use Rattle.std.specs.List.{enumerate_from, list_all}
 use Rattle.support.proofs.Sums.{sum_by-map}
 use Rattle.job_bodies.specs.Plan.{Pool, Plan, no_pool, pool_at}
-use Rattle.weights.specs.declared.at_get.AtGet.{AtGet}
-use Rattle.weights.specs.declared.at_get.AtGet.TheVariants.{GivesBack, GivesNothing}
+use Rattle.weights.specs.declared.get_return.GetReturn.{GetReturn}
+use Rattle.weights.specs.declared.get_return.GetReturn.TheVariants.{DoneWeight, NoWeight}
 use Rattle.weights.specs.declared.bound.Bound.{Bound}
 use Rattle.weights.specs.declared.bound.Bound.TheVariants.{Standing, Lifetime}
 use Rattle.weights.specs.declared.row.Rule.TheVariants.{S1, L1, L2}
@@ -75,30 +75,30 @@ total-shape plan v = ap (λ n. sum_by (λ entry. entry.1.count * client_weight v
 
 -- ---- rows
 
-pub rows-shape : (at_get : AtGet) (plan : Plan) (v : Vector) → rows at_get (shape plan) v ≡ rows at_get plan v
-rows-shape GivesBack plan v = refl
-rows-shape GivesNothing plan v = refl
+pub rows-shape : (get_return : GetReturn) (plan : Plan) (v : Vector) → rows get_return (shape plan) v ≡ rows get_return plan v
+rows-shape DoneWeight plan v = refl
+rows-shape NoWeight plan v = refl
 
 -- ---- the bound of a pool, without the total
 
 abbrev pub bound_body : Plan → ℕ → Bound → List Row
-bound_body plan p (Standing v) = rows GivesBack plan v ++ map (λ entry. row S1 (place.Class entry.0) 1 (queued_weight v entry.0)) (classes_of plan p)
+bound_body plan p (Standing v) = rows DoneWeight plan v ++ map (λ entry. row S1 (place.Class entry.0) 1 (queued_weight v entry.0)) (classes_of plan p)
 bound_body plan p (Lifetime v) =
     map (λ entry. row L1 (place.Worker entry.0) (workers_weight v entry.0) 0) (enumerate_from 0 plan.pools)
-    ++ rows GivesNothing plan v
+    ++ rows NoWeight plan v
     ++ flat_map (λ entry. map (λ weight. row L2 (place.Class entry.0) 1 weight) (class_weights v entry.0)) (classes_of plan p)
 
 pub bound_body-shape : (plan : Plan) (p : ℕ) (bound : Bound) → bound_body (shape plan) p bound ≡ bound_body plan p bound
 bound_body-shape plan p (Standing v) = refl
 bound_body-shape plan p (Lifetime v) =
     ap
-    (λ (workers : List Row). workers ++ rows GivesNothing plan v ++ flat_map (λ entry. map (λ weight. row L2 (place.Class entry.0) 1 weight) (class_weights v entry.0)) (classes_of plan p))
+    (λ (workers : List Row). workers ++ rows NoWeight plan v ++ flat_map (λ entry. map (λ weight. row L2 (place.Class entry.0) 1 weight) (class_weights v entry.0)) (classes_of plan p))
     (numbers-map (λ q. row L1 (place.Worker q) (workers_weight v q) 0) bare 0 plan.pools)
 
 -- ---- the bound of a pool's blocked jobs, without the total
 
 abbrev pub blocked_body : Plan → Ranks → ℕ → Vector → List Row
-blocked_body plan ranks p v = rows GivesBack plan v ++ flat_map (λ entry. counted_rows (is_counted plan ranks) v entry.0 entry.1) (classes_of plan p)
+blocked_body plan ranks p v = rows DoneWeight plan v ++ flat_map (λ entry. counted_rows (is_counted plan ranks) v entry.0 entry.1) (classes_of plan p)
 
 pub blocked_body-shape : (plan : Plan) (ranks : Ranks) (p : ℕ) (v : Vector) → blocked_body (shape plan) ranks p v ≡ blocked_body plan ranks p v
 blocked_body-shape plan ranks p v = refl

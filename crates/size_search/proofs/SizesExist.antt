@@ -7,8 +7,8 @@ use Rattle.std.proofs.lemmas.List.Sums.{sum_by-cons}
 use Rattle.job_bodies.specs.declared.action.Action.{Action}
 use Rattle.job_bodies.specs.declared.action.Action.TheVariants.{Work, Submit, Get}
 use Rattle.job_bodies.specs.declared.limits.TheConstants.{MAX_SIZE}
-use Rattle.job_bodies.specs.Plan.{Pool, Class, Client, Plan, no_pool, pool_at, class_at, class_got}
-use Rattle.job_bodies.specs.WellFormed.{has_lawful_sizes, IsWellFormed}
+use Rattle.job_bodies.specs.Plan.{Pool, Class, Client, Plan, no_pool, pool_at, class_at, submitted_class}
+use Rattle.job_bodies.specs.WellFormed.{has_valid_sizes, IsWellFormed}
 use Rattle.weights.specs.Vector.{Vector, queued_weight, done_weight, workers_weight, has_small_numbers, is_small}
 use Rattle.size_search.specs.Widened.{outline}
 use Rattle.size_search.proofs.Numbered.{map-twice}
@@ -33,7 +33,7 @@ weight_at-pools : (plan : Plan) (pools : List Pool) (v : Vector) (least : ℕ) (
 weight_at-pools plan pools v least body last [] = refl
 weight_at-pools plan pools v least body last (Work u ∷ rest) = weight_at-pools plan pools v least body last rest
 weight_at-pools plan pools v least body last (Submit k ∷ rest) = ap (λ (n : ℕ). n + queued_weight v k) (weight_at-pools plan pools v least body last rest)
-weight_at-pools plan pools v least body last (Get t ∷ rest) = ap (λ (n : ℕ). max least (n - done_weight plan v (class_got body t))) (weight_at-pools plan pools v least body last rest)
+weight_at-pools plan pools v least body last (Get t ∷ rest) = ap (λ (n : ℕ). max least (n - done_weight plan v (submitted_class body t))) (weight_at-pools plan pools v least body last rest)
 
 weights_from-pools : (plan : Plan) (pools : List Pool) (v : Vector) (least : ℕ) (body : List Action) (last : ℕ) (rest : List Action) → weights_from (with_pools plan pools) v least body last rest ≡ weights_from plan v least body last rest
 weights_from-pools plan pools v least body last [] = refl
@@ -103,11 +103,11 @@ free-pools plan pools free = record {
 abbrev sized : ℕ → Pool → Pool
 sized n pool = record pool { core = n; max = n; queue = n }
 
-all_lawful : (n : ℕ) (pools : List Pool) → 1 ≤ n → n ≤ MAX_SIZE → list_all has_lawful_sizes (map (sized n) pools) ≡ true
-all_lawful n [] low high = refl
-all_lawful n (pool ∷ pools) low high =
+all_valid : (n : ℕ) (pools : List Pool) → 1 ≤ n → n ≤ MAX_SIZE → list_all has_valid_sizes (map (sized n) pools) ≡ true
+all_valid n [] low high = refl
+all_valid n (pool ∷ pools) low high =
     let same : n ≤ n = omega arith in
-    and_from _ _ (and_from _ _ (and_from _ _ (and_from _ _ (le-leb 1 n low) (le-leb n MAX_SIZE high)) (and_from _ _ (le-leb n n same) (le-leb n MAX_SIZE high))) (and_from _ _ (le-leb 1 n low) (le-leb n MAX_SIZE high))) (all_lawful n pools low high)
+    and_from _ _ (and_from _ _ (and_from _ _ (and_from _ _ (le-leb 1 n low) (le-leb n MAX_SIZE high)) (and_from _ _ (le-leb n n same) (le-leb n MAX_SIZE high))) (and_from _ _ (le-leb 1 n low) (le-leb n MAX_SIZE high))) (all_valid n pools low high)
 
 sizes_where_free : (plan : Plan) → IsWellFormed plan → IsTrue (has_small_numbers (steady_vector plan)) → steady_total plan < MAX_SIZE → IsWithoutCause plan → HasSizes plan
 sizes_where_free plan well small low free =
@@ -115,7 +115,7 @@ sizes_where_free plan well small low free =
     let pools = map (sized n) plan.pools in
     let other = with_pools plan pools in
     let same : outline other ≡ outline plan = ap (with_pools plan) (map-twice nameplate (sized n) plan.pools) in
-    let well' = well_formed_changed plan other well same (all_lawful n plan.pools (omega arith) (omega (arith, low))) in
+    let well' = well_formed_changed plan other well same (all_valid n plan.pools (omega arith) (omega (arith, low))) in
     let steady = accepting other well' (free-pools plan pools free) (small-pools plan pools small) in
     record {
       other = other;

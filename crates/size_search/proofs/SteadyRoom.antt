@@ -5,7 +5,7 @@ use Rattle.std.proofs.lemmas.Bool.{cases_lt}
 use Rattle.std.proofs.lemmas.List.{length-map, get_or-map, get_or_past}
 use Rattle.job_bodies.specs.declared.limits.TheConstants.{MAX_SIZE}
 use Rattle.job_bodies.specs.Plan.{Pool, Class, Client, Plan, no_pool, pool_at}
-use Rattle.job_bodies.specs.WellFormed.{has_lawful_sizes, IsWellFormed}
+use Rattle.job_bodies.specs.WellFormed.{has_valid_sizes, IsWellFormed}
 use Rattle.weights.specs.Vector.{Vector, has_small_numbers, total}
 use Rattle.weights.specs.Ranks.{Ranks}
 use Rattle.cert_text.specs.Cert.{PoolCert, Cert, no_pool_cert, pool_cert_at}
@@ -14,7 +14,7 @@ use Rattle.size_search.specs.Fitted.{shape, NoneFits}
 use Rattle.size_search.specs.Widened.{outline, with_max, widened, NoneFitsWide}
 use Rattle.size_search.proofs.Numbered.{map-twice}
 use Rattle.size_search.proofs.Shapes.{length-changed, map-agree}
-use Rattle.size_search.proofs.Changes.{nameplate, HasSizes, length-outline, lawful_from_sizes, sizes_at, sized_from_places, well_formed_changed}
+use Rattle.size_search.proofs.Changes.{nameplate, HasSizes, length-outline, valid_from_sizes, sizes_at, sized_from_places, well_formed_changed}
 use Rattle.size_search.proofs.LeastMaxes.{length-widened, widened-outline, widened_at}
 use Rattle.size_search.specs.Submitted.{IsWithoutCause}
 use Rattle.size_search.specs.Steady.{level_above, levels_within, pool_of, steady_vector, steady_total, steady_levels, steady_pool, steady_cert}
@@ -91,8 +91,8 @@ some_fit_wide plan well free small low none = none other (record { well_formed =
         let known : p < length plan.pools = omega (arith, inside, length-map plan.pools (roomy n)) in
         (get_or-map (roomy n) plan.pools p no_pool no_pool known, known)
 
-    lawful : (p : ℕ) → p < length pools → HasSizes (get_or pools p no_pool)
-    lawful p inside =
+    valid : (p : ℕ) → p < length pools → HasSizes (get_or pools p no_pool)
+    valid p inside =
         let there = at p inside in
         let sizes = sizes_at plan p well there.1 in
         subst HasSizes (sym there.0) (record {
@@ -107,7 +107,7 @@ some_fit_wide plan well free small low none = none other (record { well_formed =
     same = ap (with_pools plan) (map-twice nameplate (roomy n) plan.pools)
 
     well' : IsWellFormed other
-    well' = well_formed_changed plan other well same (sized_from_places pools lawful)
+    well' = well_formed_changed plan other well same (sized_from_places pools valid)
 
     larger : (p : ℕ) → (pool_at plan p).max ≤ (pool_at other p).max
     larger p =
@@ -146,8 +146,8 @@ room_is_left plan pools well free small as_many room none =
         let known : p < length pools = omega (arith, inside, length-map pools (filled n)) in
         (get_or-map (filled n) pools p no_pool no_pool known, known)
 
-    lawful : (p : ℕ) → p < length grown → HasSizes (get_or grown p no_pool)
-    lawful p inside =
+    valid : (p : ℕ) → p < length grown → HasSizes (get_or grown p no_pool)
+    valid p inside =
         let there = at p inside in
         let sizes = sizes_at (with_pools plan pools) p well there.1 in
         let of_room = room p there.1 in
@@ -160,7 +160,7 @@ room_is_left plan pools well free small as_many room none =
         })
 
     well' : IsWellFormed other
-    well' = well_formed_changed (with_pools plan pools) other well (ap (with_pools plan) (map-twice nameplate (filled n) pools)) (sized_from_places grown lawful)
+    well' = well_formed_changed (with_pools plan pools) other well (ap (with_pools plan) (map-twice nameplate (filled n) pools)) (sized_from_places grown valid)
 
     same : shape other ≡ shape (with_pools plan pools)
     same = ap (with_pools plan) (map-twice (λ (pool : Pool). record pool { core = 0; queue = 0 }) (filled n) pools)
@@ -199,8 +199,8 @@ some_fit_widened plan well free small low none = room_is_left plan pools well' f
         widened_at plan cert p known
         ∙ ap (λ (part : PoolCert). with_max plan part.blocked (pool_at plan p)) (get_or-map (λ (pool : Pool). steady_pool plan) plan.pools p no_pool no_pool_cert known)
 
-    lawful : (p : ℕ) → p < length pools → HasSizes (get_or pools p no_pool)
-    lawful p inside =
+    valid : (p : ℕ) → p < length pools → HasSizes (get_or pools p no_pool)
+    valid p inside =
         let known : p < length plan.pools = omega (arith, inside, as_many) in
         let sizes = sizes_at plan p well known in
         subst HasSizes (sym (at p known)) (record {
@@ -212,7 +212,7 @@ some_fit_widened plan well free small low none = room_is_left plan pools well' f
         })
 
     well' : IsWellFormed (with_pools plan pools)
-    well' = well_formed_changed plan (widened plan cert) well (widened-outline plan cert) (sized_from_places pools lawful)
+    well' = well_formed_changed plan (widened plan cert) well (widened-outline plan cert) (sized_from_places pools valid)
 
     left : (p : ℕ) → p < length pools → steady_total plan < (get_or pools p no_pool).max
     left p inside =

@@ -6,9 +6,9 @@ use Rattle.support.specs.In.{In, here, there}
 use Rattle.support.proofs.Members.{In-slice_get}
 use Rattle.job_bodies.specs.declared.action.Action.{Action}
 use Rattle.job_bodies.specs.declared.action.Action.TheVariants.{Work, Submit, Get}
-use Rattle.job_bodies.specs.Plan.{Class, Client, Plan, no_class, no_client, class_at, client_at, class_got, is_got}
-use Rattle.job_bodies.specs.Lawful.{IsLawful}
-use Rattle.job_bodies.proofs.Bodies.{IsOrdered}
+use Rattle.job_bodies.specs.Plan.{Class, Client, Plan, no_class, no_client, class_at, client_at, submitted_class, has_get_of}
+use Rattle.job_bodies.specs.ValidBody.{IsValidBody}
+use Rattle.job_bodies.proofs.Bodies.{HasValidBodies}
 use Rattle.weights.specs.Vector.{Vector, class_weights, queued_weight, job_weight, done_weight, client_weights, client_weight}
 use Rattle.size_search.specs.Submitted.{NoCircle}
 use Rattle.size_search.specs.Steady.{submitted_weight, awaited_weight, open_weight, most, weight_at, weights_from, job_end, class_row, client_end, client_row, jobs_within, jobs, steady_vector, steady_levels}
@@ -39,44 +39,44 @@ most-agree : (v w : Vector) (body : List Action) → WeighTheSame v w body → m
 most-agree v w body same =
     greatest-agree (open_weight v body) (open_weight w body) (length body)
     (λ i. sum_below-agree (awaited_weight v body i) (awaited_weight w body i) i
-    (λ s below. ap (λ (n : ℕ). cond (is_got (drop i body) s) n 0) (submitted-agree v w body s (slice_get body s) same refl)))
+    (λ s below. ap (λ (n : ℕ). cond (has_get_of (drop i body) s) n 0) (submitted-agree v w body s (slice_get body s) same refl)))
 
 -- the rest of a body
 record IsRest (rest body : List Action) : Type 0 where
   among : (x : Action) → In x rest → In x body
 
-weight_at-agree : (plan : Plan) (v w : Vector) (least : ℕ) (body : List Action) (last : ℕ) (rest : List Action) → IsLawful plan body → WeighTheSame v w body → IsRest rest body
+weight_at-agree : (plan : Plan) (v w : Vector) (least : ℕ) (body : List Action) (last : ℕ) (rest : List Action) → IsValidBody plan body → WeighTheSame v w body → IsRest rest body
     → weight_at plan v least body last rest ≡ weight_at plan w least body last rest
-weight_at-agree plan v w least body last [] lawful same part = refl
-weight_at-agree plan v w least body last (Work u ∷ rest) lawful same part = weight_at-agree plan v w least body last rest lawful same (record { among = λ x at. part.among x (there at) })
-weight_at-agree plan v w least body last (Submit k ∷ rest) lawful same part =
-    ap₂ (λ (m n : ℕ). m + n) (weight_at-agree plan v w least body last rest lawful same (record { among = λ x at. part.among x (there at) })) (queued-agree v w k (same.rows k (part.among (Submit k) here)))
-weight_at-agree plan v w least body last (Get t ∷ rest) lawful same part =
+weight_at-agree plan v w least body last [] valid same part = refl
+weight_at-agree plan v w least body last (Work u ∷ rest) valid same part = weight_at-agree plan v w least body last rest valid same (record { among = λ x at. part.among x (there at) })
+weight_at-agree plan v w least body last (Submit k ∷ rest) valid same part =
+    ap₂ (λ (m n : ℕ). m + n) (weight_at-agree plan v w least body last rest valid same (record { among = λ x at. part.among x (there at) })) (queued-agree v w k (same.rows k (part.among (Submit k) here)))
+weight_at-agree plan v w least body last (Get t ∷ rest) valid same part =
     let place = place_in (part.among (Get t) here) in
-    let names = submit_of body t (lawful.of_submit place.0 t place.1) in
-    ap₂ (λ (m n : ℕ). max least (m - n)) (weight_at-agree plan v w least body last rest lawful same (record { among = λ x at. part.among x (there at) }))
-    (done-agree plan v w (class_got body t) (same.rows (class_got body t) (In-slice_get body t (Submit (class_got body t)) names)))
+    let names = submit_of body t (valid.of_submit place.0 t place.1) in
+    ap₂ (λ (m n : ℕ). max least (m - n)) (weight_at-agree plan v w least body last rest valid same (record { among = λ x at. part.among x (there at) }))
+    (done-agree plan v w (submitted_class body t) (same.rows (submitted_class body t) (In-slice_get body t (Submit (submitted_class body t)) names)))
 
-weights_from-agree : (plan : Plan) (v w : Vector) (least : ℕ) (body : List Action) (last : ℕ) (rest : List Action) → IsLawful plan body → WeighTheSame v w body → IsRest rest body
+weights_from-agree : (plan : Plan) (v w : Vector) (least : ℕ) (body : List Action) (last : ℕ) (rest : List Action) → IsValidBody plan body → WeighTheSame v w body → IsRest rest body
     → weights_from plan v least body last rest ≡ weights_from plan w least body last rest
-weights_from-agree plan v w least body last [] lawful same part = refl
-weights_from-agree plan v w least body last (x ∷ rest) lawful same part =
-    ap₂ (λ (n : ℕ) (ns : List ℕ). n ∷ ns) (weight_at-agree plan v w least body last (x ∷ rest) lawful same part)
-    (weights_from-agree plan v w least body last rest lawful same (record { among = λ y at. part.among y (there at) }))
+weights_from-agree plan v w least body last [] valid same part = refl
+weights_from-agree plan v w least body last (x ∷ rest) valid same part =
+    ap₂ (λ (n : ℕ) (ns : List ℕ). n ∷ ns) (weight_at-agree plan v w least body last (x ∷ rest) valid same part)
+    (weights_from-agree plan v w least body last rest valid same (record { among = λ y at. part.among y (there at) }))
 
 whole : (body : List Action) → IsRest body body
 whole body = record { among = λ x at. at }
 
-pub class_row-agree : (plan : Plan) (v w : Vector) (body : List Action) → IsLawful plan body → WeighTheSame v w body → class_row plan v body ≡ class_row plan w body
-class_row-agree plan v w body lawful same =
+pub class_row-agree : (plan : Plan) (v w : Vector) (body : List Action) → IsValidBody plan body → WeighTheSame v w body → class_row plan v body ≡ class_row plan w body
+class_row-agree plan v w body valid same =
     ap₂ (λ (n : ℕ) (ns : List ℕ). n ∷ (ns ++ job_end v body ∷ []))
-    (weight_at-agree plan v w 1 body (job_end v body) body lawful same (whole body))
-    (weights_from-agree plan v w 1 body (job_end v body) body lawful same (whole body))
+    (weight_at-agree plan v w 1 body (job_end v body) body valid same (whole body))
+    (weights_from-agree plan v w 1 body (job_end v body) body valid same (whole body))
     ∙ ap (λ (n : ℕ). weight_at plan w 1 body (n + 1) body ∷ (weights_from plan w 1 body (n + 1) body ++ (n + 1) ∷ [])) (most-agree v w body same)
 
-pub client_row-agree : (plan : Plan) (v w : Vector) (client : Client) → IsLawful plan client.body → WeighTheSame v w client.body → client_row plan v client ≡ client_row plan w client
-client_row-agree plan v w client lawful same =
-    weights_from-agree plan v w 0 client.body (client_end v client) client.body lawful same (whole client.body)
+pub client_row-agree : (plan : Plan) (v w : Vector) (client : Client) → IsValidBody plan client.body → WeighTheSame v w client.body → client_row plan v client ≡ client_row plan w client
+client_row-agree plan v w client valid same =
+    weights_from-agree plan v w 0 client.body (client_end v client) client.body valid same (whole client.body)
     ∙ ap (λ (n : ℕ). weights_from plan w 0 client.body (cond client.repeat n 0) client.body) (most-agree v w client.body same)
 
 -- ---- the rounds are stable
@@ -84,26 +84,26 @@ client_row-agree plan v w client lawful same =
 row-step : (plan : Plan) (n k : ℕ) → k < length plan.classes → class_weights (jobs_within plan (suc n)) k ≡ class_row plan (jobs_within plan n) (class_at plan k).body
 row-step plan n k inside = get_or-map (λ (class : Class). class_row plan (jobs_within plan n) class.body) plan.classes k no_class [] inside
 
-settled_at : (plan : Plan) → IsOrdered plan → NoCircle plan → (n k : ℕ) → k < length plan.classes → get_or (steady_levels plan) k 0 < n → class_weights (jobs_within plan (suc n)) k ≡ class_weights (jobs_within plan n) k
+settled_at : (plan : Plan) → HasValidBodies plan → NoCircle plan → (n k : ℕ) → k < length plan.classes → get_or (steady_levels plan) k 0 < n → class_weights (jobs_within plan (suc n)) k ≡ class_weights (jobs_within plan n) k
 settled_at plan ordered none zero k inside low = absurd (omega (arith, low))
 settled_at plan ordered none (suc n) k inside low =
-    let lawful = ordered.classes k in
+    let valid = ordered.classes k in
     let same : WeighTheSame (jobs_within plan (suc n)) (jobs_within plan n) (class_at plan k).body = record {
       rows = λ j at.
           let place = place_in at in
-          settled_at plan ordered none n j (lawful.submit place.0 j place.1) (omega (arith, low, levels_sink plan ordered none k j at));
+          settled_at plan ordered none n j (valid.submit place.0 j place.1) (omega (arith, low, levels_sink plan ordered none k j at));
     } in
-    row-step plan (suc n) k inside ∙ (class_row-agree plan (jobs_within plan (suc n)) (jobs_within plan n) (class_at plan k).body lawful same ∙ sym (row-step plan n k inside))
+    row-step plan (suc n) k inside ∙ (class_row-agree plan (jobs_within plan (suc n)) (jobs_within plan n) (class_at plan k).body valid same ∙ sym (row-step plan n k inside))
 
 -- ---- so each row follows from the vector itself
 
-pub class_is : (plan : Plan) → IsOrdered plan → NoCircle plan → (k : ℕ) → k < length plan.classes → class_weights (steady_vector plan) k ≡ class_row plan (steady_vector plan) (class_at plan k).body
+pub class_is : (plan : Plan) → HasValidBodies plan → NoCircle plan → (k : ℕ) → k < length plan.classes → class_weights (steady_vector plan) k ≡ class_row plan (steady_vector plan) (class_at plan k).body
 class_is plan ordered none k inside =
     sym (settled_at plan ordered none (length plan.classes) k inside (shallow plan ordered none k inside))
     ∙ (row-step plan (length plan.classes) k inside
     ∙ class_row-agree plan (jobs plan) (steady_vector plan) (class_at plan k).body (ordered.classes k) (record { rows = λ j at. refl }))
 
-pub client_is : (plan : Plan) → IsOrdered plan → (c : ℕ) → c < length plan.clients → client_weights (steady_vector plan) c ≡ client_row plan (steady_vector plan) (client_at plan c)
+pub client_is : (plan : Plan) → HasValidBodies plan → (c : ℕ) → c < length plan.clients → client_weights (steady_vector plan) c ≡ client_row plan (steady_vector plan) (client_at plan c)
 client_is plan ordered c inside =
     get_or-map (client_row plan (jobs plan)) plan.clients c no_client [] inside
     ∙ client_row-agree plan (jobs plan) (steady_vector plan) (client_at plan c) (ordered.clients c) (record { rows = λ j at. refl })

@@ -8,8 +8,8 @@ use Rattle.support.proofs.Members.{In-append_left, In-append_right, In-append_ca
 use Rattle.job_bodies.specs.declared.action.Action.{Action}
 use Rattle.job_bodies.specs.declared.action.Action.TheVariants.{Work, Submit, Get}
 use Rattle.job_bodies.specs.Plan.{Pool, Class, Client, Plan, pool_at}
-use Rattle.weights.specs.declared.at_get.AtGet.{AtGet}
-use Rattle.weights.specs.declared.at_get.AtGet.TheVariants.{GivesBack, GivesNothing}
+use Rattle.weights.specs.declared.get_return.GetReturn.{GetReturn}
+use Rattle.weights.specs.declared.get_return.GetReturn.TheVariants.{DoneWeight, NoWeight}
 use Rattle.weights.specs.declared.bound.Bound.{Bound}
 use Rattle.weights.specs.declared.bound.Bound.TheVariants.{Standing, Lifetime}
 use Rattle.weights.specs.declared.row.Rule.TheVariants.{V7, S1, S2, L1, L2, L3, B1, B2}
@@ -53,49 +53,49 @@ of_no_total-flat_map f [] each = refl
 of_no_total-flat_map f (x ∷ xs) each = of_no_total-append (f x) (flat_map f xs) (each x) (of_no_total-flat_map f xs each)
 
 -- the row of an action
-of_action : (at_get : AtGet) (plan : Plan) (v : Vector) (weight : ℕ → ℕ) (place_at : ℕ → Place) (body : List Action) (i : ℕ) (action : Action) → is_total (place_at i) ≡ false
-    → is_total (action_row at_get plan v weight place_at body i action).place ≡ false
-of_action at_get plan v weight place_at body i (Work u) other = other
-of_action at_get plan v weight place_at body i (Submit k) other = other
-of_action at_get plan v weight place_at body i (Get t) other = other
+of_action : (get_return : GetReturn) (plan : Plan) (v : Vector) (weight : ℕ → ℕ) (place_at : ℕ → Place) (body : List Action) (i : ℕ) (action : Action) → is_total (place_at i) ≡ false
+    → is_total (action_row get_return plan v weight place_at body i action).place ≡ false
+of_action get_return plan v weight place_at body i (Work u) other = other
+of_action get_return plan v weight place_at body i (Submit k) other = other
+of_action get_return plan v weight place_at body i (Get t) other = other
 
-of_body : (at_get : AtGet) (plan : Plan) (v : Vector) (weight : ℕ → ℕ) (place_at : ℕ → Place) (body : List Action) → ((i : ℕ) → is_total (place_at i) ≡ false) → OfNoTotal (body_rows at_get plan v weight place_at body)
-of_body at_get plan v weight place_at body other =
-    of_no_total-map (λ (entry : ℕ × Action). action_row at_get plan v weight place_at body entry.0 entry.1) (enumerate_from 0 body) (λ entry. of_action at_get plan v weight place_at body entry.0 entry.1 (other entry.0))
+of_body : (get_return : GetReturn) (plan : Plan) (v : Vector) (weight : ℕ → ℕ) (place_at : ℕ → Place) (body : List Action) → ((i : ℕ) → is_total (place_at i) ≡ false) → OfNoTotal (body_rows get_return plan v weight place_at body)
+of_body get_return plan v weight place_at body other =
+    of_no_total-map (λ (entry : ℕ × Action). action_row get_return plan v weight place_at body entry.0 entry.1) (enumerate_from 0 body) (λ entry. of_action get_return plan v weight place_at body entry.0 entry.1 (other entry.0))
 
-of_class : (at_get : AtGet) (plan : Plan) (v : Vector) (k : ℕ) (class : Class) → OfNoTotal (class_rows at_get plan v k class)
-of_class at_get plan v k class = of_no_total-append (body_rows at_get plan v (job_weight v k) (place.ClassAction k) class.body) _ (of_body at_get plan v (job_weight v k) (place.ClassAction k) class.body (λ i. refl)) refl
+of_class : (get_return : GetReturn) (plan : Plan) (v : Vector) (k : ℕ) (class : Class) → OfNoTotal (class_rows get_return plan v k class)
+of_class get_return plan v k class = of_no_total-append (body_rows get_return plan v (job_weight v k) (place.ClassAction k) class.body) _ (of_body get_return plan v (job_weight v k) (place.ClassAction k) class.body (λ i. refl)) refl
 
 of_loop : (v : Vector) (c n : ℕ) (repeat : Bool) → OfNoTotal (cond repeat (row V7 (place.Client c) (client_weight v c 0) (client_weight v c n) ∷ []) [])
 of_loop v c n true = refl
 of_loop v c n false = refl
 
-of_client : (at_get : AtGet) (plan : Plan) (v : Vector) (c : ℕ) (client : Client) → OfNoTotal (client_rows at_get plan v c client)
-of_client at_get plan v c client =
-    of_no_total-append (body_rows at_get plan v (client_weight v c) (place.ClientAction c) client.body) _ (of_body at_get plan v (client_weight v c) (place.ClientAction c) client.body (λ i. refl))
+of_client : (get_return : GetReturn) (plan : Plan) (v : Vector) (c : ℕ) (client : Client) → OfNoTotal (client_rows get_return plan v c client)
+of_client get_return plan v c client =
+    of_no_total-append (body_rows get_return plan v (client_weight v c) (place.ClientAction c) client.body) _ (of_body get_return plan v (client_weight v c) (place.ClientAction c) client.body (λ i. refl))
     (of_loop v c (length client.body) client.repeat)
 
-of_rows : (at_get : AtGet) (plan : Plan) (v : Vector) → OfNoTotal (rows at_get plan v)
-of_rows at_get plan v =
-    of_no_total-append (flat_map (λ (entry : ℕ × Class). class_rows at_get plan v entry.0 entry.1) (enumerate_from 0 plan.classes)) _
-    (of_no_total-flat_map (λ (entry : ℕ × Class). class_rows at_get plan v entry.0 entry.1) (enumerate_from 0 plan.classes) (λ entry. of_class at_get plan v entry.0 entry.1))
-    (of_no_total-flat_map (λ (entry : ℕ × Client). client_rows at_get plan v entry.0 entry.1) (enumerate_from 0 plan.clients) (λ entry. of_client at_get plan v entry.0 entry.1))
+of_rows : (get_return : GetReturn) (plan : Plan) (v : Vector) → OfNoTotal (rows get_return plan v)
+of_rows get_return plan v =
+    of_no_total-append (flat_map (λ (entry : ℕ × Class). class_rows get_return plan v entry.0 entry.1) (enumerate_from 0 plan.classes)) _
+    (of_no_total-flat_map (λ (entry : ℕ × Class). class_rows get_return plan v entry.0 entry.1) (enumerate_from 0 plan.classes) (λ entry. of_class get_return plan v entry.0 entry.1))
+    (of_no_total-flat_map (λ (entry : ℕ × Client). client_rows get_return plan v entry.0 entry.1) (enumerate_from 0 plan.clients) (λ entry. of_client get_return plan v entry.0 entry.1))
 
 -- the rows of a bound, without its total
 of_bound : (plan : Plan) (p : ℕ) (bound : Bound) → OfNoTotal (bound_body plan p bound)
 of_bound plan p (Standing v) =
-    of_no_total-append (rows GivesBack plan v) _ (of_rows GivesBack plan v) (of_no_total-map (λ (entry : ℕ × Class). row S1 (place.Class entry.0) 1 (queued_weight v entry.0)) (classes_of plan p) (λ entry. refl))
+    of_no_total-append (rows DoneWeight plan v) _ (of_rows DoneWeight plan v) (of_no_total-map (λ (entry : ℕ × Class). row S1 (place.Class entry.0) 1 (queued_weight v entry.0)) (classes_of plan p) (λ entry. refl))
 of_bound plan p (Lifetime v) =
     let workers = map (λ (entry : ℕ × Pool). row L1 (place.Worker entry.0) (workers_weight v entry.0) 0) (enumerate_from 0 plan.pools) in
-    of_no_total-append (workers ++ rows GivesNothing plan v) _
-    (of_no_total-append workers (rows GivesNothing plan v) (of_no_total-map (λ (entry : ℕ × Pool). row L1 (place.Worker entry.0) (workers_weight v entry.0) 0) (enumerate_from 0 plan.pools) (λ entry. refl)) (of_rows GivesNothing plan v))
+    of_no_total-append (workers ++ rows NoWeight plan v) _
+    (of_no_total-append workers (rows NoWeight plan v) (of_no_total-map (λ (entry : ℕ × Pool). row L1 (place.Worker entry.0) (workers_weight v entry.0) 0) (enumerate_from 0 plan.pools) (λ entry. refl)) (of_rows NoWeight plan v))
     (of_no_total-flat_map (λ (entry : ℕ × Class). map (λ weight. row L2 (place.Class entry.0) 1 weight) (class_weights v entry.0)) (classes_of plan p)
     (λ entry. of_no_total-map (λ weight. row L2 (place.Class entry.0) 1 weight) (class_weights v entry.0) (λ weight. refl)))
 
 -- the rows of a blocked vector, without its total
 of_blocked : (plan : Plan) (ranks : Ranks) (p : ℕ) (v : Vector) → OfNoTotal (blocked_body plan ranks p v)
 of_blocked plan ranks p v =
-    of_no_total-append (rows GivesBack plan v) _ (of_rows GivesBack plan v)
+    of_no_total-append (rows DoneWeight plan v) _ (of_rows DoneWeight plan v)
     (of_no_total-flat_map (λ (entry : ℕ × Class). counted_rows (is_counted plan ranks) v entry.0 entry.1) (classes_of plan p)
     (λ entry.
     of_no_total-map (λ (at : ℕ × Action). row B1 (place.ClassAction entry.0 at.0) 1 (job_weight v entry.0 at.0))

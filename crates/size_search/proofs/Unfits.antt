@@ -6,7 +6,7 @@ use Rattle.std.proofs.lemmas.Bool.{and_parts, and_from, ltb-true, ltb-false, le-
 use Rattle.support.proofs.Members.{list_all_at_In, In-get_or}
 use Rattle.job_bodies.specs.declared.limits.TheConstants.{MAX_SIZE}
 use Rattle.job_bodies.specs.Plan.{Pool, Plan, no_pool, pool_at}
-use Rattle.job_bodies.specs.WellFormed.{has_lawful_sizes, IsWellFormed}
+use Rattle.job_bodies.specs.WellFormed.{has_valid_sizes, IsWellFormed}
 use Rattle.cert_text.specs.Cert.{Cert, cert_fits}
 use Rattle.soundness.specs.declared.note.Note.{Note}
 use Rattle.soundness.specs.Conditions.{failing}
@@ -15,7 +15,7 @@ use Rattle.size_search.specs.declared.unfit.Unfit.TheVariants.{Shape, Condition,
 use Rattle.size_search.specs.Fitted.{is_total, raised, fails_only_at_totals, fitted, IsLeastFit, NoneFits}
 use Rattle.size_search.specs.Widened.{widened, NoneFitsWide}
 use Rattle.size_search.specs.Unfit.{failing_elsewhere, first_unfit, unfit_pool, why_unfit, why_not_widened, ToldCoresNeedLargerMaxes}
-use Rattle.size_search.proofs.Changes.{HasSizes, has_sizes, lawful_from_sizes, sized_from_places, sizes_at, well_formed_changed}
+use Rattle.size_search.proofs.Changes.{HasSizes, has_sizes, valid_from_sizes, sized_from_places, sizes_at, well_formed_changed}
 use Rattle.size_search.proofs.LeastSizes.{has_shape, raised-shape, raised_at, raised_no_smaller, raised_is_well_formed, fitted_from, least_fit, none_fits}
 use Rattle.size_search.proofs.LeastMaxes.{length-widened, widened-outline, widened_at, wide_fit_fits, wide_fit_has_room, widened_maxes_are_least}
 
@@ -86,9 +86,9 @@ within p pool none = at_tests (ltb pool.max pool.core) refl (ltb MAX_SIZE pool.m
     at_tests false is false more false also e = record { core = ltb-false pool.max pool.core is; max = ltb-false MAX_SIZE pool.max more; queue = ltb-false MAX_SIZE pool.queue also }
 
 -- a pool with valid sizes is not unfit
-lawful_fits : (p : ℕ) (pool : Pool) → has_lawful_sizes pool ≡ true → unfit_pool p pool ≡ None
-lawful_fits p pool lawful =
-    let sizes = has_sizes pool lawful in
+valid_fits : (p : ℕ) (pool : Pool) → has_valid_sizes pool ≡ true → unfit_pool p pool ≡ None
+valid_fits p pool valid =
+    let sizes = has_sizes pool valid in
     let room = ap₂ (λ (a b : Bool). a || b) (le-ltb pool.max pool.core sizes.max) (le-ltb MAX_SIZE pool.max sizes.most_max) in
     ap₂ (λ (b d : Bool). cond b (Some (Core p)) (cond d (Some (Queue p)) None)) room (le-ltb MAX_SIZE pool.queue sizes.most_queue)
 
@@ -108,7 +108,7 @@ not_unfit plan cert none =
     record { fits = whole.0; elsewhere = no_condition (failing_elsewhere plan cert) parts.0; sizes = parts.1 }
 
 -- then the raised plan has valid sizes
-sized : (plan : Plan) (cert : Cert) → IsWellFormed plan → NotUnfit plan cert → list_all has_lawful_sizes (raised plan cert).pools ≡ true
+sized : (plan : Plan) (cert : Cert) → IsWellFormed plan → NotUnfit plan cert → list_all has_valid_sizes (raised plan cert).pools ≡ true
 sized plan cert well found = sized_from_places (raised plan cert).pools each
   where
     each : (p : ℕ) → p < length (raised plan cert).pools → HasSizes (pool_at (raised plan cert) p)
@@ -137,11 +137,11 @@ pub well_formed_where_not_unfit : (plan : Plan) (cert : Cert) → IsWellFormed p
 well_formed_where_not_unfit plan cert well none = raised_is_well_formed plan cert well (sized plan cert well (not_unfit plan cert none))
 
 -- if there is a fitted plan, there is no reason
-not_unfit_where_fitted : (plan : Plan) (cert : Cert) → fails_only_at_totals plan cert ≡ true → list_all has_lawful_sizes (raised plan cert).pools ≡ true → why_unfit plan cert ≡ None
+not_unfit_where_fitted : (plan : Plan) (cert : Cert) → fails_only_at_totals plan cert ≡ true → list_all has_valid_sizes (raised plan cert).pools ≡ true → why_unfit plan cert ≡ None
 not_unfit_where_fitted plan cert only_totals all_sized =
     let parts = and_parts (cert_fits plan cert) (list_all (λ note. is_total note.place) (failing plan cert)) only_totals in
     let pools = (raised plan cert).pools in
-    let none = all_not_unfit 0 pools (λ p q inside. lawful_fits q (get_or pools p no_pool) (list_all_at_In has_lawful_sizes all_sized (In-get_or pools p no_pool inside))) in
+    let none = all_not_unfit 0 pools (λ p q inside. valid_fits q (get_or pools p no_pool) (list_all_at_In has_valid_sizes all_sized (In-get_or pools p no_pool inside))) in
     ap (λ (fits : Bool). cond fits (option_or (option_map Condition (failing_elsewhere plan cert)) (first_unfit (enumerate_from 0 pools))) (Some Shape)) parts.0
     ∙ ap₂ (λ (found : Option Note) (sizes : Option Unfit). option_or (option_map Condition found) sizes) (none_found (λ (note : Note). is_total note.place) (failing plan cert) parts.1) none
 
@@ -149,7 +149,7 @@ not_unfit_where_fitted plan cert only_totals all_sized =
 pub none_where_unfit : (plan : Plan) (cert : Cert) (unfit : Unfit) → why_unfit plan cert ≡ Some unfit → fitted plan cert ≡ None
 none_where_unfit plan cert unfit some =
     let only_totals = fails_only_at_totals plan cert in
-    let all_sized = list_all has_lawful_sizes (raised plan cert).pools in
+    let all_sized = list_all has_valid_sizes (raised plan cert).pools in
     ap (λ (b : Bool). cond b (Some (raised plan cert)) None)
     (false_from_ne_true (only_totals && all_sized) (λ both.
     let parts = and_parts only_totals all_sized both in
@@ -202,7 +202,7 @@ widened_is_well_formed plan cert well none =
 pub none_fits_where_not_widened : (plan : Plan) (cert : Cert) (unfit : Unfit) → IsWellFormed plan → why_not_widened plan cert ≡ Some unfit → NoneFitsWide plan cert
 none_fits_where_not_widened plan cert unfit well some other fits =
     let pools = (widened plan cert).pools in
-    let none = all_not_unfit 0 pools (λ p q inside. lawful_fits q (get_or pools p no_pool) (lawful_from_sizes (get_or pools p no_pool) (widened_sizes plan cert p well inside (wide_fit_has_room plan other cert p fits inside)))) in
+    let none = all_not_unfit 0 pools (λ p q inside. valid_fits q (get_or pools p no_pool) (valid_from_sizes (get_or pools p no_pool) (widened_sizes plan cert p well inside (wide_fit_has_room plan other cert p fits inside)))) in
     let no_reason : why_not_widened plan cert ≡ None =
     ap (λ (fit : Bool). cond fit (first_unfit (enumerate_from 0 pools)) (Some Shape)) (wide_fit_fits plan other cert fits) ∙ none in
     absurd cc

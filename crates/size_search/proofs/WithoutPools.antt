@@ -8,7 +8,7 @@ use Rattle.support.proofs.Members.{list_all_at_In, In-get_or}
 use Rattle.job_bodies.specs.declared.action.Action.{Action}
 use Rattle.job_bodies.specs.declared.action.Action.TheVariants.{Work, Submit, Get}
 use Rattle.job_bodies.specs.declared.limits.TheConstants.{MAX_SIZE}
-use Rattle.job_bodies.specs.Plan.{Pool, Class, Client, Plan, no_pool, no_client, class_at, class_got, is_got}
+use Rattle.job_bodies.specs.Plan.{Pool, Class, Client, Plan, no_pool, no_client, class_at, submitted_class, has_get_of}
 use Rattle.job_bodies.specs.WellFormed.{IsWellFormed}
 use Rattle.job_bodies.proofs.Bodies.{ordered}
 use Rattle.weights.specs.Vector.{Vector, done_weight, client_weight, client_weights, workers_weight, is_small, has_small_numbers, has_shape, vector_fits}
@@ -41,7 +41,7 @@ nothing_greatest f (suc n) none =
     omega (arith, step, nothing_greatest f n none, none (suc n))
 
 nothing_open : (body : List Action) (i : ℕ) → open_weight no_vector body i ≡ 0
-nothing_open body i = nothing_below (awaited_weight no_vector body i) i (λ s. either (is_got (drop i body) s) (submitted_weight no_vector (slice_get body s)) (submits_nothing (slice_get body s)))
+nothing_open body i = nothing_below (awaited_weight no_vector body i) i (λ s. either (has_get_of (drop i body) s) (submitted_weight no_vector (slice_get body s)) (submits_nothing (slice_get body s)))
 
 nothing_at_end : (client : Client) → client_end no_vector client ≡ 0
 nothing_at_end client = either client.repeat (most no_vector client.body) (nothing_greatest (open_weight no_vector client.body) (length client.body) (nothing_open client.body))
@@ -53,7 +53,7 @@ nothing_at plan body last (Submit k ∷ rest) none =
     let step : weight_at plan no_vector 0 body last (Submit k ∷ rest) ≡ weight_at plan no_vector 0 body last rest + 0 = refl in
     omega (arith, step, nothing_at plan body last rest none)
 nothing_at plan body last (Get t ∷ rest) none =
-    let step : weight_at plan no_vector 0 body last (Get t ∷ rest) ≡ max 0 (weight_at plan no_vector 0 body last rest - done_weight plan no_vector (class_got body t)) = refl in
+    let step : weight_at plan no_vector 0 body last (Get t ∷ rest) ≡ max 0 (weight_at plan no_vector 0 body last rest - done_weight plan no_vector (submitted_class body t)) = refl in
     omega (arith, step, nothing_at plan body last rest none)
 
 small_zero : (n : ℕ) → n ≡ 0 → is_small n ≡ true

@@ -2,7 +2,7 @@
 use Rattle.std.specs.Prelude.{◌≡◌, ◌≤◌, ℕ, ◌+◌, ◌-◌, max, Bool, true, false, ◌&&◌, if◌then◌else◌, map, Option, Some, None, IsTrue}
 use Rattle.std.specs.List.{list_all, enumerate_from}
 use Rattle.job_bodies.specs.Plan.{Pool, Plan, pool_at, first_workers}
-use Rattle.job_bodies.specs.WellFormed.{IsWellFormed, has_lawful_sizes}
+use Rattle.job_bodies.specs.WellFormed.{IsWellFormed, has_valid_sizes}
 use Rattle.weights.specs.declared.row.Place.{Place}
 use Rattle.weights.specs.declared.row.Place.TheVariants.{Total}
 use Rattle.weights.specs.declared.bound.Bound.{Bound}
@@ -51,7 +51,7 @@ fails_only_at_totals plan cert = cert_fits plan cert && list_all (λ note. is_to
 
 -- the raised plan; None if another condition fails, or if a core would be above its pool's max or a queue above its limit
 abbrev pub fitted : Plan → Cert → Option Plan
-fitted plan cert = if fails_only_at_totals plan cert && list_all has_lawful_sizes (raised plan cert).pools then Some (raised plan cert) else None
+fitted plan cert = if fails_only_at_totals plan cert && list_all has_valid_sizes (raised plan cert).pools then Some (raised plan cert) else None
 
 -- ---- its properties
 

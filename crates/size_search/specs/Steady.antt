@@ -3,7 +3,7 @@
 use Rattle.std.specs.Prelude.{ℕ, zero, suc, ◌+◌, ◌-◌, max, if◌then◌else◌, List, [], ◌∷◌, ◌++◌, length, map, drop, Option, Some, None, slice_get, slice_index}
 use Rattle.job_bodies.specs.declared.action.Action.{Action}
 use Rattle.job_bodies.specs.declared.action.Action.TheVariants.{Work, Submit, Get}
-use Rattle.job_bodies.specs.Plan.{Pool, Class, Client, Plan, is_got, class_got}
+use Rattle.job_bodies.specs.Plan.{Pool, Class, Client, Plan, has_get_of, submitted_class}
 use Rattle.weights.specs.declared.bound.Bound.TheVariants.{Standing}
 use Rattle.weights.specs.Vector.{Vector, queued_weight, done_weight, total}
 use Rattle.weights.specs.Ranks.{Ranks}
@@ -30,7 +30,7 @@ submitted_weight v None = 0
 
 -- that weight of the submit at position s, if it is got at position i or later
 abbrev pub awaited_weight : Vector → List Action → ℕ → ℕ → ℕ
-awaited_weight v body i s = if is_got (drop i body) s then submitted_weight v (slice_get body s) else 0
+awaited_weight v body i s = if has_get_of (drop i body) s then submitted_weight v (slice_get body s) else 0
 
 -- the weight of all jobs that are open at position i: submitted before it, and got there or later
 abbrev pub open_weight : Vector → List Action → ℕ → ℕ
@@ -47,7 +47,7 @@ most v body = greatest_upto (open_weight v body) (length body)
 abbrev pub weight_before : Plan → Vector → ℕ → List Action → Action → ℕ → ℕ
 weight_before plan v least body (Work u) behind = behind
 weight_before plan v least body (Submit k) behind = behind + queued_weight v k
-weight_before plan v least body (Get t) behind = max least (behind - done_weight plan v (class_got body t))
+weight_before plan v least body (Get t) behind = max least (behind - done_weight plan v (submitted_class body t))
 
 -- the weight before this rest of the body
 abbrev pub weight_at : Plan → Vector → ℕ → List Action → ℕ → List Action → ℕ

@@ -3,7 +3,7 @@ use Rattle.std.specs.Prelude.{◌≡◌, ℕ, List, [], ◌∷◌, map, filter, 
 use Rattle.support.specs.In.{In}
 use Rattle.job_bodies.specs.declared.action.Action.{Action}
 use Rattle.job_bodies.specs.declared.action.Action.TheVariants.{Submit}
-use Rattle.job_bodies.specs.Plan.{Client, Plan, class_at, client_at, submits, is_got}
+use Rattle.job_bodies.specs.Plan.{Client, Plan, class_at, client_at, submits, has_get_of}
 
 -- one of the bodies submits the class, or a class that is itself submitted does
 pub data IsSubmitted (plan : Plan) (bodies : List (List Action)) : ℕ → Type 0 where
@@ -17,7 +17,7 @@ pub record SubmitsOnly (plan : Plan) (bodies : List (List Action)) (body : List 
 -- the action at this position is a submit that no action gets
 pub record IsNeverGot (body : List Action) (i : ℕ) : Type 0 where
   pub is_submit : submits (slice_get body i) ≡ true
-  pub not_got : is_got body i ≡ false
+  pub not_got : has_get_of body i ≡ false
 
 -- the bodies of clients that repeat
 abbrev pub repeated_bodies : Plan → List (List Action)

@@ -1,16 +1,16 @@
 //! The weights of an actor over its body, given the weights of the jobs that it submits.
 
 ghost use Rattle.std.specs.Prelude.{◌≡◌, ◌≤◌, ◌<◌, ◌+◌, ◌*◌, IfOk, length, slice_index};
-ghost use Rattle.job_bodies.specs.Lawful.{IsLawful};
+ghost use Rattle.job_bodies.specs.ValidBody.{IsValidBody};
 ghost use Rattle.job_bodies.specs.declared.limits.TheConstants.{MAX_ACTIONS, MAX_WEIGHT};
 ghost use Rattle.weights.specs.Vector as vector_spec;
 ghost use Rattle.size_search.specs.Small.{JobsAreSmall};
 ghost use Rattle.size_search.specs.Steady as spec;
 
 use crate::levels::number_at;
-use job_bodies::{Action, Client, Plan, is_got};
+use job_bodies::{Action, Client, Plan, has_get_of};
 use std::alloc::{AllocError, Global};
-use weights::{Vector, class_got};
+use weights::{Vector, submitted_class};
 
 /// Returns the number at this index of the class's row, or 0 if there is none.
 fn number_of(vector: &Vector, class: usize, place: usize) -> u64
@@ -43,7 +43,7 @@ fn done(plan: &Plan, vector: &Vector, class: usize) -> u64
 
 /// Returns the weight of the open jobs after the action at this position, given that before it.
 fn opened(plan: &Plan, vector: &Vector, body: &[Action], position: usize, so_far: u64) -> u64
-    requires lawful { IsLawful plan.now body.now }
+    requires valid { IsValidBody plan.now body.now }
     requires small { JobsAreSmall vector.now }
     requires inside { position < length body.now }
     requires so_far { so_far ≡ spec.open_weight vector.now body.now position }
@@ -52,19 +52,19 @@ fn opened(plan: &Plan, vector: &Vector, body: &[Action], position: usize, so_far
     match body[position] {
         Action::Work(_) => so_far,
         Action::Submit(class) => {
-            if is_got(body, position) {
+            if has_get_of(body, position) {
                 so_far + queued(vector, class)
             } else {
                 so_far
             }
         }
-        Action::Get(submit) => so_far - queued(vector, class_got(body, submit)),
+        Action::Get(submit) => so_far - queued(vector, submitted_class(body, submit)),
     }
 }
 
 /// Returns the largest weight of open jobs at a position of the body.
 fn most(plan: &Plan, vector: &Vector, body: &[Action]) -> u64
-    requires lawful { IsLawful plan.now body.now }
+    requires valid { IsValidBody plan.now body.now }
     requires small { JobsAreSmall vector.now }
     ensures value { result ≡ spec.most vector.now body.now }
     ensures bound { result ≤ MAX_ACTIONS * MAX_WEIGHT }
@@ -95,8 +95,8 @@ fn before(
         Action::Work(_) => behind,
         Action::Submit(class) => behind + queued(vector, class),
         Action::Get(submit) => {
-            let given_back = done(plan, vector, class_got(body, submit));
-            least.max(behind.saturating_sub(given_back))
+            let returned_weight = done(plan, vector, submitted_class(body, submit));
+            least.max(behind.saturating_sub(returned_weight))
         }
     }
 }
@@ -110,7 +110,7 @@ fn weights(
     body: &[Action],
     last: u64,
 ) -> Result<Vec<u64>, AllocError>
-    requires lawful { IsLawful plan.now body.now }
+    requires valid { IsValidBody plan.now body.now }
     requires small { JobsAreSmall vector.now }
     requires least { least ≤ 1 }
     requires last { last ≤ 1 + MAX_ACTIONS * MAX_WEIGHT }
@@ -136,7 +136,7 @@ pub(crate) fn class_row(
     vector: &Vector,
     body: &[Action],
 ) -> Result<Vec<u64>, AllocError>
-    requires lawful { IsLawful plan.now body.now }
+    requires valid { IsValidBody plan.now body.now }
     requires small { JobsAreSmall vector.now }
     ensures { IfOk result (λ row. row.items ≡ spec.class_row plan.now vector.now body.now) }
 {
@@ -156,7 +156,7 @@ pub(crate) fn client_row(
     vector: &Vector,
     client: &Client,
 ) -> Result<Vec<u64>, AllocError>
-    requires lawful { IsLawful plan.now client.now.body }
+    requires valid { IsValidBody plan.now client.now.body }
     requires small { JobsAreSmall vector.now }
     ensures { IfOk result (λ row. row.items ≡ spec.client_row plan.now vector.now client.now) }
 {

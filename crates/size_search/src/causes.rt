@@ -10,7 +10,7 @@ ghost use Rattle.size_search.specs.Causes.{IsCause};
 use crate::cause::Cause;
 use crate::reached::Reached;
 use crate::submitted::submitted_for_ever;
-use job_bodies::{Action, Plan, is_got};
+use job_bodies::{Action, Plan, has_get_of};
 use std::alloc::{AllocError, Global};
 
 /// Returns a cause for which no sizes are enough, or `None` exactly if the plan has none.
@@ -99,7 +99,7 @@ fn submit_without_get(body: &[Action]) -> Option<usize>
     ensures none { IfNone result ((i : ℕ) → ¬ IsNeverGot body.now i) }
 {
     for position in 0..body.len() {
-        if matches!(body[position], Action::Submit(_)) && !is_got(body, position) {
+        if matches!(body[position], Action::Submit(_)) && !has_get_of(body, position) {
             return Some(position);
         }
     }

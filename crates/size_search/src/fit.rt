@@ -57,7 +57,7 @@ fn raised_pool(alloc: Global, plan: &Plan, cert: &Cert, number: usize) -> Result
         ≡ spec.raised_pool plan.now (pool_cert_at cert.now number) (pool_at plan.now number)) }
 {
     let needs = cert.pool_at(number);
-    let mut raised = plan.pools()[number].copied(alloc)?;
+    let mut raised = plan.pools()[number].try_clone(alloc)?;
     raised.core = raised.core.max(core_needed(plan, &needs.blocked));
     raised.queue = raised.queue.max(queue_needed(plan, &needs.bound, &raised));
     Ok(raised)
@@ -158,7 +158,7 @@ pub fn fitted(
 fn smallest_pool(alloc: Global, pool: &Pool) -> Result<Pool, AllocError>
     ensures { IfOk result (λ small. small ≡ record pool.now { core = 1; queue = 1 }) }
 {
-    let mut small = pool.copied(alloc)?;
+    let mut small = pool.try_clone(alloc)?;
     small.core = 1;
     small.queue = 1;
     Ok(small)
@@ -185,5 +185,5 @@ pub fn smallest(alloc: Global, plan: &Plan) -> Result<Plan, AllocError>
     ensures { IfOk result (λ small. small ≡ spec.smallest plan.now) }
 {
     let pools = smallest_pools(alloc, plan)?;
-    Ok(plan.copied(alloc)?.with_pools(pools))
+    Ok(plan.try_clone(alloc)?.with_pools(pools))
 }

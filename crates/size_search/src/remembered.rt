@@ -4,7 +4,7 @@ use crate::found::{Halt, Obstacle};
 use job_bodies::{Action, Plan};
 use least_vectors::{Growing, Kind, Levels, Weighed};
 use std::alloc::{AllocError, Global};
-use weights::class_got;
+use weights::submitted_class;
 
 /// The maximum number of vectors that are computed, which bounds the time of a search. No known
 /// plan needs a quarter of them.
@@ -244,7 +244,7 @@ fn gets_of(alloc: Global, plan: &Plan, pool: usize) -> Result<Vec<bool>, AllocEr
         if class.pool == pool {
             for action in &class.body {
                 if let Action::Get(submit) = action {
-                    if let Some(gets) = gets.get_mut(class_got(&class.body, *submit)) {
+                    if let Some(gets) = gets.get_mut(submitted_class(&class.body, *submit)) {
                         *gets = true;
                     }
                 }

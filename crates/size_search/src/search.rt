@@ -67,7 +67,7 @@ pub fn search_sizes(
 {
     if let Some(cert) = first {
         if accepts(plan, &cert) {
-            let plan = plan.copied(alloc)?;
+            let plan = plan.try_clone(alloc)?;
             return Ok(SizesFound::Found { plan, cert });
         }
     }

@@ -23,7 +23,7 @@ fn widened_pool(alloc: Global, plan: &Plan, cert: &Cert, number: usize) -> Resul
         ≡ spec.with_max plan.now (pool_cert_at cert.now number).blocked (pool_at plan.now number)) }
 {
     let needs = cert.pool_at(number);
-    let mut wide = plan.pools()[number].copied(alloc)?;
+    let mut wide = plan.pools()[number].try_clone(alloc)?;
     wide.max = wide.max.max(core_needed(plan, &needs.blocked));
     Ok(wide)
 }
@@ -67,6 +67,6 @@ pub fn widened(alloc: Global, plan: &Plan, cert: &Cert) -> Result<Result<Plan, U
     let pools = widened_pools(alloc, plan, cert)?;
     match unfit_pools(&pools) {
         Some(unfit) => Ok(Err(unfit)),
-        None => Ok(Ok(plan.copied(alloc)?.with_pools(pools))),
+        None => Ok(Ok(plan.try_clone(alloc)?.with_pools(pools))),
     }
 }

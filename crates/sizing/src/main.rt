@@ -6,7 +6,7 @@ use sizing_cli::{ServeFault, StdFiles, StdSink, StdSource, WordsFault, serve_wor
 use std::alloc::AllocError;
 use std::process::ExitCode;
 use std::{env, io};
-use support::Head;
+use support::FaultHead;
 use support::number::{READ_FAILED, WRITE_FAILED};
 
 /// The exit status for arguments that are not UTF-8.
@@ -74,8 +74,8 @@ fn tell(rt: &impl Eprint, fault: &WordsFault<'_>) -> io::Result<()> {
                 "{name} is there and no certificate, so it stays as it is: name another file for --certificate"
             )
         }
-        WordsFault::Unwritten(name) => eprintln!(rt; "{} at {name}", Head(WRITE_FAILED)),
-        WordsFault::Unread(name) => eprintln!(rt; "{} at {name}", Head(READ_FAILED)),
+        WordsFault::Unwritten(name) => eprintln!(rt; "{} at {name}", FaultHead(WRITE_FAILED)),
+        WordsFault::Unread(name) => eprintln!(rt; "{} at {name}", FaultHead(READ_FAILED)),
         WordsFault::Served(fault) => eprintln!(rt; "{fault}"),
     }
 }

@@ -16,7 +16,7 @@ use job_bodies::{Plan, PlanFault};
 use recordings::RecordingFault;
 use std::alloc::{AllocError, Global};
 use std::marker::Model;
-use support::{Counter, Head, number};
+use support::{Counter, FaultHead, number};
 
 /// The text that a command writes, and the status that it ends with.
 #[derive(Drop)]
@@ -84,35 +84,35 @@ fn is_no(reply: Reply) -> bool
 pub fn no_separator(alloc: Global) -> Result<Answer, AllocError>
     ensures { IfOk result (λ answer. answer ≡ spec.no_separator) }
 {
-    fault(format!(in alloc; "{}", Head(number::NO_SEPARATOR))?)
+    fault(format!(in alloc; "{}", FaultHead(number::NO_SEPARATOR))?)
 }
 
 /// Returns the answer to an input, or to event lines, that are too long.
 pub fn input_too_long(alloc: Global) -> Result<Answer, AllocError>
     ensures { IfOk result (λ answer. answer ≡ spec.input_too_long) }
 {
-    fault(format!(in alloc; "{}", Head(number::INPUT_TOO_LONG))?)
+    fault(format!(in alloc; "{}", FaultHead(number::INPUT_TOO_LONG))?)
 }
 
 /// Returns the answer to a plan that is too large to run.
 pub fn too_large(alloc: Global) -> Result<Answer, AllocError>
     ensures { IfOk result (λ answer. answer ≡ too_large) }
 {
-    fault(format!(in alloc; "{}", Head(number::RUN_TOO_LARGE))?)
+    fault(format!(in alloc; "{}", FaultHead(number::RUN_TOO_LARGE))?)
 }
 
 /// Returns the answer to event lines whose line `line`, counted from 1, is malformed.
 pub fn bad_event(alloc: Global, line: u64) -> Result<Answer, AllocError>
     ensures { IfOk result (λ answer. answer ≡ spec.bad_event line) }
 {
-    fault(format!(in alloc; "{} at line {line}", Head(number::BAD_EVENT))?)
+    fault(format!(in alloc; "{} at line {line}", FaultHead(number::BAD_EVENT))?)
 }
 
 /// Returns the answer to a recording with this malformed line.
 pub fn bad_recording(alloc: Global, found: RecordingFault) -> Result<Answer, AllocError>
     ensures { IfOk result (λ answer. answer ≡ bad_recording_spec found) }
 {
-    fault(format!(in alloc; "{} at {found}", Head(number::BAD_RECORDING))?)
+    fault(format!(in alloc; "{} at {found}", FaultHead(number::BAD_RECORDING))?)
 }
 
 /// Returns the answer to a plan's text with this fault.

@@ -11,7 +11,7 @@ use cert_search::SearchFault;
 use std::alloc::AllocError;
 use std::error::Error;
 use std::fmt;
-use support::Head;
+use support::FaultHead;
 use support::number::{GATE, MEMORY, MIXED, READ_FAILED, WRITE_FAILED};
 
 /// The outcome of a command that gave an answer.
@@ -107,7 +107,7 @@ impl fmt::Display for ServeFault {
     ghost output = { λ fault. Some (head fault.number) };
 
     fn fmt<W: fmt::Write>(&self, f: &mut fmt::Formatter<W>) -> fmt::Result {
-        write!(f, "{}", Head(self.number))
+        write!(f, "{}", FaultHead(self.number))
     }
 }
 

@@ -4,7 +4,7 @@ use Rattle.std.specs.List.{enumerate_from}
 use Rattle.support.specs.In.{here}
 use Rattle.support.proofs.Members.{In-append_left, In-append_right, In-map, In-flat_map, In-get_or}
 use Rattle.job_bodies.specs.Plan.{Pool, Class, Plan, pool_at, class_at}
-use Rattle.weights.specs.declared.at_get.AtGet.TheVariants.{GivesBack, GivesNothing}
+use Rattle.weights.specs.declared.get_return.GetReturn.TheVariants.{DoneWeight, NoWeight}
 use Rattle.weights.specs.declared.row.Rule.TheVariants.{S1, S2, L1, L2, L3}
 use Rattle.weights.specs.declared.row.Place.TheVariants as place
 use Rattle.weights.specs.declared.bound.Bound.{Bound}
@@ -14,7 +14,7 @@ use Rattle.weights.specs.Vector.{Vector, workers_weight, class_weights, queued_w
 use Rattle.weights.specs.Rows.{rows, classes_of}
 use Rattle.weights.specs.Standing.{standing_rows}
 use Rattle.weights.specs.Lifetime.{lifetime_limit, lifetime_rows}
-use Rattle.weights.specs.Bound.{bound_vector, bound_at_get, bound_rows}
+use Rattle.weights.specs.Bound.{bound_vector, bound_get_return, bound_rows}
 use Rattle.weights.proofs.Fitting.{fits}
 use Rattle.soundness.proofs.VectorLaws.{VectorLaws, numbered_class_of, vector_laws}
 
@@ -22,7 +22,7 @@ use Rattle.soundness.proofs.VectorLaws.{VectorLaws, numbered_class_of, vector_la
 
 -- S1 and S2
 pub record StandingLaws (plan : Plan) (p : ℕ) (v : Vector) : Type 0 where
-  pub laws : VectorLaws GivesBack plan v
+  pub laws : VectorLaws DoneWeight plan v
   pub queued : (k : ℕ) → k < length plan.classes → (class_at plan k).pool ≡ p → 1 ≤ queued_weight v k
   pub within : total plan v ≤ (pool_at plan p).queue
 
@@ -33,16 +33,16 @@ standing_laws plan p v hold =
     let of_classes = map queued_row (classes_of plan p) in
     let last = row S2 place.Total (total plan v) (pool_at plan p).queue in
     record {
-      laws = vector_laws GivesBack plan v (λ x i. hold x (In-append_left (last ∷ []) (In-append_left of_classes i)));
-      queued = λ k inside of_pool. hold (queued_row (k, class_at plan k)) (In-append_left (last ∷ []) (In-append_right (rows GivesBack plan v) (In-map queued_row (numbered_class_of plan p k inside of_pool))));
-      within = hold last (In-append_right (rows GivesBack plan v ++ of_classes) here);
+      laws = vector_laws DoneWeight plan v (λ x i. hold x (In-append_left (last ∷ []) (In-append_left of_classes i)));
+      queued = λ k inside of_pool. hold (queued_row (k, class_at plan k)) (In-append_left (last ∷ []) (In-append_right (rows DoneWeight plan v) (In-map queued_row (numbered_class_of plan p k inside of_pool))));
+      within = hold last (In-append_right (rows DoneWeight plan v ++ of_classes) here);
     }
 
 -- ---- a lifetime vector
 
 -- L2 and L3
 pub record LifetimeLaws (plan : Plan) (p : ℕ) (v : Vector) : Type 0 where
-  pub laws : VectorLaws GivesNothing plan v
+  pub laws : VectorLaws NoWeight plan v
   pub queued : (k : ℕ) → k < length plan.classes → (class_at plan k).pool ≡ p → 1 ≤ queued_weight v k
   pub position : (k i : ℕ) → k < length plan.classes → (class_at plan k).pool ≡ p → i ≤ length (class_at plan k).body → 1 ≤ job_weight v k i
   pub done : (k : ℕ) → k < length plan.classes → (class_at plan k).pool ≡ p → 1 ≤ done_weight plan v k
@@ -58,14 +58,14 @@ lifetime_laws plan p v fit hold =
     -- the weight at index n of the class's weights
     let each : (k n : ℕ) → k < length plan.classes → (class_at plan k).pool ≡ p → n < length (class_weights v k) → 1 ≤ get_or (class_weights v k) n 0 = λ k n inside of_pool there_is.
     hold (row L2 (place.Class k) 1 (get_or (class_weights v k) n 0))
-    (In-append_left (last ∷ []) (In-append_right (of_workers ++ rows GivesNothing plan v)
+    (In-append_left (last ∷ []) (In-append_right (of_workers ++ rows NoWeight plan v)
     (In-flat_map of_class (numbered_class_of plan p k inside of_pool) (In-map (λ (weight : ℕ). row L2 (place.Class k) 1 weight) (In-get_or (class_weights v k) n 0 there_is))))) in
     record {
-      laws = vector_laws GivesNothing plan v (λ x i. hold x (In-append_left (last ∷ []) (In-append_left of_classes (In-append_right of_workers i))));
+      laws = vector_laws NoWeight plan v (λ x i. hold x (In-append_left (last ∷ []) (In-append_left of_classes (In-append_right of_workers i))));
       queued = λ k inside of_pool. each k 0 inside of_pool (let long = (fits plan v fit).class k inside in omega arith);
       position = λ k i inside of_pool within. each k (i + 1) inside of_pool (let long = (fits plan v fit).class k inside in omega arith);
       done = λ k inside of_pool. each k (length (class_at plan k).body + 2) inside of_pool (let long = (fits plan v fit).class k inside in omega arith);
-      within = hold last (In-append_right ((of_workers ++ rows GivesNothing plan v) ++ of_classes) here);
+      within = hold last (In-append_right ((of_workers ++ rows NoWeight plan v) ++ of_classes) here);
     }
 
 -- ---- either
@@ -81,6 +81,6 @@ bound_laws plan p (Standing v) fit hold = standing_laws plan p v hold
 bound_laws plan p (Lifetime v) fit hold = lifetime_laws plan p v fit hold
 
 -- its vector satisfies V2 to V7, or L5 in place of V5
-pub bound_vector_laws : (plan : Plan) (p : ℕ) (bound : Bound) → BoundLaws plan p bound → VectorLaws (bound_at_get bound) plan (bound_vector bound)
+pub bound_vector_laws : (plan : Plan) (p : ℕ) (bound : Bound) → BoundLaws plan p bound → VectorLaws (bound_get_return bound) plan (bound_vector bound)
 bound_vector_laws plan p (Standing v) of_bound = of_bound.laws
 bound_vector_laws plan p (Lifetime v) of_bound = of_bound.laws

@@ -1,7 +1,7 @@
 -- The invariants of the reachable states of a plan whose pools all have a bound that holds.
 use Rattle.std.proofs.Common.{◌≡◌, ℕ, ◌<◌, length, refl}
 use Rattle.job_bodies.specs.Plan.{Plan}
-use Rattle.job_bodies.proofs.Bodies.{IsOrdered, ordered}
+use Rattle.job_bodies.proofs.Bodies.{HasValidBodies, ordered}
 use Rattle.written_machine.specs.declared.event.Event.{Event}
 use Rattle.written_machine.specs.declared.event.Outcome.{Outcome}
 use Rattle.written_machine.specs.State.{State, pool_of}
@@ -14,7 +14,7 @@ use Rattle.written_machine.proofs.KeptStep.{kept_step}
 use Rattle.written_machine.proofs.JobsMade.{HaveJobs, have_jobs_start, have_jobs_step}
 use Rattle.written_machine.proofs.Reached.{reached_keeps}
 use Rattle.weights.specs.declared.bound.Bound.{Bound}
-use Rattle.weights.specs.Bound.{bound_vector, bound_at_get}
+use Rattle.weights.specs.Bound.{bound_vector, bound_get_return}
 use Rattle.soundness.proofs.BoundLaws.{BoundLaws, bound_laws, bound_vector_laws}
 use Rattle.soundness.proofs.NeverRises.{IsBalanced, balanced_start, never_rises, balanced_step}
 use Rattle.soundness.proofs.NoRefusal.{not_refused}
@@ -24,7 +24,7 @@ use Rattle.soundness.specs.Headline.{KeepsSizes, BoundedPlansRefuseNothing}
 pub record Bounded (plan : Plan) (bounds : ℕ → Bound) (s : State) : Type 0 where
   pub kept : Kept plan s
   pub have_jobs : HaveJobs plan s
-  pub balanced : (p : ℕ) → p < length plan.pools → IsBalanced (bound_at_get (bounds p)) plan (bound_vector (bounds p)) s
+  pub balanced : (p : ℕ) → p < length plan.pools → IsBalanced (bound_get_return (bounds p)) plan (bound_vector (bounds p)) s
   pub none_refused : s.refusals ≡ 0
 
 -- the inequalities of each pool's bound hold
@@ -32,16 +32,16 @@ abbrev pub BoundsHold : Plan → (ℕ → Bound) → Type 0
 BoundsHold plan bounds = (p : ℕ) → p < length plan.pools → BoundLaws plan p (bounds p)
 
 -- the initial state satisfies them
-pub bounded_start : (plan : Plan) (bounds : ℕ → Bound) → IsOrdered plan → Bounded plan bounds (start plan)
+pub bounded_start : (plan : Plan) (bounds : ℕ → Bound) → HasValidBodies plan → Bounded plan bounds (start plan)
 bounded_start plan bounds ordered = record {
   kept = kept_start plan ordered;
   have_jobs = have_jobs_start plan;
-  balanced = λ p inside. balanced_start (bound_at_get (bounds p)) plan (bound_vector (bounds p));
+  balanced = λ p inside. balanced_start (bound_get_return (bounds p)) plan (bound_vector (bounds p));
   none_refused = refl;
 }
 
 -- no event is a rejection
-refuses_nothing : (plan : Plan) (bounds : ℕ → Bound) (s s' : State) (o : Outcome) {e : Event} → IsOrdered plan → BoundsHold plan bounds → Bounded plan bounds s → Happens plan s e s' o → s'.refusals ≡ 0
+refuses_nothing : (plan : Plan) (bounds : ℕ → Bound) (s s' : State) (o : Outcome) {e : Event} → HasValidBodies plan → BoundsHold plan bounds → Bounded plan bounds s → Happens plan s e s' o → s'.refusals ≡ 0
 refuses_nothing plan bounds s s' o ordered laws bounded (works a body i u at) = bounded.none_refused
 refuses_nothing plan bounds s s' o ordered laws bounded (starts a body i k at below) = bounded.none_refused
 refuses_nothing plan bounds s s' o ordered laws bounded (queues a body i k at at_core room) = bounded.none_refused
@@ -56,14 +56,14 @@ refuses_nothing plan bounds s s' o ordered laws bounded (takes p j queue idle is
 refuses_nothing plan bounds s s' o ordered laws bounded (retires p idle is_idle above_core) = bounded.none_refused
 
 -- every event preserves them
-pub bounded_step : (plan : Plan) (bounds : ℕ → Bound) (s s' : State) (o : Outcome) {e : Event} → IsOrdered plan → BoundsHold plan bounds → Bounded plan bounds s → Happens plan s e s' o → Bounded plan bounds s'
+pub bounded_step : (plan : Plan) (bounds : ℕ → Bound) (s s' : State) (o : Outcome) {e : Event} → HasValidBodies plan → BoundsHold plan bounds → Bounded plan bounds s → Happens plan s e s' o → Bounded plan bounds s'
 bounded_step plan bounds s s' o ordered laws bounded happened = record {
   kept = kept_step plan s s' o ordered bounded.kept happened;
   have_jobs = have_jobs_step plan s s' o bounded.kept bounded.have_jobs happened;
   balanced = λ p inside.
-      let at_get = bound_at_get (bounds p) in
+      let get_return = bound_get_return (bounds p) in
       let v = bound_vector (bounds p) in
-      balanced_step at_get plan v s s' (never_rises at_get plan v s s' o ordered (bound_vector_laws plan p (bounds p) (laws p inside)) bounded.kept happened) (bounded.balanced p inside);
+      balanced_step get_return plan v s s' (never_rises get_return plan v s s' o ordered (bound_vector_laws plan p (bounds p) (laws p inside)) bounded.kept happened) (bounded.balanced p inside);
   none_refused = refuses_nothing plan bounds s s' o ordered laws bounded happened;
 }
 

@@ -4,7 +4,7 @@ use Rattle.std.proofs.lemmas.Bool.{false≢true}
 use Rattle.job_bodies.specs.declared.action.Action.{Action}
 use Rattle.job_bodies.specs.declared.action.Action.TheVariants as action
 use Rattle.job_bodies.specs.Plan.{Plan, pool_at, first_workers}
-use Rattle.job_bodies.proofs.Bodies.{IsOrdered}
+use Rattle.job_bodies.proofs.Bodies.{HasValidBodies}
 use Rattle.written_machine.specs.declared.parent.Parent.{Parent}
 use Rattle.written_machine.specs.declared.event.Event.{Event}
 use Rattle.written_machine.specs.declared.event.Outcome.{Outcome}
@@ -16,41 +16,41 @@ use Rattle.written_machine.proofs.KeptSubmits.{class_exists}
 use Rattle.written_machine.proofs.JobsMade.{HaveJobs}
 use Rattle.weights.specs.declared.bound.Bound.{Bound}
 use Rattle.weights.specs.declared.bound.Bound.TheVariants.{Standing, Lifetime}
-use Rattle.weights.specs.Bound.{bound_vector, bound_at_get}
+use Rattle.weights.specs.Bound.{bound_vector, bound_get_return}
 use Rattle.soundness.proofs.BoundLaws.{BoundLaws}
 use Rattle.soundness.proofs.NeverRises.{IsBalanced}
 use Rattle.soundness.proofs.NoRefusal.{standing_refuses_nothing, lifetime_leaves_room}
-use Rattle.soundness.specs.Execute.{JavaState, is_calling, between_calls}
-use Rattle.soundness.proofs.ThreadsGo.{threads_go}
-use Rattle.soundness.proofs.JavaEvents.{JavaHappens, is_written, ends, finds_core, finds_full, finds_all, OfferAtCore, call_of_others, one_more}
+use Rattle.soundness.specs.Execute.{JavaState, is_calling, without_calls}
+use Rattle.soundness.proofs.ThreadChanges.{threads_change}
+use Rattle.soundness.proofs.JavaEvents.{JavaHappens, is_atomic, ends, finds_core, finds_full, finds_all, OfferAtCore, call_of_others, one_more}
 use Rattle.soundness.proofs.Bounded.{Bounded, BoundsHold}
 
 -- ---- a pool whose queue was full at some time
 
 -- the queue of a pool with a standing vector never was; if the queue of a pool with a lifetime vector was full, jobs were
 -- submitted for its threads and its queue
-abbrev pub WasFull : Plan → Bound → State → ℕ → Type 0
-WasFull plan (Standing v) s p = ⊥
-WasFull plan (Lifetime v) s p = (pool_at plan p).queue + threads plan s p ≤ jobs_made plan s p + first_workers (pool_at plan p)
+abbrev pub QueueWasFull : Plan → Bound → State → ℕ → Type 0
+QueueWasFull plan (Standing v) s p = ⊥
+QueueWasFull plan (Lifetime v) s p = (pool_at plan p).queue + threads plan s p ≤ jobs_made plan s p + first_workers (pool_at plan p)
 
 -- a queue that is full now
-was_full : (plan : Plan) (bound : Bound) (s : State) (a : Parent) (body : List Action) (i k : ℕ) → IsOrdered plan → BoundLaws plan (pool_of plan k) bound → Kept plan s → HaveJobs plan s → IsBalanced (bound_at_get bound) plan (bound_vector bound) s
-    → StandsAt plan s a body i (Some (action.Submit k)) → (pool_at plan (pool_of plan k)).queue ≤ length (pool_part s (pool_of plan k)).queue → WasFull plan bound s (pool_of plan k)
-was_full plan (Standing v) s a body i k ordered laws kept have balanced at no_room = standing_refuses_nothing plan v s a body i k ordered laws kept balanced at no_room
-was_full plan (Lifetime v) s a body i k ordered laws kept have balanced at no_room =
+queue_was_full : (plan : Plan) (bound : Bound) (s : State) (a : Parent) (body : List Action) (i k : ℕ) → HasValidBodies plan → BoundLaws plan (pool_of plan k) bound → Kept plan s → HaveJobs plan s → IsBalanced (bound_get_return bound) plan (bound_vector bound) s
+    → StandsAt plan s a body i (Some (action.Submit k)) → (pool_at plan (pool_of plan k)).queue ≤ length (pool_part s (pool_of plan k)).queue → QueueWasFull plan bound s (pool_of plan k)
+queue_was_full plan (Standing v) s a body i k ordered laws kept have balanced at no_room = standing_refuses_nothing plan v s a body i k ordered laws kept balanced at no_room
+queue_was_full plan (Lifetime v) s a body i k ordered laws kept have balanced at no_room =
     let had = have (pool_of plan k) (ordered.pools k (class_exists plan s a body i k ordered at)) in
     omega arith
 
 -- the property is preserved by an event: the number of threads grows at most with the number of jobs submitted
-stays_full : (plan : Plan) (bound : Bound) (s s' : State) (o : Outcome) (p : ℕ) {e : Event} → Kept plan s → p < length plan.pools → Happens plan s e s' o → WasFull plan bound s p → WasFull plan bound s' p
+stays_full : (plan : Plan) (bound : Bound) (s s' : State) (o : Outcome) (p : ℕ) {e : Event} → Kept plan s → p < length plan.pools → Happens plan s e s' o → QueueWasFull plan bound s p → QueueWasFull plan bound s' p
 stays_full plan (Standing v) s s' o p kept inside happened full = full
 stays_full plan (Lifetime v) s s' o p kept inside happened full =
-    let by_jobs = (threads_go plan s s' o kept happened p inside).by_jobs in
+    let by_jobs = (threads_change plan s s' o kept happened p inside).by_jobs in
     omega arith
 
 -- a submit to the pool finds fewer than max threads
-leaves_room : (plan : Plan) (bound : Bound) (s : State) (a : Parent) (body : List Action) (i k : ℕ) → IsOrdered plan → BoundLaws plan (pool_of plan k) bound → Kept plan s → IsBalanced (bound_at_get bound) plan (bound_vector bound) s → StandsAt plan s a body i (Some (action.Submit k))
-    → WasFull plan bound s (pool_of plan k) → (pool_at plan (pool_of plan k)).max ≤ threads plan s (pool_of plan k) → ⊥
+leaves_room : (plan : Plan) (bound : Bound) (s : State) (a : Parent) (body : List Action) (i k : ℕ) → HasValidBodies plan → BoundLaws plan (pool_of plan k) bound → Kept plan s → IsBalanced (bound_get_return bound) plan (bound_vector bound) s → StandsAt plan s a body i (Some (action.Submit k))
+    → QueueWasFull plan bound s (pool_of plan k) → (pool_at plan (pool_of plan k)).max ≤ threads plan s (pool_of plan k) → ⊥
 leaves_room plan (Standing v) s a body i k ordered laws kept balanced at full all_started = full
 leaves_room plan (Lifetime v) s a body i k ordered laws kept balanced at full all_started = lifetime_leaves_room plan v s a body i k ordered laws kept balanced at (omega arith)
 
@@ -59,53 +59,53 @@ leaves_room plan (Lifetime v) s a body i k ordered laws kept balanced at full al
 -- calls that offer found core threads, and calls that request found a full queue
 pub record CallsKept (plan : Plan) (bounds : ℕ → Bound) (s : JavaState) : Type 0 where
   pub offering : OfferAtCore plan s
-  pub asking : (a : Parent) (p : ℕ) → p < length plan.pools → is_calling s.asking a p ≡ true → WasFull plan (bounds p) s.machine p
+  pub requesting : (a : Parent) (p : ℕ) → p < length plan.pools → is_calling s.requesting a p ≡ true → QueueWasFull plan (bounds p) s.machine p
 
 -- no call is in progress
-pub calls_none : (plan : Plan) (bounds : ℕ → Bound) (s : State) → CallsKept plan bounds (between_calls s)
-calls_none plan bounds s = record { offering = λ a p inside is_there. absurd (false≢true is_there); asking = λ a p inside is_there. absurd (false≢true is_there) }
+pub calls_none : (plan : Plan) (bounds : ℕ → Bound) (s : State) → CallsKept plan bounds (without_calls s)
+calls_none plan bounds s = record { offering = λ a p inside is_there. absurd (false≢true is_there); requesting = λ a p inside is_there. absurd (false≢true is_there) }
 
 -- no call that requests a thread is rejected
-pub refused_never : (plan : Plan) (bounds : ℕ → Bound) (s : JavaState) (a : Parent) (body : List Action) (i k : ℕ) → IsOrdered plan → BoundsHold plan bounds → Bounded plan bounds s.machine → CallsKept plan bounds s → StandsAt plan s.machine a body i (Some (action.Submit k))
-    → is_calling s.asking a (pool_of plan k) ≡ true → (pool_at plan (pool_of plan k)).max ≤ threads plan s.machine (pool_of plan k) → ⊥
-refused_never plan bounds s a body i k ordered laws bounded calls at asking all_started =
+pub refused_never : (plan : Plan) (bounds : ℕ → Bound) (s : JavaState) (a : Parent) (body : List Action) (i k : ℕ) → HasValidBodies plan → BoundsHold plan bounds → Bounded plan bounds s.machine → CallsKept plan bounds s → StandsAt plan s.machine a body i (Some (action.Submit k))
+    → is_calling s.requesting a (pool_of plan k) ≡ true → (pool_at plan (pool_of plan k)).max ≤ threads plan s.machine (pool_of plan k) → ⊥
+refused_never plan bounds s a body i k ordered laws bounded calls at requesting all_started =
     let p = pool_of plan k in
     let inside = ordered.pools k (class_exists plan s.machine a body i k ordered at) in
-    leaves_room plan (bounds p) s.machine a body i k ordered (laws p inside) bounded.kept (bounded.balanced p inside) at (calls.asking a p inside asking) all_started
+    leaves_room plan (bounds p) s.machine a body i k ordered (laws p inside) bounded.kept (bounded.balanced p inside) at (calls.requesting a p inside requesting) all_started
 
 -- a property that each event of the machine preserves is preserved by each event here
-pub machine_keeps : (plan : Plan) (bounds : ℕ → Bound) (holds : State → Type 0) (s s' : JavaState) {e : Event} → IsOrdered plan → BoundsHold plan bounds → Bounded plan bounds s.machine → CallsKept plan bounds s
+pub machine_keeps : (plan : Plan) (bounds : ℕ → Bound) (holds : State → Type 0) (s s' : JavaState) {e : Event} → HasValidBodies plan → BoundsHold plan bounds → Bounded plan bounds s.machine → CallsKept plan bounds s
     → ((e' : Event) (after : State) (o : Outcome) → Happens plan s.machine e' after o → holds after) → holds s.machine → JavaHappens plan s e s' → holds s'.machine
-machine_keeps plan bounds holds s s' ordered laws bounded calls each held (is_written e after o none happened) = each e after o happened
+machine_keeps plan bounds holds s s' ordered laws bounded calls each held (is_atomic e after o none happened) = each e after o happened
 machine_keeps plan bounds holds s s' ordered laws bounded calls each held (ends a body i k after o at happened) = each (event_of a) after o happened
-machine_keeps plan bounds holds s s' ordered laws bounded calls each held (finds_core a body i k at not_asking not_offering at_core) = held
-machine_keeps plan bounds holds s s' ordered laws bounded calls each held (finds_full a body i k at not_asking no_room) = held
-machine_keeps plan bounds holds s s' ordered laws bounded calls each held (finds_all a body i k at asking all_started) = absurd (refused_never plan bounds s a body i k ordered laws bounded calls at asking all_started)
+machine_keeps plan bounds holds s s' ordered laws bounded calls each held (finds_core a body i k at not_requesting not_offering at_core) = held
+machine_keeps plan bounds holds s s' ordered laws bounded calls each held (finds_full a body i k at not_requesting no_room) = held
+machine_keeps plan bounds holds s s' ordered laws bounded calls each held (finds_all a body i k at requesting all_started) = absurd (refused_never plan bounds s a body i k ordered laws bounded calls at requesting all_started)
 
 -- and so is this one
-pub calls_step : (plan : Plan) (bounds : ℕ → Bound) (s s' : JavaState) {e : Event} → IsOrdered plan → BoundsHold plan bounds → Bounded plan bounds s.machine → CallsKept plan bounds s → JavaHappens plan s e s' → CallsKept plan bounds s'
-calls_step plan bounds s s' ordered laws bounded calls (is_written e after o none happened) = record {
-  offering = λ b p inside is_there. (threads_go plan s.machine after o bounded.kept happened p inside).at_core (calls.offering b p inside is_there);
-  asking = λ b p inside is_there. stays_full plan (bounds p) s.machine after o p bounded.kept inside happened (calls.asking b p inside is_there);
+pub calls_step : (plan : Plan) (bounds : ℕ → Bound) (s s' : JavaState) {e : Event} → HasValidBodies plan → BoundsHold plan bounds → Bounded plan bounds s.machine → CallsKept plan bounds s → JavaHappens plan s e s' → CallsKept plan bounds s'
+calls_step plan bounds s s' ordered laws bounded calls (is_atomic e after o none happened) = record {
+  offering = λ b p inside is_there. (threads_change plan s.machine after o bounded.kept happened p inside).at_core (calls.offering b p inside is_there);
+  requesting = λ b p inside is_there. stays_full plan (bounds p) s.machine after o p bounded.kept inside happened (calls.requesting b p inside is_there);
 }
 calls_step plan bounds s s' ordered laws bounded calls (ends a body i k after o at happened) = record {
-  offering = λ b p inside is_there. (threads_go plan s.machine after o bounded.kept happened p inside).at_core (calls.offering b p inside (call_of_others a b p s.offering is_there).0);
-  asking = λ b p inside is_there. stays_full plan (bounds p) s.machine after o p bounded.kept inside happened (calls.asking b p inside (call_of_others a b p s.asking is_there).0);
+  offering = λ b p inside is_there. (threads_change plan s.machine after o bounded.kept happened p inside).at_core (calls.offering b p inside (call_of_others a b p s.offering is_there).0);
+  requesting = λ b p inside is_there. stays_full plan (bounds p) s.machine after o p bounded.kept inside happened (calls.requesting b p inside (call_of_others a b p s.requesting is_there).0);
 }
-calls_step plan bounds s s' ordered laws bounded calls (finds_core a body i k at not_asking not_offering at_core) = record {
+calls_step plan bounds s s' ordered laws bounded calls (finds_core a body i k at not_requesting not_offering at_core) = record {
   offering = λ b p inside is_there.
       ⊎_elim (λ here. subst (λ (q : ℕ). (pool_at plan q).core ≤ threads plan s.machine q) (sym here.1) at_core) (λ earlier. calls.offering b p inside earlier)
       (one_more (record { actor = a; pool = pool_of plan k }) s.offering b p is_there);
-  asking = calls.asking;
+  requesting = calls.requesting;
 }
-calls_step plan bounds s s' ordered laws bounded calls (finds_full a body i k at not_asking no_room) = record {
+calls_step plan bounds s s' ordered laws bounded calls (finds_full a body i k at not_requesting no_room) = record {
   offering = λ b p inside is_there. calls.offering b p inside (call_of_others a b p s.offering is_there).0;
-  asking = λ b p inside is_there.
+  requesting = λ b p inside is_there.
       let q = pool_of plan k in
       let exists = ordered.pools k (class_exists plan s.machine a body i k ordered at) in
       ⊎_elim
-      (λ here. subst (λ (r : ℕ). WasFull plan (bounds r) s.machine r) (sym here.1) (was_full plan (bounds q) s.machine a body i k ordered (laws q exists) bounded.kept bounded.have_jobs (bounded.balanced q exists) at no_room))
-      (λ earlier. calls.asking b p inside earlier)
-      (one_more (record { actor = a; pool = q }) s.asking b p is_there);
+      (λ here. subst (λ (r : ℕ). QueueWasFull plan (bounds r) s.machine r) (sym here.1) (queue_was_full plan (bounds q) s.machine a body i k ordered (laws q exists) bounded.kept bounded.have_jobs (bounded.balanced q exists) at no_room))
+      (λ earlier. calls.requesting b p inside earlier)
+      (one_more (record { actor = a; pool = q }) s.requesting b p is_there);
 }
-calls_step plan bounds s s' ordered laws bounded calls (finds_all a body i k at asking all_started) = absurd (refused_never plan bounds s a body i k ordered laws bounded calls at asking all_started)
+calls_step plan bounds s s' ordered laws bounded calls (finds_all a body i k at requesting all_started) = absurd (refused_never plan bounds s a body i k ordered laws bounded calls at requesting all_started)

@@ -23,10 +23,10 @@ use Rattle.written_machine.proofs.Stages.{length-staged, length-moved}
 use Rattle.soundness.specs.Drain.{stage_todo, todo}
 use Rattle.soundness.proofs.RankLaws.{RankLaws}
 use Rattle.soundness.proofs.Draining.{lowers, ends_thread, no_actor, same_jobs, same_todo}
-use Rattle.soundness.specs.Execute.{Call, JavaState, is_calling, of_others}
-use Rattle.soundness.proofs.JavaEvents.{JavaHappens, is_written, ends, finds_core, finds_full, finds_all}
+use Rattle.soundness.specs.Execute.{Call, JavaState, is_calling, without_calls_of}
+use Rattle.soundness.proofs.JavaEvents.{JavaHappens, is_atomic, ends, finds_core, finds_full, finds_all}
 use Rattle.soundness.proofs.JobCalls.{StandsBefore, stands_before, JobCalls}
-use Rattle.soundness.proofs.Marks.{makes, steps_done, mark, steps_done-le, mark-le, mark-le_two, makes_to, others_make, more_make, new_makes, by_place, by_place-longer, by_place-more, by_place-but_one, sum_of_elements}
+use Rattle.soundness.proofs.CompletedSteps.{has_call, steps_done, mark, steps_done-le, mark-le, mark-le_two, has_call_to, others_have_call, more_has_call, new_has_call, by_place, by_place-longer, by_place-more, by_place-but_one, sum_of_elements}
 
 -- ---- the jobs of a state
 
@@ -48,16 +48,16 @@ abbrev pub calls_done : JavaState → ℕ
 calls_done s = by_place (mark s) 0 s.machine.jobs
 
 -- if the calls of one job end, the number of completed steps falls by at most two
-calls_done-ended : (s s' : JavaState) (n : ℕ) → s'.offering ≡ of_others (parent.Job n) s.offering → s'.asking ≡ of_others (parent.Job n) s.asking → length s.machine.jobs ≤ length s'.machine.jobs → calls_done s ≤ calls_done s' + 2
-calls_done-ended s s' n offering asking longer =
+calls_done-ended : (s s' : JavaState) (n : ℕ) → s'.offering ≡ without_calls_of (parent.Job n) s.offering → s'.requesting ≡ without_calls_of (parent.Job n) s.requesting → length s.machine.jobs ≤ length s'.machine.jobs → calls_done s ≤ calls_done s' + 2
+calls_done-ended s s' n offering requesting longer =
     let fewer = by_place-but_one (mark s) (mark s') n 2 (omega (arith, mark-le_two s n))
-    (λ i other. mark-le s s' i (λ makes_it. stays i other s.asking s'.asking asking makes_it) (λ makes_it. stays i other s.offering s'.offering offering makes_it)) 0 s.machine.jobs in
+    (λ i other. mark-le s s' i (λ has_this_call. stays i other s.requesting s'.requesting requesting has_this_call) (λ has_this_call. stays i other s.offering s'.offering offering has_this_call)) 0 s.machine.jobs in
     omega (arith, by_place-longer (mark s') 0 s.machine.jobs s'.machine.jobs longer)
   where
-    stays : (i : ℕ) → i ≢ n → (calls calls' : List Call) → calls' ≡ of_others (parent.Job n) calls → makes calls i ≡ true → makes calls' i ≡ true
-    stays i other calls calls' are_others makes_it =
-        subst (λ (x : List Call). makes x i ≡ true) (sym are_others)
-        (others_make (parent.Job n) calls i (ne_eqb n i (λ (same : n ≡ i). other (sym same))) makes_it)
+    stays : (i : ℕ) → i ≢ n → (calls calls' : List Call) → calls' ≡ without_calls_of (parent.Job n) calls → has_call calls i ≡ true → has_call calls' i ≡ true
+    stays i other calls calls' are_others has_this_call =
+        subst (λ (x : List Call). has_call x i ≡ true) (sym are_others)
+        (others_have_call (parent.Job n) calls i (ne_eqb n i (λ (same : n ≡ i). other (sym same))) has_this_call)
 
 -- if a job reaches the next step of its call, the number of completed steps rises by one
 calls_done-more : (s s' : JavaState) (n : ℕ) → n < length s.machine.jobs → s'.machine ≡ s.machine → mark s n + 1 ≤ mark s' n → ((i : ℕ) → i ≢ n → mark s i ≤ mark s' i) → calls_done s + 1 ≤ calls_done s'
@@ -76,41 +76,41 @@ one_pool plan job p q first second =
     first.to_pool ∙ ap (pool_of plan) class ∙ sym second.to_pool
 
 -- a job without a call to that pool among these has no call among them
-makes_none : (plan : Plan) (job : Made) (n p : ℕ) (calls : List Call) → ((q : ℕ) → is_calling calls (parent.Job n) q ≡ true → StandsBefore plan job q) → StandsBefore plan job p → is_calling calls (parent.Job n) p ≡ false → makes calls n ≡ false
-makes_none plan job n p calls each here not_calling =
-    false_from_ne_true (makes calls n)
-    (λ makes_it.
-    let to = makes_to calls n makes_it in
+has_no_call : (plan : Plan) (job : Made) (n p : ℕ) (calls : List Call) → ((q : ℕ) → is_calling calls (parent.Job n) q ≡ true → StandsBefore plan job q) → StandsBefore plan job p → is_calling calls (parent.Job n) p ≡ false → has_call calls n ≡ false
+has_no_call plan job n p calls each here not_calling =
+    false_from_ne_true (has_call calls n)
+    (λ has_this_call.
+    let to = has_call_to calls n has_this_call in
     let same = one_pool plan job to.0 p (each to.0 to.1) here in
     false≢true (sym not_calling ∙ ap (is_calling calls (parent.Job n)) (sym same) ∙ to.1))
 
 -- a job that finds core threads completes a step
-core_found : (plan : Plan) (s : JavaState) (n : ℕ) (body : List Action) (i k : ℕ) → JobCalls plan s → StandsAt plan s.machine (parent.Job n) body i (Some (action.Submit k)) → is_calling s.asking (parent.Job n) (pool_of plan k) ≡ false
+core_found : (plan : Plan) (s : JavaState) (n : ℕ) (body : List Action) (i k : ℕ) → JobCalls plan s → StandsAt plan s.machine (parent.Job n) body i (Some (action.Submit k)) → is_calling s.requesting (parent.Job n) (pool_of plan k) ≡ false
     → is_calling s.offering (parent.Job n) (pool_of plan k) ≡ false → calls_done s + 1 ≤ calls_done (record s { offering = record { actor = parent.Job n; pool = pool_of plan k } ∷ s.offering })
-core_found plan s n body i k calls at not_asking not_offering =
+core_found plan s n body i k calls at not_requesting not_offering =
     let p = pool_of plan k in
     let job = job_at s.machine n in
     let call : Call = record { actor = parent.Job n; pool = p } in
     let after : JavaState = record s { offering = call ∷ s.offering } in
     let here = stands_before plan s.machine n body i k at in
-    let asks = makes_none plan job n p s.asking (calls.asking n) here not_asking in
-    let offers = makes_none plan job n p s.offering (calls.offering n) here not_offering in
-    let before_is : mark s n ≡ 0 = ap₂ steps_done asks offers in
-    let after_is : mark after n ≡ 1 = ap₂ steps_done asks (new_makes n p s.offering) in
-    calls_done-more s after n (standing_made plan s.machine n body i at.stands) refl (omega arith) (λ j other. mark-le s after j (λ it. it) (λ it. more_make call s.offering j it))
+    let requests_thread = has_no_call plan job n p s.requesting (calls.requesting n) here not_requesting in
+    let offers_job = has_no_call plan job n p s.offering (calls.offering n) here not_offering in
+    let before_is : mark s n ≡ 0 = ap₂ steps_done requests_thread offers_job in
+    let after_is : mark after n ≡ 1 = ap₂ steps_done requests_thread (new_has_call n p s.offering) in
+    calls_done-more s after n (standing_made plan s.machine n body i at.stands) refl (omega arith) (λ j other. mark-le s after j (λ it. it) (λ it. more_has_call call s.offering j it))
 
 -- and so does a job that finds a full queue
-full_found : (plan : Plan) (s : JavaState) (n : ℕ) (body : List Action) (i k : ℕ) → JobCalls plan s → StandsAt plan s.machine (parent.Job n) body i (Some (action.Submit k)) → is_calling s.asking (parent.Job n) (pool_of plan k) ≡ false
-    → calls_done s + 1 ≤ calls_done (record s { offering = of_others (parent.Job n) s.offering; asking = record { actor = parent.Job n; pool = pool_of plan k } ∷ s.asking })
-full_found plan s n body i k calls at not_asking =
+full_found : (plan : Plan) (s : JavaState) (n : ℕ) (body : List Action) (i k : ℕ) → JobCalls plan s → StandsAt plan s.machine (parent.Job n) body i (Some (action.Submit k)) → is_calling s.requesting (parent.Job n) (pool_of plan k) ≡ false
+    → calls_done s + 1 ≤ calls_done (record s { offering = without_calls_of (parent.Job n) s.offering; requesting = record { actor = parent.Job n; pool = pool_of plan k } ∷ s.requesting })
+full_found plan s n body i k calls at not_requesting =
     let p = pool_of plan k in
     let call : Call = record { actor = parent.Job n; pool = p } in
-    let after : JavaState = record s { offering = of_others (parent.Job n) s.offering; asking = call ∷ s.asking } in
-    let asks = makes_none plan (job_at s.machine n) n p s.asking (calls.asking n) (stands_before plan s.machine n body i k at) not_asking in
-    let before_is : mark s n ≤ 1 = steps_done-le (makes s.asking n) (makes s.offering n) false true (λ it. sym asks ∙ it) (λ it. refl) in
-    let after_is : mark after n ≡ 2 = ap (λ (b : Bool). steps_done b (makes after.offering n)) (new_makes n p s.asking) in
+    let after : JavaState = record s { offering = without_calls_of (parent.Job n) s.offering; requesting = call ∷ s.requesting } in
+    let requests_thread = has_no_call plan (job_at s.machine n) n p s.requesting (calls.requesting n) (stands_before plan s.machine n body i k at) not_requesting in
+    let before_is : mark s n ≤ 1 = steps_done-le (has_call s.requesting n) (has_call s.offering n) false true (λ it. sym requests_thread ∙ it) (λ it. refl) in
+    let after_is : mark after n ≡ 2 = ap (λ (b : Bool). steps_done b (has_call after.offering n)) (new_has_call n p s.requesting) in
     calls_done-more s after n (standing_made plan s.machine n body i at.stands) refl (omega arith)
-    (λ j other. mark-le s after j (λ it. more_make call s.asking j it) (λ it. others_make (parent.Job n) s.offering j (ne_eqb n j (λ (same : n ≡ j). other (sym same))) it))
+    (λ j other. mark-le s after j (λ it. more_has_call call s.requesting j it) (λ it. others_have_call (parent.Job n) s.offering j (ne_eqb n j (λ (same : n ≡ j). other (sym same))) it))
 
 -- ---- the cost of an event
 
@@ -119,29 +119,29 @@ Costs plan ranks s s' = 3 * todo plan ranks s'.machine + calls_done s + 1 ≤ 3 
 
 -- every job event and every take
 pub costs : (plan : Plan) (ranks : Ranks) (s s' : JavaState) (e : Event) → RankLaws plan ranks → Kept plan s.machine → s.machine.refusals ≡ 0 → s'.machine.refusals ≡ 0 → JobCalls plan s → is_of_job_or_pool e ≡ true → JavaHappens plan s e s' → Costs plan ranks s s'
-costs plan ranks s s' e laws kept none none' calls of_job_or_pool (is_written f after o no_submit happened) =
+costs plan ranks s s' e laws kept none none' calls of_job_or_pool (is_atomic f after o no_submit happened) =
     omega (arith, lowers plan ranks s.machine after o f laws kept none none' of_job_or_pool happened, by_place-longer (mark s) 0 s.machine.jobs after.jobs (no_fewer_jobs plan s.machine after o happened))
 costs plan ranks s s' e laws kept none none' calls of_job_or_pool (ends (parent.Client c) body i k after o at happened) = absurd cc
 costs plan ranks s s' e laws kept none none' calls of_job_or_pool (ends (parent.Job n) body i k after o at happened) =
     omega (arith, lowers plan ranks s.machine after o (event.Job n) laws kept none none' of_job_or_pool happened, calls_done-ended s s' n refl refl (no_fewer_jobs plan s.machine after o happened))
-costs plan ranks s s' e laws kept none none' calls of_job_or_pool (finds_core (parent.Client c) body i k at not_asking not_offering at_core) = absurd cc
-costs plan ranks s s' e laws kept none none' calls of_job_or_pool (finds_core (parent.Job n) body i k at not_asking not_offering at_core) = omega (arith, core_found plan s n body i k calls at not_asking not_offering)
-costs plan ranks s s' e laws kept none none' calls of_job_or_pool (finds_full (parent.Client c) body i k at not_asking no_room) = absurd cc
-costs plan ranks s s' e laws kept none none' calls of_job_or_pool (finds_full (parent.Job n) body i k at not_asking no_room) = omega (arith, full_found plan s n body i k calls at not_asking)
-costs plan ranks s s' e laws kept none none' calls of_job_or_pool (finds_all a body i k at asking all_started) = absurd (omega arith)
+costs plan ranks s s' e laws kept none none' calls of_job_or_pool (finds_core (parent.Client c) body i k at not_requesting not_offering at_core) = absurd cc
+costs plan ranks s s' e laws kept none none' calls of_job_or_pool (finds_core (parent.Job n) body i k at not_requesting not_offering at_core) = omega (arith, core_found plan s n body i k calls at not_requesting not_offering)
+costs plan ranks s s' e laws kept none none' calls of_job_or_pool (finds_full (parent.Client c) body i k at not_requesting no_room) = absurd cc
+costs plan ranks s s' e laws kept none none' calls of_job_or_pool (finds_full (parent.Job n) body i k at not_requesting no_room) = omega (arith, full_found plan s n body i k calls at not_requesting)
+costs plan ranks s s' e laws kept none none' calls of_job_or_pool (finds_all a body i k at requesting all_started) = absurd (omega arith)
 
 -- ---- the end of a thread
 
 -- it has no cost
 pub costs_nothing : (plan : Plan) (ranks : Ranks) (s s' : JavaState) (e : Event) → ends_thread e ≡ true → JavaHappens plan s e s' → 3 * todo plan ranks s'.machine + calls_done s ≤ 3 * todo plan ranks s.machine + calls_done s'
-costs_nothing plan ranks s s' e is_end (is_written f after o no_submit happened) =
+costs_nothing plan ranks s s' e is_end (is_atomic f after o no_submit happened) =
     let todo_is = same_todo plan ranks s.machine after o is_end happened in
     let done_is : calls_done (record s { machine = after }) ≡ calls_done s = ap (λ (jobs : List Made). by_place (mark s) 0 jobs) (same_jobs plan s.machine after o is_end happened) in
     omega arith
 costs_nothing plan ranks s s' e is_end (ends a body i k after o at happened) = absurd (no_actor a is_end)
-costs_nothing plan ranks s s' e is_end (finds_core a body i k at not_asking not_offering at_core) = absurd (no_actor a is_end)
-costs_nothing plan ranks s s' e is_end (finds_full a body i k at not_asking no_room) = absurd (no_actor a is_end)
-costs_nothing plan ranks s s' e is_end (finds_all a body i k at asking all_started) = absurd (no_actor a is_end)
+costs_nothing plan ranks s s' e is_end (finds_core a body i k at not_requesting not_offering at_core) = absurd (no_actor a is_end)
+costs_nothing plan ranks s s' e is_end (finds_full a body i k at not_requesting no_room) = absurd (no_actor a is_end)
+costs_nothing plan ranks s s' e is_end (finds_all a body i k at requesting all_started) = absurd (no_actor a is_end)
 
 -- ---- a job in a call has remaining work
 
@@ -153,15 +153,15 @@ todo_before_submit plan ranks job p before =
     omega arith
 
 -- the number of completed steps of a job is at most twice its remaining work
-mark-le_todo : (plan : Plan) (ranks : Ranks) (s : JavaState) (n : ℕ) → JobCalls plan s → (asking offering : Bool) → makes s.asking n ≡ asking → makes s.offering n ≡ offering
+mark-le_todo : (plan : Plan) (ranks : Ranks) (s : JavaState) (n : ℕ) → JobCalls plan s → (requesting offering : Bool) → has_call s.requesting n ≡ requesting → has_call s.offering n ≡ offering
     → mark s n ≤ stage_todo plan ranks (job_at s.machine n).class (job_at s.machine n).stage + stage_todo plan ranks (job_at s.machine n).class (job_at s.machine n).stage
-mark-le_todo plan ranks s n calls true offering asks offers =
-    let to = makes_to s.asking n asks in
-    omega (arith, mark-le_two s n, todo_before_submit plan ranks (job_at s.machine n) to.0 (calls.asking n to.0 to.1))
-mark-le_todo plan ranks s n calls false true asks offers =
-    let to = makes_to s.offering n offers in
+mark-le_todo plan ranks s n calls true offering requests_thread offers_job =
+    let to = has_call_to s.requesting n requests_thread in
+    omega (arith, mark-le_two s n, todo_before_submit plan ranks (job_at s.machine n) to.0 (calls.requesting n to.0 to.1))
+mark-le_todo plan ranks s n calls false true requests_thread offers_job =
+    let to = has_call_to s.offering n offers_job in
     omega (arith, mark-le_two s n, todo_before_submit plan ranks (job_at s.machine n) to.0 (calls.offering n to.0 to.1))
-mark-le_todo plan ranks s n calls false false asks offers = let none : mark s n ≡ 0 = ap₂ steps_done asks offers in omega arith
+mark-le_todo plan ranks s n calls false false requests_thread offers_job = let none : mark s n ≡ 0 = ap₂ steps_done requests_thread offers_job in omega arith
 
 pub calls_done-le : (plan : Plan) (ranks : Ranks) (s : JavaState) → JobCalls plan s → calls_done s ≤ todo plan ranks s.machine + todo plan ranks s.machine
 calls_done-le plan ranks s calls =
@@ -171,5 +171,5 @@ calls_done-le plan ranks s calls =
     sum_by-le-within (λ (entry : ℕ × Made). mark s entry.0) (λ (entry : ℕ × Made). todo_of entry.1 + todo_of entry.1) 0 jobs
     (λ p d inside.
     subst (λ (q : ℕ). mark s q ≤ todo_of (get_or jobs p d) + todo_of (get_or jobs p d)) (sym (zero-add p))
-    (subst (λ (job : Made). mark s p ≤ todo_of job + todo_of job) (sym (get_or_default jobs p d no_job inside)) (mark-le_todo plan ranks s p calls (makes s.asking p) (makes s.offering p) refl refl))) in
+    (subst (λ (job : Made). mark s p ≤ todo_of job + todo_of job) (sym (get_or_default jobs p d no_job inside)) (mark-le_todo plan ranks s p calls (has_call s.requesting p) (has_call s.offering p) refl refl))) in
     omega (arith, each, sum_by-add (λ (entry : ℕ × Made). todo_of entry.1) (λ (entry : ℕ × Made). todo_of entry.1) (enumerate_from 0 jobs), sum_of_elements todo_of 0 jobs)

@@ -5,8 +5,8 @@ use Rattle.std.proofs.lemmas.Option.{same_Some}
 use Rattle.support.proofs.PassingPlaces.{passes_without}
 use Rattle.job_bodies.specs.declared.action.Action.{Action}
 use Rattle.job_bodies.specs.declared.action.Action.TheVariants as action
-use Rattle.job_bodies.specs.Plan.{Plan, pool_at, class_at, class_got}
-use Rattle.job_bodies.proofs.Bodies.{IsOrdered, ordered}
+use Rattle.job_bodies.specs.Plan.{Plan, pool_at, class_at, submitted_class}
+use Rattle.job_bodies.proofs.Bodies.{HasValidBodies, ordered}
 use Rattle.written_machine.specs.declared.parent.Parent.TheVariants as parent
 use Rattle.written_machine.specs.State.{Stage, State, Made, no_job, job_at, pool_of, is_at, is_busy_in, child}
 use Rattle.written_machine.specs.Step.{point_of_job}
@@ -18,40 +18,40 @@ use Rattle.written_machine.proofs.Reached.{kept}
 use Rattle.written_machine.proofs.ReachedLaws.{child_at_get}
 use Rattle.weights.specs.Ranks.{Ranks, rank, reach, is_counted_action, is_counted}
 use Rattle.soundness.specs.BlockedJobs.{is_counted_get, is_blocked_stage, is_blocked_in, blocked}
-use Rattle.soundness.specs.Descent.{ComesTo, at_once, by_child, EndsAt, ComesToEnd, RanksDescend}
+use Rattle.soundness.specs.Descent.{ChainLeadsTo, empty_chain, by_child, IsChainEnd, ChainEnds, RanksDescend}
 use Rattle.soundness.proofs.RankLaws.{RankLaws, rank_laws}
 
 -- ---- each chain of children ends
 
 -- the child that a job at a get waits for
-child_of : (plan : Plan) (s : State) (j i t : ℕ) → IsOrdered plan → Kept plan s → (job_at s j).stage ≡ Stage.At i → slice_get (class_at plan (job_at s j).class).body i ≡ Some (action.Get t)
-    → HasChild s.jobs (parent.Job j) t (class_got (class_at plan (job_at s j).class).body t)
+child_of : (plan : Plan) (s : State) (j i t : ℕ) → HasValidBodies plan → Kept plan s → (job_at s j).stage ≡ Stage.At i → slice_get (class_at plan (job_at s j).class).body i ≡ Some (action.Get t)
+    → HasChild s.jobs (parent.Job j) t (submitted_class (class_at plan (job_at s j).class).body t)
 child_of plan s j i t ordered kept at is_next =
     child_at_get plan s (parent.Job j) (class_at plan (job_at s j).class).body i t ordered kept (record { stands = ap (point_of_job plan (job_at s j).class) at; is_there = is_next })
 
 -- the chain from every later job of a class with a reach below r ends
 abbrev LaterEnd : Plan → Ranks → State → ℕ → ℕ → Type 0
-LaterEnd plan ranks s r j = (n : ℕ) → j < n → (job_at s n).stage ≢ Stage.Claimed → reach ranks (job_at s n).class < r → ComesToEnd plan ranks s r n
+LaterEnd plan ranks s r j = (n : ℕ) → j < n → (job_at s n).stage ≢ Stage.Claimed → reach ranks (job_at s n).class < r → ChainEnds plan ranks s r n
 
 -- through the child that the job waits for
-ends_by_child : (plan : Plan) (ranks : Ranks) (s : State) (r j i t : ℕ) → IsOrdered plan → Kept plan s → LaterEnd plan ranks s r j → (job_at s j).stage ≡ Stage.At i → slice_get (class_at plan (job_at s j).class).body i ≡ Some (action.Get t)
-    → reach ranks (class_got (class_at plan (job_at s j).class).body t) < r → ComesToEnd plan ranks s r j
+ends_by_child : (plan : Plan) (ranks : Ranks) (s : State) (r j i t : ℕ) → HasValidBodies plan → Kept plan s → LaterEnd plan ranks s r j → (job_at s j).stage ≡ Stage.At i → slice_get (class_at plan (job_at s j).class).body i ≡ Some (action.Get t)
+    → reach ranks (submitted_class (class_at plan (job_at s j).class).body t) < r → ChainEnds plan ranks s r j
 ends_by_child plan ranks s r j i t ordered kept onward at is_next low =
     let latest = child_of plan s j i t ordered kept at is_next in
     let end = onward latest.number latest.later latest.unclaimed (subst (λ (k : ℕ). reach ranks k < r) (sym latest.of_class) low) in
     record { number = end.number; comes = by_child j i t latest.number end.number at is_next latest.is_child end.comes; ends = end.ends }
 
 -- at this job
-ends_here : (plan : Plan) (ranks : Ranks) (s : State) (r j : ℕ) (stage : Stage) → (job_at s j).stage ≡ stage → EndsAt plan ranks s r j stage → ComesToEnd plan ranks s r j
-ends_here plan ranks s r j stage is_stage ends = record { number = j; comes = at_once j; ends = subst (EndsAt plan ranks s r j) (sym is_stage) ends }
+ends_here : (plan : Plan) (ranks : Ranks) (s : State) (r j : ℕ) (stage : Stage) → (job_at s j).stage ≡ stage → IsChainEnd plan ranks s r j stage → ChainEnds plan ranks s r j
+ends_here plan ranks s r j stage is_stage ends = record { number = j; comes = empty_chain j; ends = subst (IsChainEnd plan ranks s r j) (sym is_stage) ends }
 
 -- before another action than a get, or at the end of the body
-ends_at_no_get : (plan : Plan) (ranks : Ranks) (s : State) (r j i : ℕ) (next : Option Action) → (job_at s j).stage ≡ Stage.At i → slice_get (class_at plan (job_at s j).class).body i ≡ next → ((t : ℕ) → next ≢ Some (action.Get t)) → ComesToEnd plan ranks s r j
+ends_at_no_get : (plan : Plan) (ranks : Ranks) (s : State) (r j i : ℕ) (next : Option Action) → (job_at s j).stage ≡ Stage.At i → slice_get (class_at plan (job_at s j).class).body i ≡ next → ((t : ℕ) → next ≢ Some (action.Get t)) → ChainEnds plan ranks s r j
 ends_at_no_get plan ranks s r j i next at is_next no_get = ends_here plan ranks s r j (Stage.At i) at (λ t e. no_get t (sym is_next ∙ e))
 
 -- the chain from a job at a position ends if those from later jobs do
-one_step_at : (plan : Plan) (ranks : Ranks) (s : State) (r j i : ℕ) (next : Option Action) → IsOrdered plan → RankLaws plan ranks → Kept plan s → LaterEnd plan ranks s r j → (job_at s j).stage ≡ Stage.At i → slice_get (class_at plan (job_at s j).class).body i ≡ next
-    → reach ranks (job_at s j).class < r → ComesToEnd plan ranks s r j
+one_step_at : (plan : Plan) (ranks : Ranks) (s : State) (r j i : ℕ) (next : Option Action) → HasValidBodies plan → RankLaws plan ranks → Kept plan s → LaterEnd plan ranks s r j → (job_at s j).stage ≡ Stage.At i → slice_get (class_at plan (job_at s j).class).body i ≡ next
+    → reach ranks (job_at s j).class < r → ChainEnds plan ranks s r j
 one_step_at plan ranks s r j i None ordered laws kept onward at is_next low = ends_at_no_get plan ranks s r j i None at is_next (λ t e. cc)
 one_step_at plan ranks s r j i (Some (action.Work u)) ordered laws kept onward at is_next low = ends_at_no_get plan ranks s r j i (Some (action.Work u)) at is_next (λ t e. cc)
 one_step_at plan ranks s r j i (Some (action.Submit k)) ordered laws kept onward at is_next low = ends_at_no_get plan ranks s r j i (Some (action.Submit k)) at is_next (λ t e. cc)
@@ -60,7 +60,7 @@ one_step_at plan ranks s r j i (Some (action.Get t)) ordered laws kept onward at
     ends_by_child plan ranks s r j i t ordered kept onward at is_next (omega arith)
 
 -- and so does the chain from every job that is not claimed
-one_step : (plan : Plan) (ranks : Ranks) (s : State) (r j : ℕ) (stage : Stage) → IsOrdered plan → RankLaws plan ranks → Kept plan s → LaterEnd plan ranks s r j → (job_at s j).stage ≡ stage → stage ≢ Stage.Claimed → reach ranks (job_at s j).class < r → ComesToEnd plan ranks s r j
+one_step : (plan : Plan) (ranks : Ranks) (s : State) (r j : ℕ) (stage : Stage) → HasValidBodies plan → RankLaws plan ranks → Kept plan s → LaterEnd plan ranks s r j → (job_at s j).stage ≡ stage → stage ≢ Stage.Claimed → reach ranks (job_at s j).class < r → ChainEnds plan ranks s r j
 one_step plan ranks s r j Stage.Queued ordered laws kept onward is_stage unclaimed low =
     let made = job_made s j (Queued≢Claimed is_stage) in
     let reaches = laws.reaches (job_at s j).class (kept.classes j no_job made) in
@@ -70,24 +70,24 @@ one_step plan ranks s r j Stage.Done ordered laws kept onward is_stage unclaimed
 one_step plan ranks s r j Stage.Claimed ordered laws kept onward is_stage unclaimed low = absurd (unclaimed refl)
 
 -- children are later than their parents, so the length of a chain is at most the number of later jobs
-comes_within : (plan : Plan) (ranks : Ranks) (s : State) (r later j : ℕ) → IsOrdered plan → RankLaws plan ranks → Kept plan s → length s.jobs ≤ j + later → (job_at s j).stage ≢ Stage.Claimed → reach ranks (job_at s j).class < r → ComesToEnd plan ranks s r j
+comes_within : (plan : Plan) (ranks : Ranks) (s : State) (r later j : ℕ) → HasValidBodies plan → RankLaws plan ranks → Kept plan s → length s.jobs ≤ j + later → (job_at s j).stage ≢ Stage.Claimed → reach ranks (job_at s j).class < r → ChainEnds plan ranks s r j
 comes_within plan ranks s r zero j ordered laws kept few unclaimed low = let made = job_made s j unclaimed in absurd (omega arith)
 comes_within plan ranks s r (suc later) j ordered laws kept few unclaimed low =
     one_step plan ranks s r j (job_at s j).stage ordered laws kept (λ n behind unclaimed' low'. comes_within plan ranks s r later n ordered laws kept (omega arith) unclaimed' low') refl unclaimed low
 
 -- the chain from a job of a class with a reach below r ends at a job that is queued in a pool of a rank below r, or waits
 -- for none
-pub comes_to_end : (plan : Plan) (ranks : Ranks) (s : State) (r j : ℕ) → IsOrdered plan → RankLaws plan ranks → Kept plan s → (job_at s j).stage ≢ Stage.Claimed → reach ranks (job_at s j).class < r → ComesToEnd plan ranks s r j
+pub comes_to_end : (plan : Plan) (ranks : Ranks) (s : State) (r j : ℕ) → HasValidBodies plan → RankLaws plan ranks → Kept plan s → (job_at s j).stage ≢ Stage.Claimed → reach ranks (job_at s j).class < r → ChainEnds plan ranks s r j
 comes_to_end plan ranks s r j ordered laws kept unclaimed low = comes_within plan ranks s r (length s.jobs) j ordered laws kept (omega arith) unclaimed low
 
 -- the chain from a job at an uncounted get ends at a job that is queued in a pool of lower rank, or at a job that waits for
 -- none
-pub descends : (plan : Plan) (ranks : Ranks) (s : State) (j i t : ℕ) → IsOrdered plan → RankLaws plan ranks → Kept plan s → (job_at s j).stage ≡ Stage.At i → slice_get (class_at plan (job_at s j).class).body i ≡ Some (action.Get t)
-    → is_counted plan ranks (job_at s j).class i ≡ false → ComesToEnd plan ranks s (rank ranks (pool_of plan (job_at s j).class)) j
+pub descends : (plan : Plan) (ranks : Ranks) (s : State) (j i t : ℕ) → HasValidBodies plan → RankLaws plan ranks → Kept plan s → (job_at s j).stage ≡ Stage.At i → slice_get (class_at plan (job_at s j).class).body i ≡ Some (action.Get t)
+    → is_counted plan ranks (job_at s j).class i ≡ false → ChainEnds plan ranks s (rank ranks (pool_of plan (job_at s j).class)) j
 descends plan ranks s j i t ordered laws kept at is_next uncounted =
     let k = (job_at s j).class in
     let r = rank ranks (pool_of plan k) in
-    let low = reach ranks (class_got (class_at plan k).body t) in
+    let low = reach ranks (submitted_class (class_at plan k).body t) in
     let below : ltb low r ≡ true = not-false (ltb low r) (ap (is_counted_action plan ranks k) (sym is_next) ∙ uncounted) in
     ends_by_child plan ranks s r j i t ordered kept (λ n behind unclaimed lower. comes_to_end plan ranks s r n ordered laws kept unclaimed lower) at is_next (ltb-true low r below)
 
@@ -106,8 +106,8 @@ same_get : (t u : ℕ) → Some (action.Get t) ≡ Some (action.Get u) → t ≡
 same_get t u e = cc
 
 -- the chain stays in the set
-stays_in : (plan : Plan) (s : State) (members : List ℕ) (j m : ℕ) → IsWaitingSet plan s members → IsMember members j → ComesTo plan s j m → IsMember members m
-stays_in plan s members j m waiting member (at_once n) = member
+stays_in : (plan : Plan) (s : State) (members : List ℕ) (j m : ℕ) → IsWaitingSet plan s members → IsMember members j → ChainLeadsTo plan s j m → IsMember members m
+stays_in plan s members j m waiting member (empty_chain n) = member
 stays_in plan s members j m waiting member (by_child n i t c l at is_next is_child comes) =
     let waits = member_at plan s members n i waiting member at in
     let same_submit : waits.submit ≡ t = same_get waits.submit t (sym waits.stands ∙ is_next) in
@@ -122,14 +122,14 @@ record QueuedBelow (plan : Plan) (ranks : Ranks) (s : State) (members : List ℕ
   below : rank ranks (pool_of plan (job_at s number).class) < r
 
 -- a member at the end of a chain is queued
-queued_at_end : (plan : Plan) (ranks : Ranks) (s : State) (members : List ℕ) (r n : ℕ) (stage : Stage) → IsMember members n → (job_at s n).stage ≡ stage → WaitsAs plan s members n stage → EndsAt plan ranks s r n stage → QueuedBelow plan ranks s members r
+queued_at_end : (plan : Plan) (ranks : Ranks) (s : State) (members : List ℕ) (r n : ℕ) (stage : Stage) → IsMember members n → (job_at s n).stage ≡ stage → WaitsAs plan s members n stage → IsChainEnd plan ranks s r n stage → QueuedBelow plan ranks s members r
 queued_at_end plan ranks s members r n Stage.Queued member is_stage waits ends = record { number = n; member = member; queued = is_stage; below = ends }
 queued_at_end plan ranks s members r n (Stage.At i) member is_stage waits ends = absurd (ends waits.submit waits.stands)
 queued_at_end plan ranks s members r n Stage.Done member is_stage waits ends = absurd waits
 queued_at_end plan ranks s members r n Stage.Claimed member is_stage waits ends = absurd waits
 
 -- if the chain from a member ends, it ends at a queued member
-queued_below : (plan : Plan) (ranks : Ranks) (s : State) (members : List ℕ) (r j : ℕ) → IsWaitingSet plan s members → IsMember members j → ComesToEnd plan ranks s r j → QueuedBelow plan ranks s members r
+queued_below : (plan : Plan) (ranks : Ranks) (s : State) (members : List ℕ) (r j : ℕ) → IsWaitingSet plan s members → IsMember members j → ChainEnds plan ranks s r j → QueuedBelow plan ranks s members r
 queued_below plan ranks s members r j waiting member end =
     let n = end.number in
     let is_member = stays_in plan s members j n waiting member end.comes in
@@ -174,7 +174,7 @@ uncounted_at plan ranks p job i t at of_pool is_next free =
     cc)
 
 -- below each queued member there is another one: its pool has a running job that is not blocked
-next_below : (plan : Plan) (ranks : Ranks) (s : State) (members : List ℕ) (n : ℕ) → IsOrdered plan → RankLaws plan ranks → Kept plan s → FewBlocked plan ranks s → IsWaitingSet plan s members → IsMember members n → (job_at s n).stage ≡ Stage.Queued
+next_below : (plan : Plan) (ranks : Ranks) (s : State) (members : List ℕ) (n : ℕ) → HasValidBodies plan → RankLaws plan ranks → Kept plan s → FewBlocked plan ranks s → IsWaitingSet plan s members → IsMember members n → (job_at s n).stage ≡ Stage.Queued
     → QueuedBelow plan ranks s members (rank ranks (pool_of plan (job_at s n).class))
 next_below plan ranks s members n ordered laws kept few waiting member queued =
     let p = pool_of plan (job_at s n).class in
@@ -193,13 +193,13 @@ next_below plan ranks s members n ordered laws kept few waiting member queued =
     subst (λ (q : ℕ). QueuedBelow plan ranks s members (rank ranks q)) work.of_pool (queued_below plan ranks s members (rank ranks (pool_of plan (job_at s m).class)) m waiting is_member end)
 
 -- otherwise ranks would decrease forever
-none_below : (plan : Plan) (ranks : Ranks) (s : State) (members : List ℕ) (most r : ℕ) → IsOrdered plan → RankLaws plan ranks → Kept plan s → FewBlocked plan ranks s → IsWaitingSet plan s members → r ≤ most → QueuedBelow plan ranks s members r → ⊥
+none_below : (plan : Plan) (ranks : Ranks) (s : State) (members : List ℕ) (most r : ℕ) → HasValidBodies plan → RankLaws plan ranks → Kept plan s → FewBlocked plan ranks s → IsWaitingSet plan s members → r ≤ most → QueuedBelow plan ranks s members r → ⊥
 none_below plan ranks s members zero r ordered laws kept few waiting within found = omega (arith, found.below)
 none_below plan ranks s members (suc most) r ordered laws kept few waiting within found =
     none_below plan ranks s members most (rank ranks (pool_of plan (job_at s found.number).class)) ordered laws kept few waiting (omega (arith, found.below)) (next_below plan ranks s members found.number ordered laws kept few waiting found.member found.queued)
 
 -- no set of jobs waits only for its own members
-pub none_waits : (plan : Plan) (ranks : Ranks) (s : State) (members : List ℕ) → IsOrdered plan → RankLaws plan ranks → Kept plan s → FewBlocked plan ranks s → ¬ IsWaitingSet plan s members
+pub none_waits : (plan : Plan) (ranks : Ranks) (s : State) (members : List ℕ) → HasValidBodies plan → RankLaws plan ranks → Kept plan s → FewBlocked plan ranks s → ¬ IsWaitingSet plan s members
 none_waits plan ranks s members ordered laws kept few waiting =
     let first = waiting.first in
     let r = reach ranks (job_at s first).class + 1 in

@@ -5,7 +5,7 @@ use Rattle.std.proofs.lemmas.Bool.{and_parts, false_from_ne_true}
 use Rattle.std.proofs.lemmas.List.Sums.{sum_by-cons}
 use Rattle.std.proofs.lemmas.Option.{same_Some}
 use Rattle.job_bodies.specs.Plan.{Plan}
-use Rattle.job_bodies.proofs.Bodies.{IsOrdered, ordered}
+use Rattle.job_bodies.proofs.Bodies.{HasValidBodies, ordered}
 use Rattle.written_machine.specs.declared.event.Event.{Event}
 use Rattle.written_machine.specs.State.{job_at, is_unfinished}
 use Rattle.written_machine.specs.Reach.{start}
@@ -14,7 +14,7 @@ use Rattle.written_machine.proofs.Busy.{one_if}
 use Rattle.cert_text.specs.Cert.{Cert}
 use Rattle.soundness.specs.Drain.{todo, is_of_no_client}
 use Rattle.soundness.proofs.Draining.{ends_thread, no_client_cases, not_counted}
-use Rattle.soundness.specs.Execute.{JavaState, java_step, java_replay, between_calls}
+use Rattle.soundness.specs.Execute.{JavaState, java_step, java_replay, without_calls}
 use Rattle.soundness.specs.JavaSafe.{IsJavaReached}
 use Rattle.soundness.proofs.JavaEvents.{java_happens}
 use Rattle.soundness.proofs.JavaReplays.{java_replay_none, java_replay_keeps}
@@ -22,7 +22,7 @@ use Rattle.soundness.proofs.JobCalls.{JobCalls, job_calls_start, job_calls_step}
 use Rattle.soundness.proofs.Costs.{calls_done, calls_done-le, costs, costs_nothing}
 use Rattle.soundness.specs.Headline.{AcceptedPlansJavaDrain}
 use Rattle.soundness.proofs.CertLaws.{CertLaws, cert_laws}
-use Rattle.soundness.proofs.JavaTheorem.{JavaSound, java_sound_start, java_sound_step, java_goes_on}
+use Rattle.soundness.proofs.JavaTheorem.{JavaSound, java_sound_start, java_sound_step, java_makes_progress}
 
 -- ---- the invariants of the reachable states of an accepted plan, with the calls of its jobs
 
@@ -31,7 +31,7 @@ pub record JavaHeld (plan : Plan) (cert : Cert) (s : JavaState) : Type 0 where
   pub jobs : JobCalls plan s
 
 -- every event
-pub held_step : (plan : Plan) (cert : Cert) → IsOrdered plan → CertLaws plan cert → (s : JavaState) (e : Event) (s' : JavaState) → JavaHeld plan cert s → java_step plan s e ≡ Some s' → JavaHeld plan cert s'
+pub held_step : (plan : Plan) (cert : Cert) → HasValidBodies plan → CertLaws plan cert → (s : JavaState) (e : Event) (s' : JavaState) → JavaHeld plan cert s → java_step plan s e ≡ Some s' → JavaHeld plan cert s'
 held_step plan cert ordered laws s e s' held is_step =
     let java' = java_sound_step plan cert ordered laws s e s' held.java is_step in
     record {
@@ -40,9 +40,9 @@ held_step plan cert ordered laws s e s' held is_step =
     }
 
 -- in every reachable state
-java_held : (plan : Plan) (cert : Cert) → IsOrdered plan → CertLaws plan cert → (s : JavaState) → IsJavaReached plan s → JavaHeld plan cert s
+java_held : (plan : Plan) (cert : Cert) → HasValidBodies plan → CertLaws plan cert → (s : JavaState) → IsJavaReached plan s → JavaHeld plan cert s
 java_held plan cert ordered laws s reached =
-    java_replay_keeps plan (JavaHeld plan cert) (held_step plan cert ordered laws) reached.0 (between_calls (start plan)) s
+    java_replay_keeps plan (JavaHeld plan cert) (held_step plan cert ordered laws) reached.0 (without_calls (start plan)) s
     (record { java = java_sound_start plan cert ordered; jobs = job_calls_start plan (start plan) }) reached.1
 
 -- ---- lists of events
@@ -52,7 +52,7 @@ abbrev pub Pays : Plan → Cert → ℕ → JavaState → JavaState → Type 0
 Pays plan cert n s s' = n + 3 * todo plan cert.ranks s'.machine + calls_done s ≤ 3 * todo plan cert.ranks s.machine + calls_done s'
 
 -- one event
-pub event_pays : (plan : Plan) (cert : Cert) (s : JavaState) (e : Event) (s' : JavaState) → IsOrdered plan → CertLaws plan cert → JavaHeld plan cert s → JavaHeld plan cert s' → is_of_no_client e ≡ true → java_step plan s e ≡ Some s' → Pays plan cert (one_if (is_of_job_or_pool e)) s s'
+pub event_pays : (plan : Plan) (cert : Cert) (s : JavaState) (e : Event) (s' : JavaState) → HasValidBodies plan → CertLaws plan cert → JavaHeld plan cert s → JavaHeld plan cert s' → is_of_no_client e ≡ true → java_step plan s e ≡ Some s' → Pays plan cert (one_if (is_of_job_or_pool e)) s s'
 event_pays plan cert s e s' ordered laws held held' of_no_client is_step =
     let happened = java_happens plan s e s' ordered held.java.calls.offering is_step in
     ⊎_elim
@@ -63,7 +63,7 @@ event_pays plan cert s e s' ordered laws held held' of_no_client is_step =
     (no_client_cases e of_no_client)
 
 -- the first of several events, and then the others
-after_first : (plan : Plan) (cert : Cert) (s : JavaState) (e : Event) (events : List Event) (s' : JavaState) → IsOrdered plan → CertLaws plan cert → JavaHeld plan cert s → is_of_no_client e ≡ true
+after_first : (plan : Plan) (cert : Cert) (s : JavaState) (e : Event) (events : List Event) (s' : JavaState) → HasValidBodies plan → CertLaws plan cert → JavaHeld plan cert s → is_of_no_client e ≡ true
     → ((next : JavaState) → JavaHeld plan cert next → java_replay plan (Some next) events ≡ Some s' → Pays plan cert (count_by is_of_job_or_pool events) next s')
     → (found : Option JavaState) → java_step plan s e ≡ found → java_replay plan found events ≡ Some s' → Pays plan cert (count_by is_of_job_or_pool (e ∷ events)) s s'
 after_first plan cert s e events s' ordered laws held of_no_client onward None is_step replayed =
@@ -73,7 +73,7 @@ after_first plan cert s e events s' ordered laws held of_no_client onward (Some 
     let held' = held_step plan cert ordered laws s e next held is_step in
     omega (arith, event_pays plan cert s e next ordered laws held held' of_no_client is_step, onward next held' replayed, sum_by-cons (λ (x : Event). one_if (is_of_job_or_pool x)) e events)
 
-events_pay : (plan : Plan) (cert : Cert) (events : List Event) (s s' : JavaState) → IsOrdered plan → CertLaws plan cert → JavaHeld plan cert s → list_all is_of_no_client events ≡ true → java_replay plan (Some s) events ≡ Some s' → Pays plan cert (count_by is_of_job_or_pool events) s s'
+events_pay : (plan : Plan) (cert : Cert) (events : List Event) (s s' : JavaState) → HasValidBodies plan → CertLaws plan cert → JavaHeld plan cert s → list_all is_of_no_client events ≡ true → java_replay plan (Some s) events ≡ Some s' → Pays plan cert (count_by is_of_job_or_pool events) s s'
 events_pay plan cert [] s s' ordered laws held each replayed = subst (λ (x : JavaState). Pays plan cert 0 s x) (same_Some s s' replayed) (omega arith)
 events_pay plan cert (e ∷ events) s s' ordered laws held each replayed =
     let parts = and_parts (is_of_no_client e) (list_all is_of_no_client events) each in
@@ -93,7 +93,7 @@ accepted_plans_java_drain plan cert well_formed is_accepted =
       drained = λ s s' events leads rests j.
           false_from_ne_true (is_unfinished (job_at s'.machine j).stage)
           (λ still.
-          let goes = java_goes_on plan cert s' j is_ordered laws (held_after s s' events leads.reached leads.replayed).java still in
+          let goes = java_makes_progress plan cert s' j is_ordered laws (held_after s s' events leads.reached leads.replayed).java still in
           let rest : is_some (java_step plan s' goes.event) ≡ false = ap (λ (x : Option JavaState). is_some x) (rests goes.event goes.of_job_or_pool) in
           let possible = goes.possible in
           cc);

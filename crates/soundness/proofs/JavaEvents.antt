@@ -6,7 +6,7 @@ use Rattle.support.proofs.Members.{In-filter_from, In-from_list_any, list_any_at
 use Rattle.job_bodies.specs.declared.action.Action.{Action}
 use Rattle.job_bodies.specs.declared.action.Action.TheVariants as action
 use Rattle.job_bodies.specs.Plan.{Plan, pool_at}
-use Rattle.job_bodies.proofs.Bodies.{IsOrdered}
+use Rattle.job_bodies.proofs.Bodies.{HasValidBodies}
 use Rattle.pool_machine.specs.declared.offer.Offer.TheVariants as offer
 use Rattle.written_machine.specs.declared.parent.Parent.{Parent}
 use Rattle.written_machine.specs.declared.parent.Parent.TheVariants as parent
@@ -18,16 +18,16 @@ use Rattle.written_machine.specs.Step.{Point, point, acted, submitted, stepped, 
 use Rattle.written_machine.proofs.Events.{StandsAt, event_of, Happens, starts, queues, happens}
 use Rattle.written_machine.proofs.Children.{same_actor_true}
 use Rattle.written_machine.proofs.KeptSubmits.{class_exists}
-use Rattle.soundness.specs.Execute.{Call, JavaState, is_calling, of_others, answers, looks, offers, asks, executes, Submission, submission_at, submission_of, submission, as_written, java_stepped, java_step}
+use Rattle.soundness.specs.Execute.{Call, JavaState, is_calling, without_calls_of, answers, checks_core, offers_job, requests_thread, executes, Submission, submission_at, submission_of, submission, as_atomic, java_stepped, java_step}
 
 -- ---- calls
 
 -- a call among those of others existed before and is not the actor's
-pub call_of_others : (a b : Parent) (p : ℕ) (calls : List Call) → is_calling (of_others a calls) b p ≡ true → (is_calling calls b p ≡ true) × (same_parent a b ≡ false)
+pub call_of_others : (a b : Parent) (p : ℕ) (calls : List Call) → is_calling (without_calls_of a calls) b p ≡ true → (is_calling calls b p ≡ true) × (same_parent a b ≡ false)
 call_of_others a b p calls is_there =
     let to_pool = λ (call : Call). same_parent b call.actor && eqb p call.pool in
     let of_other = λ (call : Call). not (same_parent a call.actor) in
-    let found = In-from_list_any to_pool (of_others a calls) is_there in
+    let found = In-from_list_any to_pool (without_calls_of a calls) is_there in
     let kept = In-filter_from of_other calls found.1 in
     let actor : b ≡ found.0.actor = same_actor_true b found.0.actor (and_parts (same_parent b found.0.actor) (eqb p found.0.pool) found.2).0 in
     (list_any_at_In to_pool kept.0 found.2, ap (same_parent a) actor ∙ not-true (same_parent a found.0.actor) kept.1)
@@ -45,20 +45,20 @@ one_more call calls b p is_there =
 
 pub data JavaHappens (plan : Plan) (s : JavaState) : Event → JavaState → Type 0 where
   -- an event that is not part of a submit
-  is_written : (e : Event) (after : State) (o : Outcome) → submission plan s.machine e ≡ None → Happens plan s.machine e after o → JavaHappens plan s e (record s { machine = after })
+  is_atomic : (e : Event) (after : State) (o : Outcome) → submission plan s.machine e ≡ None → Happens plan s.machine e after o → JavaHappens plan s e (record s { machine = after })
   -- the end of a submit
   ends : (a : Parent) (body : List Action) (i k : ℕ) (after : State) (o : Outcome) → StandsAt plan s.machine a body i (Some (action.Submit k)) → Happens plan s.machine (event_of a) after o
-      → JavaHappens plan s (event_of a) (record { machine = after; offering = of_others a s.offering; asking = of_others a s.asking })
+      → JavaHappens plan s (event_of a) (record { machine = after; offering = without_calls_of a s.offering; requesting = without_calls_of a s.requesting })
   -- a submit finds core threads
-  finds_core : (a : Parent) (body : List Action) (i k : ℕ) → StandsAt plan s.machine a body i (Some (action.Submit k)) → is_calling s.asking a (pool_of plan k) ≡ false → is_calling s.offering a (pool_of plan k) ≡ false
+  finds_core : (a : Parent) (body : List Action) (i k : ℕ) → StandsAt plan s.machine a body i (Some (action.Submit k)) → is_calling s.requesting a (pool_of plan k) ≡ false → is_calling s.offering a (pool_of plan k) ≡ false
       → (pool_at plan (pool_of plan k)).core ≤ threads plan s.machine (pool_of plan k)
       → JavaHappens plan s (event_of a) (record s { offering = record { actor = a; pool = pool_of plan k } ∷ s.offering })
   -- it then finds a full queue
-  finds_full : (a : Parent) (body : List Action) (i k : ℕ) → StandsAt plan s.machine a body i (Some (action.Submit k)) → is_calling s.asking a (pool_of plan k) ≡ false
+  finds_full : (a : Parent) (body : List Action) (i k : ℕ) → StandsAt plan s.machine a body i (Some (action.Submit k)) → is_calling s.requesting a (pool_of plan k) ≡ false
       → (pool_at plan (pool_of plan k)).queue ≤ length (pool_part s.machine (pool_of plan k)).queue
-      → JavaHappens plan s (event_of a) (record s { offering = of_others a s.offering; asking = record { actor = a; pool = pool_of plan k } ∷ s.asking })
+      → JavaHappens plan s (event_of a) (record s { offering = without_calls_of a s.offering; requesting = record { actor = a; pool = pool_of plan k } ∷ s.requesting })
   -- it then finds that all threads exist
-  finds_all : (a : Parent) (body : List Action) (i k : ℕ) → StandsAt plan s.machine a body i (Some (action.Submit k)) → is_calling s.asking a (pool_of plan k) ≡ true
+  finds_all : (a : Parent) (body : List Action) (i k : ℕ) → StandsAt plan s.machine a body i (Some (action.Submit k)) → is_calling s.requesting a (pool_of plan k) ≡ true
       → (pool_at plan (pool_of plan k)).max ≤ threads plan s.machine (pool_of plan k)
       → JavaHappens plan s (event_of a) (answers plan s a i k offer.Refused)
 
@@ -69,42 +69,42 @@ abbrev pub OfferAtCore : Plan → JavaState → Type 0
 OfferAtCore plan s = (a : Parent) (p : ℕ) → p < length plan.pools → is_calling s.offering a p ≡ true → (pool_at plan p).core ≤ threads plan s.machine p
 
 -- the check
-looks_happens : (plan : Plan) (s : JavaState) (a : Parent) (body : List Action) (i k : ℕ) → StandsAt plan s.machine a body i (Some (action.Submit k)) → is_calling s.asking a (pool_of plan k) ≡ false → is_calling s.offering a (pool_of plan k) ≡ false
+checks_core_happens : (plan : Plan) (s : JavaState) (a : Parent) (body : List Action) (i k : ℕ) → StandsAt plan s.machine a body i (Some (action.Submit k)) → is_calling s.requesting a (pool_of plan k) ≡ false → is_calling s.offering a (pool_of plan k) ≡ false
     → (below : Bool) → ltb (threads plan s.machine (pool_of plan k)) (pool_at plan (pool_of plan k)).core ≡ below
     → JavaHappens plan s (event_of a) (cond below (answers plan s a i k offer.Started) (record s { offering = record { actor = a; pool = pool_of plan k } ∷ s.offering }))
-looks_happens plan s a body i k at not_asking not_offering true is_below =
+checks_core_happens plan s a body i k at not_requesting not_offering true is_below =
     ends a body i k _ _ at (starts a body i k at (inr (ltb-true (threads plan s.machine (pool_of plan k)) (pool_at plan (pool_of plan k)).core is_below)))
-looks_happens plan s a body i k at not_asking not_offering false is_below =
-    finds_core a body i k at not_asking not_offering (ltb-false (threads plan s.machine (pool_of plan k)) (pool_at plan (pool_of plan k)).core is_below)
+checks_core_happens plan s a body i k at not_requesting not_offering false is_below =
+    finds_core a body i k at not_requesting not_offering (ltb-false (threads plan s.machine (pool_of plan k)) (pool_at plan (pool_of plan k)).core is_below)
 
 -- the offer
-offers_happens : (plan : Plan) (s : JavaState) (a : Parent) (body : List Action) (i k : ℕ) → StandsAt plan s.machine a body i (Some (action.Submit k)) → is_calling s.asking a (pool_of plan k) ≡ false → (pool_at plan (pool_of plan k)).core ≤ threads plan s.machine (pool_of plan k)
+offers_job_happens : (plan : Plan) (s : JavaState) (a : Parent) (body : List Action) (i k : ℕ) → StandsAt plan s.machine a body i (Some (action.Submit k)) → is_calling s.requesting a (pool_of plan k) ≡ false → (pool_at plan (pool_of plan k)).core ≤ threads plan s.machine (pool_of plan k)
     → (room : Bool) → ltb (length (pool_part s.machine (pool_of plan k)).queue) (pool_at plan (pool_of plan k)).queue ≡ room
-    → JavaHappens plan s (event_of a) (cond room (answers plan s a i k offer.Queued) (record s { offering = of_others a s.offering; asking = record { actor = a; pool = pool_of plan k } ∷ s.asking }))
-offers_happens plan s a body i k at not_asking at_core true has_room =
+    → JavaHappens plan s (event_of a) (cond room (answers plan s a i k offer.Queued) (record s { offering = without_calls_of a s.offering; requesting = record { actor = a; pool = pool_of plan k } ∷ s.requesting }))
+offers_job_happens plan s a body i k at not_requesting at_core true has_room =
     ends a body i k _ _ at (queues a body i k at at_core (ltb-true (length (pool_part s.machine (pool_of plan k)).queue) (pool_at plan (pool_of plan k)).queue has_room))
-offers_happens plan s a body i k at not_asking at_core false has_room =
-    finds_full a body i k at not_asking (ltb-false (length (pool_part s.machine (pool_of plan k)).queue) (pool_at plan (pool_of plan k)).queue has_room)
+offers_job_happens plan s a body i k at not_requesting at_core false has_room =
+    finds_full a body i k at not_requesting (ltb-false (length (pool_part s.machine (pool_of plan k)).queue) (pool_at plan (pool_of plan k)).queue has_room)
 
 -- the request for a thread
-asks_happens : (plan : Plan) (s : JavaState) (a : Parent) (body : List Action) (i k : ℕ) → StandsAt plan s.machine a body i (Some (action.Submit k)) → is_calling s.asking a (pool_of plan k) ≡ true
+requests_thread_happens : (plan : Plan) (s : JavaState) (a : Parent) (body : List Action) (i k : ℕ) → StandsAt plan s.machine a body i (Some (action.Submit k)) → is_calling s.requesting a (pool_of plan k) ≡ true
     → (below : Bool) → ltb (threads plan s.machine (pool_of plan k)) (pool_at plan (pool_of plan k)).max ≡ below → JavaHappens plan s (event_of a) (answers plan s a i k (cond below offer.Started offer.Refused))
-asks_happens plan s a body i k at asking true is_below =
+requests_thread_happens plan s a body i k at requesting true is_below =
     ends a body i k _ _ at (starts a body i k at (inl (ltb-true (threads plan s.machine (pool_of plan k)) (pool_at plan (pool_of plan k)).max is_below)))
-asks_happens plan s a body i k at asking false is_below =
-    finds_all a body i k at asking (ltb-false (threads plan s.machine (pool_of plan k)) (pool_at plan (pool_of plan k)).max is_below)
+requests_thread_happens plan s a body i k at requesting false is_below =
+    finds_all a body i k at requesting (ltb-false (threads plan s.machine (pool_of plan k)) (pool_at plan (pool_of plan k)).max is_below)
 
 -- the next of these steps
-executes_happens : (plan : Plan) (s : JavaState) (a : Parent) (body : List Action) (i k : ℕ) → IsOrdered plan → OfferAtCore plan s → StandsAt plan s.machine a body i (Some (action.Submit k))
-    → (asking offering : Bool) → is_calling s.asking a (pool_of plan k) ≡ asking → is_calling s.offering a (pool_of plan k) ≡ offering
-    → JavaHappens plan s (event_of a) (cond asking (asks plan s a i k) (cond offering (offers plan s a i k) (looks plan s a i k)))
-executes_happens plan s a body i k ordered at_core at true offering is_asking is_offering =
-    asks_happens plan s a body i k at is_asking (ltb (threads plan s.machine (pool_of plan k)) (pool_at plan (pool_of plan k)).max) refl
-executes_happens plan s a body i k ordered at_core at false true is_asking is_offering =
-    offers_happens plan s a body i k at is_asking (at_core a (pool_of plan k) (ordered.pools k (class_exists plan s.machine a body i k ordered at)) is_offering)
+executes_happens : (plan : Plan) (s : JavaState) (a : Parent) (body : List Action) (i k : ℕ) → HasValidBodies plan → OfferAtCore plan s → StandsAt plan s.machine a body i (Some (action.Submit k))
+    → (requesting offering : Bool) → is_calling s.requesting a (pool_of plan k) ≡ requesting → is_calling s.offering a (pool_of plan k) ≡ offering
+    → JavaHappens plan s (event_of a) (cond requesting (requests_thread plan s a i k) (cond offering (offers_job plan s a i k) (checks_core plan s a i k)))
+executes_happens plan s a body i k ordered at_core at true offering is_requesting is_offering =
+    requests_thread_happens plan s a body i k at is_requesting (ltb (threads plan s.machine (pool_of plan k)) (pool_at plan (pool_of plan k)).max) refl
+executes_happens plan s a body i k ordered at_core at false true is_requesting is_offering =
+    offers_job_happens plan s a body i k at is_requesting (at_core a (pool_of plan k) (ordered.pools k (class_exists plan s.machine a body i k ordered at)) is_offering)
     (ltb (length (pool_part s.machine (pool_of plan k)).queue) (pool_at plan (pool_of plan k)).queue) refl
-executes_happens plan s a body i k ordered at_core at false false is_asking is_offering =
-    looks_happens plan s a body i k at is_asking is_offering (ltb (threads plan s.machine (pool_of plan k)) (pool_at plan (pool_of plan k)).core) refl
+executes_happens plan s a body i k ordered at_core at false false is_requesting is_offering =
+    checks_core_happens plan s a body i k at is_requesting is_offering (ltb (threads plan s.machine (pool_of plan k)) (pool_at plan (pool_of plan k)).core) refl
 
 -- ---- the submitter
 
@@ -141,18 +141,18 @@ is_submission plan s (event.Retire p) x is_one = absurd (none-some x is_one)
 -- ---- every event
 
 -- an event that is that of the machine
-written_happens : (plan : Plan) (s : JavaState) (e : Event) (found : Option (State × Outcome)) (s' : JavaState) → submission plan s.machine e ≡ None → step plan s.machine e ≡ found → as_written s found ≡ Some s' → JavaHappens plan s e s'
-written_happens plan s e None s' none is_step is_after = absurd (none-some s' is_after)
-written_happens plan s e (Some (after, o)) s' none is_step is_after =
-    subst (JavaHappens plan s e) (same_Some (record s { machine = after }) s' is_after) (is_written e after o none (happens plan s.machine e after o is_step))
+atomic_happens : (plan : Plan) (s : JavaState) (e : Event) (found : Option (State × Outcome)) (s' : JavaState) → submission plan s.machine e ≡ None → step plan s.machine e ≡ found → as_atomic s found ≡ Some s' → JavaHappens plan s e s'
+atomic_happens plan s e None s' none is_step is_after = absurd (none-some s' is_after)
+atomic_happens plan s e (Some (after, o)) s' none is_step is_after =
+    subst (JavaHappens plan s e) (same_Some (record s { machine = after }) s' is_after) (is_atomic e after o none (happens plan s.machine e after o is_step))
 
-stepped_happens : (plan : Plan) (s : JavaState) (e : Event) (found : Option Submission) (s' : JavaState) → IsOrdered plan → OfferAtCore plan s → submission plan s.machine e ≡ found → java_stepped plan s e found ≡ Some s' → JavaHappens plan s e s'
-stepped_happens plan s e None s' ordered at_core is_found is_after = written_happens plan s e (step plan s.machine e) s' is_found refl is_after
+stepped_happens : (plan : Plan) (s : JavaState) (e : Event) (found : Option Submission) (s' : JavaState) → HasValidBodies plan → OfferAtCore plan s → submission plan s.machine e ≡ found → java_stepped plan s e found ≡ Some s' → JavaHappens plan s e s'
+stepped_happens plan s e None s' ordered at_core is_found is_after = atomic_happens plan s e (step plan s.machine e) s' is_found refl is_after
 stepped_happens plan s e (Some x) s' ordered at_core is_found is_after =
     let submitting = is_submission plan s.machine e x is_found in
     let happened : JavaHappens plan s (event_of x.actor) (executes plan s x.actor x.position x.class) =
-    executes_happens plan s x.actor submitting.body x.position x.class ordered at_core submitting.at (is_calling s.asking x.actor (pool_of plan x.class)) (is_calling s.offering x.actor (pool_of plan x.class)) refl refl in
+    executes_happens plan s x.actor submitting.body x.position x.class ordered at_core submitting.at (is_calling s.requesting x.actor (pool_of plan x.class)) (is_calling s.offering x.actor (pool_of plan x.class)) refl refl in
     subst (JavaHappens plan s e) (same_Some (executes plan s x.actor x.position x.class) s' is_after) (subst (λ (event : Event). JavaHappens plan s event (executes plan s x.actor x.position x.class)) submitting.same happened)
 
-pub java_happens : (plan : Plan) (s : JavaState) (e : Event) (s' : JavaState) → IsOrdered plan → OfferAtCore plan s → java_step plan s e ≡ Some s' → JavaHappens plan s e s'
+pub java_happens : (plan : Plan) (s : JavaState) (e : Event) (s' : JavaState) → HasValidBodies plan → OfferAtCore plan s → java_step plan s e ≡ Some s' → JavaHappens plan s e s'
 java_happens plan s e s' ordered at_core is_after = stepped_happens plan s e (submission plan s.machine e) s' ordered at_core refl is_after

@@ -6,7 +6,7 @@ use Rattle.written_machine.specs.declared.event.Event.{Event}
 use Rattle.written_machine.specs.declared.event.Outcome.{Outcome}
 use Rattle.written_machine.specs.State.{State}
 use Rattle.written_machine.specs.Step.{step}
-use Rattle.soundness.specs.Execute.{JavaState, Submission, as_written, java_stepped, java_step, java_replay}
+use Rattle.soundness.specs.Execute.{JavaState, Submission, as_atomic, java_stepped, java_step, java_replay}
 
 -- ---- induction over events
 
@@ -41,10 +41,10 @@ java_replay_keeps plan holds stays (e ∷ events) s s' held replayed =
 -- ---- what is possible
 
 -- an event that the machine allows is possible
-written_possible : (s : JavaState) (found : Option (State × Outcome)) → is_some found ≡ true → is_some (as_written s found) ≡ true
-written_possible s None possible = absurd cc
-written_possible s (Some x) possible = refl
+atomic_possible : (s : JavaState) (found : Option (State × Outcome)) → is_some found ≡ true → is_some (as_atomic s found) ≡ true
+atomic_possible s None possible = absurd cc
+atomic_possible s (Some x) possible = refl
 
 pub java_possible : (plan : Plan) (s : JavaState) (e : Event) (found : Option Submission) → is_some (step plan s.machine e) ≡ true → is_some (java_stepped plan s e found) ≡ true
-java_possible plan s e None possible = written_possible s (step plan s.machine e) possible
+java_possible plan s e None possible = atomic_possible s (step plan s.machine e) possible
 java_possible plan s e (Some x) possible = refl

@@ -1,17 +1,17 @@
 -- Accepted plans are safe and make progress if submits are the steps of Java's execute.
 use Rattle.std.proofs.Common.{◌≡◌, ℕ, true, List, Some}
 use Rattle.job_bodies.specs.Plan.{Plan}
-use Rattle.job_bodies.proofs.Bodies.{IsOrdered, ordered}
+use Rattle.job_bodies.proofs.Bodies.{HasValidBodies, ordered}
 use Rattle.written_machine.specs.declared.event.Event.{Event}
 use Rattle.written_machine.specs.State.{job_at, is_unfinished}
 use Rattle.written_machine.specs.Reach.{start}
-use Rattle.written_machine.proofs.Progress.{goes_on}
-use Rattle.soundness.specs.Execute.{JavaState, submission, java_step, between_calls}
-use Rattle.soundness.specs.JavaSafe.{JavaReaches, JavaCanGoOn}
+use Rattle.written_machine.proofs.Progress.{makes_progress}
+use Rattle.soundness.specs.Execute.{JavaState, submission, java_step, without_calls}
+use Rattle.soundness.specs.JavaSafe.{JavaReaches, JavaCanProgress}
 use Rattle.soundness.proofs.JavaEvents.{java_happens}
 use Rattle.soundness.proofs.JavaReplays.{java_replay_keeps, java_possible}
 use Rattle.cert_text.specs.Cert.{Cert}
-use Rattle.soundness.specs.Headline.{AcceptedPlansAreJavaSafe, AcceptedPlansJavaGoOn}
+use Rattle.soundness.specs.Headline.{AcceptedPlansAreJavaSafe, AcceptedPlansMakeJavaProgress}
 use Rattle.soundness.proofs.CertLaws.{CertLaws, cert_laws}
 use Rattle.soundness.proofs.Theorem.{bound_of, Sound, sound_start, sound_step, sound_waits, sound_safe}
 use Rattle.soundness.proofs.Calls.{CallsKept, calls_none, machine_keeps, calls_step}
@@ -23,11 +23,11 @@ pub record JavaSound (plan : Plan) (cert : Cert) (s : JavaState) : Type 0 where
   pub calls : CallsKept plan (bound_of cert) s
 
 -- the initial state
-pub java_sound_start : (plan : Plan) (cert : Cert) → IsOrdered plan → JavaSound plan cert (between_calls (start plan))
+pub java_sound_start : (plan : Plan) (cert : Cert) → HasValidBodies plan → JavaSound plan cert (without_calls (start plan))
 java_sound_start plan cert ordered = record { sound = sound_start plan cert ordered; calls = calls_none plan (bound_of cert) (start plan) }
 
 -- every event
-pub java_sound_step : (plan : Plan) (cert : Cert) → IsOrdered plan → CertLaws plan cert → (s : JavaState) (e : Event) (s' : JavaState) → JavaSound plan cert s → java_step plan s e ≡ Some s' → JavaSound plan cert s'
+pub java_sound_step : (plan : Plan) (cert : Cert) → HasValidBodies plan → CertLaws plan cert → (s : JavaState) (e : Event) (s' : JavaState) → JavaSound plan cert s → java_step plan s e ≡ Some s' → JavaSound plan cert s'
 java_sound_step plan cert ordered laws s e s' held is_step =
     let bounds = bound_of cert in
     let happened = java_happens plan s e s' ordered held.calls.offering is_step in
@@ -37,8 +37,8 @@ java_sound_step plan cert ordered laws s e s' held is_step =
     }
 
 -- every reachable state satisfies them
-pub java_sound : (plan : Plan) (cert : Cert) → IsOrdered plan → CertLaws plan cert → (events : List Event) (s : JavaState) → JavaReaches plan events s → JavaSound plan cert s
-java_sound plan cert ordered laws events s reached = java_replay_keeps plan (JavaSound plan cert) (java_sound_step plan cert ordered laws) events (between_calls (start plan)) s (java_sound_start plan cert ordered) reached
+pub java_sound : (plan : Plan) (cert : Cert) → HasValidBodies plan → CertLaws plan cert → (events : List Event) (s : JavaState) → JavaReaches plan events s → JavaSound plan cert s
+java_sound plan cert ordered laws events s reached = java_replay_keeps plan (JavaSound plan cert) (java_sound_step plan cert ordered laws) events (without_calls (start plan)) s (java_sound_start plan cert ordered) reached
 
 -- ---- the laws
 
@@ -50,14 +50,14 @@ accepted_plans_are_java_safe plan cert well_formed is_accepted events s reached 
     sound_safe plan cert s.machine is_ordered laws (java_sound plan cert is_ordered laws events s reached).sound
 
 -- an event that the machine allows is possible
-pub java_goes_on : (plan : Plan) (cert : Cert) (s : JavaState) (j : ℕ) → IsOrdered plan → CertLaws plan cert → JavaSound plan cert s → is_unfinished (job_at s.machine j).stage ≡ true → JavaCanGoOn plan s
-java_goes_on plan cert s j ordered laws held still =
-    let goes = goes_on plan s.machine j ordered held.sound.bounded.kept (sound_waits plan cert s.machine ordered laws held.sound) still in
+pub java_makes_progress : (plan : Plan) (cert : Cert) (s : JavaState) (j : ℕ) → HasValidBodies plan → CertLaws plan cert → JavaSound plan cert s → is_unfinished (job_at s.machine j).stage ≡ true → JavaCanProgress plan s
+java_makes_progress plan cert s j ordered laws held still =
+    let goes = makes_progress plan s.machine j ordered held.sound.bounded.kept (sound_waits plan cert s.machine ordered laws held.sound) still in
     record { event = goes.event; of_job_or_pool = goes.of_job_or_pool; possible = java_possible plan s goes.event (submission plan s.machine goes.event) goes.possible }
 
 -- every reachable state with an unfinished job makes progress
-pub accepted_plans_java_go_on : AcceptedPlansJavaGoOn
-accepted_plans_java_go_on plan cert well_formed is_accepted events s reached j still =
+pub accepted_plans_make_java_progress : AcceptedPlansMakeJavaProgress
+accepted_plans_make_java_progress plan cert well_formed is_accepted events s reached j still =
     let is_ordered = ordered plan well_formed in
     let laws = cert_laws plan cert is_accepted in
-    java_goes_on plan cert s j is_ordered laws (java_sound plan cert is_ordered laws events s reached) still
+    java_makes_progress plan cert s j is_ordered laws (java_sound plan cert is_ordered laws events s reached) still

@@ -18,8 +18,8 @@ use Rattle.written_machine.proofs.Kept.{Kept}
 use Rattle.written_machine.proofs.Stages.{length-moved, get_or-staged_other}
 use Rattle.written_machine.proofs.Queues.{head_of_queue}
 use Rattle.written_machine.proofs.Children.{same_actor_refl}
-use Rattle.soundness.specs.Execute.{Call, JavaState, is_calling, of_others, submission_at, submission_of, submission}
-use Rattle.soundness.proofs.JavaEvents.{JavaHappens, is_written, ends, finds_core, finds_full, finds_all, call_of_others, one_more}
+use Rattle.soundness.specs.Execute.{Call, JavaState, is_calling, without_calls_of, submission_at, submission_of, submission}
+use Rattle.soundness.proofs.JavaEvents.{JavaHappens, is_atomic, ends, finds_core, finds_full, finds_all, call_of_others, one_more}
 
 -- ---- jobs at a submit
 
@@ -81,26 +81,26 @@ still_before plan s s' o n p kept other happened before = subst (λ (job : Made)
 
 pub record JobCalls (plan : Plan) (s : JavaState) : Type 0 where
   pub offering : (n p : ℕ) → is_calling s.offering (parent.Job n) p ≡ true → StandsBefore plan (job_at s.machine n) p
-  pub asking : (n p : ℕ) → is_calling s.asking (parent.Job n) p ≡ true → StandsBefore plan (job_at s.machine n) p
+  pub requesting : (n p : ℕ) → is_calling s.requesting (parent.Job n) p ≡ true → StandsBefore plan (job_at s.machine n) p
 
 -- each of these calls of a job is at a submit to the pool
 abbrev AreBefore : Plan → State → List Call → Type 0
 AreBefore plan s calls = (n p : ℕ) → is_calling calls (parent.Job n) p ≡ true → StandsBefore plan (job_at s n) p
 
 -- initially no call is in progress
-pub job_calls_start : (plan : Plan) (s : State) → JobCalls plan (record { machine = s; offering = []; asking = [] })
-job_calls_start plan s = record { offering = λ n p is_there. absurd (false≢true is_there); asking = λ n p is_there. absurd (false≢true is_there) }
+pub job_calls_start : (plan : Plan) (s : State) → JobCalls plan (record { machine = s; offering = []; requesting = [] })
+job_calls_start plan s = record { offering = λ n p is_there. absurd (false≢true is_there); requesting = λ n p is_there. absurd (false≢true is_there) }
 
 -- after an event that is not part of a submit
-before_written : (plan : Plan) (s s' : State) (o : Outcome) (e : Event) (calls : List Call) → Kept plan s → submission plan s e ≡ None → Happens plan s e s' o → AreBefore plan s calls → AreBefore plan s' calls
-before_written plan s s' o e calls kept none happened before n p is_there =
+before_atomic : (plan : Plan) (s s' : State) (o : Outcome) (e : Event) (calls : List Call) → Kept plan s → submission plan s e ≡ None → Happens plan s e s' o → AreBefore plan s calls → AreBefore plan s' calls
+before_atomic plan s s' o e calls kept none happened before n p is_there =
     let standing = before n p is_there in
     still_before plan s s' o n p kept
     (λ (own : e ≡ event.Job n). let some = ap (submission plan s) (sym own) in let one = submission_of_job plan s n p standing in absurd cc)
     happened standing
 
 -- the calls of the others, after the end of a submit
-before_end : (plan : Plan) (s s' : State) (o : Outcome) (a : Parent) (calls : List Call) → Kept plan s → Happens plan s (event_of a) s' o → AreBefore plan s calls → AreBefore plan s' (of_others a calls)
+before_end : (plan : Plan) (s s' : State) (o : Outcome) (a : Parent) (calls : List Call) → Kept plan s → Happens plan s (event_of a) s' o → AreBefore plan s calls → AreBefore plan s' (without_calls_of a calls)
 before_end plan s s' o a calls kept happened before n p is_there =
     let call = call_of_others a (parent.Job n) p calls is_there in
     still_before plan s s' o n p kept (own_event a n call.1) happened (before n p call.0)
@@ -123,20 +123,20 @@ before_more plan s a body i k calls at before n p is_there =
 
 -- every event preserves this
 pub job_calls_step : (plan : Plan) (s s' : JavaState) {e : Event} → Kept plan s.machine → s'.machine.refusals ≡ s.machine.refusals → JobCalls plan s → JavaHappens plan s e s' → JobCalls plan s'
-job_calls_step plan s s' kept as_many calls (is_written e after o none happened) = record {
-  offering = before_written plan s.machine after o e s.offering kept none happened calls.offering;
-  asking = before_written plan s.machine after o e s.asking kept none happened calls.asking;
+job_calls_step plan s s' kept as_many calls (is_atomic e after o none happened) = record {
+  offering = before_atomic plan s.machine after o e s.offering kept none happened calls.offering;
+  requesting = before_atomic plan s.machine after o e s.requesting kept none happened calls.requesting;
 }
 job_calls_step plan s s' kept as_many calls (ends a body i k after o at happened) = record {
   offering = before_end plan s.machine after o a s.offering kept happened calls.offering;
-  asking = before_end plan s.machine after o a s.asking kept happened calls.asking;
+  requesting = before_end plan s.machine after o a s.requesting kept happened calls.requesting;
 }
-job_calls_step plan s s' kept as_many calls (finds_core a body i k at not_asking not_offering at_core) = record {
+job_calls_step plan s s' kept as_many calls (finds_core a body i k at not_requesting not_offering at_core) = record {
   offering = before_more plan s.machine a body i k s.offering at calls.offering;
-  asking = calls.asking;
+  requesting = calls.requesting;
 }
-job_calls_step plan s s' kept as_many calls (finds_full a body i k at not_asking no_room) = record {
+job_calls_step plan s s' kept as_many calls (finds_full a body i k at not_requesting no_room) = record {
   offering = λ n p is_there. calls.offering n p (call_of_others a (parent.Job n) p s.offering is_there).0;
-  asking = before_more plan s.machine a body i k s.asking at calls.asking;
+  requesting = before_more plan s.machine a body i k s.requesting at calls.requesting;
 }
-job_calls_step plan s s' kept as_many calls (finds_all a body i k at asking all_started) = absurd (omega arith)
+job_calls_step plan s s' kept as_many calls (finds_all a body i k at requesting all_started) = absurd (omega arith)

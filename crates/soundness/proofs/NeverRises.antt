@@ -7,8 +7,8 @@ use Rattle.std.proofs.lemmas.Option.{same_Some, slice_get_within, get_or_from_sl
 use Rattle.support.proofs.Sums.{sum_by-agree, sum_by-flat_map}
 use Rattle.job_bodies.specs.declared.action.Action.{Action}
 use Rattle.job_bodies.specs.declared.action.Action.TheVariants as action
-use Rattle.job_bodies.specs.Plan.{Client, Plan, class_at, client_at, class_got}
-use Rattle.job_bodies.proofs.Bodies.{IsOrdered}
+use Rattle.job_bodies.specs.Plan.{Client, Plan, class_at, client_at, submitted_class}
+use Rattle.job_bodies.proofs.Bodies.{HasValidBodies}
 use Rattle.written_machine.specs.declared.client_state.ClientState.{ClientState}
 use Rattle.written_machine.specs.declared.parent.Parent.{Parent}
 use Rattle.written_machine.specs.declared.parent.Parent.TheVariants as parent
@@ -24,77 +24,77 @@ use Rattle.written_machine.proofs.Stages.{staged}
 use Rattle.written_machine.proofs.Queues.{head_of_queue}
 use Rattle.written_machine.proofs.KeptSubmits.{class_exists}
 use Rattle.written_machine.proofs.ReachedLaws.{child_at_get}
-use Rattle.weights.specs.declared.at_get.AtGet.{AtGet}
-use Rattle.weights.specs.declared.at_get.AtGet.TheVariants.{GivesBack, GivesNothing}
+use Rattle.weights.specs.declared.get_return.GetReturn.{GetReturn}
+use Rattle.weights.specs.declared.get_return.GetReturn.TheVariants.{DoneWeight, NoWeight}
 use Rattle.weights.specs.Vector.{Vector, workers_weight, job_weight, done_weight, client_weight}
-use Rattle.weights.specs.AtGet.{given_back, claimed_weight}
+use Rattle.weights.specs.GetReturn.{returned_weight, claimed_weight}
 use Rattle.soundness.specs.WeightedSum.{stage_weight}
 use Rattle.soundness.proofs.VectorLaws.{BodyLaws, VectorLaws}
 
 -- ---- the parts of the weight
 
 -- the weight of jobs
-abbrev pub jobs_spent : AtGet → Plan → Vector → List Made → ℕ
-jobs_spent at_get plan v jobs = sum_by (λ (job : Made). stage_weight at_get plan v job.class job.stage) jobs
+abbrev pub jobs_weight : GetReturn → Plan → Vector → List Made → ℕ
+jobs_weight get_return plan v jobs = sum_by (λ (job : Made). stage_weight get_return plan v job.class job.stage) jobs
 
 -- the weight of the clients and jobs
-abbrev pub spent : AtGet → Plan → Vector → State → ℕ
-spent at_get plan v s = sum_by (λ (client : ClientState). client_weight v client.kind client.position) s.clients + jobs_spent at_get plan v s.jobs
+abbrev pub actors_weight : GetReturn → Plan → Vector → State → ℕ
+actors_weight get_return plan v s = sum_by (λ (client : ClientState). client_weight v client.kind client.position) s.clients + jobs_weight get_return plan v s.jobs
 
 -- the weight of a job's worker if the job is at a position
-abbrev pub loan : Plan → Vector → ℕ → Stage → ℕ
-loan plan v k stage = cond (is_at stage) (workers_weight v (pool_of plan k)) 0
+abbrev pub worker_weight : Plan → Vector → ℕ → Stage → ℕ
+worker_weight plan v k stage = cond (is_at stage) (workers_weight v (pool_of plan k)) 0
 
 -- the weight of the workers of those of these jobs that are at a position
-abbrev pub jobs_lent : Plan → Vector → List Made → ℕ
-jobs_lent plan v jobs = sum_by (λ (job : Made). loan plan v job.class job.stage) jobs
+abbrev pub workers_weight_of_jobs : Plan → Vector → List Made → ℕ
+workers_weight_of_jobs plan v jobs = sum_by (λ (job : Made). worker_weight plan v job.class job.stage) jobs
 
 -- the weight of the workers of all jobs that are at a position
-abbrev pub lent : Plan → Vector → State → ℕ
-lent plan v s = jobs_lent plan v s.jobs
+abbrev pub busy_workers_weight : Plan → Vector → State → ℕ
+busy_workers_weight plan v s = workers_weight_of_jobs plan v s.jobs
 
 -- the weight of the clients at the start
-abbrev pub given : Plan → Vector → ℕ
-given plan v = sum_by (λ (entry : ℕ × Client). entry.1.count * client_weight v entry.0 0) (enumerate_from 0 plan.clients)
+abbrev pub initial_clients_weight : Plan → Vector → ℕ
+initial_clients_weight plan v = sum_by (λ (entry : ℕ × Client). entry.1.count * client_weight v entry.0 0) (enumerate_from 0 plan.clients)
 
 -- the weight of the clients and jobs is at most what the clients had at the start and what workers lend
-abbrev pub IsBalanced : AtGet → Plan → Vector → State → Type 0
-IsBalanced at_get plan v s = spent at_get plan v s ≤ given plan v + lent plan v s
+abbrev pub IsBalanced : GetReturn → Plan → Vector → State → Type 0
+IsBalanced get_return plan v s = actors_weight get_return plan v s ≤ initial_clients_weight plan v + busy_workers_weight plan v s
 
 -- the weight of the second state is at most that of the first
-abbrev pub IsNoHeavier : AtGet → Plan → Vector → State → State → Type 0
-IsNoHeavier at_get plan v s s' = spent at_get plan v s' + lent plan v s ≤ spent at_get plan v s + lent plan v s'
+abbrev pub DoesNotIncrease : GetReturn → Plan → Vector → State → State → Type 0
+DoesNotIncrease get_return plan v s s' = actors_weight get_return plan v s' + busy_workers_weight plan v s ≤ actors_weight get_return plan v s + busy_workers_weight plan v s'
 
 -- ---- the initial state
 
 -- the clients have their initial weight, and there are no jobs
-pub balanced_start : (at_get : AtGet) (plan : Plan) (v : Vector) → IsBalanced at_get plan v (start plan)
-balanced_start at_get plan v =
+pub balanced_start : (get_return : GetReturn) (plan : Plan) (v : Vector) → IsBalanced get_return plan v (start plan)
+balanced_start get_return plan v =
     let weight = λ (client : ClientState). client_weight v client.kind client.position in
     let numbered = enumerate_from 0 plan.clients in
-    let as_given : sum_by weight (flat_map new_clients numbered) ≡ given plan v =
+    let as_initial : sum_by weight (flat_map new_clients numbered) ≡ initial_clients_weight plan v =
     sum_by-flat_map weight new_clients numbered
     ∙ sum_by-agree (λ (entry : ℕ × Client). sum_by weight (new_clients entry)) (λ (entry : ℕ × Client). entry.1.count * client_weight v entry.0 0) numbered
     (λ entry. sum_by-replicate weight entry.1.count (record { kind = entry.0; position = 0 })) in
-    omega (arith, as_given)
+    omega (arith, as_initial)
 
 -- ---- a job changes its stage
 
 -- the weight of the jobs changes by the difference of the two stages
-pub jobs_spent-staged : (at_get : AtGet) (plan : Plan) (v : Vector) (jobs : List Made) (j : ℕ) (stage was : Stage) → j < length jobs → (get_or jobs j no_job).stage ≡ was
-    → jobs_spent at_get plan v (staged jobs j stage) + stage_weight at_get plan v (get_or jobs j no_job).class was ≡ jobs_spent at_get plan v jobs + stage_weight at_get plan v (get_or jobs j no_job).class stage
-jobs_spent-staged at_get plan v jobs j stage was inside e =
+pub jobs_weight-staged : (get_return : GetReturn) (plan : Plan) (v : Vector) (jobs : List Made) (j : ℕ) (stage was : Stage) → j < length jobs → (get_or jobs j no_job).stage ≡ was
+    → jobs_weight get_return plan v (staged jobs j stage) + stage_weight get_return plan v (get_or jobs j no_job).class was ≡ jobs_weight get_return plan v jobs + stage_weight get_return plan v (get_or jobs j no_job).class stage
+jobs_weight-staged get_return plan v jobs j stage was inside e =
     let job = get_or jobs j no_job in
-    ap (λ (old : Stage). jobs_spent at_get plan v (staged jobs j stage) + stage_weight at_get plan v job.class old) (sym e)
-    ∙ sum_by-set (λ (x : Made). stage_weight at_get plan v x.class x.stage) jobs j (record job { stage = stage }) no_job inside
+    ap (λ (old : Stage). jobs_weight get_return plan v (staged jobs j stage) + stage_weight get_return plan v job.class old) (sym e)
+    ∙ sum_by-set (λ (x : Made). stage_weight get_return plan v x.class x.stage) jobs j (record job { stage = stage }) no_job inside
 
 -- and so does the weight of their workers
-pub jobs_lent-staged : (plan : Plan) (v : Vector) (jobs : List Made) (j : ℕ) (stage was : Stage) → j < length jobs → (get_or jobs j no_job).stage ≡ was
-    → jobs_lent plan v (staged jobs j stage) + loan plan v (get_or jobs j no_job).class was ≡ jobs_lent plan v jobs + loan plan v (get_or jobs j no_job).class stage
-jobs_lent-staged plan v jobs j stage was inside e =
+pub workers_weight_of_jobs-staged : (plan : Plan) (v : Vector) (jobs : List Made) (j : ℕ) (stage was : Stage) → j < length jobs → (get_or jobs j no_job).stage ≡ was
+    → workers_weight_of_jobs plan v (staged jobs j stage) + worker_weight plan v (get_or jobs j no_job).class was ≡ workers_weight_of_jobs plan v jobs + worker_weight plan v (get_or jobs j no_job).class stage
+workers_weight_of_jobs-staged plan v jobs j stage was inside e =
     let job = get_or jobs j no_job in
-    ap (λ (old : Stage). jobs_lent plan v (staged jobs j stage) + loan plan v job.class old) (sym e)
-    ∙ sum_by-set (λ (x : Made). loan plan v x.class x.stage) jobs j (record job { stage = stage }) no_job inside
+    ap (λ (old : Stage). workers_weight_of_jobs plan v (staged jobs j stage) + worker_weight plan v job.class old) (sym e)
+    ∙ sum_by-set (λ (x : Made). worker_weight plan v x.class x.stage) jobs j (record job { stage = stage }) no_job inside
 
 -- ---- an actor changes its position
 
@@ -104,24 +104,24 @@ actor_weight v s (parent.Client c) i = client_weight v (client_state s c).kind i
 actor_weight v s (parent.Job j) i = job_weight v (job_at s j).class i
 
 -- an actor that moves from i to i' changes only its own weight
-pub spent-with_position : (at_get : AtGet) (plan : Plan) (v : Vector) (s : State) (a : Parent) (body : List Action) (i i' : ℕ) → point plan s a ≡ Some (record { body = body; position = i })
-    → spent at_get plan v (with_position a i' s) + actor_weight v s a i ≡ spent at_get plan v s + actor_weight v s a i'
-spent-with_position at_get plan v s (parent.Client c) body i i' stands =
+pub actors_weight-with_position : (get_return : GetReturn) (plan : Plan) (v : Vector) (s : State) (a : Parent) (body : List Action) (i i' : ℕ) → point plan s a ≡ Some (record { body = body; position = i })
+    → actors_weight get_return plan v (with_position a i' s) + actor_weight v s a i ≡ actors_weight get_return plan v s + actor_weight v s a i'
+actors_weight-with_position get_return plan v s (parent.Client c) body i i' stands =
     let client = client_standing plan (slice_get s.clients c) body i stands in
     let inside : c < length s.clients = slice_get_within s.clients c client.0 client.1 in
     let position : (client_state s c).position ≡ i = ap (λ (x : ClientState). x.position) (get_or_from_slice_get s.clients c client.0 no_client_state client.1) ∙ client.3 in
     let was = ap (client_weight v (client_state s c).kind) position in
     omega (arith, was, sum_by-set (λ (x : ClientState). client_weight v x.kind x.position) s.clients c (record (client_state s c) { position = i' }) no_client_state inside)
-spent-with_position at_get plan v s (parent.Job j) body i i' stands =
+actors_weight-with_position get_return plan v s (parent.Job j) body i i' stands =
     let was = (stage_of_standing plan (job_at s j).class (job_at s j).stage body i stands).0 in
-    omega (arith, jobs_spent-staged at_get plan v s.jobs j (Stage.At i') (Stage.At i) (standing_made plan s j body i stands) was)
+    omega (arith, jobs_weight-staged get_return plan v s.jobs j (Stage.At i') (Stage.At i) (standing_made plan s j body i stands) was)
 
 -- a job that moves from one position to another keeps its worker's weight
-pub lent-with_position : (plan : Plan) (v : Vector) (s : State) (a : Parent) (body : List Action) (i i' : ℕ) → point plan s a ≡ Some (record { body = body; position = i }) → lent plan v (with_position a i' s) ≡ lent plan v s
-lent-with_position plan v s (parent.Client c) body i i' stands = refl
-lent-with_position plan v s (parent.Job j) body i i' stands =
+pub busy_workers_weight-with_position : (plan : Plan) (v : Vector) (s : State) (a : Parent) (body : List Action) (i i' : ℕ) → point plan s a ≡ Some (record { body = body; position = i }) → busy_workers_weight plan v (with_position a i' s) ≡ busy_workers_weight plan v s
+busy_workers_weight-with_position plan v s (parent.Client c) body i i' stands = refl
+busy_workers_weight-with_position plan v s (parent.Job j) body i i' stands =
     let was = (stage_of_standing plan (job_at s j).class (job_at s j).stage body i stands).0 in
-    omega (arith, jobs_lent-staged plan v s.jobs j (Stage.At i') (Stage.At i) (standing_made plan s j body i stands) was)
+    omega (arith, workers_weight_of_jobs-staged plan v s.jobs j (Stage.At i') (Stage.At i) (standing_made plan s j body i stands) was)
 
 -- the body of a client
 body_of_client : (plan : Plan) (s : State) (c : ℕ) (body : List Action) (i : ℕ) → point plan s (parent.Client c) ≡ Some (record { body = body; position = i }) → body ≡ (client_at plan (client_state s c).kind).body
@@ -130,51 +130,51 @@ body_of_client plan s c body i stands =
     client.2 ∙ ap (λ (x : ClientState). (client_at plan x.kind).body) (sym (get_or_from_slice_get s.clients c client.0 no_client_state client.1))
 
 -- the inequalities of the actor's body
-actor_laws : (at_get : AtGet) (plan : Plan) (v : Vector) (s : State) (a : Parent) (body : List Action) (i : ℕ) → VectorLaws at_get plan v → point plan s a ≡ Some (record { body = body; position = i }) → BodyLaws at_get plan v (actor_weight v s a) body
-actor_laws at_get plan v s (parent.Client c) body i laws stands =
-    subst (BodyLaws at_get plan v (client_weight v (client_state s c).kind)) (sym (body_of_client plan s c body i stands)) (laws.clients (client_state s c).kind)
-actor_laws at_get plan v s (parent.Job j) body i laws stands =
-    subst (BodyLaws at_get plan v (job_weight v (job_at s j).class)) (sym (stage_of_standing plan (job_at s j).class (job_at s j).stage body i stands).1) (laws.classes (job_at s j).class)
+actor_laws : (get_return : GetReturn) (plan : Plan) (v : Vector) (s : State) (a : Parent) (body : List Action) (i : ℕ) → VectorLaws get_return plan v → point plan s a ≡ Some (record { body = body; position = i }) → BodyLaws get_return plan v (actor_weight v s a) body
+actor_laws get_return plan v s (parent.Client c) body i laws stands =
+    subst (BodyLaws get_return plan v (client_weight v (client_state s c).kind)) (sym (body_of_client plan s c body i stands)) (laws.clients (client_state s c).kind)
+actor_laws get_return plan v s (parent.Job j) body i laws stands =
+    subst (BodyLaws get_return plan v (job_weight v (job_at s j).class)) (sym (stage_of_standing plan (job_at s j).class (job_at s j).stage body i stands).1) (laws.classes (job_at s j).class)
 
 -- ---- a job is created
 
 -- the weight increases by that of the new job's stage
-pub spent-with_job : (at_get : AtGet) (plan : Plan) (v : Vector) (s : State) (job : Made) → spent at_get plan v (with_job job s) ≡ spent at_get plan v s + stage_weight at_get plan v job.class job.stage
-spent-with_job at_get plan v s job = omega (arith, sum_by_push (λ (x : Made). stage_weight at_get plan v x.class x.stage) s.jobs job)
+pub actors_weight-with_job : (get_return : GetReturn) (plan : Plan) (v : Vector) (s : State) (job : Made) → actors_weight get_return plan v (with_job job s) ≡ actors_weight get_return plan v s + stage_weight get_return plan v job.class job.stage
+actors_weight-with_job get_return plan v s job = omega (arith, sum_by_push (λ (x : Made). stage_weight get_return plan v x.class x.stage) s.jobs job)
 
 -- and so does the weight of its worker
-pub lent-with_job : (plan : Plan) (v : Vector) (s : State) (job : Made) → lent plan v (with_job job s) ≡ lent plan v s + loan plan v job.class job.stage
-lent-with_job plan v s job = sum_by_push (λ (x : Made). loan plan v x.class x.stage) s.jobs job
+pub busy_workers_weight-with_job : (plan : Plan) (v : Vector) (s : State) (job : Made) → busy_workers_weight plan v (with_job job s) ≡ busy_workers_weight plan v s + worker_weight plan v job.class job.stage
+busy_workers_weight-with_job plan v s job = sum_by_push (λ (x : Made). worker_weight plan v x.class x.stage) s.jobs job
 
 -- ---- each event
 
 -- V2: work does not increase the weight of its actor
-never_rises_works : (at_get : AtGet) (plan : Plan) (v : Vector) (s : State) (a : Parent) (body : List Action) (i u : ℕ) → VectorLaws at_get plan v → StandsAt plan s a body i (Some (action.Work u)) → IsNoHeavier at_get plan v s (with_position a (i + 1) s)
-never_rises_works at_get plan v s a body i u laws at =
-    let falls = (actor_laws at_get plan v s a body i laws at.stands).work i u at.is_there in
-    omega (arith, falls, spent-with_position at_get plan v s a body i (i + 1) at.stands, lent-with_position plan v s a body i (i + 1) at.stands)
+never_rises_works : (get_return : GetReturn) (plan : Plan) (v : Vector) (s : State) (a : Parent) (body : List Action) (i u : ℕ) → VectorLaws get_return plan v → StandsAt plan s a body i (Some (action.Work u)) → DoesNotIncrease get_return plan v s (with_position a (i + 1) s)
+never_rises_works get_return plan v s a body i u laws at =
+    let falls = (actor_laws get_return plan v s a body i laws at.stands).work i u at.is_there in
+    omega (arith, falls, actors_weight-with_position get_return plan v s a body i (i + 1) at.stands, busy_workers_weight-with_position plan v s a body i (i + 1) at.stands)
 
 -- V3 and V4: the actor's weight covers a queued job and, with a worker's weight, a running job
-never_rises_starts : (at_get : AtGet) (plan : Plan) (v : Vector) (s : State) (a : Parent) (body : List Action) (i k : ℕ) → k < length plan.classes → VectorLaws at_get plan v → StandsAt plan s a body i (Some (action.Submit k))
-    → IsNoHeavier at_get plan v s (with_job (new_job k a i (Stage.At 0)) (with_position a (i + 1) s))
-never_rises_starts at_get plan v s a body i k inside laws at =
+never_rises_starts : (get_return : GetReturn) (plan : Plan) (v : Vector) (s : State) (a : Parent) (body : List Action) (i k : ℕ) → k < length plan.classes → VectorLaws get_return plan v → StandsAt plan s a body i (Some (action.Submit k))
+    → DoesNotIncrease get_return plan v s (with_job (new_job k a i (Stage.At 0)) (with_position a (i + 1) s))
+never_rises_starts get_return plan v s a body i k inside laws at =
     let job = new_job k a i (Stage.At 0) in
-    let pays = (actor_laws at_get plan v s a body i laws at.stands).submit i k at.is_there in
+    let pays = (actor_laws get_return plan v s a body i laws at.stands).submit i k at.is_there in
     let begins = laws.begins k inside in
-    omega (arith, pays, begins, spent-with_position at_get plan v s a body i (i + 1) at.stands, lent-with_position plan v s a body i (i + 1) at.stands, spent-with_job at_get plan v (with_position a (i + 1) s) job, lent-with_job plan v (with_position a (i + 1) s) job)
+    omega (arith, pays, begins, actors_weight-with_position get_return plan v s a body i (i + 1) at.stands, busy_workers_weight-with_position plan v s a body i (i + 1) at.stands, actors_weight-with_job get_return plan v (with_position a (i + 1) s) job, busy_workers_weight-with_job plan v (with_position a (i + 1) s) job)
 
 -- a queued submit, whether or not the queue has room
-pub never_rises_queued : (at_get : AtGet) (plan : Plan) (v : Vector) (s : State) (a : Parent) (body : List Action) (i k : ℕ) → VectorLaws at_get plan v → StandsAt plan s a body i (Some (action.Submit k))
-    → IsNoHeavier at_get plan v s (queued_state plan s a i k)
-never_rises_queued at_get plan v s a body i k laws at =
+pub never_rises_queued : (get_return : GetReturn) (plan : Plan) (v : Vector) (s : State) (a : Parent) (body : List Action) (i k : ℕ) → VectorLaws get_return plan v → StandsAt plan s a body i (Some (action.Submit k))
+    → DoesNotIncrease get_return plan v s (queued_state plan s a i k)
+never_rises_queued get_return plan v s a body i k laws at =
     let job = new_job k a i Stage.Queued in
-    let pays = (actor_laws at_get plan v s a body i laws at.stands).submit i k at.is_there in
-    omega (arith, pays, spent-with_position at_get plan v s a body i (i + 1) at.stands, lent-with_position plan v s a body i (i + 1) at.stands, spent-with_job at_get plan v (with_position a (i + 1) s) job, lent-with_job plan v (with_position a (i + 1) s) job)
+    let pays = (actor_laws get_return plan v s a body i laws at.stands).submit i k at.is_there in
+    omega (arith, pays, actors_weight-with_position get_return plan v s a body i (i + 1) at.stands, busy_workers_weight-with_position plan v s a body i (i + 1) at.stands, actors_weight-with_job get_return plan v (with_position a (i + 1) s) job, busy_workers_weight-with_job plan v (with_position a (i + 1) s) job)
 
 -- a get divides the weight of a done job into the part that it returns and the part that remains
-shares : (at_get : AtGet) (plan : Plan) (v : Vector) (k : ℕ) → given_back at_get plan v k + claimed_weight at_get plan v k ≡ done_weight plan v k
-shares GivesBack plan v k = omega arith
-shares GivesNothing plan v k = omega arith
+shares : (get_return : GetReturn) (plan : Plan) (v : Vector) (k : ℕ) → returned_weight get_return plan v k + claimed_weight get_return plan v k ≡ done_weight plan v k
+shares DoneWeight plan v k = omega arith
+shares NoWeight plan v k = omega arith
 
 -- a done job is not at a position
 done_nowhere : {stage : Stage} → stage ≡ Stage.Done → (n : ℕ) → stage ≢ Stage.At n
@@ -185,29 +185,29 @@ done_unclaimed : {stage : Stage} → stage ≡ Stage.Done → stage ≢ Stage.Cl
 done_unclaimed done e = cc
 
 -- V5 or L5: the weight of the actor increases by at most what the done job returns
-never_rises_gets : (at_get : AtGet) (plan : Plan) (v : Vector) (s : State) (a : Parent) (body : List Action) (i t j : ℕ) → IsOrdered plan → VectorLaws at_get plan v → Kept plan s → StandsAt plan s a body i (Some (action.Get t))
-    → child s a t ≡ Some j → (job_at s j).stage ≡ Stage.Done → IsNoHeavier at_get plan v s (with_stage j Stage.Claimed (with_position a (i + 1) s))
-never_rises_gets at_get plan v s a body i t j ordered laws kept at is_child done =
+never_rises_gets : (get_return : GetReturn) (plan : Plan) (v : Vector) (s : State) (a : Parent) (body : List Action) (i t j : ℕ) → HasValidBodies plan → VectorLaws get_return plan v → Kept plan s → StandsAt plan s a body i (Some (action.Get t))
+    → child s a t ≡ Some j → (job_at s j).stage ≡ Stage.Done → DoesNotIncrease get_return plan v s (with_stage j Stage.Claimed (with_position a (i + 1) s))
+never_rises_gets get_return plan v s a body i t j ordered laws kept at is_child done =
     let moved : State = with_position a (i + 1) s in
     let got = child_at_get plan s a body i t ordered kept at in
     let same : got.number ≡ j = same_Some got.number j (sym got.is_child ∙ is_child) in
     let still : job_at moved j ≡ job_at s j = job_at-with_position plan s a body i (i + 1) j at.stands (done_nowhere done) in
     let still_done : (job_at moved j).stage ≡ Stage.Done = ap (λ (job : Made). job.stage) still ∙ done in
-    let of_class : (job_at moved j).class ≡ class_got body t = ap (λ (job : Made). job.class) still ∙ ap (λ (n : ℕ). (job_at s n).class) (sym same) ∙ got.of_class in
+    let of_class : (job_at moved j).class ≡ submitted_class body t = ap (λ (job : Made). job.class) still ∙ ap (λ (n : ℕ). (job_at s n).class) (sym same) ∙ got.of_class in
     let inside : j < length moved.jobs = job_made moved j (done_unclaimed still_done) in
-    let gives = (actor_laws at_get plan v s a body i laws at.stands).get i t at.is_there in
+    let gives = (actor_laws get_return plan v s a body i laws at.stands).get i t at.is_there in
     let was = ap (λ (k : ℕ). done_weight plan v k) of_class in
-    let left = ap (λ (k : ℕ). claimed_weight at_get plan v k) of_class in
+    let left = ap (λ (k : ℕ). claimed_weight get_return plan v k) of_class in
     omega (
       arith,
       gives,
       was,
       left,
-      shares at_get plan v (class_got body t),
-      spent-with_position at_get plan v s a body i (i + 1) at.stands,
-      lent-with_position plan v s a body i (i + 1) at.stands,
-      jobs_spent-staged at_get plan v moved.jobs j Stage.Claimed Stage.Done inside still_done,
-      jobs_lent-staged plan v moved.jobs j Stage.Claimed Stage.Done inside still_done,
+      shares get_return plan v (submitted_class body t),
+      actors_weight-with_position get_return plan v s a body i (i + 1) at.stands,
+      busy_workers_weight-with_position plan v s a body i (i + 1) at.stands,
+      jobs_weight-staged get_return plan v moved.jobs j Stage.Claimed Stage.Done inside still_done,
+      workers_weight_of_jobs-staged plan v moved.jobs j Stage.Claimed Stage.Done inside still_done,
     )
 
 -- a position without an action is at or after the end of the body
@@ -223,48 +223,48 @@ stands_at_end plan s a body i kept at =
     omega (arith, at_end body i at.is_there)
 
 -- V6: the weight of a job at its end covers the done job and its worker
-never_rises_finishes : (at_get : AtGet) (plan : Plan) (v : Vector) (s : State) (j : ℕ) (body : List Action) (i : ℕ) → VectorLaws at_get plan v → Kept plan s → StandsAt plan s (parent.Job j) body i None
-    → IsNoHeavier at_get plan v s (finished_job plan s j (pool_of plan (job_at s j).class))
-never_rises_finishes at_get plan v s j body i laws kept at =
+never_rises_finishes : (get_return : GetReturn) (plan : Plan) (v : Vector) (s : State) (j : ℕ) (body : List Action) (i : ℕ) → VectorLaws get_return plan v → Kept plan s → StandsAt plan s (parent.Job j) body i None
+    → DoesNotIncrease get_return plan v s (finished_job plan s j (pool_of plan (job_at s j).class))
+never_rises_finishes get_return plan v s j body i laws kept at =
     let k = (job_at s j).class in
     let was = stage_of_standing plan k (job_at s j).stage body i at.stands in
     let inside : j < length s.jobs = standing_made plan s j body i at.stands in
     let last : i ≡ length (class_at plan k).body = stands_at_end plan s (parent.Job j) body i kept at ∙ ap (λ (b : List Action). length b) was.1 in
     let ends = laws.ends k (kept.classes j no_job inside) in
     let weighs = ap (job_weight v k) last in
-    omega (arith, ends, weighs, jobs_spent-staged at_get plan v s.jobs j Stage.Done (Stage.At i) inside was.0, jobs_lent-staged plan v s.jobs j Stage.Done (Stage.At i) inside was.0)
+    omega (arith, ends, weighs, jobs_weight-staged get_return plan v s.jobs j Stage.Done (Stage.At i) inside was.0, workers_weight_of_jobs-staged plan v s.jobs j Stage.Done (Stage.At i) inside was.0)
 
 -- V7: the weight of a client at its end covers its weight at its start
-never_rises_loops : (at_get : AtGet) (plan : Plan) (v : Vector) (s : State) (c : ℕ) (client : ClientState) (body : List Action) (i : ℕ) → VectorLaws at_get plan v → Kept plan s → StandsAt plan s (parent.Client c) body i None
-    → slice_get s.clients c ≡ Some client → (client_at plan client.kind).repeat ≡ true → IsNoHeavier at_get plan v s (with_position (parent.Client c) 0 s)
-never_rises_loops at_get plan v s c client body i laws kept at is_client repeats =
+never_rises_loops : (get_return : GetReturn) (plan : Plan) (v : Vector) (s : State) (c : ℕ) (client : ClientState) (body : List Action) (i : ℕ) → VectorLaws get_return plan v → Kept plan s → StandsAt plan s (parent.Client c) body i None
+    → slice_get s.clients c ≡ Some client → (client_at plan client.kind).repeat ≡ true → DoesNotIncrease get_return plan v s (with_position (parent.Client c) 0 s)
+never_rises_loops get_return plan v s c client body i laws kept at is_client repeats =
     let kind = (client_state s c).kind in
     let found : client_state s c ≡ client = get_or_from_slice_get s.clients c client no_client_state is_client in
     let again : (client_at plan kind).repeat ≡ true = ap (λ (x : ClientState). (client_at plan x.kind).repeat) found ∙ repeats in
     let last : i ≡ length (client_at plan kind).body = stands_at_end plan s (parent.Client c) body i kept at ∙ ap (λ (b : List Action). length b) (body_of_client plan s c body i at.stands) in
     let pays = laws.loops kind again in
     let weighs = ap (client_weight v kind) last in
-    omega (arith, pays, weighs, spent-with_position at_get plan v s (parent.Client c) body i 0 at.stands)
+    omega (arith, pays, weighs, actors_weight-with_position get_return plan v s (parent.Client c) body i 0 at.stands)
 
 -- V4: the weights of a queued job and of a worker cover a running job
-never_rises_takes : (at_get : AtGet) (plan : Plan) (v : Vector) (s : State) (p j : ℕ) (queue : List ℕ) (idle : ℕ) → VectorLaws at_get plan v → Kept plan s → (pool_part s p).queue ≡ j ∷ queue → IsNoHeavier at_get plan v s (with_part p queue idle (with_stage j (Stage.At 0) s))
-never_rises_takes at_get plan v s p j queue idle laws kept is_queue =
+never_rises_takes : (get_return : GetReturn) (plan : Plan) (v : Vector) (s : State) (p j : ℕ) (queue : List ℕ) (idle : ℕ) → VectorLaws get_return plan v → Kept plan s → (pool_part s p).queue ≡ j ∷ queue → DoesNotIncrease get_return plan v s (with_part p queue idle (with_stage j (Stage.At 0) s))
+never_rises_takes get_return plan v s p j queue idle laws kept is_queue =
     let head = head_of_queue plan s p j queue kept is_queue in
     let begins = laws.begins (job_at s j).class (kept.classes j no_job head.inside) in
-    omega (arith, begins, jobs_spent-staged at_get plan v s.jobs j (Stage.At 0) Stage.Queued head.inside head.queued, jobs_lent-staged plan v s.jobs j (Stage.At 0) Stage.Queued head.inside head.queued)
+    omega (arith, begins, jobs_weight-staged get_return plan v s.jobs j (Stage.At 0) Stage.Queued head.inside head.queued, workers_weight_of_jobs-staged plan v s.jobs j (Stage.At 0) Stage.Queued head.inside head.queued)
 
 -- every event
-pub never_rises : (at_get : AtGet) (plan : Plan) (v : Vector) (s s' : State) (o : Outcome) {e : Event} → IsOrdered plan → VectorLaws at_get plan v → Kept plan s → Happens plan s e s' o → IsNoHeavier at_get plan v s s'
-never_rises at_get plan v s s' o ordered laws kept (works a body i u at) = never_rises_works at_get plan v s a body i u laws at
-never_rises at_get plan v s s' o ordered laws kept (starts a body i k at below) = never_rises_starts at_get plan v s a body i k (class_exists plan s a body i k ordered at) laws at
-never_rises at_get plan v s s' o ordered laws kept (queues a body i k at at_core room) = never_rises_queued at_get plan v s a body i k laws at
-never_rises at_get plan v s s' o ordered laws kept (is_refused a body i k at no_room all_started) = omega arith
-never_rises at_get plan v s s' o ordered laws kept (gets a body i t j at is_child done) = never_rises_gets at_get plan v s a body i t j ordered laws kept at is_child done
-never_rises at_get plan v s s' o ordered laws kept (finishes j body i at) = never_rises_finishes at_get plan v s j body i laws kept at
-never_rises at_get plan v s s' o ordered laws kept (loops c client body i at is_client repeats) = never_rises_loops at_get plan v s c client body i laws kept at is_client repeats
-never_rises at_get plan v s s' o ordered laws kept (takes p j queue idle is_queue is_idle) = never_rises_takes at_get plan v s p j queue idle laws kept is_queue
-never_rises at_get plan v s s' o ordered laws kept (retires p idle is_idle above_core) = omega arith
+pub never_rises : (get_return : GetReturn) (plan : Plan) (v : Vector) (s s' : State) (o : Outcome) {e : Event} → HasValidBodies plan → VectorLaws get_return plan v → Kept plan s → Happens plan s e s' o → DoesNotIncrease get_return plan v s s'
+never_rises get_return plan v s s' o ordered laws kept (works a body i u at) = never_rises_works get_return plan v s a body i u laws at
+never_rises get_return plan v s s' o ordered laws kept (starts a body i k at below) = never_rises_starts get_return plan v s a body i k (class_exists plan s a body i k ordered at) laws at
+never_rises get_return plan v s s' o ordered laws kept (queues a body i k at at_core room) = never_rises_queued get_return plan v s a body i k laws at
+never_rises get_return plan v s s' o ordered laws kept (is_refused a body i k at no_room all_started) = omega arith
+never_rises get_return plan v s s' o ordered laws kept (gets a body i t j at is_child done) = never_rises_gets get_return plan v s a body i t j ordered laws kept at is_child done
+never_rises get_return plan v s s' o ordered laws kept (finishes j body i at) = never_rises_finishes get_return plan v s j body i laws kept at
+never_rises get_return plan v s s' o ordered laws kept (loops c client body i at is_client repeats) = never_rises_loops get_return plan v s c client body i laws kept at is_client repeats
+never_rises get_return plan v s s' o ordered laws kept (takes p j queue idle is_queue is_idle) = never_rises_takes get_return plan v s p j queue idle laws kept is_queue
+never_rises get_return plan v s s' o ordered laws kept (retires p idle is_idle above_core) = omega arith
 
 -- a balanced state stays balanced
-pub balanced_step : (at_get : AtGet) (plan : Plan) (v : Vector) (s s' : State) → IsNoHeavier at_get plan v s s' → IsBalanced at_get plan v s → IsBalanced at_get plan v s'
-balanced_step at_get plan v s s' no_heavier balanced = omega arith
+pub balanced_step : (get_return : GetReturn) (plan : Plan) (v : Vector) (s s' : State) → DoesNotIncrease get_return plan v s s' → IsBalanced get_return plan v s → IsBalanced get_return plan v s'
+balanced_step get_return plan v s s' no_heavier balanced = omega arith

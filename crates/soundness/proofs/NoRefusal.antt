@@ -8,7 +8,7 @@ use Rattle.support.proofs.Sums.{count_by-le-sum_by}
 use Rattle.job_bodies.specs.declared.action.Action.{Action}
 use Rattle.job_bodies.specs.declared.action.Action.TheVariants as action
 use Rattle.job_bodies.specs.Plan.{Plan, pool_at, class_at, first_workers}
-use Rattle.job_bodies.proofs.Bodies.{IsOrdered}
+use Rattle.job_bodies.proofs.Bodies.{HasValidBodies}
 use Rattle.written_machine.specs.declared.parent.Parent.{Parent}
 use Rattle.written_machine.specs.declared.parent.Parent.TheVariants as parent
 use Rattle.written_machine.specs.declared.event.Event.{Event}
@@ -23,47 +23,47 @@ use Rattle.written_machine.proofs.Queues.{queued_stage, places-moved}
 use Rattle.written_machine.proofs.Actors.{standing-moved}
 use Rattle.written_machine.proofs.KeptSubmits.{class_exists}
 use Rattle.written_machine.proofs.JobsMade.{made_jobs, made_jobs-moved, HaveJobs}
-use Rattle.weights.specs.declared.at_get.AtGet.{AtGet}
-use Rattle.weights.specs.declared.at_get.AtGet.TheVariants.{GivesBack, GivesNothing}
+use Rattle.weights.specs.declared.get_return.GetReturn.{GetReturn}
+use Rattle.weights.specs.declared.get_return.GetReturn.TheVariants.{DoneWeight, NoWeight}
 use Rattle.weights.specs.declared.bound.Bound.{Bound}
 use Rattle.weights.specs.declared.bound.Bound.TheVariants.{Standing, Lifetime}
 use Rattle.weights.specs.Vector.{Vector, queued_weight, total}
-use Rattle.weights.specs.Bound.{bound_vector, bound_at_get}
+use Rattle.weights.specs.Bound.{bound_vector, bound_get_return}
 use Rattle.soundness.specs.WeightedSum.{stage_weight}
 use Rattle.soundness.proofs.VectorLaws.{VectorLaws}
 use Rattle.soundness.proofs.BoundLaws.{StandingLaws, LifetimeLaws, BoundLaws}
-use Rattle.soundness.proofs.NeverRises.{jobs_spent, IsBalanced, lent-with_position, spent-with_job, lent-with_job, never_rises_queued}
-use Rattle.soundness.proofs.WithinTotal.{lent-le, spent-le-total}
+use Rattle.soundness.proofs.NeverRises.{jobs_weight, IsBalanced, busy_workers_weight-with_position, actors_weight-with_job, busy_workers_weight-with_job, never_rises_queued}
+use Rattle.soundness.proofs.WithinTotal.{busy_workers_weight-le, actors_weight-le-total}
 
 -- the weight of the jobs, with the job of a submit as if it were queued, is at most the total
-submit_within_total : (at_get : AtGet) (plan : Plan) (v : Vector) (s : State) (a : Parent) (body : List Action) (i k : ℕ) → IsOrdered plan → VectorLaws at_get plan v → Kept plan s → IsBalanced at_get plan v s → StandsAt plan s a body i (Some (action.Submit k))
-    → jobs_spent at_get plan v (moved_jobs a (i + 1) s) + queued_weight v k ≤ total plan v
-submit_within_total at_get plan v s a body i k ordered laws kept balanced at =
+submit_within_total : (get_return : GetReturn) (plan : Plan) (v : Vector) (s : State) (a : Parent) (body : List Action) (i k : ℕ) → HasValidBodies plan → VectorLaws get_return plan v → Kept plan s → IsBalanced get_return plan v s → StandsAt plan s a body i (Some (action.Submit k))
+    → jobs_weight get_return plan v (moved_jobs a (i + 1) s) + queued_weight v k ≤ total plan v
+submit_within_total get_return plan v s a body i k ordered laws kept balanced at =
     let moved : State = with_position a (i + 1) s in
     let job = new_job k a i Stage.Queued in
-    let no_heavier = never_rises_queued at_get plan v s a body i k laws at in
-    omega (arith, no_heavier, lent-le plan v s ordered kept, lent-with_position plan v s a body i (i + 1) at.stands, spent-with_job at_get plan v moved job, lent-with_job plan v moved job)
+    let no_heavier = never_rises_queued get_return plan v s a body i k laws at in
+    omega (arith, no_heavier, busy_workers_weight-le plan v s ordered kept, busy_workers_weight-with_position plan v s a body i (i + 1) at.stands, actors_weight-with_job get_return plan v moved job, busy_workers_weight-with_job plan v moved job)
 
 -- ---- a standing vector
 
 -- each of the pool's queued jobs has at least weight 1
-queued-le-spent : (plan : Plan) (v : Vector) (p : ℕ) (jobs : List Made) → StandingLaws plan p v → HaveClasses (length plan.classes) jobs → count_by (is_queued_in plan p) jobs ≤ jobs_spent GivesBack plan v jobs
-queued-le-spent plan v p jobs laws classes =
-    count_by-le-sum_by (is_queued_in plan p) (λ (job : Made). stage_weight GivesBack plan v job.class job.stage) jobs no_job
+queued-le-actors_weight : (plan : Plan) (v : Vector) (p : ℕ) (jobs : List Made) → StandingLaws plan p v → HaveClasses (length plan.classes) jobs → count_by (is_queued_in plan p) jobs ≤ jobs_weight DoneWeight plan v jobs
+queued-le-actors_weight plan v p jobs laws classes =
+    count_by-le-sum_by (is_queued_in plan p) (λ (job : Made). stage_weight DoneWeight plan v job.class job.stage) jobs no_job
     (λ j inside passes.
     let job = get_or jobs j no_job in
     let parts = and_parts (is_queued job.stage) (eqb (pool_of plan job.class) p) passes in
-    subst (λ (stage : Stage). 1 ≤ stage_weight GivesBack plan v job.class stage) (sym (queued_stage job.stage parts.0)) (laws.queued job.class (classes j no_job inside) (eqb-true (pool_of plan job.class) p parts.1)))
+    subst (λ (stage : Stage). 1 ≤ stage_weight DoneWeight plan v job.class stage) (sym (queued_stage job.stage parts.0)) (laws.queued job.class (classes j no_job inside) (eqb-true (pool_of plan job.class) p parts.1)))
 
 -- a full queue and one more job would exceed the total
-pub standing_refuses_nothing : (plan : Plan) (v : Vector) (s : State) (a : Parent) (body : List Action) (i k : ℕ) → IsOrdered plan → StandingLaws plan (pool_of plan k) v → Kept plan s → IsBalanced GivesBack plan v s → StandsAt plan s a body i (Some (action.Submit k))
+pub standing_refuses_nothing : (plan : Plan) (v : Vector) (s : State) (a : Parent) (body : List Action) (i k : ℕ) → HasValidBodies plan → StandingLaws plan (pool_of plan k) v → Kept plan s → IsBalanced DoneWeight plan v s → StandsAt plan s a body i (Some (action.Submit k))
     → (pool_at plan (pool_of plan k)).queue ≤ length (pool_part s (pool_of plan k)).queue → ⊥
 standing_refuses_nothing plan v s a body i k ordered laws kept balanced at no_room =
     let p = pool_of plan k in
     let jobs = moved_jobs a (i + 1) s in
     let exists = class_exists plan s a body i k ordered at in
-    let within = submit_within_total GivesBack plan v s a body i k ordered laws.laws kept balanced at in
-    let enough = queued-le-spent plan v p jobs laws (classes_moved (length plan.classes) s a (i + 1) kept.classes) in
+    let within = submit_within_total DoneWeight plan v s a body i k ordered laws.laws kept balanced at in
+    let enough = queued-le-actors_weight plan v p jobs laws (classes_moved (length plan.classes) s a (i + 1) kept.classes) in
     let one = laws.queued k exists refl in
     let limit = laws.within in
     let queued : length (pool_part s p).queue ≡ count_by (is_queued_in plan p) jobs =
@@ -94,53 +94,53 @@ are_inside_moved plan s a body i x kept at j n e =
     ]
 
 -- a job of the pool has at least weight 1 at every stage
-job_weighs_one : (plan : Plan) (v : Vector) (p k : ℕ) (stage : Stage) → LifetimeLaws plan p v → k < length plan.classes → pool_of plan k ≡ p → ((n : ℕ) → stage ≡ Stage.At n → n ≤ length (class_at plan k).body) → 1 ≤ stage_weight GivesNothing plan v k stage
+job_weighs_one : (plan : Plan) (v : Vector) (p k : ℕ) (stage : Stage) → LifetimeLaws plan p v → k < length plan.classes → pool_of plan k ≡ p → ((n : ℕ) → stage ≡ Stage.At n → n ≤ length (class_at plan k).body) → 1 ≤ stage_weight NoWeight plan v k stage
 job_weighs_one plan v p k Stage.Queued laws exists of_pool inside = laws.queued k exists of_pool
 job_weighs_one plan v p k (Stage.At n) laws exists of_pool inside = laws.position k n exists of_pool (inside n refl)
 job_weighs_one plan v p k Stage.Done laws exists of_pool inside = laws.done k exists of_pool
 job_weighs_one plan v p k Stage.Claimed laws exists of_pool inside = laws.done k exists of_pool
 
 -- each job submitted to the pool has at least weight 1
-made-le-spent : (plan : Plan) (v : Vector) (p : ℕ) (jobs : List Made) → LifetimeLaws plan p v → HaveClasses (length plan.classes) jobs → AreInside plan jobs → made_jobs plan jobs p ≤ jobs_spent GivesNothing plan v jobs
-made-le-spent plan v p jobs laws classes inside =
-    count_by-le-sum_by (is_of_pool plan p) (λ (job : Made). stage_weight GivesNothing plan v job.class job.stage) jobs no_job
+made-le-actors_weight : (plan : Plan) (v : Vector) (p : ℕ) (jobs : List Made) → LifetimeLaws plan p v → HaveClasses (length plan.classes) jobs → AreInside plan jobs → made_jobs plan jobs p ≤ jobs_weight NoWeight plan v jobs
+made-le-actors_weight plan v p jobs laws classes inside =
+    count_by-le-sum_by (is_of_pool plan p) (λ (job : Made). stage_weight NoWeight plan v job.class job.stage) jobs no_job
     (λ j made passes.
     let job = get_or jobs j no_job in
     job_weighs_one plan v p job.class job.stage laws (classes j no_job made) (eqb-true (pool_of plan job.class) p passes) (inside j))
 
 -- one job more than the queue and the threads have room for would exceed the total
-pub lifetime_leaves_room : (plan : Plan) (v : Vector) (s : State) (a : Parent) (body : List Action) (i k : ℕ) → IsOrdered plan → LifetimeLaws plan (pool_of plan k) v → Kept plan s → IsBalanced GivesNothing plan v s → StandsAt plan s a body i (Some (action.Submit k))
+pub lifetime_leaves_room : (plan : Plan) (v : Vector) (s : State) (a : Parent) (body : List Action) (i k : ℕ) → HasValidBodies plan → LifetimeLaws plan (pool_of plan k) v → Kept plan s → IsBalanced NoWeight plan v s → StandsAt plan s a body i (Some (action.Submit k))
     → (pool_at plan (pool_of plan k)).queue + (pool_at plan (pool_of plan k)).max ≤ jobs_made plan s (pool_of plan k) + first_workers (pool_at plan (pool_of plan k)) → ⊥
 lifetime_leaves_room plan v s a body i k ordered laws kept balanced at as_many =
     let p = pool_of plan k in
     let exists = class_exists plan s a body i k ordered at in
-    let within = submit_within_total GivesNothing plan v s a body i k ordered laws.laws kept balanced at in
-    let enough = made-le-spent plan v p (moved_jobs a (i + 1) s) laws (classes_moved (length plan.classes) s a (i + 1) kept.classes) (are_inside_moved plan s a body i (action.Submit k) kept at) in
+    let within = submit_within_total NoWeight plan v s a body i k ordered laws.laws kept balanced at in
+    let enough = made-le-actors_weight plan v p (moved_jobs a (i + 1) s) laws (classes_moved (length plan.classes) s a (i + 1) kept.classes) (are_inside_moved plan s a body i (action.Submit k) kept at) in
     let one = laws.queued k exists refl in
     let limit = laws.within in
     omega (arith, made_jobs-moved plan s a (i + 1) p)
 
 -- a full queue and all threads have that number of jobs
-lifetime_refuses_nothing : (plan : Plan) (v : Vector) (s : State) (a : Parent) (body : List Action) (i k : ℕ) → IsOrdered plan → LifetimeLaws plan (pool_of plan k) v → Kept plan s → HaveJobs plan s → IsBalanced GivesNothing plan v s → StandsAt plan s a body i (Some (action.Submit k))
+lifetime_refuses_nothing : (plan : Plan) (v : Vector) (s : State) (a : Parent) (body : List Action) (i k : ℕ) → HasValidBodies plan → LifetimeLaws plan (pool_of plan k) v → Kept plan s → HaveJobs plan s → IsBalanced NoWeight plan v s → StandsAt plan s a body i (Some (action.Submit k))
     → (pool_at plan (pool_of plan k)).queue ≤ length (pool_part s (pool_of plan k)).queue → (pool_at plan (pool_of plan k)).max ≤ threads plan s (pool_of plan k) → ⊥
 lifetime_refuses_nothing plan v s a body i k ordered laws kept have balanced at no_room all_started =
     let made = have (pool_of plan k) (ordered.pools k (class_exists plan s a body i k ordered at)) in
     lifetime_leaves_room plan v s a body i k ordered laws kept balanced at (omega arith)
 
 -- the number of jobs submitted to the pool is at most the total
-pub jobs-le-total : (plan : Plan) (v : Vector) (s : State) (p : ℕ) → IsOrdered plan → LifetimeLaws plan p v → Kept plan s → IsBalanced GivesNothing plan v s → jobs_made plan s p ≤ total plan v
+pub jobs-le-total : (plan : Plan) (v : Vector) (s : State) (p : ℕ) → HasValidBodies plan → LifetimeLaws plan p v → Kept plan s → IsBalanced NoWeight plan v s → jobs_made plan s p ≤ total plan v
 jobs-le-total plan v s p ordered laws kept balanced =
-    omega (arith, made-le-spent plan v p s.jobs laws kept.classes (are_inside plan s kept), spent-le-total GivesNothing plan v s ordered kept balanced)
+    omega (arith, made-le-actors_weight plan v p s.jobs laws kept.classes (are_inside plan s kept), actors_weight-le-total NoWeight plan v s ordered kept balanced)
 
 -- ---- either
 
 -- no job is submitted to a full pool
-pub not_refused : (plan : Plan) (bound : Bound) (s : State) (a : Parent) (body : List Action) (i k : ℕ) → IsOrdered plan → BoundLaws plan (pool_of plan k) bound → Kept plan s → HaveJobs plan s
-    → IsBalanced (bound_at_get bound) plan (bound_vector bound) s → StandsAt plan s a body i (Some (action.Submit k))
+pub not_refused : (plan : Plan) (bound : Bound) (s : State) (a : Parent) (body : List Action) (i k : ℕ) → HasValidBodies plan → BoundLaws plan (pool_of plan k) bound → Kept plan s → HaveJobs plan s
+    → IsBalanced (bound_get_return bound) plan (bound_vector bound) s → StandsAt plan s a body i (Some (action.Submit k))
     → (pool_at plan (pool_of plan k)).queue ≤ length (pool_part s (pool_of plan k)).queue → (pool_at plan (pool_of plan k)).max ≤ threads plan s (pool_of plan k) → ⊥
 not_refused plan (Standing v) s a body i k ordered laws kept have balanced at no_room all_started = standing_refuses_nothing plan v s a body i k ordered laws kept balanced at no_room
 not_refused plan (Lifetime v) s a body i k ordered laws kept have balanced at no_room all_started = lifetime_refuses_nothing plan v s a body i k ordered laws kept have balanced at no_room all_started
 
 -- no event is a rejection
-pub never_refused : (plan : Plan) (bound : Bound) (s s' : State) (p : ℕ) {e : Event} → IsOrdered plan → BoundLaws plan p bound → Kept plan s → HaveJobs plan s → IsBalanced (bound_at_get bound) plan (bound_vector bound) s → Happens plan s e s' (outcome.Refused p) → ⊥
+pub never_refused : (plan : Plan) (bound : Bound) (s s' : State) (p : ℕ) {e : Event} → HasValidBodies plan → BoundLaws plan p bound → Kept plan s → HaveJobs plan s → IsBalanced (bound_get_return bound) plan (bound_vector bound) s → Happens plan s e s' (outcome.Refused p) → ⊥
 never_refused plan bound s s' p ordered laws kept have balanced (is_refused a body i k at no_room all_started) = not_refused plan bound s a body i k ordered laws kept have balanced at no_room all_started

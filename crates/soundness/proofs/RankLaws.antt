@@ -4,7 +4,7 @@ use Rattle.support.specs.In.{here, there}
 use Rattle.support.proofs.Members.{In-flat_map, In-enumerate_from}
 use Rattle.job_bodies.specs.declared.action.Action.{Action}
 use Rattle.job_bodies.specs.declared.action.Action.TheVariants as action
-use Rattle.job_bodies.specs.Plan.{Class, Plan, class_at, class_got}
+use Rattle.job_bodies.specs.Plan.{Class, Plan, class_at, submitted_class}
 use Rattle.weights.specs.Row.{AllHold}
 use Rattle.weights.specs.Ranks.{Ranks, rank, reach, level, rank_rows_of_action, rank_rows_of_class, rank_rows}
 use Rattle.soundness.proofs.VectorLaws.{numbered_class, class_of_action}
@@ -12,7 +12,7 @@ use Rattle.soundness.proofs.VectorLaws.{numbered_class, class_of_action}
 -- K1 to K3
 pub record RankLaws (plan : Plan) (ranks : Ranks) : Type 0 where
   pub reaches : (k : ℕ) → k < length plan.classes → rank ranks (class_at plan k).pool ≤ reach ranks k
-  pub falls : (k i t : ℕ) → slice_get (class_at plan k).body i ≡ Some (action.Get t) → reach ranks (class_got (class_at plan k).body t) ≤ reach ranks k
+  pub falls : (k i t : ℕ) → slice_get (class_at plan k).body i ≡ Some (action.Get t) → reach ranks (submitted_class (class_at plan k).body t) ≤ reach ranks k
   pub sinks : (k i k' : ℕ) → slice_get (class_at plan k).body i ≡ Some (action.Submit k') → level ranks k' + 1 ≤ level ranks k
 
 -- the rows of one class

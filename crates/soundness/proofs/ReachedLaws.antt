@@ -11,10 +11,10 @@ use Rattle.written_machine.proofs.KeptStart.{kept_start}
 use Rattle.written_machine.proofs.KeptStep.{kept_step}
 use Rattle.written_machine.proofs.Reached.{reached_keeps, kept}
 use Rattle.written_machine.proofs.ReachedLaws.{threads_have_made}
-use Rattle.weights.specs.declared.at_get.AtGet.{AtGet}
-use Rattle.weights.specs.declared.at_get.AtGet.TheVariants.{GivesNothing}
+use Rattle.weights.specs.declared.get_return.GetReturn.{GetReturn}
+use Rattle.weights.specs.declared.get_return.GetReturn.TheVariants.{NoWeight}
 use Rattle.weights.specs.Vector.{Vector}
-use Rattle.weights.specs.Bound.{bound_vector, bound_at_get}
+use Rattle.weights.specs.Bound.{bound_vector, bound_get_return}
 use Rattle.soundness.specs.WeightLaws.{SumNeverRises, SumStaysWithinTotal, BoundsRefuseNothing, JobsStayWithinTotal}
 use Rattle.soundness.proofs.VectorLaws.{VectorLaws, vector_laws}
 use Rattle.soundness.proofs.BoundLaws.{lifetime_laws, bound_laws, bound_vector_laws}
@@ -23,31 +23,31 @@ use Rattle.soundness.proofs.WithinTotal as within
 use Rattle.soundness.proofs.NoRefusal.{never_refused, jobs-le-total}
 
 -- every reachable state is balanced
-pub balanced : (at_get : AtGet) (plan : Plan) (v : Vector) (s : State) → IsWellFormed plan → VectorLaws at_get plan v → IsReached plan s → IsBalanced at_get plan v s
-balanced at_get plan v s well_formed laws reached =
+pub balanced : (get_return : GetReturn) (plan : Plan) (v : Vector) (s : State) → IsWellFormed plan → VectorLaws get_return plan v → IsReached plan s → IsBalanced get_return plan v s
+balanced get_return plan v s well_formed laws reached =
     let is_ordered = ordered plan well_formed in
-    (reached_keeps plan (λ s₁. Kept plan s₁ × IsBalanced at_get plan v s₁) (kept_start plan is_ordered, balanced_start at_get plan v)
-    (λ s₁ e s₂ o held happened. (kept_step plan s₁ s₂ o is_ordered held.0 happened, balanced_step at_get plan v s₁ s₂ (never_rises at_get plan v s₁ s₂ o is_ordered laws held.0 happened) held.1)) s reached).1
+    (reached_keeps plan (λ s₁. Kept plan s₁ × IsBalanced get_return plan v s₁) (kept_start plan is_ordered, balanced_start get_return plan v)
+    (λ s₁ e s₂ o held happened. (kept_step plan s₁ s₂ o is_ordered held.0 happened, balanced_step get_return plan v s₁ s₂ (never_rises get_return plan v s₁ s₂ o is_ordered laws held.0 happened) held.1)) s reached).1
 
 -- no event increases the weight of a reachable state
 pub sum_never_rises : SumNeverRises
-sum_never_rises at_get plan v s s' event outcome well_formed hold reached is_step =
-    within.sum_never_rises at_get plan v s s' outcome (ordered plan well_formed) (vector_laws at_get plan v hold) (kept plan s well_formed reached) (happens plan s event s' outcome is_step)
+sum_never_rises get_return plan v s s' event outcome well_formed hold reached is_step =
+    within.sum_never_rises get_return plan v s s' outcome (ordered plan well_formed) (vector_laws get_return plan v hold) (kept plan s well_formed reached) (happens plan s event s' outcome is_step)
 
 -- the weight is at most the total
 pub sum_stays_within_total : SumStaysWithinTotal
-sum_stays_within_total at_get plan v s well_formed hold reached =
-    within.sum_of-le-total at_get plan v s (ordered plan well_formed) (kept plan s well_formed reached) (balanced at_get plan v s well_formed (vector_laws at_get plan v hold) reached)
+sum_stays_within_total get_return plan v s well_formed hold reached =
+    within.sum_of-le-total get_return plan v s (ordered plan well_formed) (kept plan s well_formed reached) (balanced get_return plan v s well_formed (vector_laws get_return plan v hold) reached)
 
 -- a pool whose bound holds rejects nothing
 pub bounds_refuse_nothing : BoundsRefuseNothing
 bounds_refuse_nothing plan p bound s s' event well_formed fits hold reached refused =
     let laws = bound_laws plan p bound fits hold in
     never_refused plan bound s s' p (ordered plan well_formed) laws (kept plan s well_formed reached) (threads_have_made plan s well_formed reached)
-    (balanced (bound_at_get bound) plan (bound_vector bound) s well_formed (bound_vector_laws plan p bound laws) reached) (happens plan s event s' (outcome.Refused p) refused)
+    (balanced (bound_get_return bound) plan (bound_vector bound) s well_formed (bound_vector_laws plan p bound laws) reached) (happens plan s event s' (outcome.Refused p) refused)
 
 -- the number of jobs submitted to it is at most the total of its lifetime vector
 pub jobs_stay_within_total : JobsStayWithinTotal
 jobs_stay_within_total plan p v s well_formed fits hold reached =
     let laws = lifetime_laws plan p v fits hold in
-    jobs-le-total plan v s p (ordered plan well_formed) laws (kept plan s well_formed reached) (balanced GivesNothing plan v s well_formed laws.laws reached)
+    jobs-le-total plan v s p (ordered plan well_formed) laws (kept plan s well_formed reached) (balanced NoWeight plan v s well_formed laws.laws reached)

@@ -5,20 +5,20 @@ use Rattle.std.proofs.lemmas.Bool.{and_parts, false_from_ne_true}
 use Rattle.std.proofs.lemmas.List.Sums.{sum_by-cons}
 use Rattle.job_bodies.specs.Plan.{Plan}
 use Rattle.job_bodies.specs.WellFormed.{IsWellFormed}
-use Rattle.job_bodies.proofs.Bodies.{IsOrdered, ordered}
+use Rattle.job_bodies.proofs.Bodies.{HasValidBodies, ordered}
 use Rattle.written_machine.specs.declared.event.Event.{Event}
 use Rattle.written_machine.specs.declared.event.Outcome.{Outcome}
 use Rattle.written_machine.specs.State.{State, job_at, is_unfinished}
 use Rattle.written_machine.specs.Step.{step}
 use Rattle.written_machine.specs.Reach.{start, state_after, replay, IsReached}
 use Rattle.written_machine.specs.Waiting.{IsWaitingSet}
-use Rattle.written_machine.specs.Safe.{IsSafe, Safe, is_of_job_or_pool, GoesOn}
+use Rattle.written_machine.specs.Safe.{IsSafe, Safe, is_of_job_or_pool, MakesProgress}
 use Rattle.written_machine.proofs.Busy.{one_if}
 use Rattle.written_machine.proofs.Events.{Happens, happens}
 use Rattle.written_machine.proofs.Reached.{replay_none, replay_keeps, reached_keeps}
-use Rattle.written_machine.proofs.Progress.{goes_on}
+use Rattle.written_machine.proofs.Progress.{makes_progress}
 use Rattle.weights.specs.declared.bound.Bound.{Bound}
-use Rattle.weights.specs.declared.at_get.AtGet.TheVariants.{GivesBack}
+use Rattle.weights.specs.declared.get_return.GetReturn.TheVariants.{DoneWeight}
 use Rattle.weights.specs.Ranks.{is_counted}
 use Rattle.cert_text.specs.Cert.{Cert, pool_cert_at}
 use Rattle.soundness.proofs.NeverRises.{IsBalanced, balanced_start, never_rises, balanced_step}
@@ -27,7 +27,7 @@ use Rattle.soundness.proofs.BlockedCounts.{blocked-below_core}
 use Rattle.soundness.proofs.Descent.{none_waits}
 use Rattle.soundness.proofs.Draining.{lowers, ends_thread, no_client_cases, not_counted, same_todo}
 use Rattle.soundness.specs.Accepted.{accepted}
-use Rattle.soundness.specs.Headline.{AcceptedPlansAreSafe, AcceptedPlansGoOn, AcceptedPlansDrain}
+use Rattle.soundness.specs.Headline.{AcceptedPlansAreSafe, AcceptedPlansMakeProgress, AcceptedPlansDrain}
 use Rattle.soundness.proofs.CertLaws.{CertLaws, cert_laws}
 use Rattle.soundness.proofs.Bounded.{Bounded, bounded_start, bounded_step, keeps_sizes}
 
@@ -40,38 +40,38 @@ bound_of cert p = (pool_cert_at cert p).bound
 -- the invariants for the pools' bounds hold, and each blocked vector is balanced
 pub record Sound (plan : Plan) (cert : Cert) (s : State) : Type 0 where
   pub bounded : Bounded plan (bound_of cert) s
-  pub blocked : (p : ℕ) → p < length plan.pools → IsBalanced GivesBack plan (pool_cert_at cert p).blocked s
+  pub blocked : (p : ℕ) → p < length plan.pools → IsBalanced DoneWeight plan (pool_cert_at cert p).blocked s
 
 -- the initial state is sound
-pub sound_start : (plan : Plan) (cert : Cert) → IsOrdered plan → Sound plan cert (start plan)
+pub sound_start : (plan : Plan) (cert : Cert) → HasValidBodies plan → Sound plan cert (start plan)
 sound_start plan cert ordered = record {
   bounded = bounded_start plan (bound_of cert) ordered;
-  blocked = λ p inside. balanced_start GivesBack plan (pool_cert_at cert p).blocked;
+  blocked = λ p inside. balanced_start DoneWeight plan (pool_cert_at cert p).blocked;
 }
 
 -- every event preserves that
-pub sound_step : (plan : Plan) (cert : Cert) (s s' : State) (o : Outcome) {e : Event} → IsOrdered plan → CertLaws plan cert → Sound plan cert s → Happens plan s e s' o → Sound plan cert s'
+pub sound_step : (plan : Plan) (cert : Cert) (s s' : State) (o : Outcome) {e : Event} → HasValidBodies plan → CertLaws plan cert → Sound plan cert s → Happens plan s e s' o → Sound plan cert s'
 sound_step plan cert s s' o ordered laws sound happened = record {
   bounded = bounded_step plan (bound_of cert) s s' o ordered laws.bound sound.bounded happened;
   blocked = λ p inside.
       let v = (pool_cert_at cert p).blocked in
-      balanced_step GivesBack plan v s s' (never_rises GivesBack plan v s s' o ordered (laws.blocked p inside).laws sound.bounded.kept happened) (sound.blocked p inside);
+      balanced_step DoneWeight plan v s s' (never_rises DoneWeight plan v s s' o ordered (laws.blocked p inside).laws sound.bounded.kept happened) (sound.blocked p inside);
 }
 
 -- every reachable state is sound
-sound : (plan : Plan) (cert : Cert) (s : State) → IsOrdered plan → CertLaws plan cert → IsReached plan s → Sound plan cert s
+sound : (plan : Plan) (cert : Cert) (s : State) → HasValidBodies plan → CertLaws plan cert → IsReached plan s → Sound plan cert s
 sound plan cert s ordered laws reached = reached_keeps plan (Sound plan cert) (sound_start plan cert ordered) (λ s₁ e s₂ o held happened. sound_step plan cert s₁ s₂ o ordered laws held happened) s reached
 
 -- ---- safety and progress
 
 -- in a sound state no set of jobs waits only for its own members
-pub sound_waits : (plan : Plan) (cert : Cert) (s : State) → IsOrdered plan → CertLaws plan cert → Sound plan cert s → (members : List ℕ) → ¬ IsWaitingSet plan s members
+pub sound_waits : (plan : Plan) (cert : Cert) (s : State) → HasValidBodies plan → CertLaws plan cert → Sound plan cert s → (members : List ℕ) → ¬ IsWaitingSet plan s members
 sound_waits plan cert s ordered laws held members =
     none_waits plan cert.ranks s members ordered laws.ranks held.bounded.kept
     (λ p inside. blocked-below_core plan (is_counted plan cert.ranks) (pool_cert_at cert p).blocked s p ordered inside (laws.blocked p inside) held.bounded.kept (held.blocked p inside))
 
 -- a sound state is safe
-pub sound_safe : (plan : Plan) (cert : Cert) (s : State) → IsOrdered plan → CertLaws plan cert → Sound plan cert s → IsSafe plan s
+pub sound_safe : (plan : Plan) (cert : Cert) (s : State) → HasValidBodies plan → CertLaws plan cert → Sound plan cert s → IsSafe plan s
 sound_safe plan cert s ordered laws held =
     let sizes = keeps_sizes plan (bound_of cert) s held.bounded in
     record {
@@ -89,12 +89,12 @@ safe plan cert well_formed is_accepted events s reached =
     sound_safe plan cert s is_ordered laws (sound plan cert s is_ordered laws (events, reached))
 
 -- progress: every reachable state with an unfinished job makes progress
-pub goes_on_everywhere : (plan : Plan) (cert : Cert) → IsWellFormed plan → IsTrue (accepted plan cert) → GoesOn plan
-goes_on_everywhere plan cert well_formed is_accepted events s reached j still =
+pub makes_progress_everywhere : (plan : Plan) (cert : Cert) → IsWellFormed plan → IsTrue (accepted plan cert) → MakesProgress plan
+makes_progress_everywhere plan cert well_formed is_accepted events s reached j still =
     let is_ordered = ordered plan well_formed in
     let laws = cert_laws plan cert is_accepted in
     let held = sound plan cert s is_ordered laws (events, reached) in
-    goes_on plan s j is_ordered held.bounded.kept (sound_waits plan cert s is_ordered laws held) still
+    makes_progress plan s j is_ordered held.bounded.kept (sound_waits plan cert s is_ordered laws held) still
 
 -- ---- draining
 
@@ -109,7 +109,7 @@ lowers_or_leaves plan cert s s' o e laws held held' of_no_client happened =
     (no_client_cases e of_no_client)
 
 -- the events after the first one
-after_first : (plan : Plan) (cert : Cert) (s : State) (e : Event) (events : List Event) (s' : State) → IsOrdered plan → CertLaws plan cert → Sound plan cert s → is_of_no_client e ≡ true
+after_first : (plan : Plan) (cert : Cert) (s : State) (e : Event) (events : List Event) (s' : State) → HasValidBodies plan → CertLaws plan cert → Sound plan cert s → is_of_no_client e ≡ true
     → ((next : State) → Sound plan cert next → replay plan (Some next) events ≡ Some s' → count_by is_of_job_or_pool events ≤ todo plan cert.ranks next)
     → (found : Option (State × Outcome)) → step plan s e ≡ found → replay plan (state_after found) events ≡ Some s' → count_by is_of_job_or_pool (e ∷ events) ≤ todo plan cert.ranks s
 after_first plan cert s e events s' ordered laws held of_no_client onward None is_step replayed =
@@ -121,7 +121,7 @@ after_first plan cert s e events s' ordered laws held of_no_client onward (Some 
     omega (arith, lowers_or_leaves plan cert s next o e laws held held' of_no_client happened, onward next held' replayed, sum_by-cons (λ (x : Event). one_if (is_of_job_or_pool x)) e events)
 
 -- the number of job events and takes is at most the remaining work
-no_more_events : (plan : Plan) (cert : Cert) (events : List Event) (s s' : State) → IsOrdered plan → CertLaws plan cert → Sound plan cert s → list_all is_of_no_client events ≡ true → replay plan (Some s) events ≡ Some s' → count_by is_of_job_or_pool events ≤ todo plan cert.ranks s
+no_more_events : (plan : Plan) (cert : Cert) (events : List Event) (s s' : State) → HasValidBodies plan → CertLaws plan cert → Sound plan cert s → list_all is_of_no_client events ≡ true → replay plan (Some s) events ≡ Some s' → count_by is_of_job_or_pool events ≤ todo plan cert.ranks s
 no_more_events plan cert [] s s' ordered laws held each replayed = omega arith
 no_more_events plan cert (e ∷ events) s s' ordered laws held each replayed =
     let parts = and_parts (is_of_no_client e) (list_all is_of_no_client events) each in
@@ -138,7 +138,7 @@ drains plan cert well_formed is_accepted =
           let held : Sound plan cert s' = replay_keeps plan (Sound plan cert) (λ s₁ e s₂ o before happened. sound_step plan cert s₁ s₂ o is_ordered laws before happened) events s s' (sound plan cert s is_ordered laws leads.reached) leads.replayed in
           false_from_ne_true (is_unfinished (job_at s' j).stage)
           (λ still.
-          let goes = goes_on plan s' j is_ordered held.bounded.kept (sound_waits plan cert s' is_ordered laws held) still in
+          let goes = makes_progress plan s' j is_ordered held.bounded.kept (sound_waits plan cert s' is_ordered laws held) still in
           let rest : is_some (step plan s' goes.event) ≡ false = ap (λ (x : Option (State × Outcome)). is_some x) (rests goes.event goes.of_job_or_pool) in
           let possible = goes.possible in
           cc);
@@ -149,8 +149,8 @@ pub accepted_plans_are_safe : AcceptedPlansAreSafe
 accepted_plans_are_safe plan cert well_formed is_accepted = safe plan cert well_formed is_accepted
 
 -- progress
-pub accepted_plans_go_on : AcceptedPlansGoOn
-accepted_plans_go_on plan cert well_formed is_accepted = goes_on_everywhere plan cert well_formed is_accepted
+pub accepted_plans_make_progress : AcceptedPlansMakeProgress
+accepted_plans_make_progress plan cert well_formed is_accepted = makes_progress_everywhere plan cert well_formed is_accepted
 
 -- draining
 pub accepted_plans_drain : AcceptedPlansDrain

@@ -8,26 +8,26 @@ use Rattle.support.specs.In.{In, here, there}
 use Rattle.support.proofs.Members.{not_In_nil, In-append_left, In-append_right, In-map, In-flat_map, In-filter, In-enumerate_from}
 use Rattle.job_bodies.specs.declared.action.Action.{Action}
 use Rattle.job_bodies.specs.declared.action.Action.TheVariants as action
-use Rattle.job_bodies.specs.Plan.{Class, Client, Plan, no_class, no_client, class_at, client_at, class_got}
-use Rattle.weights.specs.declared.at_get.AtGet.{AtGet}
+use Rattle.job_bodies.specs.Plan.{Class, Client, Plan, no_class, no_client, class_at, client_at, submitted_class}
+use Rattle.weights.specs.declared.get_return.GetReturn.{GetReturn}
 use Rattle.weights.specs.declared.row.Place.{Place}
 use Rattle.weights.specs.declared.row.Place.TheVariants as place
 use Rattle.weights.specs.declared.row.Rule.TheVariants.{V7}
 use Rattle.weights.specs.Row.{row, AllHold}
 use Rattle.weights.specs.Vector.{Vector, workers_weight, queued_weight, job_weight, done_weight, client_weight}
-use Rattle.weights.specs.AtGet.{given_back}
+use Rattle.weights.specs.GetReturn.{returned_weight}
 use Rattle.weights.specs.Rows.{action_row, body_rows, class_rows, client_rows, rows, classes_of}
 
 -- V2, V3, and V5 or L5, at each position of a body whose actor has weight `weight i` at position i
-pub record BodyLaws (at_get : AtGet) (plan : Plan) (v : Vector) (weight : ℕ → ℕ) (body : List Action) : Type 0 where
+pub record BodyLaws (get_return : GetReturn) (plan : Plan) (v : Vector) (weight : ℕ → ℕ) (body : List Action) : Type 0 where
   pub work : (i u : ℕ) → slice_get body i ≡ Some (action.Work u) → weight (i + 1) ≤ weight i
   pub submit : (i k : ℕ) → slice_get body i ≡ Some (action.Submit k) → weight (i + 1) + queued_weight v k ≤ weight i
-  pub get : (i t : ℕ) → slice_get body i ≡ Some (action.Get t) → weight (i + 1) ≤ weight i + given_back at_get plan v (class_got body t)
+  pub get : (i t : ℕ) → slice_get body i ≡ Some (action.Get t) → weight (i + 1) ≤ weight i + returned_weight get_return plan v (submitted_class body t)
 
 -- V2 to V7, with V5 or L5
-pub record VectorLaws (at_get : AtGet) (plan : Plan) (v : Vector) : Type 0 where
-  pub classes : (k : ℕ) → BodyLaws at_get plan v (job_weight v k) (class_at plan k).body
-  pub clients : (c : ℕ) → BodyLaws at_get plan v (client_weight v c) (client_at plan c).body
+pub record VectorLaws (get_return : GetReturn) (plan : Plan) (v : Vector) : Type 0 where
+  pub classes : (k : ℕ) → BodyLaws get_return plan v (job_weight v k) (class_at plan k).body
+  pub clients : (c : ℕ) → BodyLaws get_return plan v (client_weight v c) (client_at plan c).body
   pub begins : (k : ℕ) → k < length plan.classes → job_weight v k 0 ≤ queued_weight v k + workers_weight v (class_at plan k).pool
   pub ends : (k : ℕ) → k < length plan.classes → done_weight plan v k + workers_weight v (class_at plan k).pool ≤ job_weight v k (length (class_at plan k).body)
   pub loops : (c : ℕ) → (client_at plan c).repeat ≡ true → client_weight v c 0 ≤ client_weight v c (length (client_at plan c).body)
@@ -58,46 +58,46 @@ class_of_action plan k i x e = elim (cases_lt k (length plan.classes)) [
 -- ---- the inequalities
 
 -- the row of each action of a body
-row_of_action : (at_get : AtGet) (plan : Plan) (v : Vector) (weight : ℕ → ℕ) (place_at : ℕ → Place) (body : List Action) (i : ℕ) (x : Action) → slice_get body i ≡ Some x
-    → In (action_row at_get plan v weight place_at body i x) (body_rows at_get plan v weight place_at body)
-row_of_action at_get plan v weight place_at body i x e = In-map (λ (entry : ℕ × Action). action_row at_get plan v weight place_at body entry.0 entry.1) (In-enumerate_from 0 body i x i e (zero-add i))
+row_of_action : (get_return : GetReturn) (plan : Plan) (v : Vector) (weight : ℕ → ℕ) (place_at : ℕ → Place) (body : List Action) (i : ℕ) (x : Action) → slice_get body i ≡ Some x
+    → In (action_row get_return plan v weight place_at body i x) (body_rows get_return plan v weight place_at body)
+row_of_action get_return plan v weight place_at body i x e = In-map (λ (entry : ℕ × Action). action_row get_return plan v weight place_at body entry.0 entry.1) (In-enumerate_from 0 body i x i e (zero-add i))
 
 -- if the rows of a body hold, its inequalities do
-body_laws : (at_get : AtGet) (plan : Plan) (v : Vector) (weight : ℕ → ℕ) (place_at : ℕ → Place) (body : List Action) → AllHold (body_rows at_get plan v weight place_at body) → BodyLaws at_get plan v weight body
-body_laws at_get plan v weight place_at body hold = record {
-  work = λ i u e. hold _ (row_of_action at_get plan v weight place_at body i (action.Work u) e);
-  submit = λ i k e. hold _ (row_of_action at_get plan v weight place_at body i (action.Submit k) e);
-  get = λ i t e. hold _ (row_of_action at_get plan v weight place_at body i (action.Get t) e);
+body_laws : (get_return : GetReturn) (plan : Plan) (v : Vector) (weight : ℕ → ℕ) (place_at : ℕ → Place) (body : List Action) → AllHold (body_rows get_return plan v weight place_at body) → BodyLaws get_return plan v weight body
+body_laws get_return plan v weight place_at body hold = record {
+  work = λ i u e. hold _ (row_of_action get_return plan v weight place_at body i (action.Work u) e);
+  submit = λ i k e. hold _ (row_of_action get_return plan v weight place_at body i (action.Submit k) e);
+  get = λ i t e. hold _ (row_of_action get_return plan v weight place_at body i (action.Get t) e);
 }
 
 -- an empty body satisfies them
-no_body_laws : (at_get : AtGet) (plan : Plan) (v : Vector) (weight : ℕ → ℕ) → BodyLaws at_get plan v weight []
-no_body_laws at_get plan v weight = body_laws at_get plan v weight place.Class [] (λ x i. absurd (not_In_nil i))
+no_body_laws : (get_return : GetReturn) (plan : Plan) (v : Vector) (weight : ℕ → ℕ) → BodyLaws get_return plan v weight []
+no_body_laws get_return plan v weight = body_laws get_return plan v weight place.Class [] (λ x i. absurd (not_In_nil i))
 
 -- the rows of one class hold
-class_holds : (at_get : AtGet) (plan : Plan) (v : Vector) → AllHold (rows at_get plan v) → (k : ℕ) → k < length plan.classes → AllHold (class_rows at_get plan v k (class_at plan k))
-class_holds at_get plan v hold k inside x i =
-    hold x (In-append_left (flat_map (λ (entry : ℕ × Client). client_rows at_get plan v entry.0 entry.1) (enumerate_from 0 plan.clients))
-    (In-flat_map (λ (entry : ℕ × Class). class_rows at_get plan v entry.0 entry.1) (numbered_class plan k inside) i))
+class_holds : (get_return : GetReturn) (plan : Plan) (v : Vector) → AllHold (rows get_return plan v) → (k : ℕ) → k < length plan.classes → AllHold (class_rows get_return plan v k (class_at plan k))
+class_holds get_return plan v hold k inside x i =
+    hold x (In-append_left (flat_map (λ (entry : ℕ × Client). client_rows get_return plan v entry.0 entry.1) (enumerate_from 0 plan.clients))
+    (In-flat_map (λ (entry : ℕ × Class). class_rows get_return plan v entry.0 entry.1) (numbered_class plan k inside) i))
 
 -- and so do those of one kind of client
-client_holds : (at_get : AtGet) (plan : Plan) (v : Vector) → AllHold (rows at_get plan v) → (c : ℕ) → c < length plan.clients → AllHold (client_rows at_get plan v c (client_at plan c))
-client_holds at_get plan v hold c inside x i =
-    hold x (In-append_right (flat_map (λ (entry : ℕ × Class). class_rows at_get plan v entry.0 entry.1) (enumerate_from 0 plan.classes))
-    (In-flat_map (λ (entry : ℕ × Client). client_rows at_get plan v entry.0 entry.1) (numbered_client plan c inside) i))
+client_holds : (get_return : GetReturn) (plan : Plan) (v : Vector) → AllHold (rows get_return plan v) → (c : ℕ) → c < length plan.clients → AllHold (client_rows get_return plan v c (client_at plan c))
+client_holds get_return plan v hold c inside x i =
+    hold x (In-append_right (flat_map (λ (entry : ℕ × Class). class_rows get_return plan v entry.0 entry.1) (enumerate_from 0 plan.classes))
+    (In-flat_map (λ (entry : ℕ × Client). client_rows get_return plan v entry.0 entry.1) (numbered_client plan c inside) i))
 
 -- the inequalities of each class; past the end of the list the body is empty
-class_body_laws : (at_get : AtGet) (plan : Plan) (v : Vector) → AllHold (rows at_get plan v) → (k : ℕ) → BodyLaws at_get plan v (job_weight v k) (class_at plan k).body
-class_body_laws at_get plan v hold k = elim (cases_lt k (length plan.classes)) [
-  | inl inside ↦ body_laws at_get plan v (job_weight v k) (place.ClassAction k) (class_at plan k).body (λ x i. class_holds at_get plan v hold k inside x (there (In-append_left _ i)))
-  | inr past ↦ subst (λ (class : Class). BodyLaws at_get plan v (job_weight v k) class.body) (sym (get_or_past plan.classes k no_class past)) (no_body_laws at_get plan v (job_weight v k))
+class_body_laws : (get_return : GetReturn) (plan : Plan) (v : Vector) → AllHold (rows get_return plan v) → (k : ℕ) → BodyLaws get_return plan v (job_weight v k) (class_at plan k).body
+class_body_laws get_return plan v hold k = elim (cases_lt k (length plan.classes)) [
+  | inl inside ↦ body_laws get_return plan v (job_weight v k) (place.ClassAction k) (class_at plan k).body (λ x i. class_holds get_return plan v hold k inside x (there (In-append_left _ i)))
+  | inr past ↦ subst (λ (class : Class). BodyLaws get_return plan v (job_weight v k) class.body) (sym (get_or_past plan.classes k no_class past)) (no_body_laws get_return plan v (job_weight v k))
 ]
 
 -- and of each kind of client
-client_body_laws : (at_get : AtGet) (plan : Plan) (v : Vector) → AllHold (rows at_get plan v) → (c : ℕ) → BodyLaws at_get plan v (client_weight v c) (client_at plan c).body
-client_body_laws at_get plan v hold c = elim (cases_lt c (length plan.clients)) [
-  | inl inside ↦ body_laws at_get plan v (client_weight v c) (place.ClientAction c) (client_at plan c).body (λ x i. client_holds at_get plan v hold c inside x (In-append_left _ i))
-  | inr past ↦ subst (λ (client : Client). BodyLaws at_get plan v (client_weight v c) client.body) (sym (get_or_past plan.clients c no_client past)) (no_body_laws at_get plan v (client_weight v c))
+client_body_laws : (get_return : GetReturn) (plan : Plan) (v : Vector) → AllHold (rows get_return plan v) → (c : ℕ) → BodyLaws get_return plan v (client_weight v c) (client_at plan c).body
+client_body_laws get_return plan v hold c = elim (cases_lt c (length plan.clients)) [
+  | inl inside ↦ body_laws get_return plan v (client_weight v c) (place.ClientAction c) (client_at plan c).body (λ x i. client_holds get_return plan v hold c inside x (In-append_left _ i))
+  | inr past ↦ subst (λ (client : Client). BodyLaws get_return plan v (client_weight v c) client.body) (sym (get_or_past plan.clients c no_client past)) (no_body_laws get_return plan v (client_weight v c))
 ]
 
 -- past the end of the list no kind repeats
@@ -110,19 +110,19 @@ repeating_client plan c repeats = elim (cases_lt c (length plan.clients)) [
 ]
 
 -- the row at the end of the body of a kind that repeats
-client_loops : (at_get : AtGet) (plan : Plan) (v : Vector) → AllHold (rows at_get plan v) → (c : ℕ) → (client_at plan c).repeat ≡ true → client_weight v c 0 ≤ client_weight v c (length (client_at plan c).body)
-client_loops at_get plan v hold c repeats =
+client_loops : (get_return : GetReturn) (plan : Plan) (v : Vector) → AllHold (rows get_return plan v) → (c : ℕ) → (client_at plan c).repeat ≡ true → client_weight v c 0 ≤ client_weight v c (length (client_at plan c).body)
+client_loops get_return plan v hold c repeats =
     let body = (client_at plan c).body in
     let last = row V7 (place.Client c) (client_weight v c 0) (client_weight v c (length body)) in
-    client_holds at_get plan v hold c (repeating_client plan c repeats) last
-    (In-append_right (body_rows at_get plan v (client_weight v c) (place.ClientAction c) body) (subst (λ b. In last (cond b (last ∷ []) [])) (sym repeats) here))
+    client_holds get_return plan v hold c (repeating_client plan c repeats) last
+    (In-append_right (body_rows get_return plan v (client_weight v c) (place.ClientAction c) body) (subst (λ b. In last (cond b (last ∷ []) [])) (sym repeats) here))
 
 -- if all rows hold, all inequalities do
-pub vector_laws : (at_get : AtGet) (plan : Plan) (v : Vector) → AllHold (rows at_get plan v) → VectorLaws at_get plan v
-vector_laws at_get plan v hold = record {
-  classes = class_body_laws at_get plan v hold;
-  clients = client_body_laws at_get plan v hold;
-  begins = λ k inside. class_holds at_get plan v hold k inside _ here;
-  ends = λ k inside. class_holds at_get plan v hold k inside _ (there (In-append_right (body_rows at_get plan v (job_weight v k) (place.ClassAction k) (class_at plan k).body) here));
-  loops = client_loops at_get plan v hold;
+pub vector_laws : (get_return : GetReturn) (plan : Plan) (v : Vector) → AllHold (rows get_return plan v) → VectorLaws get_return plan v
+vector_laws get_return plan v hold = record {
+  classes = class_body_laws get_return plan v hold;
+  clients = client_body_laws get_return plan v hold;
+  begins = λ k inside. class_holds get_return plan v hold k inside _ here;
+  ends = λ k inside. class_holds get_return plan v hold k inside _ (there (In-append_right (body_rows get_return plan v (job_weight v k) (place.ClassAction k) (class_at plan k).body) here));
+  loops = client_loops get_return plan v hold;
 }

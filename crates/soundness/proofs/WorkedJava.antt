@@ -8,7 +8,7 @@ use Rattle.written_machine.specs.declared.event.Event.{Event}
 use Rattle.written_machine.specs.declared.event.Event.TheVariants as event
 use Rattle.written_machine.specs.State.{pool_part, threads}
 use Rattle.written_machine.specs.Reach.{start}
-use Rattle.soundness.specs.Execute.{JavaState, java_replay, between_calls}
+use Rattle.soundness.specs.Execute.{JavaState, java_replay, without_calls}
 use Rattle.soundness.specs.WithRoom.{WithRoom, RefusedWithRoom, StartedWithRoom}
 
 -- one pool with one core thread, a maximum of two and a queue of one, and clients that each submit one job
@@ -25,7 +25,7 @@ seen plan s = (s.machine.refusals, threads plan s.machine 0, (pool_part s.machin
 
 -- these numbers after the events, from the initial state
 abbrev seen_after : ℕ → List Event → Option (ℕ × ℕ × ℕ × ℕ)
-seen_after clients events = option_map (seen (one_pool clients)) (java_replay (one_pool clients) (Some (between_calls (start (one_pool clients)))) events)
+seen_after clients events = option_map (seen (one_pool clients)) (java_replay (one_pool clients) (Some (without_calls (start (one_pool clients)))) events)
 
 -- client 0 submits; client 1 checks and offers, and its job fills the queue; client 2 checks, and its offer fails
 abbrev offer_fails : List Event
@@ -43,19 +43,19 @@ second_thread_though_queue_has_room : seen_after 3 (offer_fails ++ queue_empties
 second_thread_though_queue_has_room = refl
 
 -- client 3 checks, its offer fails, and it gets the last thread
-abbrev last_thread_goes : List Event
-last_thread_goes = event.Client 3 ∷ event.Client 3 ∷ event.Client 3 ∷ []
+abbrev last_thread_ends : List Event
+last_thread_ends = event.Client 3 ∷ event.Client 3 ∷ event.Client 3 ∷ []
 
 -- job 1 ends too: no job is queued and one thread is idle, but client 2 is still rejected
-one_thread_idle : seen_after 4 (offer_fails ++ last_thread_goes ++ queue_empties ++ event.Job 1 ∷ event.Job 1 ∷ []) ≡ Some (0, 2, 1, 0)
+one_thread_idle : seen_after 4 (offer_fails ++ last_thread_ends ++ queue_empties ++ event.Job 1 ∷ event.Job 1 ∷ []) ≡ Some (0, 2, 1, 0)
 one_thread_idle = refl
 
-refused_though_queue_has_room : seen_after 4 (offer_fails ++ last_thread_goes ++ queue_empties ++ event.Job 1 ∷ event.Job 1 ∷ event.Client 2 ∷ []) ≡ Some (1, 2, 1, 0)
+refused_though_queue_has_room : seen_after 4 (offer_fails ++ last_thread_ends ++ queue_empties ++ event.Job 1 ∷ event.Job 1 ∷ event.Client 2 ∷ []) ≡ Some (1, 2, 1, 0)
 refused_though_queue_has_room = refl
 
 -- a client between two steps of its submit can pause while all others finish
-others_go_on : seen_after 4 (offer_fails ++ queue_empties ++ event.Job 1 ∷ event.Job 1 ∷ event.Client 3 ∷ event.Client 3 ∷ event.Take 0 ∷ event.Job 2 ∷ event.Job 2 ∷ []) ≡ Some (0, 1, 1, 0)
-others_go_on = refl
+others_make_progress : seen_after 4 (offer_fails ++ queue_empties ++ event.Job 1 ∷ event.Job 1 ∷ event.Client 3 ∷ event.Client 3 ∷ event.Take 0 ∷ event.Job 2 ∷ event.Job 2 ∷ []) ≡ Some (0, 1, 1, 0)
+others_make_progress = refl
 
 -- a client at the end of its body has no step
 over : seen_after 3 (event.Client 0 ∷ event.Client 0 ∷ []) ≡ None
@@ -65,7 +65,7 @@ over = refl
 
 -- the state after these events, with this number of clients
 abbrev after_events : ℕ → List Event → JavaState
-after_events clients events = unwrap_or (java_replay (one_pool clients) (Some (between_calls (start (one_pool clients)))) events) (between_calls (start (one_pool clients)))
+after_events clients events = unwrap_or (java_replay (one_pool clients) (Some (without_calls (start (one_pool clients)))) events) (without_calls (start (one_pool clients)))
 
 -- three clients make a well-formed plan
 three_well_formed : IsWellFormed (one_pool 3)
@@ -93,13 +93,13 @@ started_with_room = record {
 
 abbrev refused_with_room : WithRoom (one_pool 4) 0
 refused_with_room = record {
-  before = after_events 4 (offer_fails ++ last_thread_goes ++ both_done);
-  reached = (offer_fails ++ last_thread_goes ++ both_done, refl);
+  before = after_events 4 (offer_fails ++ last_thread_ends ++ both_done);
+  reached = (offer_fails ++ last_thread_ends ++ both_done, refl);
   room = omega arith;
   at_core = omega arith;
   idle = omega arith;
   event = event.Client 2;
-  after = after_events 4 (offer_fails ++ last_thread_goes ++ both_done ++ event.Client 2 ∷ []);
+  after = after_events 4 (offer_fails ++ last_thread_ends ++ both_done ++ event.Client 2 ∷ []);
   step = refl;
 }
 

@@ -58,11 +58,11 @@ pub record LeadsTo (plan : Plan) (s : State) (events : List Event) (s' : State) 
   pub replayed : replay plan (Some s) events ≡ Some s'
 
 -- no job event and no take is possible
-abbrev pub IsAtRest : Plan → State → Type 0
-IsAtRest plan s = (event : Event) → IsTrue (is_of_job_or_pool event) → step plan s event ≡ None
+abbrev pub IsQuiescent : Plan → State → Type 0
+IsQuiescent plan s = (event : Event) → IsTrue (is_of_job_or_pool event) → step plan s event ≡ None
 
 -- If no client acts, the number of job events and takes that follow is at most the remaining work of the first state, and
 -- when none is possible, no job is unfinished. Threads above core may end in between.
 pub record Drains (plan : Plan) (ranks : Ranks) : Type 0 where
   pub bounded : (s s' : State) (events : List Event) → LeadsTo plan s events s' → count_by is_of_job_or_pool events ≤ todo plan ranks s
-  pub drained : (s s' : State) (events : List Event) → LeadsTo plan s events s' → IsAtRest plan s' → (j : ℕ) → IsFalse (is_unfinished (job_at s' j).stage)
+  pub drained : (s s' : State) (events : List Event) → LeadsTo plan s events s' → IsQuiescent plan s' → (j : ℕ) → IsFalse (is_unfinished (job_at s' j).stage)

@@ -26,49 +26,49 @@ pub record Call : Type 0 where
 pub record JavaState : Type 0 where
   pub machine : State
   pub offering : List Call
-  pub asking : List Call
+  pub requesting : List Call
 
 -- one of these calls is the actor's call to this pool
 abbrev pub is_calling : List Call → Parent → ℕ → Bool
 is_calling calls a p = list_any (λ call. same_parent a call.actor && p == call.pool) calls
 
 -- the calls of other actors
-abbrev pub of_others : Parent → List Call → List Call
-of_others a calls = filter (λ call. not (same_parent a call.actor)) calls
+abbrev pub without_calls_of : Parent → List Call → List Call
+without_calls_of a calls = filter (λ call. not (same_parent a call.actor)) calls
 
 -- ---- the steps of a submit of a job of class k by an actor at position i
 
 -- the call ends with this answer of the pool
 abbrev pub answers : Plan → JavaState → Parent → ℕ → ℕ → Offer → JavaState
-answers plan s a i k given = record {
-  machine = (answered plan s.machine a i k given).0;
-  offering = of_others a s.offering;
-  asking = of_others a s.asking;
+answers plan s a i k answer = record {
+  machine = (answered plan s.machine a i k answer).0;
+  offering = without_calls_of a s.offering;
+  requesting = without_calls_of a s.requesting;
 }
 
 -- the check: if there are fewer than core threads, a new thread runs the job
-abbrev pub looks : Plan → JavaState → Parent → ℕ → ℕ → JavaState
-looks plan s a i k =
+abbrev pub checks_core : Plan → JavaState → Parent → ℕ → ℕ → JavaState
+checks_core plan s a i k =
     if nat_lt (threads plan s.machine (pool_of plan k)) (pool_at plan (pool_of plan k)).core then answers plan s a i k Started
     else record s { offering = record { actor = a; pool = pool_of plan k } ∷ s.offering }
 
 -- the offer: if the queue has room, the job is queued
-abbrev pub offers : Plan → JavaState → Parent → ℕ → ℕ → JavaState
-offers plan s a i k =
+abbrev pub offers_job : Plan → JavaState → Parent → ℕ → ℕ → JavaState
+offers_job plan s a i k =
     if nat_lt (length (pool_part s.machine (pool_of plan k)).queue) (pool_at plan (pool_of plan k)).queue then answers plan s a i k Queued
-    else record s { offering = of_others a s.offering; asking = record { actor = a; pool = pool_of plan k } ∷ s.asking }
+    else record s { offering = without_calls_of a s.offering; requesting = record { actor = a; pool = pool_of plan k } ∷ s.requesting }
 
 -- the request: if there are fewer than max threads, a new thread runs the job, and otherwise the job is rejected; in both
 -- cases the queue may have room again
-abbrev pub asks : Plan → JavaState → Parent → ℕ → ℕ → JavaState
-asks plan s a i k = answers plan s a i k (if nat_lt (threads plan s.machine (pool_of plan k)) (pool_at plan (pool_of plan k)).max then Started else Refused)
+abbrev pub requests_thread : Plan → JavaState → Parent → ℕ → ℕ → JavaState
+requests_thread plan s a i k = answers plan s a i k (if nat_lt (threads plan s.machine (pool_of plan k)) (pool_at plan (pool_of plan k)).max then Started else Refused)
 
 -- the next of these steps
 abbrev pub executes : Plan → JavaState → Parent → ℕ → ℕ → JavaState
 executes plan s a i k =
-    if is_calling s.asking a (pool_of plan k) then asks plan s a i k
-    else (if is_calling s.offering a (pool_of plan k) then offers plan s a i k
-    else looks plan s a i k)
+    if is_calling s.requesting a (pool_of plan k) then requests_thread plan s a i k
+    else (if is_calling s.offering a (pool_of plan k) then offers_job plan s a i k
+    else checks_core plan s a i k)
 
 -- ---- events
 
@@ -92,12 +92,12 @@ submission plan s (Client c) = submission_of (parent.Client c) (point plan s (pa
 submission plan s (Job j) = submission_of (parent.Job j) (point plan s (parent.Job j))
 submission plan s _ = None
 
-abbrev pub as_written : JavaState → Option (State × Outcome) → Option JavaState
-as_written s None = None
-as_written s (Some x) = Some (record s { machine = x.0 })
+abbrev pub as_atomic : JavaState → Option (State × Outcome) → Option JavaState
+as_atomic s None = None
+as_atomic s (Some x) = Some (record s { machine = x.0 })
 
 abbrev pub java_stepped : Plan → JavaState → Event → Option Submission → Option JavaState
-java_stepped plan s e None = as_written s (step plan s.machine e)
+java_stepped plan s e None = as_atomic s (step plan s.machine e)
 java_stepped plan s e (Some x) = Some (executes plan s x.actor x.position x.class)
 
 -- the state after the event, or None if it is not possible; the event of an actor at a submit is the next step of that
@@ -112,5 +112,5 @@ java_replay plan None (e ∷ events) = None
 java_replay plan (Some s) (e ∷ events) = java_replay plan (java_step plan s e) events
 
 -- no call is in progress
-abbrev pub between_calls : State → JavaState
-between_calls s = record { machine = s; offering = []; asking = [] }
+abbrev pub without_calls : State → JavaState
+without_calls s = record { machine = s; offering = []; requesting = [] }

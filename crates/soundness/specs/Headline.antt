@@ -6,11 +6,11 @@ use Rattle.written_machine.specs.declared.event.Event.{Event}
 use Rattle.written_machine.specs.declared.parent.Parent.{Parent}
 use Rattle.written_machine.specs.State.{State, pool_part, threads}
 use Rattle.written_machine.specs.Reach.{Reaches}
-use Rattle.written_machine.specs.Safe.{Safe, GoesOn}
+use Rattle.written_machine.specs.Safe.{Safe, MakesProgress}
 use Rattle.soundness.specs.Drain.{Drains}
 use Rattle.soundness.specs.Execute.{JavaState, is_calling}
-use Rattle.soundness.specs.JavaSafe.{JavaReaches, JavaSafe, JavaGoesOn, JavaDrains}
-use Rattle.soundness.specs.LeavingOut.{LeavingOutIsSafe, LeavingOutGoesOn, LeavingOutDrains}
+use Rattle.soundness.specs.JavaSafe.{JavaReaches, JavaSafe, JavaMakesProgress, JavaDrains}
+use Rattle.soundness.specs.Skipping.{SkippingIsSafe, SkippingMakesProgress, SkippingDrains}
 use Rattle.weights.specs.declared.bound.Bound.{Bound}
 use Rattle.weights.specs.declared.bound.Bound.TheVariants.{Standing}
 use Rattle.weights.specs.Row.{AllHold}
@@ -24,22 +24,22 @@ use Rattle.soundness.specs.Accepted.{accepted}
 -- steps of Java's execute, and for the latter also if actors skip submits together with their gets.
 pub record Promises (plan : Plan) (cert : Cert) : Type 0 where
   pub safe : Safe plan
-  pub goes_on : GoesOn plan
+  pub makes_progress : MakesProgress plan
   pub drains : Drains plan cert.ranks
   pub java_safe : JavaSafe plan
-  pub java_goes_on : JavaGoesOn plan
+  pub java_makes_progress : JavaMakesProgress plan
   pub java_drains : JavaDrains plan cert.ranks
-  pub leaving_out_is_safe : LeavingOutIsSafe plan
-  pub leaving_out_goes_on : LeavingOutGoesOn plan
-  pub leaving_out_drains : LeavingOutDrains plan cert.ranks
+  pub skipping_is_safe : SkippingIsSafe plan
+  pub skipping_makes_progress : SkippingMakesProgress plan
+  pub skipping_drains : SkippingDrains plan cert.ranks
 
 -- accepted plans are safe
 abbrev pub AcceptedPlansAreSafe : Type 0
 AcceptedPlansAreSafe = (plan : Plan) (cert : Cert) → IsWellFormed plan → IsTrue (accepted plan cert) → Safe plan
 
 -- they make progress while a job is unfinished
-abbrev pub AcceptedPlansGoOn : Type 0
-AcceptedPlansGoOn = (plan : Plan) (cert : Cert) → IsWellFormed plan → IsTrue (accepted plan cert) → GoesOn plan
+abbrev pub AcceptedPlansMakeProgress : Type 0
+AcceptedPlansMakeProgress = (plan : Plan) (cert : Cert) → IsWellFormed plan → IsTrue (accepted plan cert) → MakesProgress plan
 
 -- they drain
 abbrev pub AcceptedPlansDrain : Type 0
@@ -67,8 +67,8 @@ abbrev pub AcceptedPlansAreJavaSafe : Type 0
 AcceptedPlansAreJavaSafe = (plan : Plan) (cert : Cert) → IsWellFormed plan → IsTrue (accepted plan cert) → JavaSafe plan
 
 -- they make progress while a job is unfinished
-abbrev pub AcceptedPlansJavaGoOn : Type 0
-AcceptedPlansJavaGoOn = (plan : Plan) (cert : Cert) → IsWellFormed plan → IsTrue (accepted plan cert) → JavaGoesOn plan
+abbrev pub AcceptedPlansMakeJavaProgress : Type 0
+AcceptedPlansMakeJavaProgress = (plan : Plan) (cert : Cert) → IsWellFormed plan → IsTrue (accepted plan cert) → JavaMakesProgress plan
 
 -- they drain
 abbrev pub AcceptedPlansJavaDrain : Type 0
@@ -88,18 +88,18 @@ BoundedPlansJavaRefuseNothing = (plan : Plan) (bounds : ℕ → Bound) → IsWel
 abbrev pub StandingPoolsAreNotAsked : Type 0
 StandingPoolsAreNotAsked = (plan : Plan) (bounds : ℕ → Bound) (p : ℕ) (v : Vector) (events : List Event) (s : JavaState) (a : Parent) → IsWellFormed plan
     → ((q : ℕ) → q < length plan.pools → IsTrue (vector_fits plan (bound_vector (bounds q))) × AllHold (bound_rows plan q (bounds q)))
-    → p < length plan.pools → bounds p ≡ Standing v → JavaReaches plan events s → IsFalse (is_calling s.asking a p)
+    → p < length plan.pools → bounds p ≡ Standing v → JavaReaches plan events s → IsFalse (is_calling s.requesting a p)
 
 -- ---- actors that skip submits together with their gets
 
 -- accepted plans are safe
-abbrev pub AcceptedPlansMayLeaveOut : Type 0
-AcceptedPlansMayLeaveOut = (plan : Plan) (cert : Cert) → IsWellFormed plan → IsTrue (accepted plan cert) → LeavingOutIsSafe plan
+abbrev pub AcceptedPlansMaySkip : Type 0
+AcceptedPlansMaySkip = (plan : Plan) (cert : Cert) → IsWellFormed plan → IsTrue (accepted plan cert) → SkippingIsSafe plan
 
 -- they make progress while a job is unfinished
-abbrev pub AcceptedPlansLeavingOutGoOn : Type 0
-AcceptedPlansLeavingOutGoOn = (plan : Plan) (cert : Cert) → IsWellFormed plan → IsTrue (accepted plan cert) → LeavingOutGoesOn plan
+abbrev pub AcceptedPlansMakeProgressWithSkips : Type 0
+AcceptedPlansMakeProgressWithSkips = (plan : Plan) (cert : Cert) → IsWellFormed plan → IsTrue (accepted plan cert) → SkippingMakesProgress plan
 
 -- they drain
-abbrev pub AcceptedPlansLeavingOutDrain : Type 0
-AcceptedPlansLeavingOutDrain = (plan : Plan) (cert : Cert) → IsWellFormed plan → IsTrue (accepted plan cert) → LeavingOutDrains plan cert.ranks
+abbrev pub AcceptedPlansDrainWithSkips : Type 0
+AcceptedPlansDrainWithSkips = (plan : Plan) (cert : Cert) → IsWellFormed plan → IsTrue (accepted plan cert) → SkippingDrains plan cert.ranks

@@ -8,11 +8,11 @@ use Rattle.written_machine.specs.State.{State, job_at, is_unfinished}
 use Rattle.written_machine.specs.Reach.{start, IsReached}
 use Rattle.written_machine.specs.Safe.{IsSafe, is_of_job_or_pool}
 use Rattle.soundness.specs.Drain.{todo, is_of_no_client}
-use Rattle.soundness.specs.Execute.{JavaState, java_step, java_replay, between_calls}
+use Rattle.soundness.specs.Execute.{JavaState, java_step, java_replay, without_calls}
 
 -- the list of events reaches the state
 abbrev pub JavaReaches : Plan → List Event → JavaState → Type 0
-JavaReaches plan events s = java_replay plan (Some (between_calls (start plan))) events ≡ Some s
+JavaReaches plan events s = java_replay plan (Some (without_calls (start plan))) events ≡ Some s
 
 -- some list of events reaches the state
 abbrev pub IsJavaReached : Plan → JavaState → Type 0
@@ -24,14 +24,14 @@ abbrev pub JavaSafe : Plan → Type 0
 JavaSafe plan = (events : List Event) (s : JavaState) → JavaReaches plan events s → IsSafe plan s.machine
 
 -- an event of a job or a take is possible
-pub record JavaCanGoOn (plan : Plan) (s : JavaState) : Type 0 where
+pub record JavaCanProgress (plan : Plan) (s : JavaState) : Type 0 where
   pub event : Event
   pub of_job_or_pool : IsTrue (is_of_job_or_pool event)
   pub possible : IsTrue (is_some (java_step plan s event))
 
 -- in every state that any list of events reaches, if a job is unfinished
-abbrev pub JavaGoesOn : Plan → Type 0
-JavaGoesOn plan = (events : List Event) (s : JavaState) → JavaReaches plan events s → (j : ℕ) → IsTrue (is_unfinished (job_at s.machine j).stage) → JavaCanGoOn plan s
+abbrev pub JavaMakesProgress : Plan → Type 0
+JavaMakesProgress plan = (events : List Event) (s : JavaState) → JavaReaches plan events s → (j : ℕ) → IsTrue (is_unfinished (job_at s.machine j).stage) → JavaCanProgress plan s
 
 -- the events lead from the reached state s to s', and none of them is an event of a client
 pub record JavaLeadsTo (plan : Plan) (s : JavaState) (events : List Event) (s' : JavaState) : Type 0 where
@@ -40,15 +40,15 @@ pub record JavaLeadsTo (plan : Plan) (s : JavaState) (events : List Event) (s' :
   pub replayed : java_replay plan (Some s) events ≡ Some s'
 
 -- no job event and no take is possible
-abbrev pub IsJavaAtRest : Plan → JavaState → Type 0
-IsJavaAtRest plan s = (event : Event) → IsTrue (is_of_job_or_pool event) → java_step plan s event ≡ None
+abbrev pub IsJavaQuiescent : Plan → JavaState → Type 0
+IsJavaQuiescent plan s = (event : Event) → IsTrue (is_of_job_or_pool event) → java_step plan s event ≡ None
 
 -- If no client acts, the number of job events and takes that follow is at most three times the remaining work of the first
 -- state, and when none is possible, no job is unfinished. Threads above core may end in between.
 pub record JavaDrains (plan : Plan) (ranks : Ranks) : Type 0 where
   pub bounded : (s s' : JavaState) (events : List Event) → JavaLeadsTo plan s events s' → count_by is_of_job_or_pool events ≤ 3 * todo plan ranks s.machine
-  pub drained : (s s' : JavaState) (events : List Event) → JavaLeadsTo plan s events s' → IsJavaAtRest plan s' → (j : ℕ) → IsFalse (is_unfinished (job_at s'.machine j).stage)
+  pub drained : (s s' : JavaState) (events : List Event) → JavaLeadsTo plan s events s' → IsJavaQuiescent plan s' → (j : ℕ) → IsFalse (is_unfinished (job_at s'.machine j).stage)
 
 -- each state that the machine with atomic submits reaches is reachable in these steps, with no call in progress
-abbrev pub WrittenStatesAreReached : Type 0
-WrittenStatesAreReached = (plan : Plan) (s : State) → IsReached plan s → IsJavaReached plan (between_calls s)
+abbrev pub AtomicStatesAreReached : Type 0
+AtomicStatesAreReached = (plan : Plan) (s : State) → IsReached plan s → IsJavaReached plan (without_calls s)

@@ -6,7 +6,7 @@ pub mod Drain
 pub mod Execute
 pub mod JavaSafe
 pub mod WithRoom
-pub mod LeavingOut
+pub mod Skipping
 pub mod Conditions
 pub mod Accepted
 pub mod Headline

@@ -9,7 +9,7 @@ use Rattle.written_machine.specs.State.{State}
 use Rattle.written_machine.specs.Step.{step}
 use Rattle.written_machine.specs.Reach.{IsReached}
 use Rattle.written_machine.specs.JobsMade.{jobs_made}
-use Rattle.weights.specs.declared.at_get.AtGet.{AtGet}
+use Rattle.weights.specs.declared.get_return.GetReturn.{GetReturn}
 use Rattle.weights.specs.declared.bound.Bound.{Bound}
 use Rattle.weights.specs.Row.{AllHold}
 use Rattle.weights.specs.Vector.{Vector, vector_fits, total}
@@ -20,12 +20,12 @@ use Rattle.soundness.specs.WeightedSum.{sum_of}
 
 -- no event increases the weight of a reachable state
 abbrev pub SumNeverRises : Type 0
-SumNeverRises = (at_get : AtGet) (plan : Plan) (v : Vector) (s s' : State) (event : Event) (outcome : Outcome) → IsWellFormed plan → AllHold (rows at_get plan v) → IsReached plan s → step plan s event ≡ Some (s', outcome)
-    → sum_of at_get plan v s' ≤ sum_of at_get plan v s
+SumNeverRises = (get_return : GetReturn) (plan : Plan) (v : Vector) (s s' : State) (event : Event) (outcome : Outcome) → IsWellFormed plan → AllHold (rows get_return plan v) → IsReached plan s → step plan s event ≡ Some (s', outcome)
+    → sum_of get_return plan v s' ≤ sum_of get_return plan v s
 
 -- the weight of a reachable state is at most the total
 abbrev pub SumStaysWithinTotal : Type 0
-SumStaysWithinTotal = (at_get : AtGet) (plan : Plan) (v : Vector) (s : State) → IsWellFormed plan → AllHold (rows at_get plan v) → IsReached plan s → sum_of at_get plan v s ≤ total plan v
+SumStaysWithinTotal = (get_return : GetReturn) (plan : Plan) (v : Vector) (s : State) → IsWellFormed plan → AllHold (rows get_return plan v) → IsReached plan s → sum_of get_return plan v s ≤ total plan v
 
 -- a pool whose bound holds rejects no job, whatever the other pools do
 abbrev pub BoundsRefuseNothing : Type 0

@@ -2,16 +2,16 @@
 
 ghost use Rattle.soundness.specs.Headline.{
   AcceptedPlansAreSafe,
-  AcceptedPlansGoOn,
+  AcceptedPlansMakeProgress,
   AcceptedPlansDrain,
   BoundedPlansRefuseNothing,
   AcceptedPlansAreJavaSafe,
-  AcceptedPlansJavaGoOn,
+  AcceptedPlansMakeJavaProgress,
   AcceptedPlansJavaDrain,
   BoundedPlansJavaRefuseNothing,
   StandingPoolsAreNotAsked,
 };
-ghost use Rattle.soundness.specs.Headline.{AcceptedPlansMayLeaveOut, AcceptedPlansLeavingOutGoOn, AcceptedPlansLeavingOutDrain};
+ghost use Rattle.soundness.specs.Headline.{AcceptedPlansMaySkip, AcceptedPlansMakeProgressWithSkips, AcceptedPlansDrainWithSkips};
 
 /// Proves that every reachable state is safe if a certificate accepts a well-formed plan: no submit
 /// was rejected, each pool is within its limits, and no set of unfinished jobs waits only for its
@@ -22,8 +22,8 @@ pub fn accepted_plans_are_safe()
 
 /// Proves that an event of a job or a take is possible in every reachable state with an unfinished
 /// job if a certificate accepts a well-formed plan.
-pub fn accepted_plans_go_on()
-    ensures { AcceptedPlansGoOn }
+pub fn accepted_plans_make_progress()
+    ensures { AcceptedPlansMakeProgress }
 {}
 
 /// Proves that a plan that a certificate accepts drains. If no client acts, the number of job
@@ -49,8 +49,8 @@ pub fn accepted_plans_are_java_safe()
 /// Proves that an event of a job or a take is possible in every reachable state with an unfinished
 /// job if a certificate accepts a well-formed plan, even if a submit takes the separate steps of
 /// Java's `execute`.
-pub fn accepted_plans_java_go_on()
-    ensures { AcceptedPlansJavaGoOn }
+pub fn accepted_plans_make_java_progress()
+    ensures { AcceptedPlansMakeJavaProgress }
 {}
 
 /// Proves that a plan that a certificate accepts drains even if a submit takes the separate steps
@@ -77,19 +77,19 @@ pub fn standing_pools_are_not_asked()
 /// Proves that every reachable state is safe if a certificate accepts a well-formed plan, even if a
 /// submit takes the separate steps of Java's `execute` and each client and each job may skip any
 /// submit of its body together with its get. An actor decides anew each time it reaches the submit.
-pub fn accepted_plans_may_leave_out()
-    ensures { AcceptedPlansMayLeaveOut }
+pub fn accepted_plans_may_skip()
+    ensures { AcceptedPlansMaySkip }
 {}
 
 /// Proves that in every such state with an unfinished job an event of a job or a take is possible
 /// without a skip.
-pub fn accepted_plans_leaving_out_go_on()
-    ensures { AcceptedPlansLeavingOutGoOn }
+pub fn accepted_plans_make_progress_with_skips()
+    ensures { AcceptedPlansMakeProgressWithSkips }
 {}
 
 /// Proves that such a plan drains. If no client acts, the number of job events, takes and skips by
 /// jobs after such a state is at most three times the remaining work of its jobs, and when no job
 /// event and no take is possible, no job is unfinished. Threads above core may end in between.
-pub fn accepted_plans_leaving_out_drain()
-    ensures { AcceptedPlansLeavingOutDrain }
+pub fn accepted_plans_drain_with_skips()
+    ensures { AcceptedPlansDrainWithSkips }
 {}

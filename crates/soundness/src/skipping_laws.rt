@@ -1,6 +1,6 @@
 //! Laws of skipped submits, each as the contract of an empty function.
 
-ghost use Rattle.soundness.specs.LeavingOut.{DoneWithinQueued};
+ghost use Rattle.soundness.specs.Skipping.{DoneWithinQueued};
 
 /// Proves that the weight of a done job is at most that of a queued job if the rows of a vector and
 /// of the ranks hold. A skipped submit creates a done job, so it costs its actor at least the

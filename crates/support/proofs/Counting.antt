@@ -25,10 +25,10 @@ tens_text_digit (suc tens) digit one fits =
     ap (λ (ds : List ℕ). ds ++ (48 + digit) ∷ []) (tens_text_above (suc tens) above) ∙ sym (decimal_step (suc tens * 10 + digit) many fits ∙ parts)
 
 -- the last digit is appended to the others
-pub pushed_digit : {T E : Type 0} (r : Result T E) (new middle old front last : List ℕ) (tens digit number : ℕ) → middle ≡ old ++ front → front ≡ tens_text tens → last ≡ (48 + digit) ∷ []
+pub pushed_digit : {T E : Type 0} (r : Result T E) (new middle old prefix last : List ℕ) (tens digit number : ℕ) → middle ≡ old ++ prefix → prefix ≡ tens_text tens → last ≡ (48 + digit) ∷ []
     → new ≡ cond (is_ok r) (middle ++ last) middle → digit < 10 → tens * 10 + digit < 2 ^ 64 → tens * 10 + digit ≡ number → OnOk r (new ≡ old ++ decimal number)
-pushed_digit (Err e) new middle old front last tens digit number before is_front is_last pushed one fits is = tt
-pushed_digit (Ok x) new middle old front last tens digit number before is_front is_last pushed one fits is =
+pushed_digit (Err e) new middle old prefix last tens digit number before is_front is_last pushed one fits is = tt
+pushed_digit (Ok x) new middle old prefix last tens digit number before is_front is_last pushed one fits is =
     pushed ∙ (ap₂ (λ (xs ys : List ℕ). xs ++ ys) (before ∙ ap (λ (xs : List ℕ). old ++ xs) is_front) is_last
     ∙ (append_assoc old (tens_text tens) ((48 + digit) ∷ [])
     ∙ ap (λ (xs : List ℕ). old ++ xs) (tens_text_digit tens digit one fits ∙ ap decimal is)))

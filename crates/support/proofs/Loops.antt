@@ -4,15 +4,15 @@ use Rattle.std.proofs.lemmas.List.{append-nil, at_drop_all, length-map}
 use Rattle.support.specs.Reading.{◌>>=◌, check_each, read_each}
 use Rattle.support.specs.declared.read_error.ReadError.{ReadError}
 use Rattle.support.specs.declared.read_error.ReadError.TheVariants.{Memory, Fault}
-use Rattle.support.specs.Given.{Fails}
+use Rattle.support.specs.Results.{Fails}
 
 -- prepends the values read so far
-abbrev pub with_front : {Y F : Type 0} → List Y → Result (List Y) F → Result (List Y) F
-with_front front read = read >>= λ ys. Ok (front ++ ys)
+abbrev pub prepend : {Y F : Type 0} → List Y → Result (List Y) F → Result (List Y) F
+prepend prefix read = read >>= λ ys. Ok (prefix ++ ys)
 
 -- front, followed by the values of the elements from index i on, is the result for all elements
-pub record Reads {X Y F : Type 0} (read : ℕ → X → Result Y F) (xs : List X) (i : ℕ) (front : List Y) : Type 0 where
-  pub rest : with_front front (read_each read i (drop i xs)) ≡ read_each read 0 xs
+pub record Reads {X Y F : Type 0} (read : ℕ → X → Result Y F) (xs : List X) (i : ℕ) (prefix : List Y) : Type 0 where
+  pub rest : prepend prefix (read_each read i (drop i xs)) ≡ read_each read 0 xs
 
 -- the result for the elements from index i on is the result for all elements
 pub record Checks {X F : Type 0} (check : ℕ → X → Result (Unit {0}) F) (xs : List X) (i : ℕ) : Type 0 where
@@ -42,62 +42,62 @@ at_index_copied view [] i d within = absurd (omega arith)
 at_index_copied view (y ∷ xs) zero d within = refl
 at_index_copied view (y ∷ xs) (suc i) d within = at_index_copied view xs i d (omega arith)
 
-regroup : {Y F : Type 0} (front : List Y) (y : Y) (read : Result (List Y) F) → with_front front (read >>= λ ys. Ok (y ∷ ys)) ≡ with_front (front ++ y ∷ []) read
-regroup front y (Ok ys) = ap (λ (zs : List _). Ok zs) (simp append_assoc)
-regroup front y (Err fault) = refl
+regroup : {Y F : Type 0} (prefix : List Y) (y : Y) (read : Result (List Y) F) → prepend prefix (read >>= λ ys. Ok (y ∷ ys)) ≡ prepend (prefix ++ y ∷ []) read
+regroup prefix y (Ok ys) = ap (λ (zs : List _). Ok zs) (simp append_assoc)
+regroup prefix y (Err fault) = refl
 
 -- before the first element
 pub reads_begin : {X Y F : Type 0} (read : ℕ → X → Result Y F) (xs : List X) → Reads read xs 0 []
-reads_begin read xs = record { rest = front_none (read_each read 0 xs) }
+reads_begin read xs = record { rest = prefix_none (read_each read 0 xs) }
   where
-    front_none : {Y F : Type 0} (r : Result (List Y) F) → with_front [] r ≡ r
-    front_none (Ok ys) = refl
-    front_none (Err fault) = refl
+    prefix_none : {Y F : Type 0} (r : Result (List Y) F) → prepend [] r ≡ r
+    prefix_none (Ok ys) = refl
+    prefix_none (Err fault) = refl
 
 -- after one more element
-pub reads_more : {X Y F : Type 0} (read : ℕ → X → Result Y F) (xs : List X) (i : ℕ) (front : List Y) (x : X) (y : Y) → slice_get xs i ≡ Some x → read i x ≡ Ok y
-    → Reads read xs i front → Reads read xs (i + 1) (front ++ y ∷ [])
-reads_more read xs i front x y here given so_far =
-    let one : with_front front (read_each read i (drop i xs)) ≡ with_front (front ++ y ∷ []) (read_each read (i + 1) (drop (i + 1) xs)) =
-    rw (drop_at xs i x here, given, add-one) (regroup front y (read_each read (suc i) (drop (suc i) xs))) in
-    record { rest = sym one ∙ so_far.rest }
+pub reads_more : {X Y F : Type 0} (read : ℕ → X → Result Y F) (xs : List X) (i : ℕ) (prefix : List Y) (x : X) (y : Y) → slice_get xs i ≡ Some x → read i x ≡ Ok y
+    → Reads read xs i prefix → Reads read xs (i + 1) (prefix ++ y ∷ [])
+reads_more read xs i prefix x y here given prior =
+    let one : prepend prefix (read_each read i (drop i xs)) ≡ prepend (prefix ++ y ∷ []) (read_each read (i + 1) (drop (i + 1) xs)) =
+    rw (drop_at xs i x here, given, add-one) (regroup prefix y (read_each read (suc i) (drop (suc i) xs))) in
+    record { rest = sym one ∙ prior.rest }
 
 -- the error of an element is the error of the list
-pub reads_stop : {X Y F : Type 0} (error : ReadError F) (read : ℕ → X → Result Y F) (xs : List X) (i : ℕ) (front : List Y) (x : X) → slice_get xs i ≡ Some x → Fails error (read i x)
-    → Reads read xs i front → Fails error (read_each read 0 xs)
-reads_stop Memory read xs i front x here given so_far = tt
-reads_stop (Fault fault) read xs i front x here given so_far =
-    let one : with_front front (read_each read i (drop i xs)) ≡ Err fault = rw (drop_at xs i x here, given) refl in
-    sym so_far.rest ∙ one
+pub reads_stop : {X Y F : Type 0} (error : ReadError F) (read : ℕ → X → Result Y F) (xs : List X) (i : ℕ) (prefix : List Y) (x : X) → slice_get xs i ≡ Some x → Fails error (read i x)
+    → Reads read xs i prefix → Fails error (read_each read 0 xs)
+reads_stop Memory read xs i prefix x here given prior = tt
+reads_stop (Fault fault) read xs i prefix x here given prior =
+    let one : prepend prefix (read_each read i (drop i xs)) ≡ Err fault = rw (drop_at xs i x here, given) refl in
+    sym prior.rest ∙ one
 
 -- after the last element
-pub reads_end : {X Y F : Type 0} (read : ℕ → X → Result Y F) (xs : List X) (i : ℕ) (front : List Y) → length xs ≤ i → Reads read xs i front → read_each read 0 xs ≡ Ok front
-reads_end read xs i front past so_far =
-    let one : with_front front (read_each read i (drop i xs)) ≡ Ok front = at_drop_all (λ (ys : List _). with_front front (read_each read i ys)) xs i past ∙ ap (λ (ys : List _). Ok ys) (append-nil front) in
-    sym so_far.rest ∙ one
+pub reads_end : {X Y F : Type 0} (read : ℕ → X → Result Y F) (xs : List X) (i : ℕ) (prefix : List Y) → length xs ≤ i → Reads read xs i prefix → read_each read 0 xs ≡ Ok prefix
+reads_end read xs i prefix past prior =
+    let one : prepend prefix (read_each read i (drop i xs)) ≡ Ok prefix = at_drop_all (λ (ys : List _). prepend prefix (read_each read i ys)) xs i past ∙ ap (λ (ys : List _). Ok ys) (append-nil prefix) in
+    sym prior.rest ∙ one
 
 -- after one more element
 pub checks_more : {X F : Type 0} (check : ℕ → X → Result (Unit {0}) F) (xs : List X) (i : ℕ) (x : X) → slice_get xs i ≡ Some x → check i x ≡ Ok tt → Checks check xs i → Checks check xs (i + 1)
-checks_more check xs i x here given so_far =
+checks_more check xs i x here given prior =
     let one : check_each check i (drop i xs) ≡ check_each check (i + 1) (drop (i + 1) xs) = rw (drop_at xs i x here, given, add-one) refl in
-    record { rest = sym one ∙ so_far.rest }
+    record { rest = sym one ∙ prior.rest }
 
 -- the error of an element is the error of the list
 pub checks_stop : {X F : Type 0} (error : ReadError F) (check : ℕ → X → Result (Unit {0}) F) (xs : List X) (i : ℕ) (x : X) → slice_get xs i ≡ Some x → Fails error (check i x)
     → Checks check xs i → Fails error (check_each check 0 xs)
-checks_stop Memory check xs i x here given so_far = tt
-checks_stop (Fault fault) check xs i x here given so_far =
+checks_stop Memory check xs i x here given prior = tt
+checks_stop (Fault fault) check xs i x here given prior =
     let one : check_each check i (drop i xs) ≡ Err fault = rw (drop_at xs i x here, given) refl in
-    sym so_far.rest ∙ one
+    sym prior.rest ∙ one
 
 -- after the last element
 pub checks_end : {X F : Type 0} (check : ℕ → X → Result (Unit {0}) F) (xs : List X) (i : ℕ) → length xs ≤ i → Checks check xs i → check_each check 0 xs ≡ Ok tt
-checks_end check xs i past so_far = sym so_far.rest ∙ at_drop_all (λ (ys : List _). check_each check i ys) xs i past
+checks_end check xs i past prior = sym prior.rest ∙ at_drop_all (λ (ys : List _). check_each check i ys) xs i past
 
 -- after the last element, through a view
-pub reads_end_seen : {V X Y F : Type 0} (view : V → X) (read : ℕ → X → Result Y F) (values : List V) (i : ℕ) (front : List Y) → length values ≤ i → Reads read (map view values) i front
-    → read_each read 0 (map view values) ≡ Ok front
-reads_end_seen view read values i front past so_far = reads_end read (map view values) i front (rw length-map past) so_far
+pub reads_end_seen : {V X Y F : Type 0} (view : V → X) (read : ℕ → X → Result Y F) (values : List V) (i : ℕ) (prefix : List Y) → length values ≤ i → Reads read (map view values) i prefix
+    → read_each read 0 (map view values) ≡ Ok prefix
+reads_end_seen view read values i prefix past prior = reads_end read (map view values) i prefix (rw length-map past) prior
 
 -- before the first element
 pub checks_begin : {X F : Type 0} (check : ℕ → X → Result (Unit {0}) F) (xs : List X) → Checks check xs 0

@@ -14,10 +14,10 @@ use Rattle.support.specs.Entry.{has_number, value_or, entry_at, taken}
 use Rattle.support.specs.Numbered.{place_of, AreInPlace, value_at, count_of}
 
 -- the numbers of the first i slots were appended to others
-pub record ArePushed {V : Type 0} (slots : List (Option (Entry V))) (others numbers : List ℕ) (i : ℕ) : Type 0 where
-  pub all : (n : ℕ) → is_member nat_eq numbers n ≡ (is_member nat_eq others n || (nat_lt (place_of n) i && has_number n (entry_at slots (place_of n))))
+pub record ArePushed {V : Type 0} (slots : List (Option (Entry V))) (overflow numbers : List ℕ) (i : ℕ) : Type 0 where
+  pub all : (n : ℕ) → is_member nat_eq numbers n ≡ (is_member nat_eq overflow n || (nat_lt (place_of n) i && has_number n (entry_at slots (place_of n))))
   pub once : IsDistinct nat_eq numbers
-  pub len : length numbers ≡ length others + taken (take i slots)
+  pub len : length numbers ≡ length overflow + taken (take i slots)
 
 lt_more : (p i : ℕ) → (p ≡ i → ⊥) → nat_lt p (i + 1) ≡ nat_lt p i
 lt_more p i apart = ⊎_elim
@@ -35,11 +35,11 @@ same_below slots i n off = ⊎_elim
     (λ apart. ap (λ b. b && has_number n (entry_at slots (place_of n))) (lt_more (place_of n) i apart))
     (cases_eq (place_of n) i)
 
-pub pushed_none : {V : Type 0} (slots : List (Option (Entry V))) (others numbers : List ℕ) (i : ℕ) → i < length slots → entry_at slots i ≡ None → ArePushed slots others numbers i → ArePushed slots others numbers (i + 1)
-pushed_none slots others numbers i inside none pushed = record {
-  all = λ n. pushed.all n ∙ ap (λ b. is_member nat_eq others n || b) (sym (same_below slots i n (ap (has_number n) none)));
+pub pushed_none : {V : Type 0} (slots : List (Option (Entry V))) (overflow numbers : List ℕ) (i : ℕ) → i < length slots → entry_at slots i ≡ None → ArePushed slots overflow numbers i → ArePushed slots overflow numbers (i + 1)
+pushed_none slots overflow numbers i inside none pushed = record {
+  all = λ n. pushed.all n ∙ ap (λ b. is_member nat_eq overflow n || b) (sym (same_below slots i n (ap (has_number n) none)));
   once = pushed.once;
-  len = pushed.len ∙ ap (λ k. length others + k) (sym (count_by_more_no is_some slots i None inside (ap is_some none)));
+  len = pushed.len ∙ ap (λ k. length overflow + k) (sym (count_by_more_no is_some slots i None inside (ap is_some none)));
 }
 
 or_true : (b : Bool) → (b || true) ≡ true
@@ -50,27 +50,27 @@ or_false : (b : Bool) → (b || false) ≡ b
 or_false true = refl
 or_false false = refl
 
-pub pushed_some : {V : Type 0} (slots : List (Option (Entry V))) (others numbers : List ℕ) (i : ℕ) (entry : Entry V) → AreInPlace slots → ((n : ℕ) → has_number n (entry_at slots (place_of n)) ≡ true → is_member nat_eq others n ≡ false)
-    → i < length slots → entry_at slots i ≡ Some entry → ArePushed slots others numbers i → ArePushed slots others (numbers ++ entry.number ∷ []) (i + 1)
-pushed_some slots others numbers i entry placed absent inside some pushed =
+pub pushed_some : {V : Type 0} (slots : List (Option (Entry V))) (overflow numbers : List ℕ) (i : ℕ) (entry : Entry V) → AreInPlace slots → ((n : ℕ) → has_number n (entry_at slots (place_of n)) ≡ true → is_member nat_eq overflow n ≡ false)
+    → i < length slots → entry_at slots i ≡ Some entry → ArePushed slots overflow numbers i → ArePushed slots overflow (numbers ++ entry.number ∷ []) (i + 1)
+pushed_some slots overflow numbers i entry placed absent inside some pushed =
     let m = entry.number in
     let has : has_number m (entry_at slots i) ≡ true = ap (has_number m) some ∙ eq-eqb m m refl in
     let here : place_of m ≡ i = placed i m has in
-    let stands : has_number m (entry_at slots (place_of m)) ≡ true = ap (λ k. has_number m (entry_at slots k)) here ∙ has in
+    let in_slot : has_number m (entry_at slots (place_of m)) ≡ true = ap (λ k. has_number m (entry_at slots k)) here ∙ has in
     let not_below : nat_lt (place_of m) i ≡ false = le-ltb (place_of m) i (omega (arith, here)) in
-    let fresh : is_member nat_eq numbers m ≡ false = pushed.all m ∙ ap (λ b. b || (nat_lt (place_of m) i && has_number m (entry_at slots (place_of m)))) (absent m stands) ∙ ap (λ b. b && has_number m (entry_at slots (place_of m))) not_below in
+    let fresh : is_member nat_eq numbers m ≡ false = pushed.all m ∙ ap (λ b. b || (nat_lt (place_of m) i && has_number m (entry_at slots (place_of m)))) (absent m in_slot) ∙ ap (λ b. b && has_number m (entry_at slots (place_of m))) not_below in
     record {
       all = λ n. list_any-append (nat_eq n) numbers (m ∷ []) ∙ ⊎_elim
           (λ same.
           let on : (nat_eq n m || false) ≡ true = or_false (nat_eq n m) ∙ eq-eqb n m same in
-          let at : has_number n (entry_at slots (place_of n)) ≡ true = subst (λ k. has_number k (entry_at slots (place_of k)) ≡ true) (sym same) stands in
+          let at : has_number n (entry_at slots (place_of n)) ≡ true = subst (λ k. has_number k (entry_at slots (place_of k)) ≡ true) (sym same) in_slot in
           let low : nat_lt (place_of n) (i + 1) ≡ true = lt-ltb (place_of n) (i + 1) (let p : place_of n ≡ i = ap place_of same ∙ here in omega (arith, p)) in
           let both : (nat_lt (place_of n) (i + 1) && has_number n (entry_at slots (place_of n))) ≡ true = ap (λ b. b && has_number n (entry_at slots (place_of n))) low ∙ at in
-          ap (λ b. is_member nat_eq numbers n || b) on ∙ or_true (is_member nat_eq numbers n) ∙ sym (or_true (is_member nat_eq others n)) ∙ ap (λ b. is_member nat_eq others n || b) (sym both))
+          ap (λ b. is_member nat_eq numbers n || b) on ∙ or_true (is_member nat_eq numbers n) ∙ sym (or_true (is_member nat_eq overflow n)) ∙ ap (λ b. is_member nat_eq overflow n || b) (sym both))
           (λ apart.
           let off : (nat_eq n m || false) ≡ false = or_false (nat_eq n m) ∙ ne_eqb n m apart in
           let not_at : has_number n (entry_at slots i) ≡ false = ap (has_number n) some ∙ ne_eqb m n (λ e. apart (sym e)) in
-          ap (λ b. is_member nat_eq numbers n || b) off ∙ or_false (is_member nat_eq numbers n) ∙ pushed.all n ∙ ap (λ b. is_member nat_eq others n || b) (sym (same_below slots i n not_at)))
+          ap (λ b. is_member nat_eq numbers n || b) off ∙ or_false (is_member nat_eq numbers n) ∙ pushed.all n ∙ ap (λ b. is_member nat_eq overflow n || b) (sym (same_below slots i n not_at)))
           (cases_eq n m);
       once = IsDistinct-push nat_eq_equiv numbers m pushed.once fresh;
       len =
@@ -88,14 +88,14 @@ value_there : {V : Type 0} (o : Option (Entry V)) (n : ℕ) (other : Option V) �
 value_there None n other = sym (or_false (is_some other))
 value_there (Some entry) n other = elim (entry.number == n) as (λ b. is_some (if b then Some entry.value else other) ≡ (is_some other || b)) [ true ↦ sym (or_true (is_some other)) | false ↦ sym (or_false (is_some other)) ]
 
-pub is_some_at : {V : Type 0} (slots : List (Option (Entry V))) (others : List (ℕ × V)) (n : ℕ) → is_some (value_at (record { slots = slots; others = others }) n) ≡ (is_some (lookup (nat_eq n) others) || has_number n (entry_at slots (place_of n)))
+pub is_some_at : {V : Type 0} (slots : List (Option (Entry V))) (overflow : List (ℕ × V)) (n : ℕ) → is_some (value_at (record { slots = slots; overflow = overflow }) n) ≡ (is_some (lookup (nat_eq n) overflow) || has_number n (entry_at slots (place_of n)))
 unfolding value_at
-is_some_at slots others n = value_there (entry_at slots (place_of n)) n (lookup (nat_eq n) others)
+is_some_at slots overflow n = value_there (entry_at slots (place_of n)) n (lookup (nat_eq n) overflow)
 
 -- the entry of a slot, as a loop over the slots reads it
 pub read_at : {V : Type 0} (read slots : List (Option (Entry V))) (i : ℕ) (o : Option (Entry V)) → read ≡ slots → o ≡ get_or read i o → i < length read → (i < length slots) × (entry_at slots i ≡ o)
 read_at read slots i o same is inside = subst (λ all. (i < length all) × (entry_at all i ≡ o)) same (inside, get_or_default read i None o inside ∙ sym is)
 
-pub count_is : {V : Type 0} (slots : List (Option (Entry V))) (others : List (ℕ × V)) → count_of (record { slots = slots; others = others }) ≡ taken slots + length others
+pub count_is : {V : Type 0} (slots : List (Option (Entry V))) (overflow : List (ℕ × V)) → count_of (record { slots = slots; overflow = overflow }) ≡ taken slots + length overflow
 unfolding count_of
-count_is slots others = refl
+count_is slots overflow = refl

@@ -177,10 +177,10 @@ pub places_from-set_removes : {X : Type 0} (test : X → Bool) (n : ℕ) (xs : L
 places_from-set_removes test n xs i y before behind inside fails e =
     let keep = is_other (n + i) in
     let pairs = subst (AllPairs ◌<◌) e (places_from-ascend test n xs) in
-    let front : filter keep before ≡ before = filter_all keep before (λ k at. let low = below_middle before (n + i) behind k pairs at in ap not (ne_eqb k (n + i) (λ (same : k ≡ n + i). omega arith))) in
+    let prefix : filter keep before ≡ before = filter_all keep before (λ k at. let low = below_middle before (n + i) behind k pairs at in ap not (ne_eqb k (n + i) (λ (same : k ≡ n + i). omega arith))) in
     let back : filter keep behind ≡ behind = filter_all keep behind (λ k at. let high = above_middle before (n + i) behind k pairs at in ap not (ne_eqb k (n + i) (λ (same : k ≡ n + i). omega arith))) in
     let gone : filter keep ((n + i) ∷ behind) ≡ filter keep behind = filter-cons_if_dropped keep true (n + i) behind (ap not (eq-eqb (n + i) (n + i) refl)) in
-    places_from-set_fails test n xs i y inside fails ∙ ap (filter keep) e ∙ filter-append keep before ((n + i) ∷ behind) ∙ ap₂ (λ ks ms. ks ++ ms) front (gone ∙ back)
+    places_from-set_fails test n xs i y inside fails ∙ ap (filter keep) e ∙ filter-append keep before ((n + i) ∷ behind) ∙ ap₂ (λ ks ms. ks ++ ms) prefix (gone ∙ back)
 
 -- a new element that passes, after all others that do, appends its place
 pub places_from-set_last : {X : Type 0} (test : X → Bool) (n : ℕ) (xs : List X) (i : ℕ) (y : X) → i < length xs → test y ≡ true → ((k : ℕ) (d : X) → i ≤ k → k < length xs → test (get_or xs k d) ≡ false)
@@ -210,8 +210,8 @@ first_place test n (x ∷ xs) j rest e =
     (λ passes.
     let starts : n ∷ behind ≡ j ∷ rest = ap (λ b. cons_if b n behind) (sym passes) ∙ e in
     let number : n ≡ j = cc starts in
-    let others : behind ≡ rest = cc starts in
-    record { index = 0; from = omega arith; inside = omega arith; passes = λ d. passes; without = λ y fails. ap (λ b. cons_if b n behind) fails ∙ others })
+    let overflow : behind ≡ rest = cc starts in
+    record { index = 0; from = omega arith; inside = omega arith; passes = λ d. passes; without = λ y fails. ap (λ b. cons_if b n behind) fails ∙ overflow })
     (λ fails.
     let later = first_place test (n + 1) xs j rest (ap (λ b. cons_if b n behind) (sym fails) ∙ e) in
     record {

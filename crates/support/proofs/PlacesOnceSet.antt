@@ -18,8 +18,8 @@ entry_once_set slots p q o = ⊎_elim
     (cases_eq p q)
 
 -- the slot keeps its number
-pub has_once_put : {V : Type 0} (slots : List (Option (Entry V))) (p : ℕ) (o : Option (Entry V)) → ((n : ℕ) → has_number n o ≡ has_number n (entry_at slots p)) → (n q : ℕ) → has_number n (entry_at (set slots p o) q) ≡ has_number n (entry_at slots q)
-has_once_put slots p o same n q = ⊎_elim
+pub has_once_stored : {V : Type 0} (slots : List (Option (Entry V))) (p : ℕ) (o : Option (Entry V)) → ((n : ℕ) → has_number n o ≡ has_number n (entry_at slots p)) → (n q : ℕ) → has_number n (entry_at (set slots p o) q) ≡ has_number n (entry_at slots q)
+has_once_stored slots p o same n q = ⊎_elim
     (λ here. ap (has_number n) here.1 ∙ same n ∙ ap (λ k. has_number n (entry_at slots k)) here.0)
     (λ other. ap (has_number n) other)
     (entry_once_set slots p q o)
@@ -40,8 +40,8 @@ is_some_value (Some entry) = refl
 pub taken_once_set : {V : Type 0} (slots : List (Option (Entry V))) (p : ℕ) (o : Option (Entry V)) → p < length slots → taken (set slots p o) + cond (is_some (entry_at slots p)) 1 0 ≡ taken slots + cond (is_some o) 1 0
 taken_once_set slots p o inside = sum_by-set (λ x. cond (is_some x) 1 0) slots p o None inside
 
-pub taken_once_put : {V : Type 0} (slots : List (Option (Entry V))) (p : ℕ) (o : Option (Entry V)) → is_some o ≡ is_some (entry_at slots p) → taken (set slots p o) ≡ taken slots
-taken_once_put slots p o same = ⊎_elim
+pub taken_once_stored : {V : Type 0} (slots : List (Option (Entry V))) (p : ℕ) (o : Option (Entry V)) → is_some o ≡ is_some (entry_at slots p) → taken (set slots p o) ≡ taken slots
+taken_once_stored slots p o same = ⊎_elim
     (λ inside.
     let counts = taken_once_set slots p o inside in
     let one : cond {A = ℕ} (is_some o) 1 0 ≡ cond (is_some (entry_at slots p)) 1 0 = ap (λ b. cond b 1 0) same in
@@ -64,14 +64,14 @@ pub values_once_set : {V : Type 0} (slots : List (Option (Entry V))) (n : ℕ) (
     → ((q : ℕ) → value_or q o (new q) ≡ (if n == q then r else value_or q (entry_at slots (place_of n)) (old q)))
     → ((q : ℕ) → (n ≡ q → ⊥) → new q ≡ old q)
     → (q : ℕ) → value_or q (entry_at (set slots (place_of n) o) (place_of q)) (new q) ≡ (if n == q then r else value_or q (entry_at slots (place_of q)) (old q))
-values_once_set slots n o old new r inside here others q = ⊎_elim
+values_once_set slots n o old new r inside here overflow q = ⊎_elim
     (λ same.
     let is : entry_at (set slots (place_of n) o) (place_of q) ≡ o = ap (λ k. entry_at (set slots (place_of n) o) k) (sym same) ∙ get_or-set_same slots (place_of n) o None inside in
     ap (λ x. value_or q x (new q)) is ∙ here q ∙ ap (λ k. if n == q then r else value_or q (entry_at slots k) (old q)) same)
     (λ other.
     let apart : n ≡ q → ⊥ = λ e. other (ap place_of e) in
     let is : entry_at (set slots (place_of n) o) (place_of q) ≡ entry_at slots (place_of q) = get_or-set_other slots (place_of n) (place_of q) o None (λ e. other (sym e)) in
-    ap (λ x. value_or q x (new q)) is ∙ ap (value_or q (entry_at slots (place_of q))) (others q apart) ∙ sym (ap (λ b. if b then r else value_or q (entry_at slots (place_of q)) (old q)) (ne_eqb n q apart)))
+    ap (λ x. value_or q x (new q)) is ∙ ap (value_or q (entry_at slots (place_of q))) (overflow q apart) ∙ sym (ap (λ b. if b then r else value_or q (entry_at slots (place_of q)) (old q)) (ne_eqb n q apart)))
     (cases_eq (place_of n) (place_of q))
 
 if_same : {A : Type 0} (n m q : ℕ) (x y z : A) → m ≡ n → (if m == q then x else z) ≡ (if n == q then x else (if m == q then y else z))
@@ -84,14 +84,14 @@ written_here (Some entry) n q w other has = if_same n entry.number q (Some w) (S
 -- ---- a number is stored in a slot that is free or its own
 pub inserted_here : {V : Type 0} (o : Option (Entry V)) (n q : ℕ) (v : V) (old new : Option V) → is_free_for n o ≡ true → ((n ≡ q → ⊥) → new ≡ old)
     → (if n == q then Some v else new) ≡ (if n == q then Some v else value_or q o old)
-inserted_here None n q v old new free others = ⊎_elim
+inserted_here None n q v old new free overflow = ⊎_elim
     (λ e. let on : (n == q) ≡ true = eq-eqb n q e in ap (λ b. if b then Some v else new) on ∙ sym (ap (λ b. if b then Some v else old) on))
-    (λ apart. ap (λ x. if n == q then Some v else x) (others apart))
+    (λ apart. ap (λ x. if n == q then Some v else x) (overflow apart))
     (cases_eq n q)
-inserted_here (Some entry) n q v old new free others = ⊎_elim
+inserted_here (Some entry) n q v old new free overflow = ⊎_elim
     (λ e. let on : (n == q) ≡ true = eq-eqb n q e in ap (λ b. if b then Some v else new) on ∙ sym (ap (λ b. if b then Some v else value_or q (Some entry) old) on))
     (λ apart.
     let off : (entry.number == q) ≡ false = ap (λ k. k == q) (eqb-true entry.number n free) ∙ ne_eqb n q apart in
     let skipped : value_or q (Some entry) old ≡ old = ap (λ b. if b then Some entry.value else old) off in
-    ap (λ x. if n == q then Some v else x) (others apart ∙ sym skipped))
+    ap (λ x. if n == q then Some v else x) (overflow apart ∙ sym skipped))
     (cases_eq n q)

@@ -1,7 +1,7 @@
 -- Properties of the elements of a list that was read or checked.
 use Rattle.std.proofs.Common.{◌≡◌, ℕ, zero, suc, ◌+◌, List, [], ◌∷◌, length, map, slice_get, Some, Result, Ok, refl, sym, ap, subst, ◌∙◌, arith, zero-add}
 use Rattle.support.specs.Reading.{read_each}
-use Rattle.support.proofs.Steps.{bind_ok, given_same}
+use Rattle.support.proofs.Steps.{bind_ok, ok_injective}
 
 -- the first value and the rest of a list that was read
 read_parts : {X Y F : Type 0} (read : ℕ → X → Result Y F) (n : ℕ) (x : X) (xs : List X) (ys : List Y) → read_each read n (x ∷ xs) ≡ Ok ys
@@ -9,11 +9,11 @@ read_parts : {X Y F : Type 0} (read : ℕ → X → Result Y F) (n : ℕ) (x : X
 read_parts {F = F} read n x xs ys e =
     let a = bind_ok (read n x) _ _ e in
     let b = bind_ok (read_each read (n + 1) xs) _ _ a.2 in
-    (a.0, b.0, a.1, b.1, sym (given_same {F = F} _ _ b.2))
+    (a.0, b.0, a.1, b.1, sym (ok_injective {F = F} _ _ b.2))
 
 -- there is one value for each element
 pub read_length : {X Y F : Type 0} (read : ℕ → X → Result Y F) (n : ℕ) (xs : List X) (ys : List Y) → read_each read n xs ≡ Ok ys → length ys ≡ length xs
-read_length {F = F} read n [] ys e = ap (λ (zs : List _). length zs) (sym (given_same {F = F} _ _ e))
+read_length {F = F} read n [] ys e = ap (λ (zs : List _). length zs) (sym (ok_injective {F = F} _ _ e))
 read_length read n (x ∷ xs) ys e =
     let parts = read_parts read n x xs ys e in
     ap (λ (zs : List _). length zs) parts.4 ∙ ap (λ (m : ℕ). suc m) (read_length read (n + 1) xs parts.1 parts.3)
@@ -22,7 +22,7 @@ read_length read n (x ∷ xs) ys e =
 read_from : {X Y F : Type 0} (read : ℕ → X → Result Y F) (n : ℕ) (xs : List X) (ys : List Y) (i : ℕ) (y : Y) → read_each read n xs ≡ Ok ys → slice_get ys i ≡ Some y
     → (x : X) × (slice_get xs i ≡ Some x) × (read (n + i) x ≡ Ok y)
 read_from {F = F} read n [] ys i y e here =
-    let none = given_same {F = F} _ _ e in
+    let none = ok_injective {F = F} _ _ e in
     let nowhere = subst (λ (zs : List _). slice_get zs i ≡ Some y) (sym none) here in
     absurd cc
 read_from read n (x ∷ xs) ys zero y e here =
@@ -47,7 +47,7 @@ read_at read xs ys i y e here =
 -- an image that each reading preserves is preserved for the list
 read_images_from : {X Y Z F : Type 0} (read : ℕ → X → Result Y F) (f : X → Z) (g : Y → Z) (n : ℕ) (xs : List X) (ys : List Y) → ((i : ℕ) (x : X) (y : Y) → read i x ≡ Ok y → g y ≡ f x)
     → read_each read n xs ≡ Ok ys → map g ys ≡ map f xs
-read_images_from {F = F} read f g n [] ys same e = ap (map g) (sym (given_same {F = F} _ _ e))
+read_images_from {F = F} read f g n [] ys same e = ap (map g) (sym (ok_injective {F = F} _ _ e))
 read_images_from read f g n (x ∷ xs) ys same e =
     let parts = read_parts read n x xs ys e in
     let rest = read_images_from read f g (n + 1) xs parts.1 same parts.3 in

@@ -4,15 +4,15 @@ use Rattle.std.specs.Prelude.{Vec}
 use Rattle.std.specs.declared.alloc.Global.{Global}
 use Rattle.std.proofs.lemmas.List.{append-nil}
 use Rattle.support.specs.Reading.{◌>>=◌, read_each}
-use Rattle.support.specs.Given.{Gives, Fails}
-use Rattle.support.specs.Each.{AllGave, OneFailed, EachGave, IsReadOfEach}
+use Rattle.support.specs.Results.{Gives, Fails}
+use Rattle.support.specs.Each.{AllReturned, OneFailed, EachReturned, IsReadOfEach}
 use Rattle.support.specs.declared.read_error.ReadError.{ReadError}
 use Rattle.support.specs.declared.read_error.ReadError.TheVariants.{Memory, Fault}
 use Rattle.support.proofs.Loops.{drop_at}
 
 -- the values of the first i elements; the result for the other elements determines the result for all
 pub record ReadSoFar {X Y F : Type 0} (reads : ℕ → X → Result Y (ReadError F) → Type 0) (xs : List X) (i : ℕ) (ys : List Y) : Type 0 where
-  pub gives : (rest : List Y) → AllGave reads i (drop i xs) rest → AllGave reads 0 xs (ys ++ rest)
+  pub gives : (rest : List Y) → AllReturned reads i (drop i xs) rest → AllReturned reads 0 xs (ys ++ rest)
   pub fails : (fault : F) → OneFailed reads i (drop i xs) fault → OneFailed reads 0 xs fault
 
 -- before the first element
@@ -20,31 +20,31 @@ pub read_begins : {X Y F : Type 0} (reads : ℕ → X → Result Y (ReadError F)
 read_begins reads xs = record { gives = λ rest h. h; fails = λ fault h. h }
 
 -- after one more element
-pub read_goes_on : {X Y F : Type 0} (reads : ℕ → X → Result Y (ReadError F) → Type 0) (xs : List X) (i : ℕ) (ys : List Y) (x : X) (y : Y) → slice_get xs i ≡ Some x → reads i x (Ok y)
+pub read_continues : {X Y F : Type 0} (reads : ℕ → X → Result Y (ReadError F) → Type 0) (xs : List X) (i : ℕ) (ys : List Y) (x : X) (y : Y) → slice_get xs i ≡ Some x → reads i x (Ok y)
     → ReadSoFar reads xs i ys → ReadSoFar reads xs (i + 1) (ys ++ y ∷ [])
-read_goes_on reads xs i ys x y here gave so_far =
+read_continues reads xs i ys x y here gave prior =
     let later : drop i xs ≡ x ∷ drop (i + 1) xs = rw add-one (drop_at xs i x here) in
     record {
-      gives = λ rest h. rw append_assoc (so_far.gives (y ∷ rest) (subst (λ (zs : List _). AllGave reads i zs (y ∷ rest)) (sym later) (gave, h)));
-      fails = λ fault h. so_far.fails fault (subst (λ (zs : List _). OneFailed reads i zs fault) (sym later) (inr (y, gave, h)));
+      gives = λ rest h. rw append_assoc (prior.gives (y ∷ rest) (subst (λ (zs : List _). AllReturned reads i zs (y ∷ rest)) (sym later) (gave, h)));
+      fails = λ fault h. prior.fails fault (subst (λ (zs : List _). OneFailed reads i zs fault) (sym later) (inr (y, gave, h)));
     }
 
 -- the error of an element is the error of the list
 pub read_stops : {X Y F : Type 0} (error : ReadError F) (reads : ℕ → X → Result Y (ReadError F) → Type 0) (xs : List X) (i : ℕ) (ys : List Y) (x : X) → slice_get xs i ≡ Some x → reads i x (Err error)
-    → ReadSoFar reads xs i ys → EachGave {Y = Y} reads xs (Err error)
-read_stops Memory reads xs i ys x here failed so_far = tt
-read_stops (Fault fault) reads xs i ys x here failed so_far =
-    so_far.fails fault (subst (λ (zs : List _). OneFailed reads i zs fault) (sym (drop_at xs i x here)) (inl failed))
+    → ReadSoFar reads xs i ys → EachReturned {Y = Y} reads xs (Err error)
+read_stops Memory reads xs i ys x here failed prior = tt
+read_stops (Fault fault) reads xs i ys x here failed prior =
+    prior.fails fault (subst (λ (zs : List _). OneFailed reads i zs fault) (sym (drop_at xs i x here)) (inl failed))
 
 -- after the last element
-none_left : {X Y F : Type 0} (reads : ℕ → X → Result Y (ReadError F) → Type 0) (n : ℕ) (xs : List X) (i : ℕ) → length xs ≤ i → AllGave reads n (drop i xs) []
+none_left : {X Y F : Type 0} (reads : ℕ → X → Result Y (ReadError F) → Type 0) (n : ℕ) (xs : List X) (i : ℕ) → length xs ≤ i → AllReturned reads n (drop i xs) []
 none_left reads n [] zero past = tt
 none_left reads n [] (suc i) past = tt
 none_left reads n (x ∷ xs) zero past = absurd (omega (arith, past))
 none_left reads n (x ∷ xs) (suc i) past = none_left reads n xs i (omega (arith, past))
 
-pub read_ends : {X Y F : Type 0} (reads : ℕ → X → Result Y (ReadError F) → Type 0) (xs : List X) (i : ℕ) (ys : List Y) → length xs ≤ i → ReadSoFar reads xs i ys → AllGave reads 0 xs ys
-read_ends reads xs i ys past so_far = subst (λ (zs : List _). AllGave reads 0 xs zs) (append-nil ys) (so_far.gives [] (none_left reads i xs i past))
+pub read_ends : {X Y F : Type 0} (reads : ℕ → X → Result Y (ReadError F) → Type 0) (xs : List X) (i : ℕ) (ys : List Y) → length xs ≤ i → ReadSoFar reads xs i ys → AllReturned reads 0 xs ys
+read_ends reads xs i ys past prior = subst (λ (zs : List _). AllReturned reads 0 xs zs) (append-nil ys) (prior.gives [] (none_left reads i xs i past))
 
 -- ---- each call returns the value of a definition
 module _ {X Y Z W F : Type 0} (reads : ℕ → X → Result Y (ReadError F) → Type 0) (seen : X → Z) (view : Y → W) (read : ℕ → Z → Result W F) where
@@ -52,7 +52,7 @@ module _ {X Y Z W F : Type 0} (reads : ℕ → X → Result Y (ReadError F) → 
   abbrev pub GivesOne : Type 0
   GivesOne = (i : ℕ) (x : X) (given : Result Y (ReadError F)) → reads i x given → Gives view given (read i (seen x))
 
-  all_given : GivesOne → (i : ℕ) (xs : List X) (ys : List Y) → AllGave reads i xs ys → read_each read i (map seen xs) ≡ Ok (map view ys)
+  all_given : GivesOne → (i : ℕ) (xs : List X) (ys : List Y) → AllReturned reads i xs ys → read_each read i (map seen xs) ≡ Ok (map view ys)
   all_given one i [] [] h = refl
   all_given one i [] (y ∷ ys) h = absurd h
   all_given one i (x ∷ xs) [] h = absurd h
@@ -63,7 +63,7 @@ module _ {X Y Z W F : Type 0} (reads : ℕ → X → Result Y (ReadError F) → 
   one_failed one i (x ∷ xs) fault (inl h) = rw (one i x (Err (Fault fault)) h) refl
   one_failed one i (x ∷ xs) fault (inr h) = rw (one i x (Ok h.0) h.1, one_failed one (i + 1) xs fault h.2) refl
 
-  each_given : GivesOne → (xs : List X) (result : Result (Vec Y Global) (ReadError F)) → EachGave reads xs result → Gives (λ ys. map view ys.items) result (read_each read 0 (map seen xs))
+  each_given : GivesOne → (xs : List X) (result : Result (Vec Y Global) (ReadError F)) → EachReturned reads xs result → Gives (λ ys. map view ys.items) result (read_each read 0 (map seen xs))
   each_given one xs (Ok ys) h = all_given one 0 xs ys.items h
   each_given one xs (Err Memory) h = tt
   each_given one xs (Err (Fault fault)) h = one_failed one 0 xs fault h

@@ -2,15 +2,15 @@
 use Rattle.std.proofs.Common.{◌≡◌, Bool, true, false, Option, None, Some, Result, Ok, Err, refl}
 use Rattle.support.specs.declared.read_error.ReadError.{ReadError}
 use Rattle.support.specs.declared.read_error.ReadError.TheVariants.{Memory, Fault}
-use Rattle.support.specs.Reading.{◌>>=◌, holds_or, some_or}
-use Rattle.support.specs.Given.{Fails}
+use Rattle.support.specs.Reading.{◌>>=◌, ensure, ok_or}
+use Rattle.support.specs.Results.{Fails}
 
 abbrev pub given : {A F : Type 0} → A → Result A F
 given x = Ok x
 
 -- a result has one value
-pub given_same : {A F : Type 0} (x y : A) → given {F = F} x ≡ given y → x ≡ y
-given_same x y e = cc
+pub ok_injective : {A F : Type 0} (x y : A) → given {F = F} x ≡ given y → x ≡ y
+ok_injective x y e = cc
 
 -- if two steps succeed, the second used the value of the first
 pub bind_ok : {A B F : Type 0} (r : Result A F) (f : A → Result B F) (y : B) → (r >>= f) ≡ Ok y → (x : A) × (r ≡ Ok x) × (f x ≡ Ok y)
@@ -23,12 +23,12 @@ bind_ok_then (Ok x) f y e next = next x refl e
 bind_ok_then (Err fault) f y e next = absurd cc
 
 -- a test without a fault holds
-pub holds_ok : {F : Type 0} (b : Bool) (fault : F) → holds_or b fault ≡ Ok tt → b ≡ true
+pub holds_ok : {F : Type 0} (b : Bool) (fault : F) → ensure b fault ≡ Ok tt → b ≡ true
 holds_ok true fault e = refl
 holds_ok false fault e = absurd cc
 
 -- a value without a fault is present
-pub some_ok : {A F : Type 0} (o : Option A) (fault : F) (x : A) → some_or o fault ≡ Ok x → o ≡ Some x
+pub some_ok : {A F : Type 0} (o : Option A) (fault : F) (x : A) → ok_or o fault ≡ Ok x → o ≡ Some x
 some_ok (Some y) fault x e = cc
 some_ok None fault x e = absurd cc
 

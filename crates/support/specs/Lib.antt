@@ -1,12 +1,12 @@
 pub mod In
 pub mod Places
 pub mod Entry
-pub mod LentEntry
-pub mod LentOther
+pub mod MutEntry
+pub mod MutOverflow
 pub mod Numbered
-pub mod Lent
+pub mod MutValue
 pub mod Reading
-pub mod Given
+pub mod Results
 pub mod Each
 pub mod Name
 pub mod Number

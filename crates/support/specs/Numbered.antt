@@ -9,7 +9,7 @@ use Rattle.support.specs.Entry.{has_number, value_or, entry_at, taken}
 -- a table, in which each number has one slot, and the numbers whose slot was occupied
 pub record Numbered (V : Type 0) : Type 0 where
   pub slots : List (Option (Entry V))
-  pub others : List (ℕ × V)
+  pub overflow : List (ℕ × V)
 
 abbrev pub entry_code : {V : Type 0} → Coded V → Coded (Entry V)
 entry_code {V} code = code_by (ℕ × V) (coded× coded_ℕ code) (λ e. (e.number, e.value)) (λ p. record { number = p.0; value = p.1 }) (λ _. refl)
@@ -17,7 +17,7 @@ entry_code {V} code = code_by (ℕ × V) (coded× coded_ℕ code) (λ e. (e.numb
 abbrev pub numbered_code : {V : Type 0} → Coded V → Coded (Numbered V)
 numbered_code {V} code =
     code_by (List (Option (Entry V)) × List (ℕ × V)) (coded× (coded_list (coded_option (entry_code code))) (coded_list (coded× coded_ℕ code)))
-    (λ t. (t.slots, t.others)) (λ p. record { slots = p.0; others = p.1 }) (λ _. refl)
+    (λ t. (t.slots, t.overflow)) (λ p. record { slots = p.0; overflow = p.1 }) (λ _. refl)
 
 abbrev pub place_of : ℕ → ℕ
 place_of number = number % TABLE_LEN
@@ -25,20 +25,20 @@ place_of number = number % TABLE_LEN
 module _ {V : Type 0} where
   -- the value of the number
   unfoldable pub value_at : Numbered V → ℕ → Option V
-  value_at table n = value_or n (entry_at table.slots (place_of n)) (lookup (nat_eq n) table.others)
+  value_at table n = value_or n (entry_at table.slots (place_of n)) (lookup (nat_eq n) table.overflow)
 
   -- the number of numbers that have a value
   unfoldable pub count_of : Numbered V → ℕ
-  count_of table = taken table.slots + length table.others
+  count_of table = taken table.slots + length table.overflow
 
   -- each number in the table is in its own slot
   abbrev pub AreInPlace : List (Option (Entry V)) → Type 0
   AreInPlace slots = (p n : ℕ) → has_number n (entry_at slots p) ≡ true → place_of n ≡ p
 
   -- and none of them is in the map too
-  pub record IsTable (slots : List (Option (Entry V))) (others : List (ℕ × V)) : Type 0 where
+  pub record IsTable (slots : List (Option (Entry V))) (overflow : List (ℕ × V)) : Type 0 where
     pub in_place : AreInPlace slots
-    pub once : (n : ℕ) → has_number n (entry_at slots (place_of n)) ≡ true → lookup (nat_eq n) others ≡ None
+    pub once : (n : ℕ) → has_number n (entry_at slots (place_of n)) ≡ true → lookup (nat_eq n) overflow ≡ None
 
   -- the table after w was written through the reference that `get_mut` returned for a number with a value
   pub record IsWritten (old : Numbered V) (n : ℕ) (w : V) (new : Numbered V) : Type 0 where

@@ -8,13 +8,13 @@ abbrev pub ◌>>=◌ : {A B F : Type 0} → Result A F → (A → Result B F) �
 (Err e) >>= f = Err e
 
 -- succeeds if the test holds, and otherwise fails with the fault
-abbrev pub holds_or : {F : Type 0} → Bool → F → Result (Unit {0}) F
-holds_or b fault = if b then Ok tt else Err fault
+abbrev pub ensure : {F : Type 0} → Bool → F → Result (Unit {0}) F
+ensure b fault = if b then Ok tt else Err fault
 
 -- the value, or the fault if there is none
-abbrev pub some_or : {A F : Type 0} → Option A → F → Result A F
-some_or (Some x) fault = Ok x
-some_or None fault = Err fault
+abbrev pub ok_or : {A F : Type 0} → Option A → F → Result A F
+ok_or (Some x) fault = Ok x
+ok_or None fault = Err fault
 
 -- checks each element with its index, counted from i
 abbrev pub check_each : {X F : Type 0} → (ℕ → X → Result (Unit {0}) F) → ℕ → List X → Result (Unit {0}) F

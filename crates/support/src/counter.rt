@@ -12,7 +12,7 @@ use std::marker::Model;
 /// Stores the text of all digits except the last. That text changes only with every tenth number.
 #[derive(Drop)]
 pub struct Counter {
-    front: String,
+    prefix: String,
     tens: u64,
     last_digit: u8,
 }
@@ -25,7 +25,7 @@ impl Model for Counter {
 
     ghost view = { λ c. c.tens * 10 + c.last_digit };
 
-    ghost invariant = { λ c. (string_bytes c.front ≡ tens_text c.tens) × (c.last_digit < 10) × (c.tens * 10 + c.last_digit < 2 ^ 64) };
+    ghost invariant = { λ c. (string_bytes c.prefix ≡ tens_text c.tens) × (c.last_digit < 10) × (c.tens * 10 + c.last_digit < 2 ^ 64) };
 }
 
 impl Counter {
@@ -34,7 +34,7 @@ impl Counter {
         ensures { result ≡ 0 }
     {
         Counter {
-            front: String::new(alloc),
+            prefix: String::new(alloc),
             tens: 0,
             last_digit: 0,
         }
@@ -58,7 +58,7 @@ impl Counter {
         }
         let tens = self.tens + 1;
         let mut digits = Buffer::new();
-        self.front.replace_range(.., digits.format(tens))?;
+        self.prefix.replace_range(.., digits.format(tens))?;
         self.tens = tens;
         self.last_digit = 0;
         Ok(())
@@ -81,7 +81,7 @@ impl Counter {
     pub fn push_to(&self, text: &mut String) -> Result<(), AllocError>
         ensures { Pushes result text.old text.new (decimal self.now) }
     {
-        text.push_str(&self.front)?;
+        text.push_str(&self.prefix)?;
         text.push((b'0' + self.last_digit) as char)
     }
 }

@@ -4,7 +4,7 @@ ghost use Rattle.std.specs.Prelude.{◌≡◌, None};
 ghost use Rattle.std.specs.Option.{option_copied_mut};
 ghost use Rattle.std.specs.Borrow.{sem};
 ghost use Rattle.support.specs.Entry.{has_number, is_free_for, value_in};
-ghost use Rattle.support.specs.LentEntry.{lends_value_in};
+ghost use Rattle.support.specs.MutEntry.{returns_mut_value_in};
 
 /// A number with its value.
 #[derive(Drop)]
@@ -38,7 +38,7 @@ pub(crate) fn is_free_for<V>(slot: &Option<Entry<V>>, number: usize) -> bool
 /// Returns a mutable reference to the value in the slot.
 #[inline(always)]
 pub(crate) fn value_in<V>(slot: &mut Option<Entry<V>>) -> Option<&mut V>
-    ensures* writes_back { sem 𝓛 (lends_value_in V.row slot.entry result) }
+    ensures* writes_back { sem 𝓛 (returns_mut_value_in V.row slot.entry result) }
     ensures value { option_copied_mut result ≡ value_in slot.old }
 {
     match slot {

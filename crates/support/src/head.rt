@@ -9,9 +9,9 @@ use std::fmt;
 /// The number and name at the start of a fault's text, such as `fault 6 BadName`. The place of the
 /// fault can follow.
 #[derive(Clone, Copy, PartialEq, Eq)]
-pub struct Head(pub u8);
+pub struct FaultHead(pub u8);
 
-impl fmt::Display for Head {
+impl fmt::Display for FaultHead {
     ghost output = { λ head. Some (spec.head head.0) };
 
     fn fmt<W: fmt::Write>(&self, f: &mut fmt::Formatter<W>) -> fmt::Result {

@@ -22,8 +22,8 @@ pub(crate) fn place_of(number: usize) -> usize
 
 /// Returns whether the number is in its slot.
 #[inline(always)]
-pub(crate) fn stands_in<V>(slots: &Vec<Option<Entry<V>>>, number: usize) -> bool
-    ensures stands { result ≡ has_number number (entry_at slots.now.items (place_of number)) }
+pub(crate) fn is_in_slot<V>(slots: &Vec<Option<Entry<V>>>, number: usize) -> bool
+    ensures in_slot { result ≡ has_number number (entry_at slots.now.items (place_of number)) }
     ensures inside { IsTrue result → place_of number < vec_len slots.now }
 {
     let place = place_of(number);
@@ -32,7 +32,7 @@ pub(crate) fn stands_in<V>(slots: &Vec<Option<Entry<V>>>, number: usize) -> bool
 
 /// Returns whether the slot of the number is free or holds the number.
 #[inline(always)]
-pub(crate) fn may_stand_in<V>(slots: &Vec<Option<Entry<V>>>, number: usize) -> bool
+pub(crate) fn can_store<V>(slots: &Vec<Option<Entry<V>>>, number: usize) -> bool
     ensures { result
         ≡ (nat_lt (place_of number) (length slots.now.items) && is_free_for number
         (entry_at slots.now.items (place_of number))) }
@@ -43,7 +43,7 @@ pub(crate) fn may_stand_in<V>(slots: &Vec<Option<Entry<V>>>, number: usize) -> b
 
 /// Stores the number in its slot, with this value.
 #[inline(always)]
-pub(crate) fn put<V: Drop>(slots: &mut Vec<Option<Entry<V>>>, number: usize, value: V)
+pub(crate) fn store<V: Drop>(slots: &mut Vec<Option<Entry<V>>>, number: usize, value: V)
     requires { place_of number < vec_len slots.old }
     ensures { slots.new.items
         ≡ slice_set slots.old.items (place_of number)
@@ -58,19 +58,19 @@ pub(crate) fn put<V: Drop>(slots: &mut Vec<Option<Entry<V>>>, number: usize, val
 ///
 /// Returns `AllocError` if memory runs out.
 #[inline(always)]
-pub(crate) fn make<V: Drop>(slots: &mut Vec<Option<Entry<V>>>) -> Result<(), AllocError>
+pub(crate) fn allocate<V: Drop>(slots: &mut Vec<Option<Entry<V>>>) -> Result<(), AllocError>
     ensures { HasSameEntries slots.old.items slots.new.items }
 {
     if !slots.is_empty() {
         return Ok(());
     }
-    lay_out(slots, TABLE_LEN)
+    allocate_slots(slots, TABLE_LEN)
 }
 
 // Allocates `len` free slots. There must be none yet.
 #[cold]
 #[inline(never)]
-fn lay_out<V: Drop>(slots: &mut Vec<Option<Entry<V>>>, len: usize) -> Result<(), AllocError>
+fn allocate_slots<V: Drop>(slots: &mut Vec<Option<Entry<V>>>, len: usize) -> Result<(), AllocError>
     requires { slots.old.items ≡ [] }
     ensures { AreFree slots.new.items }
 {
@@ -91,7 +91,7 @@ pub(crate) fn push_numbers<V>(
     numbers: &mut Vec<usize>,
 ) -> Result<(), AllocError>
     requires in_place { AreInPlace slots.now.items }
-    requires others { (n : ℕ)
+    requires overflow { (n : ℕ)
         → has_number n (entry_at slots.now.items (place_of n)) ≡ true
         → is_member nat_eq numbers.old.items n ≡ false }
     requires once { IsDistinct nat_eq numbers.old.items }

@@ -45,12 +45,12 @@ const TWO_POOLS_CERT: &str = r#"{"version": 1, "pools": [
 /// A gate that holds the first pool until another has begun, for at most 10,000 turns of a
 /// millisecond.
 #[derive(Drop)]
-struct Meeting<'a, C> {
+struct Rendezvous<'a, C> {
     clock: &'a C,
     begun: AtomicU64,
 }
 
-impl<C: Clock + Sync> PoolGate for Meeting<'_, C> {
+impl<C: Clock + Sync> PoolGate for Rendezvous<'_, C> {
     fn begin(&self, _pool: usize) -> bool {
         if self.begun.fetch_add(1, Ordering::SeqCst) > 0 {
             return true;
@@ -78,7 +78,7 @@ impl PoolGate for Only {
 /// Two workers check two pools concurrently: one worker alone would never pass the gate.
 #[test]
 fn two_pools_are_looked_at_at_once(rt: HostRuntime) -> Result<(), Fail> {
-    let gate = Meeting {
+    let gate = Rendezvous {
         clock: &rt,
         begun: AtomicU64::new(0),
     };

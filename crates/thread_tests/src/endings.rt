@@ -1,6 +1,6 @@
 //! Runs of plans of many kinds, each of which ends.
 
-use crate::gates::{Counting, Napping};
+use crate::gates::{Counting, RandomDelay};
 use crate::plans::{TWO_CLIENTS, totals};
 use std::test::Fail;
 
@@ -103,7 +103,7 @@ fn every_run_ends(rt: HostRuntime) -> Result<(), Fail> {
 fn every_run_ends_whatever_time_its_work_takes(rt: HostRuntime) -> Result<(), Fail> {
     for (plan, rounds, jobs, units, _) in RUNS {
         for seed in [1, 1_000_000, 2_000_000] {
-            let run = totals(&rt, rt.alloc(), plan, *rounds, &Napping::new(&rt, seed));
+            let run = totals(&rt, rt.alloc(), plan, *rounds, &RandomDelay::new(&rt, seed));
             assert_eq!(rt; run, Ok((*jobs, *units)), "{seed} {plan}");
         }
     }

@@ -120,21 +120,21 @@ fn counted(share: &Share) -> (u64, u64) {
 // A gate whose work takes between no time and a third of a millisecond, chosen by a random
 // generator with a seed.
 #[derive(Drop)]
-pub(crate) struct Napping<'a, C: Clock + Sync> {
+pub(crate) struct RandomDelay<'a, C: Clock + Sync> {
     clock: &'a C,
     chance: AtomicU64,
 }
 
-impl<'a, C: Clock + Sync> Napping<'a, C> {
-    pub(crate) fn new(clock: &'a C, seed: u64) -> Napping<'a, C> {
-        Napping {
+impl<'a, C: Clock + Sync> RandomDelay<'a, C> {
+    pub(crate) fn new(clock: &'a C, seed: u64) -> RandomDelay<'a, C> {
+        RandomDelay {
             clock,
             chance: AtomicU64::new(seed),
         }
     }
 }
 
-impl<C: Clock + Sync> Gate for Napping<'_, C> {
+impl<C: Clock + Sync> Gate for RandomDelay<'_, C> {
     fn work(&self, _actor: Actor, _units: u32) -> Result<(), GateFault> {
         let drawn = drawn_from(self.chance.fetch_add(1, Ordering::SeqCst));
         if drawn % 4 > 0 {
@@ -156,7 +156,7 @@ fn drawn_from(number: u64) -> u64 {
 
 // The actors whose work is held.
 #[derive(Clone, Copy, PartialEq, Eq)]
-pub(crate) enum Who {
+pub(crate) enum HeldActors {
     Clients,
     Jobs,
 }
@@ -164,31 +164,31 @@ pub(crate) enum Who {
 // A gate that holds the first work of these actors until a given number of them have begun, each
 // for at most 10,000 turns of a millisecond.
 #[derive(Drop)]
-pub(crate) struct Meeting<'a, C: Clock + Sync> {
+pub(crate) struct Rendezvous<'a, C: Clock + Sync> {
     clock: &'a C,
-    who: Who,
+    held_actors: HeldActors,
     enough: u64,
     begun: AtomicU64,
 }
 
-impl<'a, C: Clock + Sync> Meeting<'a, C> {
-    pub(crate) fn new(clock: &'a C, who: Who, enough: u64) -> Meeting<'a, C> {
-        Meeting {
+impl<'a, C: Clock + Sync> Rendezvous<'a, C> {
+    pub(crate) fn new(clock: &'a C, held_actors: HeldActors, enough: u64) -> Rendezvous<'a, C> {
+        Rendezvous {
             clock,
-            who,
+            held_actors,
             enough,
             begun: AtomicU64::new(0),
         }
     }
 }
 
-impl<C: Clock + Sync> Gate for Meeting<'_, C> {
+impl<C: Clock + Sync> Gate for Rendezvous<'_, C> {
     fn work(&self, actor: Actor, _units: u32) -> Result<(), GateFault> {
-        let who = match actor {
-            Actor::Client(_) => Who::Clients,
-            Actor::Job(_) => Who::Jobs,
+        let held_actors = match actor {
+            Actor::Client(_) => HeldActors::Clients,
+            Actor::Job(_) => HeldActors::Jobs,
         };
-        if who != self.who || self.begun.fetch_add(1, Ordering::SeqCst) >= self.enough {
+        if held_actors != self.held_actors || self.begun.fetch_add(1, Ordering::SeqCst) >= self.enough {
             return Ok(());
         }
         for _ in 0..10_000 {

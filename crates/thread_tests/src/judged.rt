@@ -47,7 +47,7 @@ fn receipts(alloc: Global, list: &[(u64, Event)]) -> Result<Vec<KeptReceipt>, Al
 }
 
 // Builds the results of a client's and a carrier's thread.
-fn met(
+fn thread_results(
     alloc: Global,
     history: &[Event],
     client: &[(u64, Event)],
@@ -86,7 +86,7 @@ fn judged<R: Abort + Threads + Wait + Sync>(
 #[test]
 fn a_whole_run_is_reported(rt: HostRuntime) -> Result<(), Fail> {
     let alloc = rt.alloc();
-    let met = met(alloc, WHOLE, CLIENT, CARRIER, None)?;
+    let met = thread_results(alloc, WHOLE, CLIENT, CARRIER, None)?;
     match judged(&rt, alloc, met) {
         Ok(report) => {
             assert_eq!(rt; (report.jobs, report.units, report.refused), (1, 1, 0));
@@ -188,7 +188,7 @@ const NO_RUNS: &[Case] = &[
 fn what_is_no_run_has_its_fault(rt: HostRuntime) -> Result<(), Fail> {
     let alloc = rt.alloc();
     for (name, history, client, carrier, fault, number, events) in NO_RUNS.iter().copied() {
-        let met = met(alloc, history, client, carrier, fault)?;
+        let met = thread_results(alloc, history, client, carrier, fault)?;
         let answered = judged(&rt, alloc, met).err();
         assert_eq!(rt; answered, Some(RunFault { number, events }), "{name}");
     }

@@ -1,7 +1,7 @@
 //! The number of rounds of a run, and its limits.
 
 use crate::gates::Counting;
-use crate::plans::{NESTED, certified, crowd, totals};
+use crate::plans::{NESTED, certified, many_clients, totals};
 use locked_runner::{RunFault, run};
 use std::alloc::Global;
 use std::sync::Wait;
@@ -63,7 +63,7 @@ const CROWDS: &[(u64, u64, Totals, u64)] = &[
 #[test]
 fn at_most_64_clients_and_64_threads_of_pools(rt: HostRuntime) -> Result<(), Fail> {
     for (clients, threads, wanted, calls) in CROWDS.iter().copied() {
-        let plan = crowd(rt.alloc(), clients, threads)?;
+        let plan = many_clients(rt.alloc(), clients, threads)?;
         let gate = Counting::new();
         let run = totals(&rt, rt.alloc(), &plan, 1, &gate);
         assert_eq!(rt; run, wanted, "{clients} clients, {threads} threads");
@@ -98,7 +98,7 @@ fn three_rounds_have_27_events(rt: HostRuntime) -> Result<(), Fail> {
 // Each of 64 clients submits and gets.
 #[test]
 fn each_thread_hands_back_its_receipts(rt: HostRuntime) -> Result<(), Fail> {
-    let plan = crowd(rt.alloc(), 64, 64)?;
+    let plan = many_clients(rt.alloc(), 64, 64)?;
     let back = handed_back(&rt, rt.alloc(), &plan, 1);
     let lists = back.map(|(lists, of_the_first, _)| (lists, of_the_first));
     assert_eq!(rt; lists, Some((128, 2)));

@@ -32,13 +32,13 @@ fn front_and_back(rt: &impl Abort, alloc: Global) -> Plan {
 // A gate that holds the first pool until a second one has begun, for `turns` turns of a
 // millisecond.
 #[derive(Drop)]
-struct Meeting<'a, C> {
+struct Rendezvous<'a, C> {
     clock: &'a C,
     turns: u64,
     begun: AtomicU64,
 }
 
-impl<C: Clock + Sync> PoolGate for Meeting<'_, C> {
+impl<C: Clock + Sync> PoolGate for Rendezvous<'_, C> {
     fn begin(&self, _pool: usize) -> bool {
         self.begun.fetch_add(1, Ordering::SeqCst);
         for _ in 0..self.turns {
@@ -56,7 +56,7 @@ impl<C: Clock + Sync> PoolGate for Meeting<'_, C> {
 #[test]
 fn two_workers_look_at_two_pools_together(rt: HostRuntime) {
     let plan = front_and_back(&rt, rt.alloc());
-    let gate = Meeting {
+    let gate = Rendezvous {
         clock: &rt,
         turns: 10_000,
         begun: AtomicU64::new(0),
@@ -69,7 +69,7 @@ fn two_workers_look_at_two_pools_together(rt: HostRuntime) {
 #[test]
 fn one_worker_looks_at_one_pool_at_a_time(rt: HostRuntime) {
     let plan = front_and_back(&rt, rt.alloc());
-    let gate = Meeting {
+    let gate = Rendezvous {
         clock: &rt,
         turns: 20,
         begun: AtomicU64::new(0),

@@ -10,8 +10,8 @@ use Rattle.job_bodies.specs.WellFormed.{IsWellFormed}
 use Rattle.job_bodies.specs.declared.action.Action.{Action}
 use Rattle.job_bodies.specs.declared.action.Action.TheVariants.{Work, Submit, Get}
 use Rattle.job_bodies.specs.declared.limits.TheConstants.{MAX_SIZE, MAX_WEIGHT}
-use Rattle.job_bodies.specs.Plan.{Pool, no_pool, pool_at, Class, Client, submits, class_of_submit, class_got}
-use Rattle.job_bodies.specs.Lawful.{IsLawful}
+use Rattle.job_bodies.specs.Plan.{Pool, no_pool, pool_at, Class, Client, submits, class_of_submit, submitted_class}
+use Rattle.job_bodies.specs.ValidBody.{IsValidBody}
 use Rattle.job_bodies.proofs.Bodies.{list_all_enumerated, ordered}
 use Rattle.weights.specs.Body.{IsWeighed}
 use Rattle.weights.specs.Vector.{Vector, workers_weight, class_weights, client_weights, job_weight, queued_weight, done_weight, is_small, vector_fits}
@@ -96,7 +96,7 @@ class_fits plan v k class well all here =
       pool = omega (arith, f.workers);
       long = long;
       weighed = record {
-        lawful = subst (λ (c : Class). IsLawful plan c.body) same ((ordered plan well).classes k);
+        valid = subst (λ (c : Class). IsValidBody plan c.body) same ((ordered plan well).classes k);
         long = omega arith;
         small = λ i. subst (λ (n : ℕ). n ≤ MAX_WEIGHT) (sym (at_position v k i)) (f.small_class k (i + 1));
       };
@@ -127,7 +127,7 @@ client_fits plan v c client well all here =
       known = omega (arith, f.clients);
       long = long;
       weighed = record {
-        lawful = subst (λ (k : Client). IsLawful plan k.body) same ((ordered plan well).clients c);
+        valid = subst (λ (k : Client). IsValidBody plan k.body) same ((ordered plan well).clients c);
         long = omega arith;
         small = f.small_client c;
       };
@@ -140,13 +140,13 @@ submitted_known plan v k all inside =
     omega arith
 
 -- the class of a job that a valid body gets exists
-pub got_known : (plan : Plan) (body : List Action) (i t : ℕ) → IsLawful plan body → slice_get body i ≡ Some (Get t) → class_got body t < length plan.classes
-got_known plan body i t lawful here = of_submit (slice_get body t) refl (lawful.of_submit i t here)
+pub got_known : (plan : Plan) (body : List Action) (i t : ℕ) → IsValidBody plan body → slice_get body i ≡ Some (Get t) → submitted_class body t < length plan.classes
+got_known plan body i t valid here = of_submit (slice_get body t) refl (valid.of_submit i t here)
   where
     of_submit : (found : Option Action) → slice_get body t ≡ found → submits found ≡ true → class_of_submit found < length plan.classes
     of_submit None e s = absurd cc
     of_submit (Some (Work u)) e s = absurd cc
-    of_submit (Some (Submit k)) e s = lawful.submit t k e
+    of_submit (Some (Submit k)) e s = valid.submit t k e
     of_submit (Some (Get u)) e s = absurd cc
 
 -- the maximum of a pool is within the limit

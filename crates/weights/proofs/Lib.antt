@@ -1,4 +1,4 @@
-pub mod Seen
+pub mod FirstFailing
 pub mod Walks
 pub mod Fitting
 pub mod Loops

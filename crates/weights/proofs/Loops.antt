@@ -14,20 +14,20 @@ turn {X} F xs i x inside here =
 -- if one more element passes, those after it decide
 pub passes_more : {X : Type 0} (test : ℕ × X → Bool) (xs : List X) (i : ℕ) (x : X) (all : Bool) → i < length xs → x ≡ get_or xs i x → test (i, x) ≡ true
     → list_all test (enumerate_from i (drop i xs)) ≡ all → list_all test (enumerate_from (i + 1) (drop (i + 1) xs)) ≡ all
-passes_more test xs i x all inside here passes so_far =
+passes_more test xs i x all inside here passes prior =
     let one = turn (list_all test) xs i x inside here in
-    sym (one ∙ ap (λ (b : Bool). b && list_all test (enumerate_from (i + 1) (drop (i + 1) xs))) passes) ∙ so_far
+    sym (one ∙ ap (λ (b : Bool). b && list_all test (enumerate_from (i + 1) (drop (i + 1) xs))) passes) ∙ prior
 
 -- if an element fails, the elements from it on fail
 pub fails_here : {X : Type 0} (test : ℕ × X → Bool) (xs : List X) (i : ℕ) (x : X) (all : Bool) → i < length xs → x ≡ get_or xs i x → test (i, x) ≡ false
     → list_all test (enumerate_from i (drop i xs)) ≡ all → false ≡ all
-fails_here test xs i x all inside here fails so_far =
+fails_here test xs i x all inside here fails prior =
     let one = turn (list_all test) xs i x inside here in
-    sym (one ∙ ap (λ (b : Bool). b && list_all test (enumerate_from (i + 1) (drop (i + 1) xs))) fails) ∙ so_far
+    sym (one ∙ ap (λ (b : Bool). b && list_all test (enumerate_from (i + 1) (drop (i + 1) xs))) fails) ∙ prior
 
 -- past the last element, the test has passed
 pub passes_all : {X : Type 0} (test : ℕ × X → Bool) (xs : List X) (i : ℕ) (all : Bool) → length xs ≤ i → list_all test (enumerate_from i (drop i xs)) ≡ all → true ≡ all
-passes_all {X} test xs i all past so_far = sym (at_drop_all (λ (ys : List X). list_all test (enumerate_from i ys)) xs i past) ∙ so_far
+passes_all {X} test xs i all past prior = sym (at_drop_all (λ (ys : List X). list_all test (enumerate_from i ys)) xs i past) ∙ prior
 
 -- the image of an element and the images of those after it
 pub images_turn : {X Y : Type 0} (test : Y → Bool) (view : X → Y) (xs : List X) (i : ℕ) (d : X) → i < length xs → list_all test (map view (drop i xs)) ≡ (test (view (get_or xs i d)) && list_all test (map view (drop (i + 1) xs)))
@@ -36,12 +36,12 @@ images_turn {X} test view xs i d inside = at_drop_more (λ (ys : List X). list_a
 -- after the addition of one more element
 pub sum_more : {X : Type 0} (f : ℕ × X → ℕ) (xs : List X) (i : ℕ) (x : X) (sum all : ℕ) → i < length xs → x ≡ get_or xs i x
     → sum + sum_by f (enumerate_from i (drop i xs)) ≡ all → sum + f (i, x) + sum_by f (enumerate_from (i + 1) (drop (i + 1) xs)) ≡ all
-sum_more f xs i x sum all inside here so_far =
+sum_more f xs i x sum all inside here prior =
     let one : sum_by f (enumerate_from i (drop i xs)) ≡ f (i, x) + sum_by f (enumerate_from (i + 1) (drop (i + 1) xs)) = turn (sum_by f) xs i x inside here ∙ sum_by-cons f (i, x) (enumerate_from (i + 1) (drop (i + 1) xs)) in
     omega arith
 
 -- past the last element, the sum is complete
 pub sum_all : {X : Type 0} (f : ℕ × X → ℕ) (xs : List X) (i sum all : ℕ) → length xs ≤ i → sum + sum_by f (enumerate_from i (drop i xs)) ≡ all → sum ≡ all
-sum_all {X} f xs i sum all past so_far =
+sum_all {X} f xs i sum all past prior =
     let none : sum_by f (enumerate_from i (drop i xs)) ≡ 0 = at_drop_all (λ (ys : List X). sum_by f (enumerate_from i ys)) xs i past in
     omega arith

@@ -5,9 +5,9 @@ use Rattle.std.proofs.lemmas.Bool.{and_parts, eqb-true, cases_lt, lt-leb, le-leb
 use Rattle.std.proofs.lemmas.Option.{slice_get-get_or, slice_get_within, get_or_from_slice_get}
 use Rattle.job_bodies.specs.declared.action.Action.{Action}
 use Rattle.job_bodies.specs.declared.action.Action.TheVariants.{Work, Get}
-use Rattle.job_bodies.specs.Plan.{Class, Plan, no_class, class_at, class_got}
+use Rattle.job_bodies.specs.Plan.{Class, Plan, no_class, class_at, submitted_class}
 use Rattle.job_bodies.specs.WellFormed.{IsWellFormed}
-use Rattle.job_bodies.specs.Lawful.{IsLawful}
+use Rattle.job_bodies.specs.ValidBody.{IsValidBody}
 use Rattle.job_bodies.proofs.Bodies.{ordered}
 use Rattle.job_bodies.specs.declared.limits.TheConstants.{MAX_WEIGHT}
 use Rattle.weights.proofs.Fitting.{small_in, got_known}
@@ -38,7 +38,7 @@ pub record ClassFits (plan : Plan) (ranks : Ranks) (k : ℕ) (class : Class) : T
   pub reach : k < length ranks.reach
   pub levels : k < length ranks.levels
   pub pool : class.pool < length ranks.pools
-  pub lawful : IsLawful plan class.body
+  pub valid : IsValidBody plan class.body
   pub is_class : class_at plan k ≡ class
 
 pub class_fits : (plan : Plan) (ranks : Ranks) (k : ℕ) (class : Class) → IsWellFormed plan → IsTrue (ranks_fit plan ranks) → slice_get plan.classes k ≡ Some class → ClassFits plan ranks k class
@@ -52,15 +52,15 @@ class_fits plan ranks k class well all here =
       reach = omega (arith, f.reach);
       levels = omega (arith, f.levels);
       pool = omega (arith, f.pools);
-      lawful = subst (λ (c : Class). IsLawful plan c.body) same ((ordered plan well).classes k);
+      valid = subst (λ (c : Class). IsValidBody plan c.body) same ((ordered plan well).classes k);
       is_class = same;
     }
 
 -- the class of the job that a get waits for has a reach
 pub got_reaches : (plan : Plan) (ranks : Ranks) (k : ℕ) (class : Class) (i t : ℕ) → IsWellFormed plan → IsTrue (ranks_fit plan ranks) → slice_get plan.classes k ≡ Some class → slice_get class.body i ≡ Some (Get t)
-    → class_got class.body t < length ranks.reach
+    → submitted_class class.body t < length ranks.reach
 got_reaches plan ranks k class i t well all here action =
-    let known = got_known plan class.body i t (class_fits plan ranks k class well all here).lawful action in
+    let known = got_known plan class.body i t (class_fits plan ranks k class well all here).valid action in
     omega (arith, (fitting plan ranks all).reach)
 
 -- the action at a position, as the code reads it
@@ -82,7 +82,7 @@ not_below a b = elim (cases_lt a b) [
 
 -- a get is counted if the reach of its job's class is at least the rank of its own class's pool
 pub get_counted : (plan : Plan) (ranks : Ranks) (k : ℕ) (class : Class) (i t : ℕ) → class_at plan k ≡ class → slice_get class.body i ≡ Some (Get t)
-    → leb (rank ranks class.pool) (reach ranks (class_got class.body t)) ≡ is_counted plan ranks k i
+    → leb (rank ranks class.pool) (reach ranks (submitted_class class.body t)) ≡ is_counted plan ranks k i
 get_counted plan ranks k class i t same here =
-    let at_class = λ (c : Class). not (ltb (reach ranks (class_got c.body t)) (rank ranks c.pool)) in
-    not_below (reach ranks (class_got class.body t)) (rank ranks class.pool) ∙ ap at_class (sym same) ∙ sym (counted_at plan ranks k class i (Get t) same here)
+    let at_class = λ (c : Class). not (ltb (reach ranks (submitted_class c.body t)) (rank ranks c.pool)) in
+    not_below (reach ranks (submitted_class class.body t)) (rank ranks class.pool) ∙ ap at_class (sym same) ∙ sym (counted_at plan ranks k class i (Get t) same here)

@@ -4,28 +4,28 @@ use Rattle.std.specs.Prelude.{cond, filter, if◌then◌else◌}
 use Rattle.std.specs.List.{flat_map, enumerate_from}
 use Rattle.std.proofs.lemmas.List.{append-nil, take_all}
 use Rattle.weights.specs.declared.row.Row.{Row}
-use Rattle.weights.specs.Takes.{Takes}
+use Rattle.weights.specs.Visits.{Visits}
 
 -- no row
-pub takes_none : {S : Type 0} (has_seen : S → List Row → Type 0) (old : S) → Takes has_seen old old []
-takes_none has_seen old = record { behind = λ before seen. subst (has_seen old) (sym (append-nil before)) seen }
+pub visits_none : {S : Type 0} (has_seen : S → List Row → Type 0) (old : S) → Visits has_seen old old []
+visits_none has_seen old = record { extends = λ before seen. subst (has_seen old) (sym (append-nil before)) seen }
 
 -- the rows of one walk, and then those of the next
-pub takes_then : {S : Type 0} (has_seen : S → List Row → Type 0) (old now new : S) (xs ys : List Row) → Takes has_seen old now xs → Takes has_seen now new ys → Takes has_seen old new (xs ++ ys)
-takes_then has_seen old now new xs ys first second =
-    record { behind = λ before seen. subst (has_seen new) (append_assoc before xs ys) (second.behind (before ++ xs) (first.behind before seen)) }
+pub visits_then : {S : Type 0} (has_seen : S → List Row → Type 0) (old now new : S) (xs ys : List Row) → Visits has_seen old now xs → Visits has_seen now new ys → Visits has_seen old new (xs ++ ys)
+visits_then has_seen old now new xs ys first second =
+    record { extends = λ before seen. subst (has_seen new) (append_assoc before xs ys) (second.extends (before ++ xs) (first.extends before seen)) }
 
 -- equal lists of rows
-pub takes_same : {S : Type 0} (has_seen : S → List Row → Type 0) (old new : S) (xs ys : List Row) → xs ≡ ys → Takes has_seen old new xs → Takes has_seen old new ys
-takes_same has_seen old new xs ys same taken = subst (λ (rows : List Row). Takes has_seen old new rows) same taken
+pub visits_same : {S : Type 0} (has_seen : S → List Row → Type 0) (old new : S) (xs ys : List Row) → xs ≡ ys → Visits has_seen old new xs → Visits has_seen old new ys
+visits_same has_seen old new xs ys same taken = subst (λ (rows : List Row). Visits has_seen old new rows) same taken
 
 -- the rows of all elements with their indices
 abbrev pub all_rows : {X : Type 0} → (ℕ → X → List Row) → ℕ → List X → List Row
 all_rows rows_at n xs = flat_map (λ entry. rows_at entry.0 entry.1) (enumerate_from n xs)
 
 -- the rows of the elements before index i were visited
-pub record Walked {S X : Type 0} (has_seen : S → List Row → Type 0) (old now : S) (rows_at : ℕ → X → List Row) (xs : List X) (i : ℕ) : Type 0 where
-  pub so_far : Takes has_seen old now (all_rows rows_at 0 (take i xs))
+pub record HasVisited {S X : Type 0} (has_seen : S → List Row → Type 0) (old now : S) (rows_at : ℕ → X → List Row) (xs : List X) (i : ℕ) : Type 0 where
+  pub prior : Visits has_seen old now (all_rows rows_at 0 (take i xs))
 
 -- after the rows of one more element
 rows_more : {X : Type 0} (rows_at : ℕ → X → List Row) (n : ℕ) (xs : List X) (i : ℕ) (x : X) → slice_get xs i ≡ Some x → all_rows rows_at n (take (suc i) xs) ≡ all_rows rows_at n (take i xs) ++ rows_at (n + i) x
@@ -38,20 +38,20 @@ rows_more rows_at n (y ∷ xs) (suc i) x here =
     let place : n + suc i ≡ n + 1 + i = omega arith in
     ap (λ (rows : List Row). rows_at n y ++ rows) (rows_more rows_at (n + 1) xs i x here) ∙ rw place (sym (append_assoc (rows_at n y) _ _))
 
-pub walk_begins : {S X : Type 0} (has_seen : S → List Row → Type 0) (old : S) (rows_at : ℕ → X → List Row) (xs : List X) → Walked has_seen old old rows_at xs 0
-walk_begins has_seen old rows_at xs = record { so_far = takes_none has_seen old }
+pub walk_begins : {S X : Type 0} (has_seen : S → List Row → Type 0) (old : S) (rows_at : ℕ → X → List Row) (xs : List X) → HasVisited has_seen old old rows_at xs 0
+walk_begins has_seen old rows_at xs = record { prior = visits_none has_seen old }
 
-pub walk_goes_on : {S X : Type 0} (has_seen : S → List Row → Type 0) (old now new : S) (rows_at : ℕ → X → List Row) (xs : List X) (i : ℕ) (x : X) → slice_get xs i ≡ Some x → Takes has_seen now new (rows_at i x)
-    → Walked has_seen old now rows_at xs i → Walked has_seen old new rows_at xs (i + 1)
-walk_goes_on has_seen old now new rows_at xs i x here taken walked =
-    let both = takes_then has_seen old now new _ _ walked.so_far taken in
+pub walk_continues : {S X : Type 0} (has_seen : S → List Row → Type 0) (old now new : S) (rows_at : ℕ → X → List Row) (xs : List X) (i : ℕ) (x : X) → slice_get xs i ≡ Some x → Visits has_seen now new (rows_at i x)
+    → HasVisited has_seen old now rows_at xs i → HasVisited has_seen old new rows_at xs (i + 1)
+walk_continues has_seen old now new rows_at xs i x here taken walked =
+    let both = visits_then has_seen old now new _ _ walked.prior taken in
     let more : all_rows rows_at 0 (take i xs) ++ rows_at i x ≡ all_rows rows_at 0 (take (i + 1) xs) =
     rw add-one (sym (rows_more rows_at 0 xs i x here ∙ rw zero-add refl)) in
-    record { so_far = takes_same has_seen old new _ _ more both }
+    record { prior = visits_same has_seen old new _ _ more both }
 
-pub walk_ends : {S X : Type 0} (has_seen : S → List Row → Type 0) (old new : S) (rows_at : ℕ → X → List Row) (xs : List X) (i : ℕ) → length xs ≤ i → Walked has_seen old new rows_at xs i → Takes has_seen old new (all_rows rows_at 0 xs)
+pub walk_ends : {S X : Type 0} (has_seen : S → List Row → Type 0) (old new : S) (rows_at : ℕ → X → List Row) (xs : List X) (i : ℕ) → length xs ≤ i → HasVisited has_seen old new rows_at xs i → Visits has_seen old new (all_rows rows_at 0 xs)
 walk_ends has_seen old new rows_at xs i past walked =
-    takes_same has_seen old new _ _ (ap (λ (ys : List _). all_rows rows_at 0 ys) (take_all i xs past)) walked.so_far
+    visits_same has_seen old new _ _ (ap (λ (ys : List _). all_rows rows_at 0 ys) (take_all i xs past)) walked.prior
 
 -- one row for each element
 pub one_each : {X : Type 0} (f : X → Row) (xs : List X) → flat_map (λ x. f x ∷ []) xs ≡ map f xs

@@ -9,7 +9,7 @@ use Rattle.weights.specs.declared.row.Place.TheVariants as place
 use Rattle.weights.specs.declared.row.Row.{Row}
 use Rattle.weights.specs.Row.{row}
 use Rattle.weights.specs.Vector.{Vector, job_weight, total}
-use Rattle.weights.specs.declared.at_get.AtGet.TheVariants.{GivesBack}
+use Rattle.weights.specs.declared.get_return.GetReturn.TheVariants.{DoneWeight}
 use Rattle.weights.specs.Rows.{rows, classes_of}
 
 abbrev pub is_get : Action → Bool
@@ -24,6 +24,6 @@ counted_rows counted v k class =
 
 abbrev pub blocked_rows : Plan → ℕ → (ℕ → ℕ → Bool) → Vector → List Row
 blocked_rows plan p counted v =
-    rows GivesBack plan v
+    rows DoneWeight plan v
     ++ flat_map (λ entry. counted_rows counted v entry.0 entry.1) (classes_of plan p)
     ++ row B2 place.Total (total plan v) ((pool_at plan p).core - 1) ∷ []

@@ -2,7 +2,7 @@
 use Rattle.std.specs.Prelude.{◌≤◌, ◌<◌, ℕ, List, length, slice_index}
 use Rattle.job_bodies.specs.declared.action.Action.{Action}
 use Rattle.job_bodies.specs.Plan.{Plan}
-use Rattle.job_bodies.specs.Lawful.{IsLawful}
+use Rattle.job_bodies.specs.ValidBody.{IsValidBody}
 use Rattle.job_bodies.specs.declared.limits.TheConstants.{MAX_WEIGHT}
 use Rattle.weights.specs.declared.row.Place.{Place}
 use Rattle.weights.specs.declared.row.Place.TheVariants.{ClassAction, ClientAction}
@@ -16,6 +16,6 @@ place_at (Client c) i = ClientAction c i
 
 -- a valid body with a weight for each of its positions, none above the limit
 pub record IsWeighed (plan : Plan) (actions : List Action) (weights : List ℕ) : Type 0 where
-  pub lawful : IsLawful plan actions
+  pub valid : IsValidBody plan actions
   pub long : length actions < length weights
   pub small : (i : ℕ) → slice_index weights i ≤ MAX_WEIGHT

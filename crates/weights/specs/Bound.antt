@@ -5,7 +5,7 @@ use Rattle.weights.specs.declared.row.Row.{Row}
 use Rattle.weights.specs.declared.bound.Bound.{Bound}
 use Rattle.weights.specs.declared.bound.Bound.TheVariants.{Standing, Lifetime}
 use Rattle.weights.specs.Vector.{Vector}
-use Rattle.weights.specs.AtGet.{AtGet, GivesBack, GivesNothing}
+use Rattle.weights.specs.GetReturn.{GetReturn, DoneWeight, NoWeight}
 use Rattle.weights.specs.Standing.{standing_rows}
 use Rattle.weights.specs.Lifetime.{lifetime_limit, lifetime_rows}
 
@@ -17,9 +17,9 @@ abbrev pub is_lifetime : Bound → Bool
 is_lifetime (Standing v) = false
 is_lifetime (Lifetime v) = true
 
-abbrev pub bound_at_get : Bound → AtGet
-bound_at_get (Standing v) = GivesBack
-bound_at_get (Lifetime v) = GivesNothing
+abbrev pub bound_get_return : Bound → GetReturn
+bound_get_return (Standing v) = DoneWeight
+bound_get_return (Lifetime v) = NoWeight
 
 -- the limit of the vector's total
 abbrev pub bound_limit : Plan → ℕ → Bound → ℕ

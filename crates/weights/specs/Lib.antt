@@ -1,7 +1,7 @@
 pub mod Row
-pub mod Takes
+pub mod Visits
 pub mod Vector
-pub mod AtGet
+pub mod GetReturn
 pub mod Body
 pub mod Rows
 pub mod Standing

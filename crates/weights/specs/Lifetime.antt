@@ -7,7 +7,7 @@ use Rattle.weights.specs.declared.row.Place.TheVariants as place
 use Rattle.weights.specs.declared.row.Row.{Row}
 use Rattle.weights.specs.Row.{row}
 use Rattle.weights.specs.Vector.{Vector, workers_weight, class_weights, total}
-use Rattle.weights.specs.AtGet.{GivesNothing}
+use Rattle.weights.specs.GetReturn.{NoWeight}
 use Rattle.weights.specs.Rows.{rows, classes_of}
 
 -- the number of jobs that a pool accepts before it can reject one: its queue and its maximum, less its prestarted threads
@@ -17,6 +17,6 @@ lifetime_limit pool = pool.queue + pool.max - first_workers pool
 abbrev pub lifetime_rows : Plan → ℕ → Vector → List Row
 lifetime_rows plan p v =
     map (λ entry. row L1 (place.Worker entry.0) (workers_weight v entry.0) 0) (enumerate_from 0 plan.pools)
-    ++ rows GivesNothing plan v
+    ++ rows NoWeight plan v
     ++ flat_map (λ entry. map (λ weight. row L2 (place.Class entry.0) 1 weight) (class_weights v entry.0)) (classes_of plan p)
     ++ row L3 place.Total (total plan v) (lifetime_limit (pool_at plan p)) ∷ []

@@ -3,7 +3,7 @@ use Rattle.std.specs.Prelude.{ℕ, ◌+◌, ◌==◌, ◌&&◌, not, nat_lt, Boo
 use Rattle.std.specs.List.{flat_map, list_all, enumerate_from}
 use Rattle.job_bodies.specs.declared.action.Action.{Action}
 use Rattle.job_bodies.specs.declared.action.Action.TheVariants.{Work, Submit, Get}
-use Rattle.job_bodies.specs.Plan.{Class, Plan, class_at, class_got}
+use Rattle.job_bodies.specs.Plan.{Class, Plan, class_at, submitted_class}
 use Rattle.weights.specs.declared.row.Rule.TheVariants.{K1, K2, K3}
 use Rattle.weights.specs.declared.row.Place.TheVariants as place
 use Rattle.weights.specs.declared.row.Row.{Row}
@@ -32,7 +32,7 @@ ranks_fit plan ranks =
 
 -- a get in class k is counted unless the reach of its job's class is below the rank of k's pool
 abbrev pub is_counted_action : Plan → Ranks → ℕ → Option Action → Bool
-is_counted_action plan ranks k (Some (Get t)) = not (nat_lt (reach ranks (class_got (class_at plan k).body t)) (rank ranks (class_at plan k).pool))
+is_counted_action plan ranks k (Some (Get t)) = not (nat_lt (reach ranks (submitted_class (class_at plan k).body t)) (rank ranks (class_at plan k).pool))
 is_counted_action plan ranks k _ = false
 
 -- the action at position i of class k is a counted get
@@ -42,7 +42,7 @@ is_counted plan ranks k i = is_counted_action plan ranks k (slice_get (class_at 
 abbrev pub rank_rows_of_action : Ranks → ℕ → List Action → ℕ → Action → List Row
 rank_rows_of_action ranks k body i (Work u) = []
 rank_rows_of_action ranks k body i (Submit k') = row K3 (place.ClassAction k i) (level ranks k' + 1) (level ranks k) ∷ []
-rank_rows_of_action ranks k body i (Get t) = row K2 (place.ClassAction k i) (reach ranks (class_got body t)) (reach ranks k) ∷ []
+rank_rows_of_action ranks k body i (Get t) = row K2 (place.ClassAction k i) (reach ranks (submitted_class body t)) (reach ranks k) ∷ []
 
 abbrev pub rank_rows_of_class : Ranks → ℕ → Class → List Row
 rank_rows_of_class ranks k class =

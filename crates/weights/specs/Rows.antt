@@ -3,40 +3,40 @@ use Rattle.std.specs.Prelude.{ℕ, ◌+◌, ◌==◌, if◌then◌else◌, List,
 use Rattle.std.specs.List.{flat_map, enumerate_from}
 use Rattle.job_bodies.specs.declared.action.Action.{Action}
 use Rattle.job_bodies.specs.declared.action.Action.TheVariants.{Work, Submit, Get}
-use Rattle.job_bodies.specs.Plan.{Class, Client, Plan, class_got}
+use Rattle.job_bodies.specs.Plan.{Class, Client, Plan, submitted_class}
 use Rattle.weights.specs.declared.row.Rule.TheVariants.{V2, V3, V4, V6, V7}
 use Rattle.weights.specs.declared.row.Place.{Place}
 use Rattle.weights.specs.declared.row.Place.TheVariants as place
 use Rattle.weights.specs.declared.row.Row.{Row}
 use Rattle.weights.specs.Row.{row}
 use Rattle.weights.specs.Vector.{Vector, workers_weight, queued_weight, job_weight, done_weight, client_weight}
-use Rattle.weights.specs.AtGet.{AtGet, get_rule, given_back}
+use Rattle.weights.specs.GetReturn.{GetReturn, get_rule, returned_weight}
 
 -- the row of the action at position i of a body, whose actor has weight `weight i` there
-abbrev pub action_row : AtGet → Plan → Vector → (ℕ → ℕ) → (ℕ → Place) → List Action → ℕ → Action → Row
-action_row at_get plan v weight place_at body i (Work u) = row V2 (place_at i) (weight (i + 1)) (weight i)
-action_row at_get plan v weight place_at body i (Submit k) = row V3 (place_at i) (weight (i + 1) + queued_weight v k) (weight i)
-action_row at_get plan v weight place_at body i (Get t) = row (get_rule at_get) (place_at i) (weight (i + 1)) (weight i + given_back at_get plan v (class_got body t))
+abbrev pub action_row : GetReturn → Plan → Vector → (ℕ → ℕ) → (ℕ → Place) → List Action → ℕ → Action → Row
+action_row get_return plan v weight place_at body i (Work u) = row V2 (place_at i) (weight (i + 1)) (weight i)
+action_row get_return plan v weight place_at body i (Submit k) = row V3 (place_at i) (weight (i + 1) + queued_weight v k) (weight i)
+action_row get_return plan v weight place_at body i (Get t) = row (get_rule get_return) (place_at i) (weight (i + 1)) (weight i + returned_weight get_return plan v (submitted_class body t))
 
-abbrev pub body_rows : AtGet → Plan → Vector → (ℕ → ℕ) → (ℕ → Place) → List Action → List Row
-body_rows at_get plan v weight place_at body = map (λ entry. action_row at_get plan v weight place_at body entry.0 entry.1) (enumerate_from 0 body)
+abbrev pub body_rows : GetReturn → Plan → Vector → (ℕ → ℕ) → (ℕ → Place) → List Action → List Row
+body_rows get_return plan v weight place_at body = map (λ entry. action_row get_return plan v weight place_at body entry.0 entry.1) (enumerate_from 0 body)
 
-abbrev pub class_rows : AtGet → Plan → Vector → ℕ → Class → List Row
-class_rows at_get plan v k class =
+abbrev pub class_rows : GetReturn → Plan → Vector → ℕ → Class → List Row
+class_rows get_return plan v k class =
     row V4 (place.Class k) (job_weight v k 0) (queued_weight v k + workers_weight v class.pool)
-    ∷ (body_rows at_get plan v (job_weight v k) (place.ClassAction k) class.body
+    ∷ (body_rows get_return plan v (job_weight v k) (place.ClassAction k) class.body
     ++ row V6 (place.Class k) (done_weight plan v k + workers_weight v class.pool) (job_weight v k (length class.body)) ∷ [])
 
-abbrev pub client_rows : AtGet → Plan → Vector → ℕ → Client → List Row
-client_rows at_get plan v c client =
-    body_rows at_get plan v (client_weight v c) (place.ClientAction c) client.body
+abbrev pub client_rows : GetReturn → Plan → Vector → ℕ → Client → List Row
+client_rows get_return plan v c client =
+    body_rows get_return plan v (client_weight v c) (place.ClientAction c) client.body
     ++ (if client.repeat then row V7 (place.Client c) (client_weight v c 0) (client_weight v c (length client.body)) ∷ [] else [])
 
 -- the rows of all classes and then of all kinds of client
-abbrev pub rows : AtGet → Plan → Vector → List Row
-rows at_get plan v =
-    flat_map (λ entry. class_rows at_get plan v entry.0 entry.1) (enumerate_from 0 plan.classes)
-    ++ flat_map (λ entry. client_rows at_get plan v entry.0 entry.1) (enumerate_from 0 plan.clients)
+abbrev pub rows : GetReturn → Plan → Vector → List Row
+rows get_return plan v =
+    flat_map (λ entry. class_rows get_return plan v entry.0 entry.1) (enumerate_from 0 plan.classes)
+    ++ flat_map (λ entry. client_rows get_return plan v entry.0 entry.1) (enumerate_from 0 plan.clients)
 
 -- the classes of pool p, with their indices
 abbrev pub classes_of : Plan → ℕ → List (ℕ × Class)

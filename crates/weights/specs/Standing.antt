@@ -6,11 +6,11 @@ use Rattle.weights.specs.declared.row.Place.TheVariants as place
 use Rattle.weights.specs.declared.row.Row.{Row}
 use Rattle.weights.specs.Row.{row}
 use Rattle.weights.specs.Vector.{Vector, queued_weight, total}
-use Rattle.weights.specs.AtGet.{GivesBack}
+use Rattle.weights.specs.GetReturn.{DoneWeight}
 use Rattle.weights.specs.Rows.{rows, classes_of}
 
 abbrev pub standing_rows : Plan → ℕ → Vector → List Row
 standing_rows plan p v =
-    rows GivesBack plan v
+    rows DoneWeight plan v
     ++ map (λ entry. row S1 (place.Class entry.0) 1 (queued_weight v entry.0)) (classes_of plan p)
     ++ row S2 place.Total (total plan v) (pool_at plan p).queue ∷ []

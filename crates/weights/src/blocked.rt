@@ -9,10 +9,10 @@ ghost use Rattle.weights.specs.declared.row.Place.TheVariants as place;
 ghost use Rattle.weights.specs.Row.{row, first_failing};
 ghost use Rattle.weights.specs.Rows.{classes_of};
 ghost use Rattle.weights.specs.Vector.{vector_fits, class_weights, job_weight};
-ghost use Rattle.weights.specs.Takes.{Takes};
+ghost use Rattle.weights.specs.Visits.{Visits};
 ghost use Rattle.weights.specs.Blocked.{is_get, counted_rows, blocked_rows};
 
-use crate::{AtGet, Counted, FirstFault, Place, Row, RowVisitor, Rule, Vector};
+use crate::{GetReturn, Counted, FirstFault, Place, Row, RowVisitor, Rule, Vector};
 use job_bodies::{Action, Class, Plan};
 
 /// A row whose `left` is greater than its `right`.
@@ -31,7 +31,7 @@ fn visit_counted_row<C: Counted, V: RowVisitor>(
     requires known { number < length vector.now.classes }
     requires position { position + 1 < length (class_weights vector.now number) }
     ensures { let one = row B1 (place.ClassAction number position) 1 (job_weight vector.now number position) in
-        Takes V.HasSeen visitor.old visitor.new (if is_get action && C.is_counted counted.now number position then one ∷ [] else []) }
+        Visits V.HasSeen visitor.old visitor.new (if is_get action && C.is_counted counted.now number position then one ∷ [] else []) }
 {
     if matches!(action, Action::Get(_)) && counted.counted(number, position) {
         visitor.visit(Row::new(
@@ -56,7 +56,7 @@ fn visit_counted_rows<C: Counted, V: RowVisitor>(
     requires well_formed { IsWellFormed plan.now }
     requires class { slice_get plan.now.classes number ≡ Some class.now }
     requires answers { (i : ℕ) → i < length class.now.body → C.Answers counted.now number i }
-    ensures { Takes V.HasSeen visitor.old visitor.new
+    ensures { Visits V.HasSeen visitor.old visitor.new
         (counted_rows (C.is_counted counted.now) vector.now number class.now) }
 {
     for (position, action) in class.body.iter().enumerate() {
@@ -79,7 +79,7 @@ fn visit_counted_rows_of<C: Counted, V: RowVisitor>(
     requires class { slice_get plan.now.classes number ≡ Some class.now }
     requires answers { (i : ℕ) → i < length class.now.body → C.Answers counted.now number i }
     ensures { let all = counted_rows (C.is_counted counted.now) vector.now number class.now in
-        Takes V.HasSeen visitor.old visitor.new (if class.now.pool == pool then all else []) }
+        Visits V.HasSeen visitor.old visitor.new (if class.now.pool == pool then all else []) }
 {
     if class.pool == pool {
         visit_counted_rows(plan, counted, vector, number, class, visitor);
@@ -99,7 +99,7 @@ fn visit_all_counted_rows<C: Counted, V: RowVisitor>(
         → i < length (class_at plan.now k).body
         → C.Answers counted.now k i }
     ensures { let all = flat_map (λ entry. counted_rows (C.is_counted counted.now) vector.now entry.0 entry.1) (classes_of plan.now pool) in
-        Takes V.HasSeen visitor.old visitor.new all }
+        Visits V.HasSeen visitor.old visitor.new all }
 {
     for (number, class) in plan.classes().iter().enumerate() {
         visit_counted_rows_of(plan, pool, counted, vector, number, class, visitor);
@@ -120,10 +120,10 @@ pub fn visit_blocked_rows<C: Counted, V: RowVisitor>(
     requires answers { (k i : ℕ)
         → i < length (class_at plan.now k).body
         → C.Answers counted.now k i }
-    ensures { Takes V.HasSeen visitor.old visitor.new
+    ensures { Visits V.HasSeen visitor.old visitor.new
         (blocked_rows plan.now pool (C.is_counted counted.now) vector.now) }
 {
-    vector.visit_rows(plan, AtGet::GivesBack, visitor);
+    vector.visit_rows(plan, GetReturn::DoneWeight, visitor);
     visit_all_counted_rows(plan, pool, counted, vector, visitor);
     let pool = &plan.pools()[pool];
     visitor.visit(Row::new(Rule::B2, Place::Total, vector.total(plan), pool.core - 1));

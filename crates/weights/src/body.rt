@@ -2,14 +2,14 @@
 
 ghost use Rattle.std.specs.Prelude.{◌≡◌, ◌<◌, ℕ, List, length, slice_index, slice_index_or, IsTrue};
 ghost use Rattle.job_bodies.specs.declared.action.Action.TheVariants.{Work};
-ghost use Rattle.job_bodies.specs.Plan.{class_got};
+ghost use Rattle.job_bodies.specs.Plan.{submitted_class};
 ghost use Rattle.weights.specs.Vector as spec;
-ghost use Rattle.weights.specs.AtGet.{given_back};
+ghost use Rattle.weights.specs.GetReturn.{returned_weight};
 ghost use Rattle.weights.specs.Body.{place_at, IsWeighed};
 ghost use Rattle.weights.specs.Rows.{action_row, body_rows};
-ghost use Rattle.weights.specs.Takes.{Takes};
+ghost use Rattle.weights.specs.Visits.{Visits};
 
-use crate::{AtGet, Place, Row, RowVisitor, Rule, Vector};
+use crate::{GetReturn, Place, Row, RowVisitor, Rule, Vector};
 use job_bodies::{Action, Plan};
 
 /// The owner of a body.
@@ -42,8 +42,8 @@ pub(crate) struct Body<'a> {
 }
 
 /// Returns the class of the job that a get of the submit at position `submit` waits for.
-pub fn class_got(actions: &[Action], submit: usize) -> usize
-    ensures { result ≡ class_got actions.now submit }
+pub fn submitted_class(actions: &[Action], submit: usize) -> usize
+    ensures { result ≡ submitted_class actions.now submit }
 {
     match actions.get(submit) {
         Some(Action::Submit(class)) => *class,
@@ -52,27 +52,27 @@ pub fn class_got(actions: &[Action], submit: usize) -> usize
 }
 
 /// Returns the weight that the get of a job of the class returns to its actor.
-fn given_back(at_get: AtGet, plan: &Plan, vector: &Vector, class: usize) -> u64
+fn returned_weight(get_return: GetReturn, plan: &Plan, vector: &Vector, class: usize) -> u64
     requires fits { IsTrue (spec.vector_fits plan.now vector.now) }
     requires class { class < length plan.now.classes }
-    ensures { result ≡ given_back at_get plan.now vector.now class }
+    ensures { result ≡ returned_weight get_return plan.now vector.now class }
 {
-    match at_get {
-        AtGet::GivesBack => {
+    match get_return {
+        GetReturn::DoneWeight => {
             let weights = vector.class_weights(class);
             weights[weights.len() - 1]
         }
-        AtGet::GivesNothing => 0,
+        GetReturn::NoWeight => 0,
     }
 }
 
 /// Returns the row of the action at this position.
-fn action_row(at_get: AtGet, plan: &Plan, vector: &Vector, body: &Body, position: usize) -> Row
+fn action_row(get_return: GetReturn, plan: &Plan, vector: &Vector, body: &Body, position: usize) -> Row
     requires fits { IsTrue (spec.vector_fits plan.now vector.now) }
     requires weighed { IsWeighed plan.now body.now.actions.now body.now.weights.now }
     requires position { position < length body.now.actions.now }
     ensures { let actions = body.now.actions.now in
-        result ≡ action_row at_get plan.now vector.now (slice_index body.now.weights.now) (place_at body.now.actor) actions position (slice_index_or actions position (Work 0)) }
+        result ≡ action_row get_return plan.now vector.now (slice_index body.now.weights.now) (place_at body.now.actor) actions position (slice_index_or actions position (Work 0)) }
 {
     let place = body.actor.place_at(position);
     let weight = body.weights[position];
@@ -81,11 +81,11 @@ fn action_row(at_get: AtGet, plan: &Plan, vector: &Vector, body: &Body, position
         Action::Work(_) => (Rule::V2, next, weight),
         Action::Submit(class) => (Rule::V3, next + vector.class_weights(class)[0], weight),
         Action::Get(submit) => {
-            let class = class_got(body.actions, submit);
+            let class = submitted_class(body.actions, submit);
             (
-                at_get.rule(),
+                get_return.rule(),
                 next,
-                weight + given_back(at_get, plan, vector, class),
+                weight + returned_weight(get_return, plan, vector, class),
             )
         }
     };
@@ -94,7 +94,7 @@ fn action_row(at_get: AtGet, plan: &Plan, vector: &Vector, body: &Body, position
 
 /// Visits the row of each action of a body.
 pub(crate) fn visit_body_rows<V: RowVisitor>(
-    at_get: AtGet,
+    get_return: GetReturn,
     plan: &Plan,
     vector: &Vector,
     body: &Body,
@@ -102,10 +102,10 @@ pub(crate) fn visit_body_rows<V: RowVisitor>(
 )
     requires fits { IsTrue (spec.vector_fits plan.now vector.now) }
     requires weighed { IsWeighed plan.now body.now.actions.now body.now.weights.now }
-    ensures { let rows = body_rows at_get plan.now vector.now (slice_index body.now.weights.now) (place_at body.now.actor) body.now.actions.now in
-        Takes V.HasSeen visitor.old visitor.new rows }
+    ensures { let rows = body_rows get_return plan.now vector.now (slice_index body.now.weights.now) (place_at body.now.actor) body.now.actions.now in
+        Visits V.HasSeen visitor.old visitor.new rows }
 {
     for position in 0..body.actions.len() {
-        visitor.visit(action_row(at_get, plan, vector, body, position));
+        visitor.visit(action_row(get_return, plan, vector, body, position));
     }
 }

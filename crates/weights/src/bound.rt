@@ -5,7 +5,7 @@ ghost use Rattle.job_bodies.specs.Plan.{pool_at};
 ghost use Rattle.weights.specs.Vector.{vector_fits};
 ghost use Rattle.weights.specs.Bound as spec;
 ghost use Rattle.weights.specs.Row.{first_failing};
-ghost use Rattle.weights.specs.Takes.{Takes};
+ghost use Rattle.weights.specs.Visits.{Visits};
 
 use crate::lifetime::lifetime_limit;
 use crate::{RowVisitor, StandingFault, Vector};
@@ -54,7 +54,7 @@ impl Bound {
     pub fn visit_rows<V: RowVisitor>(&self, plan: &Plan, pool: usize, visitor: &mut V)
         requires fits { IsTrue (vector_fits plan.now (spec.bound_vector self.now)) }
         requires pool { pool < length plan.now.pools }
-        ensures { Takes V.HasSeen visitor.old visitor.new (spec.bound_rows plan.now pool self.now) }
+        ensures { Visits V.HasSeen visitor.old visitor.new (spec.bound_rows plan.now pool self.now) }
     {
         match self {
             Bound::Standing(vector) => vector.visit_standing_rows(plan, pool, visitor),

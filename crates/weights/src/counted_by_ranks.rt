@@ -5,7 +5,7 @@ ghost use Rattle.job_bodies.specs.Plan.{class_at};
 ghost use Rattle.job_bodies.specs.WellFormed.{IsWellFormed};
 ghost use Rattle.weights.specs.Ranks as spec;
 
-use crate::{Counted, Ranks, class_got};
+use crate::{Counted, Ranks, submitted_class};
 use job_bodies::{Action, Class, Plan};
 
 /// Returns whether the action at this position of a class is a counted get.
@@ -19,7 +19,7 @@ fn is_counted_in(plan: &Plan, ranks: &Ranks, number: usize, class: &Class, posit
     let actions = class.body.as_slice();
     match actions[position] {
         Action::Get(submit) => {
-            let reached = ranks.reach_of(class_got(actions, submit));
+            let reached = ranks.reach_of(submitted_class(actions, submit));
             reached >= ranks.rank_of(class.pool)
         }
         Action::Work(_) | Action::Submit(_) => false,

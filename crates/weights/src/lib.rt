@@ -4,7 +4,7 @@
 //! [`Vector::standing_fault`] return the first condition that fails.
 #![tactic(auto)]
 
-mod at_get;
+mod get_return;
 mod blocked;
 mod body;
 mod bound;
@@ -21,9 +21,9 @@ mod total;
 mod vector;
 mod visitor;
 
-pub use at_get::AtGet;
+pub use get_return::GetReturn;
 pub use blocked::{BlockedFault, blocked_fault, visit_blocked_rows};
-pub use body::class_got;
+pub use body::submitted_class;
 pub use bound::Bound;
 pub use counted::Counted;
 pub use counted_by_ranks::RanksOf;

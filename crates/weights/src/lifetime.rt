@@ -3,22 +3,22 @@
 
 ghost use Rattle.std.specs.Prelude.{◌≡◌, ◌==◌, ◌<◌, ◌∷◌, [], if◌then◌else◌, IsTrue, Some, length, map, slice_get};
 ghost use Rattle.std.specs.List.{flat_map, enumerate_from};
-ghost use Rattle.job_bodies.specs.WellFormed.{IsWellFormed, has_lawful_sizes};
+ghost use Rattle.job_bodies.specs.WellFormed.{IsWellFormed, has_valid_sizes};
 ghost use Rattle.weights.specs.declared.row.Rule.TheVariants.{L1, L2};
 ghost use Rattle.weights.specs.declared.row.Place.TheVariants as place;
 ghost use Rattle.weights.specs.Row.{row, first_failing};
 ghost use Rattle.weights.specs.Rows.{classes_of};
 ghost use Rattle.weights.specs.Lifetime as lifetime;
 ghost use Rattle.weights.specs.Vector as spec;
-ghost use Rattle.weights.specs.Takes.{Takes};
+ghost use Rattle.weights.specs.Visits.{Visits};
 
-use crate::{AtGet, FirstFault, Place, Row, RowVisitor, Rule, StandingFault, Vector};
+use crate::{GetReturn, FirstFault, Place, Row, RowVisitor, Rule, StandingFault, Vector};
 use job_bodies::{Class, Plan, Pool};
 
 /// Returns the number of jobs that a pool accepts before it can reject one: the capacity of its
 /// queue and its maximum, less its prestarted threads.
 pub(crate) fn lifetime_limit(pool: &Pool) -> u64
-    requires { IsTrue (has_lawful_sizes pool.now) }
+    requires { IsTrue (has_valid_sizes pool.now) }
     ensures { result ≡ lifetime.lifetime_limit pool.now }
 {
     pool.queue + pool.max - pool.first_workers()
@@ -28,7 +28,7 @@ pub(crate) fn lifetime_limit(pool: &Pool) -> u64
 fn visit_worker_rows<V: RowVisitor>(plan: &Plan, vector: &Vector, visitor: &mut V)
     requires { IsTrue (spec.vector_fits plan.now vector.now) }
     ensures { let all = map (λ entry. row L1 (place.Worker entry.0) (spec.workers_weight vector.now entry.0) 0) (enumerate_from 0 plan.now.pools) in
-        Takes V.HasSeen visitor.old visitor.new all }
+        Visits V.HasSeen visitor.old visitor.new all }
 {
     for pool in 0..plan.pools().len() {
         visitor.visit(Row::new(
@@ -41,8 +41,8 @@ fn visit_worker_rows<V: RowVisitor>(plan: &Plan, vector: &Vector, visitor: &mut 
 }
 
 /// Visits L2 of a class with these weights.
-fn visit_made_rows<V: RowVisitor>(class: usize, weights: &[u64], visitor: &mut V)
-    ensures { Takes V.HasSeen visitor.old visitor.new
+fn visit_l2_rows<V: RowVisitor>(class: usize, weights: &[u64], visitor: &mut V)
+    ensures { Visits V.HasSeen visitor.old visitor.new
         (map (λ weight. row L2 (place.Class class) 1 weight) weights.now) }
 {
     for weight in weights {
@@ -51,7 +51,7 @@ fn visit_made_rows<V: RowVisitor>(class: usize, weights: &[u64], visitor: &mut V
 }
 
 /// Visits L2 of a class if the class belongs to the pool.
-fn visit_made_rows_of<V: RowVisitor>(
+fn visit_l2_rows_of<V: RowVisitor>(
     plan: &Plan,
     pool: usize,
     vector: &Vector,
@@ -63,21 +63,21 @@ fn visit_made_rows_of<V: RowVisitor>(
     requires well_formed { IsWellFormed plan.now }
     requires class { slice_get plan.now.classes number ≡ Some class.now }
     ensures { let all = map (λ weight. row L2 (place.Class number) 1 weight) (spec.class_weights vector.now number) in
-        Takes V.HasSeen visitor.old visitor.new (if class.now.pool == pool then all else []) }
+        Visits V.HasSeen visitor.old visitor.new (if class.now.pool == pool then all else []) }
 {
     if class.pool == pool {
-        visit_made_rows(number, vector.class_weights(number), visitor);
+        visit_l2_rows(number, vector.class_weights(number), visitor);
     }
 }
 
 /// Visits L2 of each class of the pool.
-fn visit_all_made_rows<V: RowVisitor>(plan: &Plan, pool: usize, vector: &Vector, visitor: &mut V)
+fn visit_all_l2_rows<V: RowVisitor>(plan: &Plan, pool: usize, vector: &Vector, visitor: &mut V)
     requires { IsTrue (spec.vector_fits plan.now vector.now) }
     ensures { let all = flat_map (λ entry. map (λ weight. row L2 (place.Class entry.0) 1 weight) (spec.class_weights vector.now entry.0)) (classes_of plan.now pool) in
-        Takes V.HasSeen visitor.old visitor.new all }
+        Visits V.HasSeen visitor.old visitor.new all }
 {
     for (number, class) in plan.classes().iter().enumerate() {
-        visit_made_rows_of(plan, pool, vector, number, class, visitor);
+        visit_l2_rows_of(plan, pool, vector, number, class, visitor);
     }
 }
 
@@ -87,12 +87,12 @@ impl Vector {
     pub fn visit_lifetime_rows<V: RowVisitor>(&self, plan: &Plan, pool: usize, visitor: &mut V)
         requires fits { IsTrue (spec.vector_fits plan.now self.now) }
         requires pool { pool < length plan.now.pools }
-        ensures { Takes V.HasSeen visitor.old visitor.new
+        ensures { Visits V.HasSeen visitor.old visitor.new
             (lifetime.lifetime_rows plan.now pool self.now) }
     {
         visit_worker_rows(plan, self, visitor);
-        self.visit_rows(plan, AtGet::GivesNothing, visitor);
-        visit_all_made_rows(plan, pool, self, visitor);
+        self.visit_rows(plan, GetReturn::NoWeight, visitor);
+        visit_all_l2_rows(plan, pool, self, visitor);
         visitor.visit(Row::new(
             Rule::L3,
             Place::Total,

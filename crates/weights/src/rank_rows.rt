@@ -4,14 +4,14 @@ ghost use Rattle.std.specs.Prelude.{◌≡◌, ◌<◌, ◌+◌, IsTrue, Some, l
 ghost use Rattle.std.specs.List.{flat_map, enumerate_from};
 ghost use Rattle.job_bodies.specs.declared.action.Action.TheVariants.{Get};
 ghost use Rattle.job_bodies.specs.WellFormed.{IsWellFormed};
-ghost use Rattle.job_bodies.specs.Plan.{class_got};
+ghost use Rattle.job_bodies.specs.Plan.{submitted_class};
 ghost use Rattle.weights.specs.declared.row.Rule.TheVariants.{K1, K2, K3};
 ghost use Rattle.weights.specs.declared.row.Place.TheVariants as place;
 ghost use Rattle.weights.specs.Row.{row, first_failing};
-ghost use Rattle.weights.specs.Takes.{Takes};
+ghost use Rattle.weights.specs.Visits.{Visits};
 ghost use Rattle.weights.specs.Ranks as spec;
 
-use crate::{FirstFault, Place, Ranks, Row, RowVisitor, Rule, class_got};
+use crate::{FirstFault, Place, Ranks, Row, RowVisitor, Rule, submitted_class};
 use job_bodies::{Action, Class, Plan};
 
 /// A row whose `left` is greater than its `right`.
@@ -31,13 +31,13 @@ fn get_row(
     requires well_formed { IsWellFormed plan.now }
     requires class { slice_get plan.now.classes number ≡ Some class.now }
     requires action { slice_get class.now.body position ≡ Some (Get submit) }
-    ensures { let reached = spec.reach ranks.now (class_got class.now.body submit) in
+    ensures { let reached = spec.reach ranks.now (submitted_class class.now.body submit) in
         result ≡ row K2 (place.ClassAction number position) reached (spec.reach ranks.now number) }
 {
     Row::new(
         Rule::K2,
         Place::ClassAction(number, position),
-        ranks.reach_of(class_got(&class.body, submit)),
+        ranks.reach_of(submitted_class(&class.body, submit)),
         ranks.reach_of(number),
     )
 }
@@ -74,7 +74,7 @@ fn visit_action_row<V: RowVisitor>(
     requires well_formed { IsWellFormed plan.now }
     requires class { slice_get plan.now.classes number ≡ Some class.now }
     requires action { slice_get class.now.body position ≡ Some action }
-    ensures { Takes V.HasSeen visitor.old visitor.new
+    ensures { Visits V.HasSeen visitor.old visitor.new
         (spec.rank_rows_of_action ranks.now number class.now.body position action) }
 {
     match action {
@@ -117,7 +117,7 @@ fn visit_action_rows<V: RowVisitor>(
     requires well_formed { IsWellFormed plan.now }
     requires class { slice_get plan.now.classes number ≡ Some class.now }
     ensures { let all = flat_map (λ entry. spec.rank_rows_of_action ranks.now number class.now.body entry.0 entry.1) (enumerate_from 0 class.now.body) in
-        Takes V.HasSeen visitor.old visitor.new all }
+        Visits V.HasSeen visitor.old visitor.new all }
 {
     for (position, action) in class.body.iter().enumerate() {
         visit_action_row(plan, ranks, number, class, position, *action, visitor);
@@ -135,7 +135,7 @@ fn visit_class_rows<V: RowVisitor>(
     requires fits { IsTrue (spec.ranks_fit plan.now ranks.now) }
     requires well_formed { IsWellFormed plan.now }
     requires class { slice_get plan.now.classes number ≡ Some class.now }
-    ensures { Takes V.HasSeen visitor.old visitor.new
+    ensures { Visits V.HasSeen visitor.old visitor.new
         (spec.rank_rows_of_class ranks.now number class.now) }
 {
     visitor.visit(own_row(plan, ranks, number, class));
@@ -147,7 +147,7 @@ impl Ranks {
     /// submit.
     pub fn visit_rank_rows<V: RowVisitor>(&self, plan: &Plan, visitor: &mut V)
         requires { IsTrue (spec.ranks_fit plan.now self.now) }
-        ensures { Takes V.HasSeen visitor.old visitor.new (spec.rank_rows plan.now self.now) }
+        ensures { Visits V.HasSeen visitor.old visitor.new (spec.rank_rows plan.now self.now) }
     {
         for (number, class) in plan.classes().iter().enumerate() {
             visit_class_rows(plan, self, number, class, visitor);

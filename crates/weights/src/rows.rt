@@ -8,15 +8,15 @@ ghost use Rattle.weights.specs.declared.row.Place.TheVariants as place;
 ghost use Rattle.weights.specs.Row.{row};
 ghost use Rattle.weights.specs.Vector as spec;
 ghost use Rattle.weights.specs.Rows.{class_rows, client_rows, rows};
-ghost use Rattle.weights.specs.Takes.{Takes};
+ghost use Rattle.weights.specs.Visits.{Visits};
 
 use crate::body::{Body, BodyOwner, visit_body_rows};
-use crate::{AtGet, Place, Row, RowVisitor, Rule, Vector};
+use crate::{GetReturn, Place, Row, RowVisitor, Rule, Vector};
 use job_bodies::{Class, Client, Plan};
 
 /// Returns V4 of a class: the weights of a queued job and of its worker cover that of the job at
 /// its first position.
-fn taking_row(plan: &Plan, vector: &Vector, number: usize, class: &Class) -> Row
+fn take_row(plan: &Plan, vector: &Vector, number: usize, class: &Class) -> Row
     requires fits { IsTrue (spec.vector_fits plan.now vector.now) }
     requires well_formed { IsWellFormed plan.now }
     requires class { slice_get plan.now.classes number ≡ Some class.now }
@@ -36,7 +36,7 @@ fn taking_row(plan: &Plan, vector: &Vector, number: usize, class: &Class) -> Row
 
 /// Returns V6 of a class: the weight of a job at its end covers those of the done job and of its
 /// idle worker.
-fn ending_row(plan: &Plan, vector: &Vector, number: usize, class: &Class) -> Row
+fn end_row(plan: &Plan, vector: &Vector, number: usize, class: &Class) -> Row
     requires fits { IsTrue (spec.vector_fits plan.now vector.now) }
     requires well_formed { IsWellFormed plan.now }
     requires class { slice_get plan.now.classes number ≡ Some class.now }
@@ -56,7 +56,7 @@ fn ending_row(plan: &Plan, vector: &Vector, number: usize, class: &Class) -> Row
 
 /// Visits the rows of a class: V4, its actions, V6.
 fn visit_class_rows<V: RowVisitor>(
-    at_get: AtGet,
+    get_return: GetReturn,
     plan: &Plan,
     vector: &Vector,
     number: usize,
@@ -66,17 +66,17 @@ fn visit_class_rows<V: RowVisitor>(
     requires fits { IsTrue (spec.vector_fits plan.now vector.now) }
     requires well_formed { IsWellFormed plan.now }
     requires class { slice_get plan.now.classes number ≡ Some class.now }
-    ensures { Takes V.HasSeen visitor.old visitor.new
-        (class_rows at_get plan.now vector.now number class.now) }
+    ensures { Visits V.HasSeen visitor.old visitor.new
+        (class_rows get_return plan.now vector.now number class.now) }
 {
     let body = Body {
         actor: BodyOwner::Class(number),
         actions: &class.body,
         weights: &vector.class_weights(number)[1..],
     };
-    visitor.visit(taking_row(plan, vector, number, class));
-    visit_body_rows(at_get, plan, vector, &body, visitor);
-    visitor.visit(ending_row(plan, vector, number, class));
+    visitor.visit(take_row(plan, vector, number, class));
+    visit_body_rows(get_return, plan, vector, &body, visitor);
+    visitor.visit(end_row(plan, vector, number, class));
 }
 
 /// Returns V7 of a kind of client: the weight of a client at its end covers its weight at its
@@ -99,7 +99,7 @@ fn loop_row(plan: &Plan, vector: &Vector, number: usize, client: &Client) -> Row
 
 /// Visits the rows of a kind of client: its actions, and V7 if it repeats.
 fn visit_client_rows<V: RowVisitor>(
-    at_get: AtGet,
+    get_return: GetReturn,
     plan: &Plan,
     vector: &Vector,
     number: usize,
@@ -109,50 +109,50 @@ fn visit_client_rows<V: RowVisitor>(
     requires fits { IsTrue (spec.vector_fits plan.now vector.now) }
     requires well_formed { IsWellFormed plan.now }
     requires client { slice_get plan.now.clients number ≡ Some client.now }
-    ensures { Takes V.HasSeen visitor.old visitor.new
-        (client_rows at_get plan.now vector.now number client.now) }
+    ensures { Visits V.HasSeen visitor.old visitor.new
+        (client_rows get_return plan.now vector.now number client.now) }
 {
     let body = Body {
         actor: BodyOwner::Client(number),
         actions: &client.body,
         weights: vector.client_weights(number),
     };
-    visit_body_rows(at_get, plan, vector, &body, visitor);
+    visit_body_rows(get_return, plan, vector, &body, visitor);
     if client.repeat {
         visitor.visit(loop_row(plan, vector, number, client));
     }
 }
 
 /// Visits the rows of all classes.
-fn visit_classes<V: RowVisitor>(at_get: AtGet, plan: &Plan, vector: &Vector, visitor: &mut V)
+fn visit_classes<V: RowVisitor>(get_return: GetReturn, plan: &Plan, vector: &Vector, visitor: &mut V)
     requires { IsTrue (spec.vector_fits plan.now vector.now) }
-    ensures { let all = flat_map (λ entry. class_rows at_get plan.now vector.now entry.0 entry.1) (enumerate_from 0 plan.now.classes) in
-        Takes V.HasSeen visitor.old visitor.new all }
+    ensures { let all = flat_map (λ entry. class_rows get_return plan.now vector.now entry.0 entry.1) (enumerate_from 0 plan.now.classes) in
+        Visits V.HasSeen visitor.old visitor.new all }
 {
     for (number, class) in plan.classes().iter().enumerate() {
-        visit_class_rows(at_get, plan, vector, number, class, visitor);
+        visit_class_rows(get_return, plan, vector, number, class, visitor);
     }
 }
 
 /// Visits the rows of all kinds of client.
-fn visit_clients<V: RowVisitor>(at_get: AtGet, plan: &Plan, vector: &Vector, visitor: &mut V)
+fn visit_clients<V: RowVisitor>(get_return: GetReturn, plan: &Plan, vector: &Vector, visitor: &mut V)
     requires { IsTrue (spec.vector_fits plan.now vector.now) }
-    ensures { let all = flat_map (λ entry. client_rows at_get plan.now vector.now entry.0 entry.1) (enumerate_from 0 plan.now.clients) in
-        Takes V.HasSeen visitor.old visitor.new all }
+    ensures { let all = flat_map (λ entry. client_rows get_return plan.now vector.now entry.0 entry.1) (enumerate_from 0 plan.now.clients) in
+        Visits V.HasSeen visitor.old visitor.new all }
 {
     for (number, client) in plan.clients().iter().enumerate() {
-        visit_client_rows(at_get, plan, vector, number, client, visitor);
+        visit_client_rows(get_return, plan, vector, number, client, visitor);
     }
 }
 
 impl Vector {
     /// Visits the rows V2 to V7 of each class and then of each kind of client. If a get returns
     /// nothing, L5 takes the place of V5.
-    pub fn visit_rows<V: RowVisitor>(&self, plan: &Plan, at_get: AtGet, visitor: &mut V)
+    pub fn visit_rows<V: RowVisitor>(&self, plan: &Plan, get_return: GetReturn, visitor: &mut V)
         requires fits { IsTrue (spec.vector_fits plan.now self.now) }
-        ensures { Takes V.HasSeen visitor.old visitor.new (rows at_get plan.now self.now) }
+        ensures { Visits V.HasSeen visitor.old visitor.new (rows get_return plan.now self.now) }
     {
-        visit_classes(at_get, plan, self, visitor);
-        visit_clients(at_get, plan, self, visitor);
+        visit_classes(get_return, plan, self, visitor);
+        visit_clients(get_return, plan, self, visitor);
     }
 }

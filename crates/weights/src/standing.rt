@@ -5,14 +5,14 @@ ghost use Rattle.std.specs.Prelude.{◌≡◌, ◌==◌, ◌<◌, ◌∷◌, [],
 ghost use Rattle.job_bodies.specs.WellFormed.{IsWellFormed};
 ghost use Rattle.weights.specs.declared.row.Rule.TheVariants.{S1};
 ghost use Rattle.weights.specs.declared.row.Place.TheVariants as place;
-ghost use Rattle.weights.specs.AtGet.{GivesBack};
+ghost use Rattle.weights.specs.GetReturn.{DoneWeight};
 ghost use Rattle.weights.specs.Row.{row, first_failing};
 ghost use Rattle.weights.specs.Rows.{rows, classes_of};
 ghost use Rattle.weights.specs.Standing.{standing_rows};
 ghost use Rattle.weights.specs.Vector as spec;
-ghost use Rattle.weights.specs.Takes.{Takes};
+ghost use Rattle.weights.specs.Visits.{Visits};
 
-use crate::{AtGet, FirstFault, Place, Row, RowFault, RowVisitor, Rule, StandingFault, Vector};
+use crate::{GetReturn, FirstFault, Place, Row, RowFault, RowVisitor, Rule, StandingFault, Vector};
 use job_bodies::{Class, Plan};
 
 /// Visits S1 of a class if the class belongs to the pool.
@@ -28,7 +28,7 @@ fn visit_queued_row<V: RowVisitor>(
     requires well_formed { IsWellFormed plan.now }
     requires class { slice_get plan.now.classes number ≡ Some class.now }
     ensures { let one = row S1 (place.Class number) 1 (spec.queued_weight vector.now number) in
-        Takes V.HasSeen visitor.old visitor.new (if class.now.pool == pool then one ∷ [] else []) }
+        Visits V.HasSeen visitor.old visitor.new (if class.now.pool == pool then one ∷ [] else []) }
 {
     if class.pool == pool {
         visitor.visit(Row::new(
@@ -44,7 +44,7 @@ fn visit_queued_row<V: RowVisitor>(
 fn visit_queued_rows<V: RowVisitor>(plan: &Plan, pool: usize, vector: &Vector, visitor: &mut V)
     requires { IsTrue (spec.vector_fits plan.now vector.now) }
     ensures { let all = map (λ entry. row S1 (place.Class entry.0) 1 (spec.queued_weight vector.now entry.0)) (classes_of plan.now pool) in
-        Takes V.HasSeen visitor.old visitor.new all }
+        Visits V.HasSeen visitor.old visitor.new all }
 {
     for (number, class) in plan.classes().iter().enumerate() {
         visit_queued_row(plan, pool, vector, number, class, visitor);
@@ -57,9 +57,9 @@ impl Vector {
     pub fn visit_standing_rows<V: RowVisitor>(&self, plan: &Plan, pool: usize, visitor: &mut V)
         requires fits { IsTrue (spec.vector_fits plan.now self.now) }
         requires pool { pool < length plan.now.pools }
-        ensures { Takes V.HasSeen visitor.old visitor.new (standing_rows plan.now pool self.now) }
+        ensures { Visits V.HasSeen visitor.old visitor.new (standing_rows plan.now pool self.now) }
     {
-        self.visit_rows(plan, AtGet::GivesBack, visitor);
+        self.visit_rows(plan, GetReturn::DoneWeight, visitor);
         visit_queued_rows(plan, pool, self, visitor);
         let pool = &plan.pools()[pool];
         visitor.visit(Row::new(Rule::S2, Place::Total, self.total(plan), pool.queue));
@@ -68,10 +68,10 @@ impl Vector {
     /// Returns the first of the conditions V2 to V7 that fails. Allocates nothing.
     pub fn first_fault(&self, plan: &Plan) -> Option<RowFault>
         requires { IsTrue (spec.vector_fits plan.now self.now) }
-        ensures { result ≡ first_failing (rows GivesBack plan.now self.now) }
+        ensures { result ≡ first_failing (rows DoneWeight plan.now self.now) }
     {
         let mut first = FirstFault::new();
-        self.visit_rows(plan, AtGet::GivesBack, &mut first);
+        self.visit_rows(plan, GetReturn::DoneWeight, &mut first);
         first.found
     }
 

@@ -1,9 +1,9 @@
 //! Visitors of rows.
 
 ghost use Rattle.std.specs.Prelude.{◌≡◌, ◌∷◌, [], List, None};
-ghost use Rattle.weights.specs.declared.row.Row.{Row as Seen};
+ghost use Rattle.weights.specs.declared.row.Row.{Row as FirstFailing};
 ghost use Rattle.weights.specs.Row.{first_failing};
-ghost use Rattle.weights.specs.Takes.{Takes};
+ghost use Rattle.weights.specs.Visits.{Visits};
 
 use crate::{Row, RowFault};
 
@@ -11,11 +11,11 @@ use crate::{Row, RowFault};
 /// finds the first one that fails and lists all of them.
 pub trait RowVisitor {
     // The state of the visitor is correct after a visit of exactly these rows.
-    ghost HasSeen: { Self → List Seen → Type 0 };
+    ghost HasSeen: { Self → List FirstFailing → Type 0 };
 
     /// Visits the next row.
     fn visit(&mut self, row: Row)
-        ensures { Takes HasSeen self.old self.new (row ∷ []) };
+        ensures { Visits HasSeen self.old self.new (row ∷ []) };
 }
 
 /// A visitor that finds the first row that fails. Allocates nothing.

@@ -5,7 +5,7 @@ use Rattle.std.proofs.lemmas.Option.{same_Some}
 use Rattle.job_bodies.specs.declared.action.Action.{Action}
 use Rattle.job_bodies.specs.declared.action.Action.TheVariants as action
 use Rattle.job_bodies.specs.Plan.{Plan, pool_at, class_at}
-use Rattle.job_bodies.proofs.Bodies.{IsOrdered}
+use Rattle.job_bodies.proofs.Bodies.{HasValidBodies}
 use Rattle.written_machine.specs.declared.parent.Parent.{Parent}
 use Rattle.written_machine.specs.declared.parent.Parent.TheVariants as parent
 use Rattle.written_machine.specs.declared.event.Event.{Event}
@@ -88,7 +88,7 @@ LeavesSet plan members s s' = Leaves plan members (QueuesMember plan s members) 
 
 -- ---- every event leaves the set
 
-module _ (plan : Plan) (s : State) (members : List ℕ) (ordered : IsOrdered plan) (kept : Kept plan s) (set : IsFullWaitingSet plan s members) where
+module _ (plan : Plan) (s : State) (members : List ℕ) (ordered : HasValidBodies plan) (kept : Kept plan s) (set : IsFullWaitingSet plan s members) where
   abbrev among : ℕ → Type 0
   among = QueuesMember plan s members
 
@@ -229,7 +229,7 @@ pub record Stayed (plan : Plan) (members : List ℕ) (first s : State) : Type 0 
   pub has_stayed : HasStayed plan first s members
 
 -- one event keeps it
-pub stays_through : (plan : Plan) (members : List ℕ) (first s s' : State) (o : Outcome) {e : Event} → IsOrdered plan → Stayed plan members first s → Happens plan s e s' o → Stayed plan members first s'
+pub stays_through : (plan : Plan) (members : List ℕ) (first s s' : State) (o : Outcome) {e : Event} → HasValidBodies plan → Stayed plan members first s → Happens plan s e s' o → Stayed plan members first s'
 stays_through plan members first s s' o ordered stayed happened =
     let set = stayed.has_stayed.still in
     let left = leaves plan s members ordered stayed.is_kept set s' o happened in
@@ -241,7 +241,7 @@ stays_through plan members first s s' o ordered stayed happened =
 -- ---- pools of fixed size
 
 -- a pool of fixed size with a queued job has core threads, and therefore all its threads
-pub fixed_are_full : (plan : Plan) (s : State) (members : List ℕ) → IsOrdered plan → Kept plan s → IsWaitingSet plan s members → WhereMembersQueue plan s members (IsFixed plan) → IsFullWaitingSet plan s members
+pub fixed_are_full : (plan : Plan) (s : State) (members : List ℕ) → HasValidBodies plan → Kept plan s → IsWaitingSet plan s members → WhereMembersQueue plan s members (IsFixed plan) → IsFullWaitingSet plan s members
 fixed_are_full plan s members ordered kept waiting fixed = record {
   waits = waiting;
   full = λ p j member queued.

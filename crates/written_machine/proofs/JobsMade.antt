@@ -6,7 +6,7 @@ use Rattle.std.proofs.lemmas.List.{length_push}
 use Rattle.std.proofs.lemmas.List.Sums.{sum_by_push}
 use Rattle.job_bodies.specs.declared.action.Action.{Action}
 use Rattle.job_bodies.specs.Plan.{Plan, pool_at, first_workers}
-use Rattle.job_bodies.proofs.Bodies.{IsOrdered}
+use Rattle.job_bodies.proofs.Bodies.{HasValidBodies}
 use Rattle.written_machine.specs.declared.parent.Parent.{Parent}
 use Rattle.written_machine.specs.declared.parent.Parent.TheVariants as parent
 use Rattle.written_machine.specs.declared.event.Event.{Event}
@@ -149,6 +149,6 @@ have_jobs_step plan s s' o kept have (retires p idle is_idle above_core) =
 -- ---- refusals
 
 -- a pool that rejects a job has a full queue and all its threads
-pub refused_when : (plan : Plan) (s s' : State) (p : ℕ) {e : Event} → IsOrdered plan → Happens plan s e s' (outcome.Refused p)
+pub refused_when : (plan : Plan) (s s' : State) (p : ℕ) {e : Event} → HasValidBodies plan → Happens plan s e s' (outcome.Refused p)
     → (p < length plan.pools) × ((pool_at plan p).queue ≤ length (pool_part s p).queue) × ((pool_at plan p).max ≤ threads plan s p)
 refused_when plan s s' p ordered (is_refused a body i k at no_room all_started) = (ordered.pools k (class_exists plan s a body i k ordered at), no_room, all_started)

@@ -4,7 +4,7 @@ use Rattle.std.specs.List.{slice_get, count_by}
 use Rattle.support.specs.Places.{places_where, last_of}
 use Rattle.job_bodies.specs.declared.action.Action.{Action}
 use Rattle.job_bodies.specs.declared.action.Action.TheVariants as action
-use Rattle.job_bodies.specs.Plan.{Plan, Pool, pool_at, class_got}
+use Rattle.job_bodies.specs.Plan.{Plan, Pool, pool_at, submitted_class}
 use Rattle.written_machine.specs.declared.parent.Parent.{Parent}
 use Rattle.written_machine.specs.State.{Stage, State, Made, PoolPart, no_job, job_at, pool_part, is_made_by, is_busy_in, is_queued_in}
 use Rattle.written_machine.specs.Step.{point}
@@ -21,7 +21,7 @@ pub record HasChild (jobs : List Made) (a : Parent) (t k : ℕ) : Type 0 where
 -- the invariant of an actor at position i: each later get whose submit is before i finds its job
 pub record ActorKept (jobs : List Made) (a : Parent) (body : List Action) (i : ℕ) : Type 0 where
   pub inside : i ≤ length body
-  pub ready : (g t : ℕ) → i ≤ g → t < i → slice_get body g ≡ Some (action.Get t) → HasChild jobs a t (class_got body t)
+  pub ready : (g t : ℕ) → i ≤ g → t < i → slice_get body g ≡ Some (action.Get t) → HasChild jobs a t (submitted_class body t)
 
 -- the invariant of a pool, given its state, the numbers of its queued jobs, and the number of its running jobs
 pub record PoolKept (pool : Pool) (part : PoolPart) (places : List ℕ) (busy : ℕ) : Type 0 where

@@ -6,7 +6,7 @@ use Rattle.support.specs.In.{In}
 use Rattle.support.proofs.Members.{not_In_nil, In-cons_cases, In-slice_get, In-flat_map_from}
 use Rattle.job_bodies.specs.declared.action.Action.{Action}
 use Rattle.job_bodies.specs.Plan.{Plan, Pool, no_pool, pool_at}
-use Rattle.job_bodies.proofs.Bodies.{IsOrdered}
+use Rattle.job_bodies.proofs.Bodies.{HasValidBodies}
 use Rattle.pool_machine.specs.PoolState.{new_pool}
 use Rattle.written_machine.specs.declared.client_state.ClientState.{ClientState}
 use Rattle.written_machine.specs.declared.parent.Parent.{Parent}
@@ -47,7 +47,7 @@ few_first_workers core false = omega arith
 start_pool : (pool : Pool) → pool.core ≤ pool.max → PoolKept pool (part_of (new_pool pool)) [] 0
 start_pool pool sizes = record { queue = refl; within_max = omega (arith, few_first_workers pool.core pool.prestart); within_queue = omega arith; core = λ some. absurd (omega arith) }
 
-pub kept_start : (plan : Plan) → IsOrdered plan → Kept plan (start plan)
+pub kept_start : (plan : Plan) → HasValidBodies plan → Kept plan (start plan)
 kept_start plan ordered = record {
   classes = λ k d inside. absurd (omega arith);
   parents = λ j inside. absurd (omega arith);

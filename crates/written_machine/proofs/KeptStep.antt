@@ -4,7 +4,7 @@ use Rattle.std.proofs.lemmas.List.{length-set}
 use Rattle.job_bodies.specs.declared.action.Action.{Action}
 use Rattle.job_bodies.specs.declared.action.Action.TheVariants as action
 use Rattle.job_bodies.specs.Plan.{Plan, pool_at}
-use Rattle.job_bodies.proofs.Bodies.{IsOrdered}
+use Rattle.job_bodies.proofs.Bodies.{HasValidBodies}
 use Rattle.written_machine.specs.declared.parent.Parent.{Parent}
 use Rattle.written_machine.specs.declared.parent.Parent.TheVariants as parent
 use Rattle.written_machine.specs.declared.event.Event.{Event}
@@ -34,7 +34,7 @@ Done≢Claimed done claimed = cc
 
 -- ---- an event of an actor
 
-kept_works : (plan : Plan) (s : State) (a : Parent) (body : List Action) (i u : ℕ) → IsOrdered plan → Kept plan s → StandsAt plan s a body i (Some (action.Work u)) → Kept plan (with_position a (i + 1) s)
+kept_works : (plan : Plan) (s : State) (a : Parent) (body : List Action) (i u : ℕ) → HasValidBodies plan → Kept plan s → StandsAt plan s a body i (Some (action.Work u)) → Kept plan (with_position a (i + 1) s)
 kept_works plan s a body i u ordered kept at =
     kept_moved plan s a body i (i + 1) kept at.stands
     (actor_passes plan s.jobs a body i (action.Work u) (lawful_point plan s a body i ordered at.stands) (kept.actors a body i at.stands) at.is_there refl)
@@ -64,7 +64,7 @@ got_pools plan s a body i j kept stands done p inside =
     (busy-staged_same plan jobs j Stage.Claimed p (busy_in-as plan p (job_at (with_position a (i + 1) s) j) Stage.Claimed (sym (ap is_at still))) ∙ busy-moved plan s a body i (i + 1) p stands)
     (kept.pools p inside)
 
-kept_gets : (plan : Plan) (s : State) (a : Parent) (body : List Action) (i t j : ℕ) → IsOrdered plan → Kept plan s → StandsAt plan s a body i (Some (action.Get t)) → child s a t ≡ Some j → (job_at s j).stage ≡ Stage.Done
+kept_gets : (plan : Plan) (s : State) (a : Parent) (body : List Action) (i t j : ℕ) → HasValidBodies plan → Kept plan s → StandsAt plan s a body i (Some (action.Get t)) → child s a t ≡ Some j → (job_at s j).stage ≡ Stage.Done
     → Kept plan (with_stage j Stage.Claimed (with_position a (i + 1) s))
 kept_gets plan s a body i t j ordered kept at is_child done = record {
   classes = classes_staged (length plan.classes) (moved_jobs a (i + 1) s) j Stage.Claimed (classes_moved (length plan.classes) s a (i + 1) kept.classes);
@@ -139,7 +139,7 @@ kept_retires plan s p idle kept is_idle above_core = record {
 
 -- ---- every event
 
-pub kept_step : (plan : Plan) (s s' : State) (o : Outcome) {e : Event} → IsOrdered plan → Kept plan s → Happens plan s e s' o → Kept plan s'
+pub kept_step : (plan : Plan) (s s' : State) (o : Outcome) {e : Event} → HasValidBodies plan → Kept plan s → Happens plan s e s' o → Kept plan s'
 kept_step plan s s' o ordered kept (works a body i u at) = kept_works plan s a body i u ordered kept at
 kept_step plan s s' o ordered kept (starts a body i k at below) = kept_starts plan s a body i k ordered kept at below
 kept_step plan s s' o ordered kept (queues a body i k at at_core room) = kept_queues plan s a body i k ordered kept at at_core room

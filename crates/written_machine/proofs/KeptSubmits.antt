@@ -6,8 +6,8 @@ use Rattle.support.specs.Places.{cons_if}
 use Rattle.job_bodies.specs.declared.action.Action.{Action}
 use Rattle.job_bodies.specs.declared.action.Action.TheVariants as action
 use Rattle.job_bodies.specs.Plan.{Plan, pool_at}
-use Rattle.job_bodies.specs.Lawful.{IsLawful}
-use Rattle.job_bodies.proofs.Bodies.{IsOrdered}
+use Rattle.job_bodies.specs.ValidBody.{IsValidBody}
+use Rattle.job_bodies.proofs.Bodies.{HasValidBodies}
 use Rattle.written_machine.specs.declared.parent.Parent.{Parent}
 use Rattle.written_machine.specs.State.{Stage, State, PoolPart, pool_part, pool_of, threads}
 use Rattle.written_machine.specs.Step.{with_position, with_job, new_job, moved_jobs}
@@ -48,16 +48,16 @@ made_actors plan s a body i k stage kept at unclaimed begins b body' n now = eli
 ]
 
 -- the class that a submit names exists
-pub class_exists : (plan : Plan) (s : State) (a : Parent) (body : List Action) (i k : ℕ) → IsOrdered plan → StandsAt plan s a body i (Some (action.Submit k)) → k < length plan.classes
+pub class_exists : (plan : Plan) (s : State) (a : Parent) (body : List Action) (i k : ℕ) → HasValidBodies plan → StandsAt plan s a body i (Some (action.Submit k)) → k < length plan.classes
 class_exists plan s a body i k ordered at =
-    let lawful : IsLawful plan body = lawful_point plan s a body i ordered at.stands in
-    lawful.submit i k at.is_there
+    let valid : IsValidBody plan body = lawful_point plan s a body i ordered at.stands in
+    valid.submit i k at.is_there
 
-pub room_for_thread : (plan : Plan) (s : State) (q : ℕ) → IsOrdered plan → q < length plan.pools → (threads plan s q < (pool_at plan q).max) ⊎ (threads plan s q < (pool_at plan q).core) → threads plan s q < (pool_at plan q).max
+pub room_for_thread : (plan : Plan) (s : State) (q : ℕ) → HasValidBodies plan → q < length plan.pools → (threads plan s q < (pool_at plan q).max) ⊎ (threads plan s q < (pool_at plan q).core) → threads plan s q < (pool_at plan q).max
 room_for_thread plan s q ordered inside (inl below) = below
 room_for_thread plan s q ordered inside (inr below) = let sizes = ordered.max q inside in omega arith
 
-started_pools : (plan : Plan) (s : State) (a : Parent) (body : List Action) (i k : ℕ) → IsOrdered plan → Kept plan s → StandsAt plan s a body i (Some (action.Submit k))
+started_pools : (plan : Plan) (s : State) (a : Parent) (body : List Action) (i k : ℕ) → HasValidBodies plan → Kept plan s → StandsAt plan s a body i (Some (action.Submit k))
     → (threads plan s (pool_of plan k) < (pool_at plan (pool_of plan k)).max) ⊎ (threads plan s (pool_of plan k) < (pool_at plan (pool_of plan k)).core)
     → (p : ℕ) → p < length plan.pools → PoolIsKept plan (moved_jobs a (i + 1) s ++ new_job k a i (Stage.At 0) ∷ []) p (pool_part s p)
 started_pools plan s a body i k ordered kept at below p inside =
@@ -75,7 +75,7 @@ started_pools plan s a body i k ordered kept at below p inside =
 queued_nowhere : (n : ℕ) → Stage.Queued ≡ Stage.At n → n ≡ 0
 queued_nowhere n e = absurd cc
 
-pub kept_starts : (plan : Plan) (s : State) (a : Parent) (body : List Action) (i k : ℕ) → IsOrdered plan → Kept plan s → StandsAt plan s a body i (Some (action.Submit k))
+pub kept_starts : (plan : Plan) (s : State) (a : Parent) (body : List Action) (i k : ℕ) → HasValidBodies plan → Kept plan s → StandsAt plan s a body i (Some (action.Submit k))
     → (threads plan s (pool_of plan k) < (pool_at plan (pool_of plan k)).max) ⊎ (threads plan s (pool_of plan k) < (pool_at plan (pool_of plan k)).core)
     → Kept plan (with_job (new_job k a i (Stage.At 0)) (with_position a (i + 1) s))
 kept_starts plan s a body i k ordered kept at below = record {
@@ -115,7 +115,7 @@ queued_elsewhere plan s a body i k kept at p inside other =
     (omega arith)
     (kept.pools p inside)
 
-pub kept_queues : (plan : Plan) (s : State) (a : Parent) (body : List Action) (i k : ℕ) → IsOrdered plan → Kept plan s → StandsAt plan s a body i (Some (action.Submit k))
+pub kept_queues : (plan : Plan) (s : State) (a : Parent) (body : List Action) (i k : ℕ) → HasValidBodies plan → Kept plan s → StandsAt plan s a body i (Some (action.Submit k))
     → (pool_at plan (pool_of plan k)).core ≤ threads plan s (pool_of plan k) → length (pool_part s (pool_of plan k)).queue < (pool_at plan (pool_of plan k)).queue
     → Kept plan (queued_state plan s a i k)
 kept_queues plan s a body i k ordered kept at at_core room =

@@ -8,7 +8,7 @@ use Rattle.support.proofs.PassingPlaces.{passes_at_In, In-places_where, list_all
 use Rattle.job_bodies.specs.declared.action.Action.{Action}
 use Rattle.job_bodies.specs.declared.action.Action.TheVariants as action
 use Rattle.job_bodies.specs.Plan.{Plan, class_at}
-use Rattle.job_bodies.proofs.Bodies.{IsOrdered}
+use Rattle.job_bodies.proofs.Bodies.{HasValidBodies}
 use Rattle.pool_machine.specs.PoolState.{taken_from}
 use Rattle.written_machine.specs.declared.parent.Parent.TheVariants as parent
 use Rattle.written_machine.specs.declared.event.Event.TheVariants as event
@@ -85,7 +85,7 @@ done_of Stage.Done over unclaimed = refl
 done_of Stage.Claimed over unclaimed = absurd (unclaimed refl)
 
 -- a job can pass its get if the child that it waits for is finished
-can_get : (plan : Plan) (s : State) (n i t : ℕ) → IsOrdered plan → Kept plan s → (job_at s n).stage ≡ Stage.At i → slice_get (class_at plan (job_at s n).class).body i ≡ Some (action.Get t)
+can_get : (plan : Plan) (s : State) (n i t : ℕ) → HasValidBodies plan → Kept plan s → (job_at s n).stage ≡ Stage.At i → slice_get (class_at plan (job_at s n).class).body i ≡ Some (action.Get t)
     → is_some_member (unfinished s) (child s (parent.Job n) t) ≡ false → CanGoOn plan s
 can_get plan s n i t ordered kept at is_there free =
     let body = (class_at plan (job_at s n).class).body in
@@ -98,14 +98,14 @@ can_get plan s n i t ordered kept at is_there free =
     (ap (λ (found : Option ℕ). is_some (got_child s (parent.Job n) i found)) latest.is_child ∙ ap (λ (stage : Stage). is_some (got s (parent.Job n) i latest.number stage)) done)
 
 -- a job at any action can act if it does not wait for an unfinished job
-can_go_at : (plan : Plan) (s : State) (n i : ℕ) (next : Option Action) → IsOrdered plan → Kept plan s → (job_at s n).stage ≡ Stage.At i → slice_get (class_at plan (job_at s n).class).body i ≡ next → waits_at s (unfinished s) (parent.Job n) next ≡ false → CanGoOn plan s
+can_go_at : (plan : Plan) (s : State) (n i : ℕ) (next : Option Action) → HasValidBodies plan → Kept plan s → (job_at s n).stage ≡ Stage.At i → slice_get (class_at plan (job_at s n).class).body i ≡ next → waits_at s (unfinished s) (parent.Job n) next ≡ false → CanGoOn plan s
 can_go_at plan s n i None ordered kept at is_there free = can_act plan s n i None at is_there refl
 can_go_at plan s n i (Some (action.Work u)) ordered kept at is_there free = can_act plan s n i (Some (action.Work u)) at is_there refl
 can_go_at plan s n i (Some (action.Submit k)) ordered kept at is_there free = can_act plan s n i (Some (action.Submit k)) at is_there refl
 can_go_at plan s n i (Some (action.Get t)) ordered kept at is_there free = can_get plan s n i t ordered kept at is_there free
 
 -- a queued job that does not wait has an idle worker in its pool, which can take the head of the queue
-can_go_queued : (plan : Plan) (s : State) (n : ℕ) → IsOrdered plan → Kept plan s → (job_at s n).stage ≡ Stage.Queued → waits_as plan s (unfinished s) n (job_at s n).class Stage.Queued ≡ false → CanGoOn plan s
+can_go_queued : (plan : Plan) (s : State) (n : ℕ) → HasValidBodies plan → Kept plan s → (job_at s n).stage ≡ Stage.Queued → waits_as plan s (unfinished s) n (job_at s n).class Stage.Queued ≡ false → CanGoOn plan s
 can_go_queued plan s n ordered kept queued free =
     let p = pool_of plan (job_at s n).class in
     let busy = busy_unfinished plan s p in
@@ -115,7 +115,7 @@ can_go_queued plan s n ordered kept queued free =
     (and_cases (eqb (pool_part s p).idle 0) (list_all (is_member (unfinished s)) (places_where (is_busy_in plan p) s.jobs)) free)
 
 -- an unfinished job that does not wait only for unfinished jobs leads to a possible event
-can_go : (plan : Plan) (s : State) (n : ℕ) (stage : Stage) → IsOrdered plan → Kept plan s → (job_at s n).stage ≡ stage → is_unfinished stage ≡ true → waits_as plan s (unfinished s) n (job_at s n).class stage ≡ false → CanGoOn plan s
+can_go : (plan : Plan) (s : State) (n : ℕ) (stage : Stage) → HasValidBodies plan → Kept plan s → (job_at s n).stage ≡ stage → is_unfinished stage ≡ true → waits_as plan s (unfinished s) n (job_at s n).class stage ≡ false → CanGoOn plan s
 can_go plan s n Stage.Queued ordered kept is_stage still free = can_go_queued plan s n ordered kept is_stage free
 can_go plan s n (Stage.At i) ordered kept is_stage still free = can_go_at plan s n i (slice_get (class_at plan (job_at s n).class).body i) ordered kept is_stage refl free
 can_go plan s n Stage.Done ordered kept is_stage still free = absurd cc
@@ -127,8 +127,8 @@ not_none (m ∷ ns) n i = refl
 not_none [] n i = absurd (elim i [ ])
 
 -- the unfinished jobs are not a waiting set, so one of them does not wait only for the others
-pub goes_on : (plan : Plan) (s : State) (j : ℕ) → IsOrdered plan → Kept plan s → ((members : List ℕ) → ¬ IsWaitingSet plan s members) → is_unfinished (job_at s j).stage ≡ true → CanGoOn plan s
-goes_on plan s j ordered kept none still =
+pub makes_progress : (plan : Plan) (s : State) (j : ℕ) → HasValidBodies plan → Kept plan s → ((members : List ℕ) → ¬ IsWaitingSet plan s members) → is_unfinished (job_at s j).stage ≡ true → CanGoOn plan s
+makes_progress plan s j ordered kept none still =
     let members = unfinished s in
     let not_empty = not_none members j (In-unfinished s j still) in
     let no_set : is_waiting_set plan s members ≡ false = false_from_ne_true (is_waiting_set plan s members) (λ is_set. none members ((waiting_set_test plan s members).0 is_set)) in

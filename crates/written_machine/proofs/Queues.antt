@@ -7,7 +7,7 @@ use Rattle.support.specs.Places.{cons_if}
 use Rattle.support.proofs.PassingPlaces.{places_where_push, places_where-set_same, first_where, In-places_where}
 use Rattle.job_bodies.specs.declared.action.Action.{Action}
 use Rattle.job_bodies.specs.Plan.{Plan}
-use Rattle.job_bodies.proofs.Bodies.{IsOrdered}
+use Rattle.job_bodies.proofs.Bodies.{HasValidBodies}
 use Rattle.written_machine.specs.declared.parent.Parent.{Parent}
 use Rattle.written_machine.specs.declared.parent.Parent.TheVariants as parent
 use Rattle.written_machine.specs.State.{Stage, State, Made, PoolPart, no_job, no_pool_part, job_at, pool_part, pool_of, is_queued, is_queued_in}
@@ -58,11 +58,11 @@ head_of_queue plan s p j rest kept e =
     }
 
 -- the pool of an existing job exists
-pub pool_of_made : (plan : Plan) (s : State) (j : ℕ) → IsOrdered plan → Kept plan s → j < length s.jobs → pool_of plan (job_at s j).class < length plan.pools
+pub pool_of_made : (plan : Plan) (s : State) (j : ℕ) → HasValidBodies plan → Kept plan s → j < length s.jobs → pool_of plan (job_at s j).class < length plan.pools
 pool_of_made plan s j ordered kept inside = ordered.pools (job_at s j).class (kept.classes j no_job inside)
 
 -- a queued job is in the queue of its pool
-pub In-queue : (plan : Plan) (s : State) (j : ℕ) → IsOrdered plan → Kept plan s → (job_at s j).stage ≡ Stage.Queued → In j (pool_part s (pool_of plan (job_at s j).class)).queue
+pub In-queue : (plan : Plan) (s : State) (j : ℕ) → HasValidBodies plan → Kept plan s → (job_at s j).stage ≡ Stage.Queued → In j (pool_part s (pool_of plan (job_at s j).class)).queue
 In-queue plan s j ordered kept queued =
     let p = pool_of plan (job_at s j).class in
     let inside = job_made s j (Queued≢Claimed queued) in
@@ -73,7 +73,7 @@ length-In : (ns : List ℕ) (n : ℕ) → In n ns → 1 ≤ length ns
 length-In [] n i = elim i [ ]
 length-In (m ∷ ns) n i = omega arith
 
-pub queued_in_queue : (plan : Plan) (s : State) (j : ℕ) → IsOrdered plan → Kept plan s → (job_at s j).stage ≡ Stage.Queued → 1 ≤ length (pool_part s (pool_of plan (job_at s j).class)).queue
+pub queued_in_queue : (plan : Plan) (s : State) (j : ℕ) → HasValidBodies plan → Kept plan s → (job_at s j).stage ≡ Stage.Queued → 1 ≤ length (pool_part s (pool_of plan (job_at s j).class)).queue
 queued_in_queue plan s j ordered kept queued = length-In (pool_part s (pool_of plan (job_at s j).class)).queue j (In-queue plan s j ordered kept queued)
 
 -- ---- queues after a change of the jobs

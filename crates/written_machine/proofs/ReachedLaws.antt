@@ -2,10 +2,10 @@
 use Rattle.std.proofs.Common.{ℕ, List, Some, refl, arith}
 use Rattle.job_bodies.specs.declared.action.Action.{Action}
 use Rattle.job_bodies.specs.declared.action.Action.TheVariants as action
-use Rattle.job_bodies.specs.Plan.{Plan, class_got}
+use Rattle.job_bodies.specs.Plan.{Plan, submitted_class}
 use Rattle.job_bodies.specs.WellFormed.{IsWellFormed}
-use Rattle.job_bodies.specs.Lawful.{IsLawful}
-use Rattle.job_bodies.proofs.Bodies.{IsOrdered, ordered}
+use Rattle.job_bodies.specs.ValidBody.{IsValidBody}
+use Rattle.job_bodies.proofs.Bodies.{HasValidBodies, ordered}
 use Rattle.written_machine.specs.declared.parent.Parent.{Parent}
 use Rattle.written_machine.specs.declared.event.Outcome.TheVariants.{Refused}
 use Rattle.written_machine.specs.State.{State}
@@ -32,10 +32,10 @@ pub queued_at_core : QueuesOnlyAtCore
 queued_at_core plan s well_formed reached p inside some = ((kept plan s well_formed reached).pools p inside).core some
 
 -- an actor at a get finds its job
-pub child_at_get : (plan : Plan) (s : State) (a : Parent) (body : List Action) (i t : ℕ) → IsOrdered plan → Kept plan s → StandsAt plan s a body i (Some (action.Get t)) → HasChild s.jobs a t (class_got body t)
+pub child_at_get : (plan : Plan) (s : State) (a : Parent) (body : List Action) (i t : ℕ) → HasValidBodies plan → Kept plan s → StandsAt plan s a body i (Some (action.Get t)) → HasChild s.jobs a t (submitted_class body t)
 child_at_get plan s a body i t ordered kept at =
-    let lawful : IsLawful plan body = lawful_point plan s a body i ordered at.stands in
-    (kept.actors a body i at.stands).ready i t (omega arith) (lawful.behind i t at.is_there) at.is_there
+    let valid : IsValidBody plan body = lawful_point plan s a body i ordered at.stands in
+    (kept.actors a body i at.stands).ready i t (omega arith) (valid.behind i t at.is_there) at.is_there
 
 pub children_at_gets : GetsHaveChildren
 children_at_gets plan s well_formed reached a body i t stands is_there =

@@ -6,8 +6,8 @@ use Rattle.std.proofs.lemmas.List.{get_or-set_other, get_or_past}
 use Rattle.std.proofs.lemmas.Option.{none-some, same_Some}
 use Rattle.job_bodies.specs.declared.action.Action.{Action}
 use Rattle.job_bodies.specs.Plan.{Plan, class_at, client_at}
-use Rattle.job_bodies.specs.Lawful.{IsLawful}
-use Rattle.job_bodies.proofs.Bodies.{IsOrdered}
+use Rattle.job_bodies.specs.ValidBody.{IsValidBody}
+use Rattle.job_bodies.proofs.Bodies.{HasValidBodies}
 use Rattle.written_machine.specs.declared.client_state.ClientState.{ClientState}
 use Rattle.written_machine.specs.declared.parent.Parent.{Parent}
 use Rattle.written_machine.specs.declared.parent.Parent.TheVariants as parent
@@ -60,9 +60,9 @@ job_at-with_position plan s (parent.Job m) body i i' j stands elsewhere =
     (λ (same : j ≡ m). elsewhere i (ap (λ (n : ℕ). (job_at s n).stage) same ∙ (stage_of_standing plan (job_at s m).class (job_at s m).stage body i stands).0))
 
 -- the body of an actor is valid
-pub lawful_point : (plan : Plan) (s : State) (a : Parent) (body : List Action) (i : ℕ) → IsOrdered plan → point plan s a ≡ Some (record { body = body; position = i }) → IsLawful plan body
+pub lawful_point : (plan : Plan) (s : State) (a : Parent) (body : List Action) (i : ℕ) → HasValidBodies plan → point plan s a ≡ Some (record { body = body; position = i }) → IsValidBody plan body
 lawful_point plan s (parent.Client c) body i ordered stands =
     let client = client_standing plan (slice_get s.clients c) body i stands in
-    subst (IsLawful plan) (sym client.2) (ordered.clients client.0.kind)
+    subst (IsValidBody plan) (sym client.2) (ordered.clients client.0.kind)
 lawful_point plan s (parent.Job j) body i ordered stands =
-    subst (IsLawful plan) (sym (stage_of_standing plan (job_at s j).class (job_at s j).stage body i stands).1) (ordered.classes (job_at s j).class)
+    subst (IsValidBody plan) (sym (stage_of_standing plan (job_at s j).class (job_at s j).stage body i stands).1) (ordered.classes (job_at s j).class)

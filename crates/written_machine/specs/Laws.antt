@@ -2,7 +2,7 @@
 use Rattle.std.specs.Prelude.{◌≡◌, ◌≢◌, ◌<◌, ◌≤◌, ◌↔◌, ⊤, ℕ, IsTrue, List, length, Some, slice_get}
 use Rattle.job_bodies.specs.declared.action.Action.{Action}
 use Rattle.job_bodies.specs.declared.action.Action.TheVariants.{Get}
-use Rattle.job_bodies.specs.Plan.{Plan, pool_at, class_got}
+use Rattle.job_bodies.specs.Plan.{Plan, pool_at, submitted_class}
 use Rattle.job_bodies.specs.WellFormed.{IsWellFormed}
 use Rattle.written_machine.specs.declared.parent.Parent.{Parent}
 use Rattle.written_machine.specs.declared.parent.Parent.TheVariants.{Client, Job}
@@ -42,7 +42,7 @@ pub record HasLatest (s : State) (a : Parent) (t k : ℕ) : Type 0 where
 
 -- an actor at a get has such a latest job, of the class that the submit names
 abbrev pub GetsHaveChildren : Type 0
-GetsHaveChildren = HoldsWhereReached (λ plan s. (a : Parent) (body : List Action) (i t : ℕ) → point plan s a ≡ Some (record { body = body; position = i }) → slice_get body i ≡ Some (Get t) → HasLatest s a t (class_got body t))
+GetsHaveChildren = HoldsWhereReached (λ plan s. (a : Parent) (body : List Action) (i t : ℕ) → point plan s a ≡ Some (record { body = body; position = i }) → slice_get body i ≡ Some (Get t) → HasLatest s a t (submitted_class body t))
 
 -- the test for a waiting set agrees with the definition
 abbrev pub WaitingSetsAreTested : Type 0

@@ -31,5 +31,5 @@ pub record CanGoOn (plan : Plan) (s : State) : Type 0 where
   pub possible : IsTrue (is_some (step plan s event))
 
 -- in every reachable state with an unfinished job, such an event is possible
-abbrev pub GoesOn : Plan → Type 0
-GoesOn plan = (events : List Event) (s : State) → Reaches plan events s → (j : ℕ) → IsTrue (is_unfinished (job_at s j).stage) → CanGoOn plan s
+abbrev pub MakesProgress : Plan → Type 0
+MakesProgress plan = (events : List Event) (s : State) → Reaches plan events s → (j : ℕ) → IsTrue (is_unfinished (job_at s j).stage) → CanGoOn plan s

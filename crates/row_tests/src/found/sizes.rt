@@ -8,21 +8,21 @@ use std::alloc::{AllocError, Global};
 
 /// Returns the lines of the sizes for the plan with this text, or of the reason why there are none.
 pub fn answer(alloc: Global, text: &str) -> Result<String, AllocError> {
-    let mut told = String::new(alloc);
+    let mut text = String::new(alloc);
     match read_plan(alloc, text.as_bytes()) {
-        Ok(plan) => push_found(alloc, &mut told, &plan)?,
-        Err(fault) => writeln!(told, "{fault}")?,
+        Ok(plan) => push_found(alloc, &mut text, &plan)?,
+        Err(fault) => writeln!(text, "{fault}")?,
     }
-    Ok(told)
+    Ok(text)
 }
 
 // Unlike `fit`, it does not search for a certificate first.
-fn push_found(alloc: Global, told: &mut String, plan: &Plan) -> Result<(), AllocError> {
+fn push_found(alloc: Global, text: &mut String, plan: &Plan) -> Result<(), AllocError> {
     match search_sizes(alloc, plan, None)? {
         SizesFound::Found { plan: fit, .. } => {
-            let _changes = push_sizes(told, plan, &fit)?;
+            let _changes = push_sizes(text, plan, &fit)?;
             Ok(())
         }
-        SizesFound::NotFound(cause) => push_no_sizes(told, plan, cause),
+        SizesFound::NotFound(cause) => push_no_sizes(text, plan, cause),
     }
 }

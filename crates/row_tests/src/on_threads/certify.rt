@@ -19,8 +19,8 @@ pub fn certified<R: Threads + Wait + Sync>(
     plan: &[u8],
 ) -> Result<String, AllocError> {
     let ended = Ended::of_input(rt, alloc, ONE_WORKER, plan)?;
-    let mut answer = ended.shown(alloc)?;
-    push_otherwise(rt, alloc, plan, &ended, &mut answer)?;
+    let mut answer = ended.to_text(alloc)?;
+    push_differences(rt, alloc, plan, &ended, &mut answer)?;
     Ok(answer)
 }
 
@@ -32,14 +32,14 @@ pub fn certified_and_checked<R: Threads + Wait + Sync>(
 ) -> Result<String, AllocError> {
     let ended = Ended::of_input(rt, alloc, ONE_WORKER, plan)?;
     let mut answer = checked(alloc, plan, &ended)?;
-    push_otherwise(rt, alloc, plan, &ended, &mut answer)?;
+    push_differences(rt, alloc, plan, &ended, &mut answer)?;
     Ok(answer)
 }
 
 // Returns the answer to the plan, or the answer of `check` if it is a bundle.
 fn checked(alloc: Global, plan: &[u8], ended: &Ended) -> Result<String, AllocError> {
     if ended.outcome != Ok(Status::Done) {
-        return ended.shown(alloc);
+        return ended.to_text(alloc);
     }
     let mut answer = Ended::of_bundle(alloc, &ended.written)?.first_line(alloc)?;
     if !is_bundle_of(plan, &ended.written) {
@@ -64,7 +64,7 @@ fn is_bundle_of(plan: &[u8], bundle: &[u8]) -> bool {
 
 // Reports if the answer differs from that of one worker: with 64 workers and, if the plan is short,
 // with two workers, byte by byte or with failing calls.
-fn push_otherwise<R: Threads + Wait + Sync>(
+fn push_differences<R: Threads + Wait + Sync>(
     rt: &R,
     alloc: Global,
     plan: &[u8],
@@ -79,5 +79,5 @@ fn push_otherwise<R: Threads + Wait + Sync>(
         return Ok(());
     }
     let two = Command::OnThreads(Task::Certify { workers: 2 });
-    failing::push_otherwise(rt, alloc, two, plan, ended, answer)
+    failing::push_differences(rt, alloc, two, plan, ended, answer)
 }

@@ -25,22 +25,22 @@ pub fn checked<R: Threads + Sync>(
 ) -> Result<String, AllocError> {
     let bundle = String::from_utf8_lossy(alloc, bundle)?;
     match bundle.as_str().split_once("%%\n") {
-        Some((plan, cert)) => told_of_texts(rt, alloc, plan.as_bytes(), cert.as_bytes()),
+        Some((plan, cert)) => check_texts(rt, alloc, plan.as_bytes(), cert.as_bytes()),
         None => String::from_str(alloc, "no line `%%`"),
     }
 }
 
 // Formats the result for the two texts.
-fn told_of_texts<R: Threads + Sync>(
+fn check_texts<R: Threads + Sync>(
     rt: &R,
     alloc: Global,
     plan: &[u8],
     cert: &[u8],
 ) -> Result<String, AllocError> {
     let read = read_plan(alloc, plan);
-    let mut answer = told(alloc, &read, check(alloc, plan, cert))?;
+    let mut answer = result_text(alloc, &read, check(alloc, plan, cert))?;
     let texts = Texts { plan, cert, read };
-    let otherwise = texts.told_otherwise(rt, alloc, answer.as_str())?;
+    let otherwise = texts.differences(rt, alloc, answer.as_str())?;
     answer.push_str(otherwise.as_str())?;
     Ok(answer)
 }
@@ -55,7 +55,7 @@ struct Texts<'a> {
 
 impl Texts<'_> {
     // Reports if some number of workers answers differently from the check without threads.
-    fn told_otherwise<R: Threads + Sync>(
+    fn differences<R: Threads + Sync>(
         &self,
         rt: &R,
         alloc: Global,
@@ -64,9 +64,9 @@ impl Texts<'_> {
         let mut otherwise = String::new(alloc);
         for workers in [1, 3, 64] {
             let found = check_on(rt, alloc, workers, self.plan, self.cert, &Open);
-            let told = told(alloc, &self.read, found)?;
-            if told.as_str() != alone {
-                write!(otherwise, "\nwith {workers} workers {told}")?;
+            let text = result_text(alloc, &self.read, found)?;
+            if text.as_str() != alone {
+                write!(otherwise, "\nwith {workers} workers {text}")?;
             }
         }
         Ok(otherwise)
@@ -74,20 +74,20 @@ impl Texts<'_> {
 }
 
 // Formats the verdict or the fault of a check.
-fn told(
+fn result_text(
     alloc: Global,
     plan: &Result<Plan, PlanFault>,
     found: Result<Verdict, CheckFault>,
 ) -> Result<String, AllocError> {
     match found {
-        Ok(verdict) => told_verdict(alloc, plan, &verdict),
+        Ok(verdict) => verdict_text(alloc, plan, &verdict),
         Err(CheckFault::Plan(fault)) => fault.to_string(alloc),
         Err(CheckFault::Cert(fault)) => fault.to_string(alloc),
         Err(fault) => format!(in alloc; "{fault:?}"),
     }
 }
 
-fn told_verdict(
+fn verdict_text(
     alloc: Global,
     plan: &Result<Plan, PlanFault>,
     verdict: &Verdict,

@@ -60,7 +60,7 @@ impl Ended {
     }
 
     /// Returns the output, followed by the outcome.
-    pub fn shown(&self, alloc: Global) -> Result<String, AllocError> {
+    pub fn to_text(&self, alloc: Global) -> Result<String, AllocError> {
         let mut text = String::from_utf8_lossy(alloc, &self.written)?;
         self.push_outcome(&mut text)?;
         Ok(text)

@@ -17,7 +17,7 @@ const PIECE: usize = 250;
 
 /// Returns the answer of the command, and reports if it differs byte by byte, or with a failing
 /// source or sink.
-pub fn tried<R: Threads + Wait + Sync>(
+pub fn run_with_failures<R: Threads + Wait + Sync>(
     rt: &R,
     alloc: Global,
     command: Command,
@@ -26,13 +26,13 @@ pub fn tried<R: Threads + Wait + Sync>(
     requires { IsInRange command }
 {
     let ended = Ended::of_input(rt, alloc, command, input)?;
-    let mut answer = ended.shown(alloc)?;
-    push_otherwise(rt, alloc, command, input, &ended, &mut answer)?;
+    let mut answer = ended.to_text(alloc)?;
+    push_differences(rt, alloc, command, input, &ended, &mut answer)?;
     Ok(answer)
 }
 
 /// Reports if the outcome differs byte by byte or with a failing call.
-pub fn push_otherwise<R: Threads + Wait + Sync>(
+pub fn push_differences<R: Threads + Wait + Sync>(
     rt: &R,
     alloc: Global,
     command: Command,
@@ -109,7 +109,7 @@ fn push_failing_writes<R: Threads + Wait + Sync>(
             .failing_after(calls as u64);
         let mut source = MemorySource::new(input);
         let failed = Ended::of_source(rt, alloc, command, &mut source, sink)?;
-        if !is_front_of(&failed, ended, PIECE.saturating_mul(calls)) {
+        if !is_prefix_of(&failed, ended, PIECE.saturating_mul(calls)) {
             write!(answer, ", but not with a sink that fails after {calls}")?;
         }
     }
@@ -118,7 +118,7 @@ fn push_failing_writes<R: Threads + Wait + Sync>(
 
 // Returns whether `length` bytes were written and the call failed. If the answer has only that many
 // bytes, returns whether the call succeeded.
-fn is_front_of(failed: &Ended, ended: &Ended, length: usize) -> bool {
+fn is_prefix_of(failed: &Ended, ended: &Ended, length: usize) -> bool {
     let whole = ended.written.len();
     let outcome = if length < whole {
         Err(WRITE_FAILED)

@@ -3,7 +3,7 @@
 ghost use Rattle.command_line.specs.Command.{IsInRange};
 
 use crate::on_threads::ended::Ended;
-use crate::on_threads::failing::tried;
+use crate::on_threads::failing::run_with_failures;
 use sizing_cli::{Command, SizesForm, Status, Task};
 use std::alloc::{AllocError, Global};
 use std::sync::Wait;
@@ -47,7 +47,7 @@ pub fn fitted_and_checked<R: Threads + Wait + Sync>(
 ) -> Result<String, AllocError> {
     let ended = Ended::of_input(rt, alloc, BUNDLE, plan)?;
     if ended.outcome != Ok(Status::Done) {
-        return ended.shown(alloc);
+        return ended.to_text(alloc);
     }
     let mut answer = Ended::of_bundle(alloc, &ended.written)?.first_line(alloc)?;
     write!(answer, "\n{}", fitted_again(rt, alloc, &ended.written)?)?;
@@ -62,7 +62,7 @@ fn fitted_again<R: Threads + Wait + Sync>(
 ) -> Result<String, AllocError> {
     let bundle = String::from_utf8_lossy(alloc, bundle)?;
     match bundle.as_str().split_once("%%\n") {
-        Some((fit, _)) => Ended::of_input(rt, alloc, SIZES, fit.as_bytes())?.shown(alloc),
+        Some((fit, _)) => Ended::of_input(rt, alloc, SIZES, fit.as_bytes())?.to_text(alloc),
         None => String::from_str(alloc, "no line `%%`"),
     }
 }
@@ -78,7 +78,7 @@ pub(crate) fn served<R: Threads + Wait + Sync>(
     requires { IsInRange command }
 {
     if plan.len() <= SHORT {
-        return tried(rt, alloc, command, plan);
+        return run_with_failures(rt, alloc, command, plan);
     }
-    Ended::of_input(rt, alloc, command, plan)?.shown(alloc)
+    Ended::of_input(rt, alloc, command, plan)?.to_text(alloc)
 }

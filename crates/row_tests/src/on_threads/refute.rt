@@ -66,7 +66,7 @@ pub fn refuted_and_replayed<R: Threads + Wait + Sync>(
 ) -> Result<String, AllocError> {
     let ended = Ended::of_input(rt, alloc, BUNDLE, plan)?;
     if ended.outcome != Ok(Status::Done) {
-        return ended.shown(alloc);
+        return ended.to_text(alloc);
     }
-    Ended::of_input(rt, alloc, Command::Alone(Review::Replay), &ended.written)?.shown(alloc)
+    Ended::of_input(rt, alloc, Command::Alone(Review::Replay), &ended.written)?.to_text(alloc)
 }

@@ -3,7 +3,7 @@
 ghost use Rattle.std.specs.Prelude.{◌≤◌};
 
 use crate::on_threads::ended::Ended;
-use crate::on_threads::failing::tried;
+use crate::on_threads::failing::run_with_failures;
 use sizing_cli::{Command, Task};
 use std::alloc::{AllocError, Global};
 use std::sync::Wait;
@@ -24,9 +24,9 @@ pub fn ran<R: Threads + Wait + Sync>(
 {
     let command = Command::OnThreads(Task::Run { rounds });
     if rounds <= SHORT {
-        return tried(rt, alloc, command, bundle);
+        return run_with_failures(rt, alloc, command, bundle);
     }
-    Ended::of_input(rt, alloc, command, bundle)?.shown(alloc)
+    Ended::of_input(rt, alloc, command, bundle)?.to_text(alloc)
 }
 
 /// Returns the answer of `run` to a bundle after a line with the number of rounds, 1 to 1,000,000.

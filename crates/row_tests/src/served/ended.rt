@@ -36,7 +36,7 @@ pub struct Ended {
 
 impl Ended {
     /// Returns the output, followed by the outcome.
-    pub fn shown(&self, alloc: Global) -> Result<String, AllocError> {
+    pub fn to_text(&self, alloc: Global) -> Result<String, AllocError> {
         let mut text = String::from_utf8_lossy(alloc, &self.written)?;
         match self.outcome {
             Ok(Status::Done) => text.push_str("status 0")?,

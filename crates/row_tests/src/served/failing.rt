@@ -24,7 +24,7 @@ pub struct Case<'a> {
 
 impl Case<'_> {
     /// Reports if a failing call has an unexpected outcome.
-    pub fn push_otherwise(
+    pub fn push_differences(
         &self,
         alloc: Global,
         query: Query,
@@ -84,7 +84,7 @@ impl Case<'_> {
                 .failing_after(calls as u64);
             let mut source = MemorySource::new(self.input);
             let failed = serve(alloc, query, &mut source, sink)?;
-            if !is_front_of(&failed, &self.ended, most.saturating_mul(calls)) {
+            if !is_prefix_of(&failed, &self.ended, most.saturating_mul(calls)) {
                 write!(
                     answer,
                     ", but not with a sink of {most} that fails after {calls}"
@@ -114,7 +114,7 @@ impl Case<'_> {
                 written: taken,
                 outcome,
             };
-            if !is_front_of(&failed, &self.ended, calls.saturating_mul(STALLING_PIECE)) {
+            if !is_prefix_of(&failed, &self.ended, calls.saturating_mul(STALLING_PIECE)) {
                 write!(
                     answer,
                     ", but not with a writer that takes none after {calls}"
@@ -127,7 +127,7 @@ impl Case<'_> {
 
 // Returns whether `length` bytes were written and the call failed. If the answer has only that many
 // bytes, returns whether the call succeeded.
-fn is_front_of(failed: &Ended, ended: &Ended, length: usize) -> bool {
+fn is_prefix_of(failed: &Ended, ended: &Ended, length: usize) -> bool {
     let whole = ended.written.len();
     let outcome = if length < whole {
         Err(WRITE_FAILED)

@@ -8,13 +8,13 @@ pub fn asked(alloc: Global, lines: &[u8]) -> Result<String, AllocError> {
     let lines = String::from_utf8_lossy(alloc, lines)?;
     let words = lines.lines().collect::<Vec<&str>>(alloc)?;
     match read_words(alloc, &words) {
-        Ok(Some(asked)) => told(alloc, &asked),
+        Ok(Some(asked)) => args_text(alloc, &asked),
         Ok(None) => String::from_str(alloc, "None"),
         Err(error) => format!(in alloc; "{:?}", error.kind()),
     }
 }
 
-fn told(alloc: Global, asked: &Asked<'_>) -> Result<String, AllocError> {
+fn args_text(alloc: Global, asked: &Asked<'_>) -> Result<String, AllocError> {
     let mut text = String::new(alloc);
     push_asked(&mut text, asked)?;
     Ok(text)

@@ -7,7 +7,7 @@ use Rattle.cert_text.specs.Cert.{Cert, cert_fits}
 use Rattle.soundness.specs.Conditions.{failing}
 use Rattle.soundness.specs.Accepted.{is_nil}
 use Rattle.soundness.proofs.Promised.{promises}
-use Rattle.cert_check.specs.Holding.{pool_holds}
+use Rattle.cert_check.specs.PoolConditions.{pool_holds}
 use Rattle.cert_check.proofs.Conditions.{held, ranks_fail}
 use Rattle.cert_check.proofs.Pools.{fails_here, passes_all}
 use Rattle.cert_check.proofs.acceptance.conditions_hold.Goals as goal

@@ -1,6 +1,6 @@
 -- The remaining pools decide the result.
 use Rattle.std.proofs.Common.{◌≡◌}
-use Rattle.cert_check.specs.Holding.{pool_holds}
+use Rattle.cert_check.specs.PoolConditions.{pool_holds}
 use Rattle.cert_check.proofs.Pools.{rest_passes}
 use Rattle.cert_check.proofs.acceptance.conditions_hold.Given as goal
 

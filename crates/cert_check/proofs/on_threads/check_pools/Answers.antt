@@ -13,9 +13,9 @@ pub returns : goal.returns
 returns g c =
     let plan = c.args.plan.now in
     let found = c.in_ok-found.found in
-    let places : List (Option PoolCheck) = c.fill_places.new.places in
-    let kept : length places ≡ length c.deref_mut.result.now = c.fill_places.auto.places in
+    let places : List (Option PoolCheck) = c.check_pools_into.new.places in
+    let kept : length places ≡ length c.deref_mut.result.now = c.check_pools_into.auto.places in
     let many : length c.deref_mut.result.now ≡ length plan.pools = c.deref_mut.ensures.len ∙ (c.in_ok-found.ensures ∙ ap (λ (pools : List Pool). length pools) c.pools.ensures.value) in
     let whole = all_written found.len places (drop (length places) found.items) (kept ∙ c.deref_mut.ensures.len) in
     let AreOf : List (Option PoolCheck) → Type 0 = λ l. AreChecked plan c.args.cert.now l in
-    subst AreOf (sym whole) (record { as_many = kept ∙ many; each = λ p inside. c.fill_places.ensures p (omega arith) })
+    subst AreOf (sym whole) (record { as_many = kept ∙ many; each = λ p inside. c.check_pools_into.ensures p (omega arith) })

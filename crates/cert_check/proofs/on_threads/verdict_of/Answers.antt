@@ -10,11 +10,11 @@ use Rattle.soundness.specs.Accepted.{is_nil}
 use Rattle.soundness.proofs.Promised.{promises}
 use Rattle.cert_check.specs.declared.answer.PoolLine.{PoolLine}
 use Rattle.cert_check.specs.declared.on_threads.PoolCheck.{PoolCheck}
-use Rattle.cert_check.specs.Holding.{pool_holds}
+use Rattle.cert_check.specs.PoolConditions.{pool_holds}
 use Rattle.cert_check.specs.Verdict.{pool_line}
 use Rattle.cert_check.specs.OnThreads.{pool_check}
 use Rattle.cert_check.proofs.Conditions.{conditions_hold}
-use Rattle.cert_check.proofs.Pools.{given_more, given_all, decides_more, decides_all}
+use Rattle.cert_check.proofs.Pools.{results_more, results_all, decides_more, decides_all}
 use Rattle.cert_check.proofs.on_threads.verdict_of.Goals as goal
 
 pub loop-pool-init : goal.loop-pool-init
@@ -38,7 +38,7 @@ loop-pool-preserved c =
     let check_is : c.in-Some.check ≡ pool_check plan cert c.loop-pool.pool = rw c.in-Some.is at (c.requires.checked.each c.loop-pool.pool inside) in
     record {
       lines = rw (c.in_ok-push.ensures.items, ap (λ (x : PoolCheck). x.line) check_is)
-          (given_more (pool_line plan cert) plan.pools c.loop-pool.pool c.loop-pool.pools.items _ inside c.loop-pool.invariant.lines);
+          (results_more (pool_line plan cert) plan.pools c.loop-pool.pool c.loop-pool.pools.items _ inside c.loop-pool.invariant.lines);
       decides = rw (ap (λ (x : PoolCheck). x.holds) check_is)
           (decides_more (pool_holds plan cert) plan.pools c.loop-pool.pool c.loop-pool.yes _ inside c.loop-pool.invariant.decides);
     }
@@ -54,7 +54,7 @@ returns-clause-verdict c =
     let cert = c.args.cert.now in
     ap₂ (λ (yes : Bool) (lines : List PoolLine). record { yes = yes; pools = lines })
     (holds c ∙ sym (ap (λ (b : Bool). b && is_nil (failing plan cert)) c.requires.fits))
-    (given_all (pool_line plan cert) plan.pools c.loop-pool.pool c.loop-pool.pools.items _ (omega (arith, c.requires.checked.as_many)) c.loop-pool.invariant.lines)
+    (results_all (pool_line plan cert) plan.pools c.loop-pool.pool c.loop-pool.pools.items _ (omega (arith, c.requires.checked.as_many)) c.loop-pool.invariant.lines)
 
 pub returns-clause-promises : goal.returns-clause-promises
 returns-clause-promises c = λ yes.

@@ -1,7 +1,7 @@
 use Rattle.std.proofs.Common.{◌≡◌, drop, take}
 use Rattle.support.specs.Reading.{check_each}
 use Rattle.job_bodies.specs.Checks.{check_action}
-use Rattle.job_bodies.specs.Got.{IsTableOf}
+use Rattle.job_bodies.specs.GetTable.{IsTableOf}
 use Rattle.job_bodies.proofs.checks.check_body.Given as goal
 
 abbrev pub invariant-loop-position : goal.invariant-loop-position

@@ -3,7 +3,7 @@ use Rattle.std.proofs.lemmas.Iterator.{YieldsList-from_slice}
 use Rattle.std.proofs.lemmas.Iterator.Search.{position_from_yields_List}
 use Rattle.std.proofs.lemmas.List.{take_rest}
 use Rattle.line_words.specs.Pieces.{is_newline}
-use Rattle.line_words.proofs.FirstPieces.{first_there, behind_there, first_nowhere, behind_nowhere}
+use Rattle.line_words.proofs.FirstPieces.{first_there, after_there, first_nowhere, after_nowhere}
 use Rattle.line_words.proofs.pieces.split_line.Goals as goal
 
 pub returns-in-Some-clause-line : goal.returns-in-Some-clause-line
@@ -12,11 +12,11 @@ returns-in-Some-clause-line c =
     let found : c.position.result ≡ position is_newline text = position_from_yields_List is_newline _ _ c.position.result c.position.ensures.ran (YieldsList-from_slice text cc) (λ x b q k. search (rules, tests)) in
     first_there text c.in-Some.newline (sym found ∙ c.in-Some.is)
 
-pub returns-in-Some-clause-behind : goal.returns-in-Some-clause-behind
-returns-in-Some-clause-behind c =
+pub returns-in-Some-clause-rest_after : goal.returns-in-Some-clause-rest_after
+returns-in-Some-clause-rest_after c =
     let text = c.args.text.now in
     let found : c.position.result ≡ position is_newline text = position_from_yields_List is_newline _ _ c.position.result c.position.ensures.ran (YieldsList-from_slice text cc) (λ x b q k. search (rules, tests)) in
-    take_rest text (c.in-Some.newline + 1) ∙ behind_there text c.in-Some.newline (sym found ∙ c.in-Some.is)
+    take_rest text (c.in-Some.newline + 1) ∙ after_there text c.in-Some.newline (sym found ∙ c.in-Some.is)
 
 pub returns-in-None-clause-line : goal.returns-in-None-clause-line
 returns-in-None-clause-line c =
@@ -24,8 +24,8 @@ returns-in-None-clause-line c =
     let found : c.position.result ≡ position is_newline text = position_from_yields_List is_newline _ _ c.position.result c.position.ensures.ran (YieldsList-from_slice text cc) (λ x b q k. search (rules, tests)) in
     first_nowhere text (sym found ∙ c.in-None.is)
 
-pub returns-in-None-clause-behind : goal.returns-in-None-clause-behind
-returns-in-None-clause-behind c =
+pub returns-in-None-clause-rest_after : goal.returns-in-None-clause-rest_after
+returns-in-None-clause-rest_after c =
     let text = c.args.text.now in
     let found : c.position.result ≡ position is_newline text = position_from_yields_List is_newline _ _ c.position.result c.position.ensures.ran (YieldsList-from_slice text cc) (λ x b q k. search (rules, tests)) in
-    behind_nowhere text (sym found ∙ c.in-None.is)
+    after_nowhere text (sym found ∙ c.in-None.is)

@@ -1,12 +1,12 @@
 use Rattle.std.proofs.Common.{◌≡◌, ◌∙◌, List, [], ℕ, Bor, Option, Some, map, take, get_or, slice_get, Ok, sym, ap, subst}
 use Rattle.std.proofs.lemmas.Result.{err_from_is_err_and}
-use Rattle.support.specs.Given.{Fails}
+use Rattle.support.specs.Results.{Fails}
 use Rattle.support.proofs.Loops.{at_index_copied, reads_begin, reads_more, reads_stop, reads_end_seen}
 use Rattle.job_bodies.specs.Checks.{at_action}
 use Rattle.plan_text.specs.Bodies.{action_at, body_of}
-use Rattle.plan_text.specs.Orders.{order_of}
+use Rattle.plan_text.specs.ParsedActions.{parse_action}
 use Rattle.plan_text.specs.Slots.{position_in, filled, filled_by}
-use Rattle.plan_text.proofs.Filling.{filled_more, same_functions}
+use Rattle.plan_text.proofs.SlotStates.{filled_more, same_functions}
 use Rattle.plan_text.proofs.bodies.body_of.Goals as goal
 
 abbrev now : Bor (List ℕ) → List ℕ
@@ -27,7 +27,7 @@ loop-position-preserved c =
     let before : position_in c.loop-position.slots ≡ filled (take position texts) = same_functions _ _ c.loop-position.invariant.slots in
     let given = subst (λ (slots : List ℕ → Option ℕ). action_at c.args.classes.now slots (at_action c.args.part c.args.index position) text.now ≡ Ok c.in_ok-action.action) before c.in_ok-action.ensures.action in
     record {
-      slots = λ slot. c.in_ok-action.ensures.slots slot ∙ ap (λ (filled : Option ℕ). filled_by slot position filled (order_of text.now)) (c.loop-position.invariant.slots slot) ∙ sym (filled_more slot texts position text.now here);
+      slots = λ slot. c.in_ok-action.ensures.slots slot ∙ ap (λ (filled : Option ℕ). filled_by slot position filled (parse_action text.now)) (c.loop-position.invariant.slots slot) ∙ sym (filled_more slot texts position text.now here);
       actions = rw c.in_ok-push.ensures.items (reads_more _ _ _ _ _ _ here given c.loop-position.invariant.actions);
     }
 

@@ -1,6 +1,6 @@
 use Rattle.std.proofs.Common.{◌≡◌, ◌∙◌, ◌++◌, ◌∷◌, [], List, ℕ, Ok, sym, ap, subst}
 use Rattle.std.proofs.lemmas.Result.{err_from_is_err_and}
-use Rattle.support.specs.Given.{Fails}
+use Rattle.support.specs.Results.{Fails}
 use Rattle.support.proofs.Loops.{at_index, checks_begin, checks_more, checks_stop, checks_end, images_more}
 use Rattle.job_bodies.specs.Checks.{check_client}
 use Rattle.plan_text.specs.Checks.{check_clients, client_head}

@@ -2,7 +2,7 @@ use Rattle.std.proofs.Common.{◌≡◌, ◌≤◌, ◌∙◌, ◌++◌, ◌∷�
 use Rattle.std.proofs.lemmas.Result.{err_from_is_err_and}
 use Rattle.std.proofs.lemmas.List.{take_all, length-map}
 use Rattle.support.specs.Reading.{◌>>=◌}
-use Rattle.support.specs.Given.{Fails}
+use Rattle.support.specs.Results.{Fails}
 use Rattle.support.proofs.Steps.{fails_first}
 use Rattle.support.proofs.Loops.{at_index, checks_begin, checks_more, checks_stop, checks_end, images_more}
 use Rattle.job_bodies.specs.Checks.{check_pool}

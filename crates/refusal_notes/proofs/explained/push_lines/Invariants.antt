@@ -7,6 +7,6 @@ use Rattle.refusal_notes.proofs.explained.push_lines.Given as goal
 
 abbrev pub invariant-loop-note : goal.invariant-loop-note
 invariant-loop-note l = record {
-  told : string_bytes l.text ≡ string_bytes l.fn.text ++ lines l.plan (take l.note-index l.notes);
+  collected : string_bytes l.text ≡ string_bytes l.fn.text ++ lines l.plan (take l.note-index l.notes);
   begins : string_bytes l.head ≡ head l.plan l.section;
 }

@@ -14,7 +14,7 @@ before-weight-requires-clause-behind c =
       arith,
       c.loop-behind.invariant.weight,
       weight-bound c.args.plan.now c.args.vector.now c.args.least body c.args.last rest c.requires.small c.requires.least,
-      behind-short body c.args.plan.now (length body - c.loop-behind.behind) c.requires.lawful,
+      behind-short body c.args.plan.now (length body - c.loop-behind.behind) c.requires.valid,
       c.requires.last,
     )
 

@@ -2,7 +2,7 @@ use Rattle.std.proofs.Common.{rules, ◌≡◌, ◌+◌, false, true, List, ap, 
 use Rattle.std.specs.List.{list_all}
 use Rattle.job_bodies.specs.declared.action.Action.{Action}
 use Rattle.job_bodies.specs.Plan.{Class, class_at}
-use Rattle.job_bodies.specs.Lawful.{IsLawful}
+use Rattle.job_bodies.specs.ValidBody.{IsValidBody}
 use Rattle.job_bodies.proofs.Bodies.{ordered}
 use Rattle.weights.specs.Vector.{Vector, is_small}
 use Rattle.size_search.specs.Settled.{IsSettled}
@@ -10,13 +10,13 @@ use Rattle.size_search.specs.Steady.{class_row}
 use Rattle.size_search.proofs.Settling.{class_here, settled_put, heavy_here, with_row}
 use Rattle.size_search.proofs.rows.settle_class.Goals as goal
 
-pub class_row-requires-clause-lawful : goal.class_row-requires-clause-lawful
-class_row-requires-clause-lawful c =
+pub class_row-requires-clause-valid : goal.class_row-requires-clause-valid
+class_row-requires-clause-valid c =
     let plan = c.args.plan.now in
     let number = c.args.number in
     let class = class_here plan c.classes.result.now number c.index-classes-number.result c.classes.ensures.value c.requires.number c.index-classes-number.is in
     let body : c.deref.result.now ≡ (class_at plan number).body = c.deref.ensures.value ∙ ap (λ (any : Class). any.body) (c.class.view_is ∙ class) in
-    subst (λ (actions : List Action). IsLawful plan actions) (sym body) ((ordered plan c.classes.ensures.well_formed).classes number)
+    subst (λ (actions : List Action). IsValidBody plan actions) (sym body) ((ordered plan c.classes.ensures.well_formed).classes number)
 
 pub returns-then-not-are_small-clause-heavy : goal.returns-then-not-are_small-clause-heavy
 returns-then-not-are_small-clause-heavy c =

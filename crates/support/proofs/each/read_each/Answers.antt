@@ -1,7 +1,7 @@
 use Rattle.std.proofs.Common.{refl}
 use Rattle.std.proofs.lemmas.Result.{err_from_is_err_and}
 use Rattle.support.proofs.Loops.{at_index}
-use Rattle.support.proofs.ReadingEach.{read_begins, read_goes_on, read_stops, read_ends}
+use Rattle.support.proofs.ReadingEach.{read_begins, read_continues, read_stops, read_ends}
 use Rattle.support.proofs.each.read_each.Goals as goal
 
 pub loop-place-init : goal.loop-place-init
@@ -11,7 +11,7 @@ pub loop-place-preserved : goal.loop-place-preserved
 loop-place-preserved g c =
     let x = c.index-elements-place.result in
     let here = at_index c.args.elements.now c.loop-place.place x c.loop-place-test.true c.index-elements-place.is in
-    rw c.in_ok-push.ensures.items (read_goes_on _ _ _ _ _ _ here (_, refl, c.in_ok-one.ensures) c.loop-place.invariant)
+    rw c.in_ok-push.ensures.items (read_continues _ _ _ _ _ _ here (_, refl, c.in_ok-one.ensures) c.loop-place.invariant)
 
 pub returns-in_err-one : goal.returns-in_err-one
 returns-in_err-one g c =

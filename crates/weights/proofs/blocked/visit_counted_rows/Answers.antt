@@ -9,7 +9,7 @@ use Rattle.weights.specs.declared.row.Place.TheVariants.{ClassAction}
 use Rattle.weights.specs.Row.{row}
 use Rattle.weights.specs.Vector.{job_weight}
 use Rattle.weights.proofs.Fitting.{class_fits}
-use Rattle.weights.proofs.Walks.{walk_goes_on, walk_ends, takes_same, of_passing, one_each}
+use Rattle.weights.proofs.Walks.{walk_continues, walk_ends, visits_same, of_passing, one_each}
 use Rattle.weights.specs.Blocked.{is_get}
 use Rattle.weights.proofs.blocked.visit_counted_rows.Goals as goal
 
@@ -27,7 +27,7 @@ loop-position-preserved g c =
     let i = c.loop-position.position in
     let rows_at = λ (i : ℕ) (action : Action). if is_get action && g.C.Counted.is_counted c.args.counted.now c.args.number i then row B1 (ClassAction c.args.number i) 1 (job_weight c.args.vector.now c.args.number i) ∷ [] else [] in
     let here : slice_get c.args.class.now.body i ≡ Some (get_or actions i (Work 0)) = rw (← body) (slice_get-get_or actions i (Work 0) c.loop-position-test.true) in
-    walk_goes_on g.V.RowVisitor.HasSeen _ _ _ rows_at c.args.class.now.body i (get_or actions i (Work 0)) here c.visit_counted_row.ensures c.loop-position.invariant
+    walk_continues g.V.RowVisitor.HasSeen _ _ _ rows_at c.args.class.now.body i (get_or actions i (Work 0)) here c.visit_counted_row.ensures c.loop-position.invariant
 
 pub returns : goal.returns
 returns g c =
@@ -38,4 +38,4 @@ returns g c =
     let f = λ (entry : ℕ × Action). row B1 (ClassAction c.args.number entry.0) 1 (job_weight c.args.vector.now c.args.number entry.0) in
     let past : length c.args.class.now.body ≤ c.loop-position.position = rw (← body) c.loop-position-test.false in
     let all = walk_ends has_seen _ _ rows_at c.args.class.now.body c.loop-position.position past c.loop-position.invariant in
-    takes_same has_seen _ _ _ _ (of_passing (λ entry. is_get entry.1 && g.C.Counted.is_counted c.args.counted.now c.args.number entry.0) (λ entry. f entry ∷ []) (enumerate_from 0 c.args.class.now.body) ∙ one_each f _) all
+    visits_same has_seen _ _ _ _ (of_passing (λ entry. is_get entry.1 && g.C.Counted.is_counted c.args.counted.now c.args.number entry.0) (λ entry. f entry ∷ []) (enumerate_from 0 c.args.class.now.body) ∙ one_each f _) all

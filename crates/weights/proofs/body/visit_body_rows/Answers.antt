@@ -5,8 +5,8 @@ use Rattle.job_bodies.specs.declared.action.Action.TheVariants.{Work}
 use Rattle.weights.specs.declared.row.Row.{Row}
 use Rattle.weights.specs.Body.{place_at}
 use Rattle.weights.specs.Rows.{action_row}
-use Rattle.weights.specs.Takes.{Takes}
-use Rattle.weights.proofs.Walks.{walk_goes_on}
+use Rattle.weights.specs.Visits.{Visits}
+use Rattle.weights.proofs.Walks.{walk_continues}
 use Rattle.weights.proofs.body.visit_body_rows.Goals as goal
 
 pub loop-position-preserved : goal.loop-position-preserved
@@ -14,6 +14,6 @@ loop-position-preserved g c =
     let actions = c.args.body.now.actions.now in
     let i = c.loop-position.position in
     let has_seen = g.V.RowVisitor.HasSeen in
-    let rows_at = λ (i : _) (action : _). action_row c.args.at_get c.args.plan.now c.args.vector.now (slice_index c.args.body.now.weights.now) (place_at c.args.body.now.actor) actions i action ∷ [] in
-    let taken = subst (λ (x : Row). Takes has_seen c.loop-position.visitor c.visit.new.self (x ∷ [])) c.action_row.ensures c.visit.ensures in
-    walk_goes_on has_seen _ _ _ rows_at actions i (slice_index_or actions i (Work 0)) (slice_get-get_or actions i (Work 0) c.loop-position-test.true) taken c.loop-position.invariant
+    let rows_at = λ (i : _) (action : _). action_row c.args.get_return c.args.plan.now c.args.vector.now (slice_index c.args.body.now.weights.now) (place_at c.args.body.now.actor) actions i action ∷ [] in
+    let taken = subst (λ (x : Row). Visits has_seen c.loop-position.visitor c.visit.new.self (x ∷ [])) c.action_row.ensures c.visit.ensures in
+    walk_continues has_seen _ _ _ rows_at actions i (slice_index_or actions i (Work 0)) (slice_get-get_or actions i (Work 0) c.loop-position-test.true) taken c.loop-position.invariant

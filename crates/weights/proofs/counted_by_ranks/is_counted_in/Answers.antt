@@ -9,7 +9,7 @@ pub reach_of-reached-requires : goal.reach_of-reached-requires
 reach_of-reached-requires c =
     let body : c.as_slice-actions.result.now ≡ c.args.class.now.body = c.as_slice-actions.ensures.value ∙ ap (λ (k : _). k.body) c.class.view_is in
     let here : slice_get c.args.class.now.body c.args.position ≡ Some (Get c.in-Get.submit) = action_read _ _ _ _ body c.requires.position c.in-Get.is in
-    rw (c.class_got.ensures, body) (got_reaches c.args.plan.now c.args.ranks.now c.args.number c.args.class.now c.args.position c.in-Get.submit c.requires.well_formed c.requires.fits c.requires.class here)
+    rw (c.submitted_class.ensures, body) (got_reaches c.args.plan.now c.args.ranks.now c.args.number c.args.class.now c.args.position c.in-Get.submit c.requires.well_formed c.requires.fits c.requires.class here)
 
 pub rank_of-requires : goal.rank_of-requires
 rank_of-requires c =
@@ -23,7 +23,7 @@ returns-in-Get c =
     let same : c.class.inside.pool ≡ c.args.class.now.pool = ap (λ (k : _). k.pool) c.class.view_is in
     let body : c.as_slice-actions.result.now ≡ c.args.class.now.body = c.as_slice-actions.ensures.value ∙ ap (λ (k : _). k.body) c.class.view_is in
     let here : slice_get c.args.class.now.body c.args.position ≡ Some (Get c.in-Get.submit) = action_read _ _ _ _ body c.requires.position c.in-Get.is in
-    rw (c.reach_of-reached.ensures, c.rank_of.ensures, c.class_got.ensures, body, same) (get_counted c.args.plan.now c.args.ranks.now c.args.number c.args.class.now c.args.position c.in-Get.submit f.is_class here)
+    rw (c.reach_of-reached.ensures, c.rank_of.ensures, c.submitted_class.ensures, body, same) (get_counted c.args.plan.now c.args.ranks.now c.args.number c.args.class.now c.args.position c.in-Get.submit f.is_class here)
 
 pub returns-in-Work : goal.returns-in-Work
 returns-in-Work c =

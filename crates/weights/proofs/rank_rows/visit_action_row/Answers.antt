@@ -8,4 +8,4 @@ pub submit_row-requires-clause-submitted : goal.submit_row-requires-clause-submi
 submit_row-requires-clause-submitted g c =
     let f = class_fits c.args.plan.now c.args.ranks.now c.args.number c.args.class.now c.requires.well_formed c.requires.fits c.requires.class in
     let here : slice_get c.args.class.now.body c.args.position ≡ Some (Submit c.in-Submit.submitted) = c.requires.action ∙ ap (λ (x : Action). Some x) c.in-Submit.is in
-    f.lawful.submit c.args.position c.in-Submit.submitted here
+    f.valid.submit c.args.position c.in-Submit.submitted here

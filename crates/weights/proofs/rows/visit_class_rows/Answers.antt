@@ -7,8 +7,8 @@ use Rattle.weights.specs.declared.body.BodyOwner.TheVariants.{Class}
 use Rattle.weights.specs.Vector.{class_weights, job_weight}
 use Rattle.weights.specs.Body.{place_at}
 use Rattle.weights.specs.Rows.{body_rows}
-use Rattle.weights.specs.Takes.{Takes}
-use Rattle.weights.proofs.Walks.{takes_then, takes_same}
+use Rattle.weights.specs.Visits.{Visits}
+use Rattle.weights.proofs.Walks.{visits_then, visits_same}
 use Rattle.weights.proofs.Fitting.{class_fits, at_positions}
 use Rattle.weights.proofs.rows.visit_class_rows.Goals as goal
 
@@ -41,8 +41,8 @@ returns g c =
     let body : c.deref.result.now ≡ c.args.class.now.body = c.deref.ensures.value ∙ ap (λ (k : _). k.body) c.class.view_is in
     let weight : slice_index (take (length c.class_weights.result.now - 1) (drop 1 c.class_weights.result.now)) ≡ job_weight c.args.vector.now c.args.number =
     ap slice_index (behind_first _ ∙ ap (drop 1) c.class_weights.ensures) ∙ at_positions c.args.vector.now c.args.number in
-    let rows = λ (weight : ℕ → ℕ) (body : List Action). body_rows c.args.at_get c.args.plan.now c.args.vector.now weight (place_at (Class c.args.number)) body in
-    let taking = subst (λ (x : Row). Takes has_seen c.args.visitor.now c.visit.new.self (x ∷ [])) c.taking_row.ensures c.visit.ensures in
-    let acting = takes_same has_seen _ _ _ _ (ap (λ (w : ℕ → ℕ). rows w c.deref.result.now) weight ∙ ap (rows (job_weight c.args.vector.now c.args.number)) body) c.visit_body_rows.ensures in
-    let ending = subst (λ (x : Row). Takes has_seen c.visit_body_rows.new.visitor c.visit-2.new.self (x ∷ [])) c.ending_row.ensures c.visit-2.ensures in
-    takes_then has_seen _ _ _ _ _ taking (takes_then has_seen _ _ _ _ _ acting ending)
+    let rows = λ (weight : ℕ → ℕ) (body : List Action). body_rows c.args.get_return c.args.plan.now c.args.vector.now weight (place_at (Class c.args.number)) body in
+    let taking = subst (λ (x : Row). Visits has_seen c.args.visitor.now c.visit.new.self (x ∷ [])) c.take_row.ensures c.visit.ensures in
+    let acting = visits_same has_seen _ _ _ _ (ap (λ (w : ℕ → ℕ). rows w c.deref.result.now) weight ∙ ap (rows (job_weight c.args.vector.now c.args.number)) body) c.visit_body_rows.ensures in
+    let ending = subst (λ (x : Row). Visits has_seen c.visit_body_rows.new.visitor c.visit-2.new.self (x ∷ [])) c.end_row.ensures c.visit-2.ensures in
+    visits_then has_seen _ _ _ _ _ taking (visits_then has_seen _ _ _ _ _ acting ending)

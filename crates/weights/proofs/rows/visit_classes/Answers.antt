@@ -1,7 +1,7 @@
 use Rattle.std.proofs.Common.{◌≡◌, ◌<◌, length, get_or, slice_get, Some, subst}
 use Rattle.support.proofs.Loops.{at_index}
 use Rattle.weights.specs.Rows.{class_rows}
-use Rattle.weights.proofs.Walks.{walk_goes_on}
+use Rattle.weights.proofs.Walks.{walk_continues}
 use Rattle.weights.proofs.rows.visit_classes.Goals as goal
 
 pub visit_class_rows-requires-clause-class : goal.visit_class_rows-requires-clause-class
@@ -10,4 +10,4 @@ visit_class_rows-requires-clause-class g c = rw (← c.classes-class-items.ensur
 pub loop-number-preserved : goal.loop-number-preserved
 loop-number-preserved g c =
     let here : slice_get c.args.plan.now.classes c.loop-number.number ≡ Some c.class-item.result = rw (← c.classes-class-items.ensures.value) (at_index _ _ _ c.loop-number-test.true c.class-item.is) in
-    walk_goes_on g.V.RowVisitor.HasSeen _ _ _ (class_rows c.args.at_get c.args.plan.now c.args.vector.now) c.args.plan.now.classes c.loop-number.number c.class-item.result here c.visit_class_rows.ensures c.loop-number.invariant
+    walk_continues g.V.RowVisitor.HasSeen _ _ _ (class_rows c.args.get_return c.args.plan.now c.args.vector.now) c.args.plan.now.classes c.loop-number.number c.class-item.result here c.visit_class_rows.ensures c.loop-number.invariant

@@ -7,7 +7,7 @@ use Rattle.weights.specs.declared.row.Place.TheVariants.{Class}
 use Rattle.weights.specs.Row.{row}
 use Rattle.weights.specs.Vector.{queued_weight}
 use Rattle.weights.specs.Rows.{classes_of}
-use Rattle.weights.proofs.Walks.{walk_goes_on, walk_ends, takes_same, of_passing, one_each}
+use Rattle.weights.proofs.Walks.{walk_continues, walk_ends, visits_same, of_passing, one_each}
 use Rattle.weights.proofs.standing.visit_queued_rows.Goals as goal
 
 pub visit_queued_row-requires-clause-class : goal.visit_queued_row-requires-clause-class
@@ -17,7 +17,7 @@ pub loop-number-preserved : goal.loop-number-preserved
 loop-number-preserved g c =
     let rows_at = λ (number : _) (class : _). if class.pool == c.args.pool then row S1 (Class number) 1 (queued_weight c.args.vector.now number) ∷ [] else [] in
     let here : slice_get c.args.plan.now.classes c.loop-number.number ≡ Some c.class-item.result = rw (← c.classes-class-items.ensures.value) (at_index _ _ _ c.loop-number-test.true c.class-item.is) in
-    walk_goes_on g.V.RowVisitor.HasSeen _ _ _ rows_at c.args.plan.now.classes c.loop-number.number c.class-item.result here c.visit_queued_row.ensures c.loop-number.invariant
+    walk_continues g.V.RowVisitor.HasSeen _ _ _ rows_at c.args.plan.now.classes c.loop-number.number c.class-item.result here c.visit_queued_row.ensures c.loop-number.invariant
 
 pub returns : goal.returns
 returns g c =
@@ -25,4 +25,4 @@ returns g c =
     let rows_at = λ (number : _) (class : _). if class.pool == c.args.pool then row S1 (Class number) 1 (queued_weight c.args.vector.now number) ∷ [] else [] in
     let f = λ (entry : _ × _). row S1 (Class entry.0) 1 (queued_weight c.args.vector.now entry.0) in
     let all = walk_ends has_seen _ _ rows_at c.args.plan.now.classes c.loop-number.number (rw (← c.classes-class-items.ensures.value) c.loop-number-test.false) c.loop-number.invariant in
-    takes_same has_seen _ _ _ _ (of_passing (λ entry. entry.1.pool == c.args.pool) (λ entry. f entry ∷ []) (enumerate_from 0 c.args.plan.now.classes) ∙ one_each f (classes_of c.args.plan.now c.args.pool)) all
+    visits_same has_seen _ _ _ _ (of_passing (λ entry. entry.1.pool == c.args.pool) (λ entry. f entry ∷ []) (enumerate_from 0 c.args.plan.now.classes) ∙ one_each f (classes_of c.args.plan.now c.args.pool)) all

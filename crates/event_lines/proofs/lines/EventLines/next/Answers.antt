@@ -18,4 +18,4 @@ returns-in-Some c =
 pub returns-in-None : goal.returns-in-None
 returns-in-None c =
     sym c.self.view_is
-    ∙ next_bad c.self.inside.plan.now c.self.inside.rest.now c.split_line.result.1.now (not_zero _ (sym c.is_empty.ensures ∙ c.if-is_empty.false)) c.in-None.ensures c.split_line.ensures.behind
+    ∙ next_bad c.self.inside.plan.now c.self.inside.rest.now c.split_line.result.1.now (not_zero _ (sym c.is_empty.ensures ∙ c.if-is_empty.false)) c.in-None.ensures c.split_line.ensures.rest_after

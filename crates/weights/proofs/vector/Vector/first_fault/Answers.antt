@@ -2,4 +2,4 @@ use Rattle.std.proofs.Common.{[]}
 use Rattle.weights.proofs.vector.Vector.first_fault.Goals as goal
 
 pub returns : goal.returns
-returns c = c.visit_rows.ensures.behind [] c.new-first.ensures
+returns c = c.visit_rows.ensures.extends [] c.new-first.ensures

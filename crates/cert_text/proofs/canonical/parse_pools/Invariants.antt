@@ -1,0 +1,12 @@
+use Rattle.std.proofs.Common.{◌≡◌, true}
+use Rattle.std.specs.List.{list_all}
+use Rattle.cert_text.specs.Cert.{pool_cert_fits}
+use Rattle.cert_text.specs.CertText.{pool_data}
+use Rattle.cert_text.proofs.Prefixes.{BeginsList}
+use Rattle.cert_text.proofs.canonical.parse_pools.Given as goal
+
+abbrev pub invariant-loop-place : goal.invariant-loop-place
+invariant-loop-place l = record {
+  begins : BeginsList pool_data l.text l.pools.items l.place l.rest;
+  fit : list_all (pool_cert_fits l.plan) l.pools.items ≡ true;
+}

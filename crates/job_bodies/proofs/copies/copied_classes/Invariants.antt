@@ -1,6 +1,0 @@
--- The classes before this one were copied.
-use Rattle.std.proofs.Common.{◌≡◌, take}
-use Rattle.job_bodies.proofs.copies.copied_classes.Given as goal
-
-abbrev pub invariant-loop-class : goal.invariant-loop-class
-invariant-loop-class l = l.copies.items ≡ take l.class-index l.classes

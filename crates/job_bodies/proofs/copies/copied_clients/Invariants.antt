@@ -1,6 +1,0 @@
--- The clients before this one were copied.
-use Rattle.std.proofs.Common.{◌≡◌, take}
-use Rattle.job_bodies.proofs.copies.copied_clients.Given as goal
-
-abbrev pub invariant-loop-client : goal.invariant-loop-client
-invariant-loop-client l = l.copies.items ≡ take l.client-index l.clients

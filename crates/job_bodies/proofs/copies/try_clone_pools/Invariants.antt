@@ -1,0 +1,6 @@
+-- The pools before this one were copied.
+use Rattle.std.proofs.Common.{◌≡◌, take}
+use Rattle.job_bodies.proofs.copies.try_clone_pools.Given as goal
+
+abbrev pub invariant-loop-pool : goal.invariant-loop-pool
+invariant-loop-pool l = l.copies.items ≡ take l.pool-index l.pools

@@ -1,0 +1,105 @@
+-- Accepted plans are safe and make progress if actors skip submits together with their gets and submits are the steps of
+-- Java's execute.
+use Rattle.std.proofs.Common.{◌≡◌, ℕ, List, Some, arith}
+use Rattle.job_bodies.specs.declared.action.Action.{Action}
+use Rattle.job_bodies.specs.declared.action.Action.TheVariants as action
+use Rattle.job_bodies.specs.Plan.{Plan}
+use Rattle.job_bodies.proofs.Bodies.{HasValidBodies, ordered}
+use Rattle.weights.specs.Ranks.{Ranks}
+use Rattle.written_machine.specs.declared.parent.Parent.{Parent}
+use Rattle.written_machine.specs.declared.event.Event.{Event}
+use Rattle.written_machine.specs.State.{State}
+use Rattle.written_machine.specs.Reach.{start}
+use Rattle.written_machine.proofs.Events.{StandsAt}
+use Rattle.written_machine.proofs.KeptSubmits.{class_exists}
+use Rattle.weights.specs.declared.get_return.GetReturn.{GetReturn}
+use Rattle.weights.specs.declared.get_return.GetReturn.TheVariants.{DoneWeight}
+use Rattle.weights.specs.declared.bound.Bound.{Bound}
+use Rattle.weights.specs.declared.bound.Bound.TheVariants.{Standing, Lifetime}
+use Rattle.weights.specs.Vector.{Vector}
+use Rattle.weights.specs.Bound.{bound_vector, bound_get_return}
+use Rattle.cert_text.specs.Cert.{Cert, pool_cert_at}
+use Rattle.soundness.proofs.VectorLaws.{VectorLaws}
+use Rattle.soundness.proofs.BoundLaws.{bound_vector_laws}
+use Rattle.soundness.proofs.NeverRises.{IsBalanced, balanced_step}
+use Rattle.soundness.proofs.RankLaws.{RankLaws}
+use Rattle.soundness.specs.Execute.{JavaState, without_calls}
+use Rattle.soundness.specs.Skipping.{Choice, choice_step, ChoicesReach}
+use Rattle.soundness.specs.Skipping.Choice.{Acts, Skips}
+use Rattle.soundness.proofs.DoneWeights.{done-le-queued}
+use Rattle.soundness.proofs.SkippedSubmits.{left, kept_left, change_skipped, have_jobs_left, no_heavier_left}
+use Rattle.soundness.proofs.Choices.{IsSkipped, leaves, is_skipped, choices_keep}
+use Rattle.soundness.specs.Headline.{AcceptedPlansMaySkip, AcceptedPlansMakeProgressWithSkips}
+use Rattle.soundness.proofs.CertLaws.{CertLaws, cert_laws}
+use Rattle.soundness.proofs.Theorem.{bound_of, Sound, sound_safe}
+use Rattle.soundness.proofs.Calls.{QueueWasFull, CallsKept}
+use Rattle.soundness.proofs.JavaTheorem.{JavaSound, java_sound_start, java_sound_step, java_makes_progress}
+
+-- ---- a skipped submit
+
+-- each vector stays balanced, since the weight of a done job is at most that of a queued job
+balanced_left : (get_return : GetReturn) (plan : Plan) (v : Vector) (ranks : Ranks) (s : State) (a : Parent) (body : List Action) (i k : ℕ) → HasValidBodies plan → RankLaws plan ranks → VectorLaws get_return plan v → StandsAt plan s a body i (Some (action.Submit k))
+    → IsBalanced get_return plan v s → IsBalanced get_return plan v (left s a i k)
+balanced_left get_return plan v ranks s a body i k ordered ranked laws at balanced =
+    let no_more = done-le-queued get_return plan v ranks k ordered ranked laws (class_exists plan s a body i k ordered at) in
+    balanced_step get_return plan v s (left s a i k) (no_heavier_left get_return plan v s a body i k laws no_more at) balanced
+
+-- the state stays sound
+sound_left : (plan : Plan) (cert : Cert) (s : State) (a : Parent) (body : List Action) (i k : ℕ) → HasValidBodies plan → CertLaws plan cert → StandsAt plan s a body i (Some (action.Submit k)) → Sound plan cert s → Sound plan cert (left s a i k)
+sound_left plan cert s a body i k ordered laws at held = record {
+  bounded = record {
+    kept = kept_left plan s a body i k ordered held.bounded.kept at;
+    have_jobs = have_jobs_left plan s a body i k held.bounded.have_jobs at;
+    balanced = λ p inside.
+        let bound = bound_of cert p in
+        balanced_left (bound_get_return bound) plan (bound_vector bound) cert.ranks s a body i k ordered laws.ranks (bound_vector_laws plan p bound (laws.bound p inside)) at (held.bounded.balanced p inside);
+    none_refused = held.bounded.none_refused;
+  };
+  blocked = λ p inside. balanced_left DoneWeight plan (pool_cert_at cert p).blocked cert.ranks s a body i k ordered laws.ranks (laws.blocked p inside).laws at (held.blocked p inside);
+}
+
+-- a queue that was full at some time still counts as such
+full_left : (plan : Plan) (bound : Bound) (s : State) (a : Parent) (body : List Action) (i k p : ℕ) → StandsAt plan s a body i (Some (action.Submit k)) → QueueWasFull plan bound s p → QueueWasFull plan bound (left s a i k) p
+full_left plan (Standing v) s a body i k p at full = full
+full_left plan (Lifetime v) s a body i k p at full =
+    let by_jobs = (change_skipped plan s a body i k p at).by_jobs in
+    omega arith
+
+-- the invariants of the calls still hold
+calls_left : (plan : Plan) (bounds : ℕ → Bound) (s : JavaState) (a : Parent) (body : List Action) (i k : ℕ) → StandsAt plan s.machine a body i (Some (action.Submit k)) → CallsKept plan bounds s → CallsKept plan bounds (record s { machine = left s.machine a i k })
+calls_left plan bounds s a body i k at calls = record {
+  offering = λ b p inside is_there. (change_skipped plan s.machine a body i k p at).at_core (calls.offering b p inside is_there);
+  requesting = λ b p inside is_there. full_left plan (bounds p) s.machine a body i k p at (calls.requesting b p inside is_there);
+}
+
+left_keeps : (plan : Plan) (cert : Cert) (s : JavaState) (e : Event) (s' : JavaState) → HasValidBodies plan → CertLaws plan cert → JavaSound plan cert s → IsSkipped plan s e s' → JavaSound plan cert s'
+left_keeps plan cert s e s' ordered laws held (leaves a body i k at not_offering not_requesting) = record {
+  sound = sound_left plan cert s.machine a body i k ordered laws at held.sound;
+  calls = calls_left plan (bound_of cert) s a body i k at held.calls;
+}
+
+-- ---- every choice
+
+pub choice_keeps : (plan : Plan) (cert : Cert) → HasValidBodies plan → CertLaws plan cert → (s : JavaState) (x : Choice) (s' : JavaState) → JavaSound plan cert s → choice_step plan s x ≡ Some s' → JavaSound plan cert s'
+choice_keeps plan cert ordered laws s (Acts e) s' held is_step = java_sound_step plan cert ordered laws s e s' held is_step
+choice_keeps plan cert ordered laws s (Skips e) s' held is_step = left_keeps plan cert s e s' ordered laws held (is_skipped plan s e s' is_step)
+
+-- every reachable state is sound
+choices_sound : (plan : Plan) (cert : Cert) → HasValidBodies plan → CertLaws plan cert → (choices : List Choice) (s : JavaState) → ChoicesReach plan choices s → JavaSound plan cert s
+choices_sound plan cert ordered laws choices s reached = choices_keep plan (JavaSound plan cert) (choice_keeps plan cert ordered laws) choices (without_calls (start plan)) s (java_sound_start plan cert ordered) reached
+
+-- ---- the laws
+
+-- every reachable state is safe
+pub accepted_plans_may_skip : AcceptedPlansMaySkip
+accepted_plans_may_skip plan cert well_formed is_accepted choices s reached =
+    let is_ordered = ordered plan well_formed in
+    let laws = cert_laws plan cert is_accepted in
+    sound_safe plan cert s.machine is_ordered laws (choices_sound plan cert is_ordered laws choices s reached).sound
+
+-- every reachable state with an unfinished job makes progress
+pub accepted_plans_make_progress_with_skips : AcceptedPlansMakeProgressWithSkips
+accepted_plans_make_progress_with_skips plan cert well_formed is_accepted choices s reached j still =
+    let is_ordered = ordered plan well_formed in
+    let laws = cert_laws plan cert is_accepted in
+    java_makes_progress plan cert s j is_ordered laws (choices_sound plan cert is_ordered laws choices s reached) still

@@ -1,0 +1,97 @@
+-- Accepted plans drain if actors skip submits together with their gets.
+use Rattle.std.proofs.Common.{◌≡◌, ⊎_elim, true, false, List, [], ◌∷◌, Option, Some, None, is_some, refl, sym, ap, subst, ◌∙◌, arith}
+use Rattle.std.specs.List.{list_all, count_by}
+use Rattle.std.proofs.lemmas.Bool.{false≢true, and_parts, false_from_ne_true}
+use Rattle.std.proofs.lemmas.List.Sums.{sum_by-cons}
+use Rattle.std.proofs.lemmas.Option.{same_Some}
+use Rattle.job_bodies.specs.Plan.{Plan}
+use Rattle.job_bodies.proofs.Bodies.{HasValidBodies, ordered}
+use Rattle.written_machine.specs.State.{job_at, is_unfinished}
+use Rattle.written_machine.specs.Reach.{start}
+use Rattle.written_machine.specs.Safe.{is_of_job_or_pool}
+use Rattle.written_machine.proofs.Busy.{one_if}
+use Rattle.cert_text.specs.Cert.{Cert}
+use Rattle.soundness.specs.Drain.{is_of_no_client}
+use Rattle.soundness.proofs.Draining.{ends_thread, no_client_cases}
+use Rattle.soundness.specs.Execute.{JavaState, java_step, without_calls}
+use Rattle.soundness.proofs.JobCalls.{job_calls_start}
+use Rattle.soundness.proofs.Costs.{calls_done-le}
+use Rattle.soundness.specs.Skipping.{Choice, choice_step, choices_replay, ChoicesReach, event_in, is_of_jobs}
+use Rattle.soundness.specs.Skipping.Choice.{Acts, Skips}
+use Rattle.soundness.proofs.Choices.{is_skipped, choices_none, choices_keep}
+use Rattle.soundness.proofs.SkipCosts.{left_costs}
+use Rattle.soundness.specs.Headline.{AcceptedPlansDrainWithSkips}
+use Rattle.soundness.proofs.CertLaws.{CertLaws, cert_laws}
+use Rattle.soundness.proofs.JavaTheorem.{java_sound_start, java_makes_progress}
+use Rattle.soundness.proofs.JavaDrains.{JavaHeld, held_step, Pays, event_pays}
+use Rattle.soundness.proofs.Skipping.{choice_keeps}
+
+-- ---- every choice
+
+-- the invariants of the reachable states of an accepted plan, with the calls of its jobs
+choice_held : (plan : Plan) (cert : Cert) → HasValidBodies plan → CertLaws plan cert → (s : JavaState) (x : Choice) (s' : JavaState) → JavaHeld plan cert s → choice_step plan s x ≡ Some s' → JavaHeld plan cert s'
+choice_held plan cert ordered laws s (Acts e) s' held is_step = held_step plan cert ordered laws s e s' held is_step
+choice_held plan cert ordered laws s (Skips e) s' held is_step = record {
+  java = choice_keeps plan cert ordered laws s (Skips e) s' held.java is_step;
+  jobs = (left_costs plan cert.ranks s e s' (is_skipped plan s e s' is_step)).calls held.jobs;
+}
+
+-- in every reachable state
+choices_held : (plan : Plan) (cert : Cert) → HasValidBodies plan → CertLaws plan cert → (choices : List Choice) (s : JavaState) → ChoicesReach plan choices s → JavaHeld plan cert s
+choices_held plan cert ordered laws choices s reached =
+    choices_keep plan (JavaHeld plan cert) (choice_held plan cert ordered laws) choices (without_calls (start plan)) s
+    (record { java = java_sound_start plan cert ordered; jobs = job_calls_start plan (start plan) }) reached
+
+-- a choice that is not of a client is paid for by the remaining work
+choice_pays : (plan : Plan) (cert : Cert) (s : JavaState) (x : Choice) (s' : JavaState) → HasValidBodies plan → CertLaws plan cert → JavaHeld plan cert s → JavaHeld plan cert s' → is_of_no_client (event_in x) ≡ true → choice_step plan s x ≡ Some s' → Pays plan cert (one_if (is_of_jobs x)) s s'
+choice_pays plan cert s (Acts e) s' ordered laws held held' of_no_client is_step = event_pays plan cert s e s' ordered laws held held' of_no_client is_step
+choice_pays plan cert s (Skips e) s' ordered laws held held' of_no_client is_step =
+    let left = left_costs plan cert.ranks s e s' (is_skipped plan s e s' is_step) in
+    ⊎_elim
+    (λ (counted : is_of_job_or_pool e ≡ true). omega (arith, ap one_if counted, left.costs counted))
+    (λ (is_end : ends_thread e ≡ true). absurd (false≢true (sym left.by_actor ∙ is_end)))
+    (no_client_cases e of_no_client)
+
+-- ---- lists of choices
+
+-- the first of several choices, and then the others
+after_first : (plan : Plan) (cert : Cert) (s : JavaState) (x : Choice) (choices : List Choice) (s' : JavaState) → HasValidBodies plan → CertLaws plan cert → JavaHeld plan cert s → is_of_no_client (event_in x) ≡ true
+    → ((next : JavaState) → JavaHeld plan cert next → choices_replay plan (Some next) choices ≡ Some s' → Pays plan cert (count_by is_of_jobs choices) next s')
+    → (found : Option JavaState) → choice_step plan s x ≡ found → choices_replay plan found choices ≡ Some s' → Pays plan cert (count_by is_of_jobs (x ∷ choices)) s s'
+after_first plan cert s x choices s' ordered laws held of_no_client onward None is_step replayed =
+    let none = choices_none plan choices in
+    absurd cc
+after_first plan cert s x choices s' ordered laws held of_no_client onward (Some next) is_step replayed =
+    let held' = choice_held plan cert ordered laws s x next held is_step in
+    omega (arith, choice_pays plan cert s x next ordered laws held held' of_no_client is_step, onward next held' replayed, sum_by-cons (λ (y : Choice). one_if (is_of_jobs y)) x choices)
+
+choices_pay : (plan : Plan) (cert : Cert) (choices : List Choice) (s s' : JavaState) → HasValidBodies plan → CertLaws plan cert → JavaHeld plan cert s → list_all (λ (x : Choice). is_of_no_client (event_in x)) choices ≡ true → choices_replay plan (Some s) choices ≡ Some s'
+    → Pays plan cert (count_by is_of_jobs choices) s s'
+choices_pay plan cert [] s s' ordered laws held each replayed = subst (λ (x : JavaState). Pays plan cert 0 s x) (same_Some s s' replayed) (omega arith)
+choices_pay plan cert (x ∷ choices) s s' ordered laws held each replayed =
+    let parts = and_parts (is_of_no_client (event_in x)) (list_all (λ (y : Choice). is_of_no_client (event_in y)) choices) each in
+    after_first plan cert s x choices s' ordered laws held parts.0 (λ next held' rest. choices_pay plan cert choices next s' ordered laws held' parts.1 rest) (choice_step plan s x) refl replayed
+
+-- the number of choices is bounded, and when none is possible, no job is unfinished
+pub accepted_plans_drain_with_skips : AcceptedPlansDrainWithSkips
+accepted_plans_drain_with_skips plan cert well_formed is_accepted =
+    let is_ordered = ordered plan well_formed in
+    let laws = cert_laws plan cert is_accepted in
+    -- the invariants at the end of the list
+    let held_after : (s s' : JavaState) (before choices : List Choice) → ChoicesReach plan before s → choices_replay plan (Some s) choices ≡ Some s' → JavaHeld plan cert s' =
+    λ s s' before choices reached replayed. choices_keep plan (JavaHeld plan cert) (choice_held plan cert is_ordered laws) choices s s' (choices_held plan cert is_ordered laws before s reached) replayed in
+    record {
+      bounded = λ s s' choices leads.
+          omega (
+            arith,
+            choices_pay plan cert choices s s' is_ordered laws (choices_held plan cert is_ordered laws leads.before s leads.reached) leads.of_no_client leads.replayed,
+            calls_done-le plan cert.ranks s' (held_after s s' leads.before choices leads.reached leads.replayed).jobs,
+          );
+      drained = λ s s' choices leads rests j.
+          false_from_ne_true (is_unfinished (job_at s'.machine j).stage)
+          (λ still.
+          let goes = java_makes_progress plan cert s' j is_ordered laws (held_after s s' leads.before choices leads.reached leads.replayed).java still in
+          let rest : is_some (java_step plan s' goes.event) ≡ false = ap (λ (x : Option JavaState). is_some x) (rests goes.event goes.of_job_or_pool) in
+          let possible = goes.possible in
+          cc);
+    }

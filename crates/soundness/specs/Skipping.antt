@@ -1,0 +1,86 @@
+-- Actors that skip submits of their bodies together with their gets, like an `if` around both. An actor decides each time
+-- anew which submits to skip.
+use Rattle.std.specs.Prelude.{◌≡◌, ◌≤◌, ◌<◌, ◌+◌, ◌*◌, ◌||◌, if◌then◌else◌, ℕ, Bool, IsTrue, IsFalse, List, [], ◌∷◌, length, Option, Some, None, count_by}
+use Rattle.std.specs.List.{list_all}
+use Rattle.job_bodies.specs.Plan.{Plan}
+use Rattle.job_bodies.specs.WellFormed.{IsWellFormed}
+use Rattle.weights.specs.declared.get_return.GetReturn.{GetReturn}
+use Rattle.weights.specs.Row.{AllHold}
+use Rattle.weights.specs.Vector.{Vector, queued_weight, done_weight}
+use Rattle.weights.specs.Rows.{rows}
+use Rattle.weights.specs.Ranks.{Ranks, rank_rows}
+use Rattle.written_machine.specs.declared.event.Event.{Event}
+use Rattle.written_machine.specs.State.{Stage, State, job_at, pool_of, is_unfinished}
+use Rattle.written_machine.specs.Step.{with_position, with_job, new_job}
+use Rattle.written_machine.specs.Reach.{start}
+use Rattle.written_machine.specs.Safe.{IsSafe, is_of_job_or_pool}
+use Rattle.soundness.specs.Drain.{todo, is_of_no_client}
+use Rattle.soundness.specs.Execute.{JavaState, Submission, is_calling, submission, java_step, without_calls}
+use Rattle.soundness.specs.JavaSafe.{JavaCanProgress, IsJavaQuiescent}
+
+-- an event, or its actor skips the submit at which it is
+pub data Choice : Type 0 where
+  Acts : Event → Choice
+  Skips : Event → Choice
+
+-- the actor is after the submit, no pool changes, and a get of the submit finds a done job
+abbrev pub after_skip : State → Submission → State
+after_skip s x = with_job (new_job x.class x.actor x.position Stage.Done) (with_position x.actor (x.position + 1) s)
+
+-- the submit has begun
+abbrev pub has_begun : Plan → JavaState → Submission → Bool
+has_begun plan s x = is_calling s.offering x.actor (pool_of plan x.class) || is_calling s.requesting x.actor (pool_of plan x.class)
+
+-- only a submit that has not begun can be skipped
+abbrev pub skip_submit : Plan → JavaState → Option Submission → Option JavaState
+skip_submit plan s None = None
+skip_submit plan s (Some x) = if has_begun plan s x then None else Some (record s { machine = after_skip s.machine x })
+
+-- the state after the choice, or None if it is not possible
+abbrev pub choice_step : Plan → JavaState → Choice → Option JavaState
+choice_step plan s (Acts e) = java_step plan s e
+choice_step plan s (Skips e) = skip_submit plan s (submission plan s.machine e)
+
+-- the state after all choices, or None if one is not possible
+abbrev pub choices_replay : Plan → Option JavaState → List Choice → Option JavaState
+choices_replay plan s [] = s
+choices_replay plan None (x ∷ xs) = None
+choices_replay plan (Some s) (x ∷ xs) = choices_replay plan (choice_step plan s x) xs
+
+abbrev pub ChoicesReach : Plan → List Choice → JavaState → Type 0
+ChoicesReach plan choices s = choices_replay plan (Some (without_calls (start plan))) choices ≡ Some s
+
+-- every state that choices reach is safe
+abbrev pub SkippingIsSafe : Plan → Type 0
+SkippingIsSafe plan = (choices : List Choice) (s : JavaState) → ChoicesReach plan choices s → IsSafe plan s.machine
+
+-- in every such state, if a job is unfinished, an event of a job or a take is possible without a skip
+abbrev pub SkippingMakesProgress : Plan → Type 0
+SkippingMakesProgress plan = (choices : List Choice) (s : JavaState) → ChoicesReach plan choices s → (j : ℕ) → IsTrue (is_unfinished (job_at s.machine j).stage) → JavaCanProgress plan s
+
+-- ---- draining
+
+abbrev pub event_in : Choice → Event
+event_in (Acts e) = e
+event_in (Skips e) = e
+
+-- a job's event, a take, or a job that skips a submit
+abbrev pub is_of_jobs : Choice → Bool
+is_of_jobs x = is_of_job_or_pool (event_in x)
+
+-- the choices lead from the reached state s to s', and none of them is of a client
+pub record ChoicesLeadTo (plan : Plan) (s : JavaState) (choices : List Choice) (s' : JavaState) : Type 0 where
+  pub before : List Choice
+  pub reached : ChoicesReach plan before s
+  pub of_no_client : IsTrue (list_all (λ x. is_of_no_client (event_in x)) choices)
+  pub replayed : choices_replay plan (Some s) choices ≡ Some s'
+
+-- If no client acts, the number of such choices that follow is at most three times the remaining work of the first state,
+-- and when no job event and no take is possible, no job is unfinished. Threads above core may end in between.
+pub record SkippingDrains (plan : Plan) (ranks : Ranks) : Type 0 where
+  pub bounded : (s s' : JavaState) (choices : List Choice) → ChoicesLeadTo plan s choices s' → count_by is_of_jobs choices ≤ 3 * todo plan ranks s.machine
+  pub drained : (s s' : JavaState) (choices : List Choice) → ChoicesLeadTo plan s choices s' → IsJavaQuiescent plan s' → (j : ℕ) → IsFalse (is_unfinished (job_at s'.machine j).stage)
+
+-- if the rows of a vector and of the ranks hold, the weight of a done job is at most that of a queued job
+abbrev pub DoneWithinQueued : Type 0
+DoneWithinQueued = (get_return : GetReturn) (plan : Plan) (v : Vector) (ranks : Ranks) (k : ℕ) → IsWellFormed plan → AllHold (rank_rows plan ranks) → AllHold (rows get_return plan v) → k < length plan.classes → done_weight plan v k ≤ queued_weight v k

@@ -1,5 +1,0 @@
-use Rattle.support.specs.Entry.{AreFree}
-use Rattle.support.proofs.places.lay_out.Given as goal
-
-abbrev pub invariant-loop : goal.invariant-loop
-invariant-loop g l = AreFree l.slots.items

@@ -1,9 +1,0 @@
--- The final state of a table that returns a `&mut` to a value.
-use Rattle.std.specs.Prelude.{◌≡◌, ℕ, Option, IsSome}
-use Rattle.std.specs.Borrow.{LendsSo, Fml, RattleType, MutBor}
-use Rattle.support.specs.Numbered.{Numbered, value_at, IsWritten}
-use Rattle.support.specs.contracts.number_table.NumberTable.{the_row}
-
--- when the borrow r ends, the number has the last value written through r; if r is `None`, the table is unchanged
-abbrev pub lends_value : (V : RattleType) → MutBor (Numbered V.Denot) → ℕ → Option (MutBor V.Denot) → Fml
-lends_value V table n r = LendsSo (the_row V) V table r (λ new w. IsSome (value_at table.now n) → IsWritten table.now n w new) (λ new. new ≡ table.now)

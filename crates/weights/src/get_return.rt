@@ -1,0 +1,27 @@
+//! The weight that a get returns to its actor.
+
+ghost use Rattle.std.specs.Prelude.{◌≡◌};
+ghost use Rattle.weights.specs.GetReturn.{get_rule};
+
+use crate::Rule;
+
+/// The part of a job's weight that a get returns to its actor.
+#[derive(Clone, Copy, PartialEq, Eq)]
+pub enum GetReturn {
+    /// The whole weight of the done job, as in standing and blocked vectors.
+    DoneWeight,
+    /// Nothing, as in lifetime vectors.
+    NoWeight,
+}
+
+impl GetReturn {
+    /// Returns the rule for a get.
+    pub fn rule(self) -> Rule
+        ensures { result ≡ get_rule self }
+    {
+        match self {
+            GetReturn::DoneWeight => Rule::V5,
+            GetReturn::NoWeight => Rule::L5,
+        }
+    }
+}
