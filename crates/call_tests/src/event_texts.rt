@@ -54,7 +54,7 @@ fn lines_that_are_read(rt: HostRuntime) -> Result<(), Fail> {
     let mut lines = EventLines::new(&plan, text);
     for event in EVENTS_READ.iter().copied() {
         let line = lines.next();
-        assert!(rt; matches!(line, Some(Ok(EventLine::Happens(happens))) if happens == event));
+        assert!(rt; matches!(line, Some(Ok(EventLine::Perform(happens))) if happens == event));
     }
     let Some(Ok(EventLine::Stuck(members))) = lines.next() else {
         return Err(Fail::from("the line asks nothing"));
@@ -77,15 +77,15 @@ fn lines_that_are_read(rt: HostRuntime) -> Result<(), Fail> {
 fn lines_that_answer(rt: HostRuntime) -> Result<(), Fail> {
     let plan = plan_of_p_and_q(rt.alloc())?;
     let replies = [
-        Reply::Happened(Outcome::Started(0)),
-        Reply::Happened(Outcome::Queued(1)),
-        Reply::Happened(Outcome::Refused(1)),
-        Reply::Happened(Outcome::Worked(3)),
-        Reply::Happened(Outcome::Got(0)),
-        Reply::Happened(Outcome::Looped),
-        Reply::Happened(Outcome::Finished(0)),
-        Reply::Happened(Outcome::Took(1)),
-        Reply::Happened(Outcome::Retired),
+        Reply::Performed(Outcome::Started(0)),
+        Reply::Performed(Outcome::Queued(1)),
+        Reply::Performed(Outcome::Refused(1)),
+        Reply::Performed(Outcome::Worked(3)),
+        Reply::Performed(Outcome::Got(0)),
+        Reply::Performed(Outcome::Looped),
+        Reply::Performed(Outcome::Finished(0)),
+        Reply::Performed(Outcome::Took(1)),
+        Reply::Performed(Outcome::Retired),
         Reply::Stuck(true),
         Reply::Stuck(false),
         Reply::NotPossible,

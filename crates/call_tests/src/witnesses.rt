@@ -121,7 +121,7 @@ const CASES: &[Case] = &[
         NESTED,
         &STUCK,
         &[0, 1],
-        "StuckForEver([0, 1], PoolsAreFull) after 2",
+        "StuckForever([0, 1], PoolsAreFull) after 2",
     ),
     (NESTED, &STUCK, &[1, 0], "none"),
     (NESTED, &STUCK, &[0, 1, 1], "none"),
@@ -166,8 +166,8 @@ fn a_witness_ends_at_its_first_refusal(rt: HostRuntime) -> Result<(), Fail> {
 fn a_standing_vector_shows_that_jobs_wait_for_ever(rt: HostRuntime) -> Result<(), Fail> {
     let alloc = rt.alloc();
     for (count, client, wanted) in [
-        (1, 2, "StuckForEver([0, 1], PoolsStayAtCore) after 2"),
-        (2, 2, "StuckForEver([0, 1], PoolsStayAtCore) after 2"),
+        (1, 2, "StuckForever([0, 1], PoolsStayAtCore) after 2"),
+        (2, 2, "StuckForever([0, 1], PoolsStayAtCore) after 2"),
         (3, 2, "StuckNow([0, 1]) after 2"),
         (1, 3, "StuckNow([0, 1]) after 2"),
         (1, 1, "StuckNow([0, 1]) after 2"),

@@ -138,13 +138,13 @@ impl Machine for Board {
 
     type Event = BoardEvent;
 
-    ghost Ideal = { List Spot };
+    ghost SpecState = { List Spot };
 
     ghost first = { λ board. spec.first_spots board.has_rank.items };
 
     ghost next = { λ _ spots event. spec.next_spots spots event };
 
-    ghost content = { λ _ spots. spots };
+    ghost stored_state = { λ _ spots. spots };
 
     fn start(&self, alloc: Global) -> Result<Spots, AllocError> {
         let spots = self

@@ -11,7 +11,7 @@ use Rattle.interleaving.proofs.Reached.{reached_after}
 use Rattle.soundness.specs.Accepted.{accepted}
 use Rattle.soundness.proofs.Theorem.{accepted_plans_are_safe}
 use Rattle.counterexample.specs.declared.ending.Ending.{Ending}
-use Rattle.counterexample.specs.declared.ending.Ending.TheVariants.{Refused, StuckForEver, StuckNow}
+use Rattle.counterexample.specs.declared.ending.Ending.TheVariants.{Refused, StuckForever, StuckNow}
 use Rattle.counterexample.specs.declared.ending.Reason.TheVariants.{PoolsAreFull, PoolsStayAtCore}
 use Rattle.counterexample.specs.Witness.{EndsRefused, IsWitness, WitnessedPlansAreNotAccepted, WitnessedPlansAreNotSafe}
 
@@ -28,8 +28,8 @@ no_refusal plan events p safe ends =
 -- a safe plan has no witness
 no_witness : (plan : Plan) (events : List Event) (ending : Ending) → Safe plan → IsWitness plan events ending → ⊥
 no_witness plan events (Refused p) safe ends = no_refusal plan events p safe ends
-no_witness plan events (StuckForEver members PoolsAreFull) safe led = (safe events led.1.0 led.1.1).none_waits members.items led.1.2.waits
-no_witness plan events (StuckForEver members PoolsStayAtCore) safe led = (safe events led.1.0 led.1.1).none_waits members.items led.1.2.waits
+no_witness plan events (StuckForever members PoolsAreFull) safe led = (safe events led.1.0 led.1.1).none_waits members.items led.1.2.waits
+no_witness plan events (StuckForever members PoolsStayAtCore) safe led = (safe events led.1.0 led.1.1).none_waits members.items led.1.2.waits
 no_witness plan events (StuckNow members) safe led = (safe events led.1.0 led.1.1).none_waits members.items led.1.2.waits
 
 pub not_accepted : WitnessedPlansAreNotAccepted

@@ -10,13 +10,13 @@ use Rattle.written_machine.specs.FullWaitingSets.{IsFull, IsFullWaitingSet}
 use Rattle.interleaving.specs.LiveView.{View, live_view}
 use Rattle.weights.specs.Vector.{Vector}
 use Rattle.counterexample.specs.declared.ending.Ending.{Ending}
-use Rattle.counterexample.specs.declared.ending.Ending.TheVariants.{Refused, StuckForEver, StuckNow}
+use Rattle.counterexample.specs.declared.ending.Ending.TheVariants.{Refused, StuckForever, StuckNow}
 use Rattle.counterexample.specs.declared.ending.Reason.{Reason}
 use Rattle.counterexample.specs.declared.ending.Reason.TheVariants.{PoolsAreFull, PoolsStayAtCore}
 use Rattle.counterexample.specs.Rising.{are_rising}
 use Rattle.counterexample.specs.Witness.{LeadsTo, EndsRefused, StaysFor, WaitsForNow, IsWitness}
-use Rattle.counterexample.specs.Replayed.{ComesTo}
-use Rattle.counterexample.specs.Confirmed.{GivenStanding, IsReason, IsStuck, BeginsWith, EndsSo}
+use Rattle.counterexample.specs.ReplayResult.{ComesTo}
+use Rattle.counterexample.specs.Confirmed.{GivenStanding, IsReason, IsStuck, BeginsWith, HasEnding}
 
 -- ---- the result is a witness
 
@@ -24,7 +24,7 @@ stays_for : (plan : Plan) (s : State) (members : List ℕ) (standing : List Vect
 stays_for plan s members standing PoolsAreFull waits shown = record { waits = waits; full = shown }
 stays_for plan s members standing PoolsStayAtCore waits shown = record {
   waits = waits;
-  lasting = λ p j member queued. ⊎_elim (λ (full : IsFull plan s p). inl full) (λ (given : GivenStanding plan standing p). inr (record { vector = given.vector; hold = given.hold })) (shown.1 p j member queued);
+  starts_no_thread = λ p j member queued. ⊎_elim (λ (full : IsFull plan s p). inl full) (λ (given : GivenStanding plan standing p). inr (record { vector = given.vector; hold = given.hold })) (shown.1 p j member queued);
 }
 
 -- if no reason for a permanent wait is proved, the set is not full
@@ -37,9 +37,9 @@ waits_for_now plan s members standing waits shown = record {
 named_rising : (named members : List ℕ) → named ≡ members → IsTrue (are_rising members) → IsTrue (are_rising named)
 named_rising named members same rising = subst (λ (numbers : List ℕ). IsTrue (are_rising numbers)) (sym same) rising
 
-pub is_witness : (plan : Plan) (events : List Event) (members : List ℕ) (standing : List Vector) (front : List Event) (ending : Ending) → EndsSo plan events members standing front ending → IsWitness plan front ending
+pub is_witness : (plan : Plan) (events : List Event) (members : List ℕ) (standing : List Vector) (front : List Event) (ending : Ending) → HasEnding plan events members standing front ending → IsWitness plan front ending
 is_witness plan events members standing front (Refused p) ends = ends.1
-is_witness plan events members standing front (StuckForEver stuck reason) ends =
+is_witness plan events members standing front (StuckForever stuck reason) ends =
     let led = ends.2.leads in
     let stays : LeadsTo plan events (StaysFor plan members reason) = (led.0, led.1, stays_for plan led.0 members standing reason led.2.0 led.2.1) in
     let of_stuck : LeadsTo plan events (StaysFor plan stuck.items reason) = subst (λ (numbers : List ℕ). LeadsTo plan events (StaysFor plan numbers reason)) (sym ends.1) stays in
@@ -53,7 +53,7 @@ is_witness plan events members standing front (StuckNow stuck) ends =
 -- ---- the cases
 
 -- a rejection after the first n events
-pub ends_refused : (plan : Plan) (events : List Event) (members : List ℕ) (standing : List Vector) (front : List Event) (n p : ℕ) → front ≡ take n events → EndsRefused plan (take n events) p → EndsSo plan events members standing front (Refused p)
+pub ends_refused : (plan : Plan) (events : List Event) (members : List ℕ) (standing : List Vector) (front : List Event) (n p : ℕ) → front ≡ take n events → EndsRefused plan (take n events) p → HasEnding plan events members standing front (Refused p)
 ends_refused plan events members standing front n p is_front ends =
     subst (λ (list : List Event). BeginsWith events list × EndsRefused plan list p) (sym is_front) ((drop n events, sym (take-append-drop n events)), ends)
 

@@ -17,7 +17,7 @@ use Rattle.written_machine.proofs.Reached.{replay_none}
 use Rattle.interleaving.specs.LiveView.{View, live_view}
 use Rattle.interleaving.specs.ViewAnswers.{AnswersAs}
 use Rattle.counterexample.specs.Witness.{NoneRefused, EndsRefused}
-use Rattle.counterexample.specs.Replayed.{ComesTo, StopsShort}
+use Rattle.counterexample.specs.ReplayResult.{ComesTo, StopsShort}
 
 -- ---- lists of events
 

@@ -1,7 +1,7 @@
 pub mod Lowered
 pub mod StandingPools
-pub mod Lasting
+pub mod PermanentSets
 pub mod Accepted
 pub mod EventReplays
-pub mod Shown
+pub mod StandingTest
 pub mod Answered

@@ -17,11 +17,11 @@ use Rattle.written_machine.specs.declared.event.Event.{Event}
 use Rattle.written_machine.specs.declared.event.Outcome.{Outcome}
 use Rattle.written_machine.specs.declared.event.Outcome.TheVariants as outcome
 use Rattle.written_machine.specs.State.{State, PoolPart, pool_of, pool_seen, part_of, threads}
-use Rattle.written_machine.specs.Step.{answered, submitted, acted, stepped, step}
+use Rattle.written_machine.specs.Step.{answered, submitted, step_action, step_at_point, step}
 use Rattle.written_machine.specs.Reach.{start}
-use Rattle.written_machine.proofs.Events.{StandsAt, event_of, Happens, works, starts, queues, is_refused, gets, finishes, loops, takes, retires}
-use Rattle.written_machine.proofs.Kept.{Kept}
-use Rattle.written_machine.proofs.KeptSubmits.{class_exists}
+use Rattle.written_machine.proofs.Events.{IsAtAction, event_of, Happens, works, starts, queues, is_refused, gets, finishes, loops, takes, retires}
+use Rattle.written_machine.proofs.StateInvariant.{StateInvariant}
+use Rattle.written_machine.proofs.InvariantSubmits.{class_exists}
 
 -- ---- the plan
 
@@ -99,7 +99,7 @@ ordered-lowered plan most ordered between = record {
     there p inside = omega (arith, length-lowered plan most)
 
 -- the invariant holds for the lowered plan as well, if no pool has more threads than its lowered maximum
-pub kept-lowered : (plan : Plan) (most : ℕ → ℕ) (s : State) → Kept plan s → ((p : ℕ) → p < length plan.pools → threads plan s p ≤ most p) → Kept (lowered plan most) s
+pub kept-lowered : (plan : Plan) (most : ℕ → ℕ) (s : State) → StateInvariant plan s → ((p : ℕ) → p < length plan.pools → threads plan s p ≤ most p) → StateInvariant (lowered plan most) s
 kept-lowered plan most s kept within = record {
   classes = kept.classes;
   parents = kept.parents;
@@ -128,20 +128,20 @@ started_given plan s s' a i k n offer.Started e = refl
 started_given plan s s' a i k n offer.Queued e = let same : outcome.Queued (length s.jobs) ≡ outcome.Started n = ap (λ (x : State × Outcome). x.1) e in absurd cc
 started_given plan s s' a i k n offer.Refused e = let same : outcome.Refused (pool_of plan k) ≡ outcome.Started n = ap (λ (x : State × Outcome). x.1) e in absurd cc
 
-step_of : (plan : Plan) (s : State) (a : Parent) (body : List Action) (i k : ℕ) → StandsAt plan s a body i (Some (action.Submit k)) → step plan s (event_of a) ≡ Some (submitted plan s a i k)
-step_of plan s (parent.Client c) body i k at = ap (stepped plan s (parent.Client c)) at.stands ∙ ap (acted plan s (parent.Client c) i) at.is_there
-step_of plan s (parent.Job j) body i k at = ap (stepped plan s (parent.Job j)) at.stands ∙ ap (acted plan s (parent.Job j) i) at.is_there
+step_of : (plan : Plan) (s : State) (a : Parent) (body : List Action) (i k : ℕ) → IsAtAction plan s a body i (Some (action.Submit k)) → step plan s (event_of a) ≡ Some (submitted plan s a i k)
+step_of plan s (parent.Client c) body i k at = ap (step_at_point plan s (parent.Client c)) at.stands ∙ ap (step_action plan s (parent.Client c) i) at.is_there
+step_of plan s (parent.Job j) body i k at = ap (step_at_point plan s (parent.Job j)) at.stands ∙ ap (step_action plan s (parent.Job j) i) at.is_there
 
-started_answer : (plan : Plan) (s s' : State) (a : Parent) (body : List Action) (i k n : ℕ) → StandsAt plan s a body i (Some (action.Submit k)) → step plan s (event_of a) ≡ Some (s', outcome.Started n) → answer (pool_seen plan s (pool_of plan k)) ≡ offer.Started
+started_answer : (plan : Plan) (s s' : State) (a : Parent) (body : List Action) (i k n : ℕ) → IsAtAction plan s a body i (Some (action.Submit k)) → step plan s (event_of a) ≡ Some (s', outcome.Started n) → answer (pool_seen plan s (pool_of plan k)) ≡ offer.Started
 started_answer plan s s' a body i k n at is_step =
     started_given plan s s' a i k n (answer (pool_seen plan s (pool_of plan k))) (same_Some (submitted plan s a i k) (s', outcome.Started n) (sym (step_of plan s a body i k at) ∙ is_step))
 
 -- each pool that starts a thread is below the lowered maximum
 abbrev pub StartsBelow : Plan → (ℕ → ℕ) → State → Type 0
-StartsBelow plan most s = (a : Parent) (body : List Action) (i k : ℕ) → StandsAt plan s a body i (Some (action.Submit k)) → answer (pool_seen plan s (pool_of plan k)) ≡ offer.Started
+StartsBelow plan most s = (a : Parent) (body : List Action) (i k : ℕ) → IsAtAction plan s a body i (Some (action.Submit k)) → answer (pool_seen plan s (pool_of plan k)) ≡ offer.Started
     → (threads plan s (pool_of plan k) < most (pool_of plan k)) ⊎ (threads plan s (pool_of plan k) < (pool_at plan (pool_of plan k)).core)
 
-stands-lowered : (plan : Plan) (most : ℕ → ℕ) (s : State) (a : Parent) (body : List Action) (i : ℕ) (there : Option Action) → StandsAt plan s a body i there → StandsAt (lowered plan most) s a body i there
+stands-lowered : (plan : Plan) (most : ℕ → ℕ) (s : State) (a : Parent) (body : List Action) (i : ℕ) (there : Option Action) → IsAtAction plan s a body i there → IsAtAction (lowered plan most) s a body i there
 stands-lowered plan most s a body i there at = record { stands = at.stands; is_there = at.is_there }
 
 pub happens-lowered : (plan : Plan) (most : ℕ → ℕ) (s s' : State) (e : Event) (o : Outcome) → HasValidBodies plan → IsBetween plan most → StartsBelow plan most s → Happens plan s e s' o → step plan s e ≡ Some (s', o) → Happens (lowered plan most) s e s' o

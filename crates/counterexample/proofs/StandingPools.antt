@@ -16,17 +16,17 @@ use Rattle.written_machine.specs.declared.event.Outcome.{Outcome}
 use Rattle.written_machine.specs.State.{State, pool_of, pool_seen, threads}
 use Rattle.written_machine.specs.Step.{step}
 use Rattle.written_machine.specs.Reach.{start, state_after, replay, IsReached}
-use Rattle.written_machine.proofs.Events.{StandsAt, happens}
-use Rattle.written_machine.proofs.Kept.{Kept}
-use Rattle.written_machine.proofs.KeptStart.{kept_start}
-use Rattle.written_machine.proofs.KeptStep.{kept_step}
+use Rattle.written_machine.proofs.Events.{IsAtAction, happens}
+use Rattle.written_machine.proofs.StateInvariant.{StateInvariant}
+use Rattle.written_machine.proofs.InvariantAtStart.{kept_start}
+use Rattle.written_machine.proofs.InvariantStep.{kept_step}
 use Rattle.written_machine.proofs.Reached.{replay_none, kept}
 use Rattle.weights.specs.declared.get_return.GetReturn.TheVariants.{DoneWeight}
 use Rattle.soundness.proofs.BoundLaws.{standing_laws}
 use Rattle.soundness.proofs.NoRefusal.{standing_refuses_nothing}
 use Rattle.soundness.proofs.ReachedLaws.{balanced}
 use Rattle.interleaving.proofs.Reached.{reached_after}
-use Rattle.counterexample.specs.Lasting.{HasStanding, StandingPoolsStayAtCore}
+use Rattle.counterexample.specs.PermanentSets.{HasStanding, StandingPoolsStayAtCore}
 use Rattle.counterexample.proofs.Lowered.{lowered, IsBetween, length-lowered, max-lowered, start-lowered, ordered-lowered, started_when, StartsBelow, happens-lowered}
 
 -- ---- the invariant of every step
@@ -49,7 +49,7 @@ steps_keep plan holds stays (e ∷ events) s s' held replayed =
 -- ---- the pool
 
 -- the pool starts a thread only below core, since a submit never finds its queue full
-pub starts_below_core : (plan : Plan) (s : State) (a : Parent) (body : List Action) (i k : ℕ) → IsWellFormed plan → IsReached plan s → HasStanding plan (pool_of plan k) → StandsAt plan s a body i (Some (action.Submit k))
+pub starts_below_core : (plan : Plan) (s : State) (a : Parent) (body : List Action) (i k : ℕ) → IsWellFormed plan → IsReached plan s → HasStanding plan (pool_of plan k) → IsAtAction plan s a body i (Some (action.Submit k))
     → answer (pool_seen plan s (pool_of plan k)) ≡ offer.Started → threads plan s (pool_of plan k) < (pool_at plan (pool_of plan k)).core
 starts_below_core plan s a body i k well_formed reached standing at starts =
     let laws = standing_laws plan (pool_of plan k) standing.vector standing.hold in
@@ -82,7 +82,7 @@ below_core plan p s well_formed standing reached a body i k at starts =
 -- the invariants of both plans
 record BothKeep (plan : Plan) (p : ℕ) (s : State) : Type 0 where
   reached : IsReached plan s
-  kept_low : Kept (lowered plan (core_for_max plan p)) s
+  kept_low : StateInvariant (lowered plan (core_for_max plan p)) s
 
 both_keep : (plan : Plan) (p : ℕ) → IsWellFormed plan → HasStanding plan p → StaysThroughSteps plan (BothKeep plan p)
 both_keep plan p well_formed standing s e s' o both is_step =
@@ -102,7 +102,7 @@ stays_at_core plan p s well_formed inside standing reached =
     let is_ordered = ordered plan well_formed in
     let low = lowered plan most in
     let at_start : BothKeep plan p (start plan) =
-    record { reached = ([], refl); kept_low = subst (Kept low) (start-lowered plan most) (kept_start low (ordered-lowered plan most is_ordered (between_core plan p is_ordered))) } in
+    record { reached = ([], refl); kept_low = subst (StateInvariant low) (start-lowered plan most) (kept_start low (ordered-lowered plan most is_ordered (between_core plan p is_ordered))) } in
     let both = steps_keep plan (BothKeep plan p) (both_keep plan p well_formed standing) reached.0 (start plan) s at_start reached.1 in
     let is_inside : p < length low.pools = omega (arith, length-lowered plan most) in
     let within = (both.kept_low.pools p is_inside).within_max in

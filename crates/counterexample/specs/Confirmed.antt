@@ -9,7 +9,7 @@ use Rattle.weights.specs.Row.{AllHold}
 use Rattle.weights.specs.Vector.{Vector, vector_fits}
 use Rattle.weights.specs.Standing.{standing_rows}
 use Rattle.counterexample.specs.declared.ending.Ending.{Ending}
-use Rattle.counterexample.specs.declared.ending.Ending.TheVariants.{Refused, StuckForEver, StuckNow}
+use Rattle.counterexample.specs.declared.ending.Ending.TheVariants.{Refused, StuckForever, StuckNow}
 use Rattle.counterexample.specs.declared.ending.Reason.{Reason}
 use Rattle.counterexample.specs.declared.ending.Reason.TheVariants.{PoolsAreFull, PoolsStayAtCore}
 use Rattle.counterexample.specs.declared.witness.Witness.{Witness}
@@ -30,14 +30,14 @@ abbrev pub AreFull : Plan → State → List ℕ → Type 0
 AreFull plan s members = WhereMembersQueue plan s members (IsFull plan s)
 
 -- each pool with a queued member is full, or a standing vector is given for it
-abbrev pub AreShown : Plan → State → List ℕ → List Vector → Type 0
-AreShown plan s members standing = WhereMembersQueue plan s members (λ p. IsFull plan s p ⊎ GivenStanding plan standing p)
+abbrev pub AreFullOrStanding : Plan → State → List ℕ → List Vector → Type 0
+AreFullOrStanding plan s members standing = WhereMembersQueue plan s members (λ p. IsFull plan s p ⊎ GivenStanding plan standing p)
 
 -- the first reason that holds
 abbrev pub IsReason : Plan → List ℕ → List Vector → State → Option Reason → Type 0
 IsReason plan members standing s (Some PoolsAreFull) = AreFull plan s members
-IsReason plan members standing s (Some PoolsStayAtCore) = (¬ AreFull plan s members) × AreShown plan s members standing
-IsReason plan members standing s None = ¬ AreShown plan s members standing
+IsReason plan members standing s (Some PoolsStayAtCore) = (¬ AreFull plan s members) × AreFullOrStanding plan s members standing
+IsReason plan members standing s None = ¬ AreFullOrStanding plan s members standing
 
 -- ---- the result
 
@@ -52,13 +52,13 @@ abbrev pub BeginsWith : List Event → List Event → Type 0
 BeginsWith events front = (rest : List Event) × (events ≡ front ++ rest)
 
 -- these events of the list have this ending
-abbrev pub EndsSo : Plan → List Event → List ℕ → List Vector → List Event → Ending → Type 0
-EndsSo plan events members standing front (Refused p) = BeginsWith events front × EndsRefused plan front p
-EndsSo plan events members standing front (StuckForEver stuck reason) = (front ≡ events) × (stuck.items ≡ members) × IsStuck plan events members standing (Some reason)
-EndsSo plan events members standing front (StuckNow stuck) = (front ≡ events) × (stuck.items ≡ members) × IsStuck plan events members standing None
+abbrev pub HasEnding : Plan → List Event → List ℕ → List Vector → List Event → Ending → Type 0
+HasEnding plan events members standing front (Refused p) = BeginsWith events front × EndsRefused plan front p
+HasEnding plan events members standing front (StuckForever stuck reason) = (front ≡ events) × (stuck.items ≡ members) × IsStuck plan events members standing (Some reason)
+HasEnding plan events members standing front (StuckNow stuck) = (front ≡ events) × (stuck.items ≡ members) × IsStuck plan events members standing None
 
 -- there is no witness exactly if none of the events is rejected and they do not lead to members, in ascending order, that
 -- wait only for each other
 abbrev pub IsAnswer : Plan → List Event → List ℕ → List Vector → Option Witness → Type 0
 IsAnswer plan events members standing None = NoneRefused plan events × (IsTrue (are_rising members) → ¬ LeadsTo plan events (λ s. IsWaitingSet plan s members))
-IsAnswer plan events members standing (Some witness) = EndsSo plan events members standing witness.events.items witness.ending
+IsAnswer plan events members standing (Some witness) = HasEnding plan events members standing witness.events.items witness.ending

@@ -2,9 +2,9 @@
 use Rattle.std.specs.Prelude.{ℕ, List, [], ◌∷◌, ◌++◌, map}
 use Rattle.job_bodies.specs.Plan.{Plan}
 use Rattle.written_machine.specs.declared.event.Event.{Event}
-use Rattle.event_lines.specs.EventLine.{Line, Happens, Stuck}
+use Rattle.event_lines.specs.EventLine.{Line, Perform, Stuck}
 use Rattle.counterexample.specs.declared.ending.Ending.{Ending}
-use Rattle.counterexample.specs.declared.ending.Ending.TheVariants.{Refused, StuckForEver, StuckNow}
+use Rattle.counterexample.specs.declared.ending.Ending.TheVariants.{Refused, StuckForever, StuckNow}
 use Rattle.counterexample.specs.declared.witness.Witness.{Witness}
 
 -- the question whether these jobs wait only for each other; without jobs there is no question
@@ -15,12 +15,12 @@ question (j ∷ js) = Stuck (j ∷ js) ∷ []
 -- the jobs that wait only for each other after the events
 abbrev pub stuck_members : Ending → List ℕ
 stuck_members (Refused p) = []
-stuck_members (StuckForEver members reason) = members.items
+stuck_members (StuckForever members reason) = members.items
 stuck_members (StuckNow members) = members.items
 
 -- the events, and after them the question whether those jobs are stuck
 abbrev pub lines_of : List Event → List ℕ → List Line
-lines_of events members = map (λ event. Happens event) events ++ question members
+lines_of events members = map (λ event. Perform event) events ++ question members
 
 abbrev pub witness_lines : Witness → List Line
 witness_lines witness = lines_of witness.events.items (stuck_members witness.ending)

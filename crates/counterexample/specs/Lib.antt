@@ -1,8 +1,8 @@
 pub mod Rising
-pub mod Lasting
+pub mod PermanentSets
 pub mod Witness
-pub mod Replayed
-pub mod StartingNone
+pub mod ReplayResult
+pub mod NoThreadStarts
 pub mod Confirmed
 pub mod EventLines
-pub mod Told
+pub mod Description

@@ -14,11 +14,11 @@ use Rattle.written_machine.specs.FullWaitingSets.{IsFullWaitingSet}
 use Rattle.cert_text.specs.Cert.{Cert}
 use Rattle.soundness.specs.Accepted.{accepted}
 use Rattle.counterexample.specs.declared.ending.Ending.{Ending}
-use Rattle.counterexample.specs.declared.ending.Ending.TheVariants.{Refused, StuckForEver, StuckNow}
+use Rattle.counterexample.specs.declared.ending.Ending.TheVariants.{Refused, StuckForever, StuckNow}
 use Rattle.counterexample.specs.declared.ending.Reason.{Reason}
 use Rattle.counterexample.specs.declared.ending.Reason.TheVariants.{PoolsAreFull, PoolsStayAtCore}
 use Rattle.counterexample.specs.Rising.{are_rising}
-use Rattle.counterexample.specs.Lasting.{IsLastingWaitingSet}
+use Rattle.counterexample.specs.PermanentSets.{IsPermanentWaitingSet}
 
 -- the events are possible in sequence from the plan's start, and the property holds in the last state
 abbrev pub LeadsTo : Plan → List Event → (State → Type 0) → Type 0
@@ -42,7 +42,7 @@ pub record EndsRefused (plan : Plan) (events : List Event) (p : ℕ) : Type 0 wh
 -- the members are a permanent waiting set for this reason
 abbrev pub StaysFor : Plan → List ℕ → Reason → State → Type 0
 StaysFor plan members PoolsAreFull s = IsFullWaitingSet plan s members
-StaysFor plan members PoolsStayAtCore s = IsLastingWaitingSet plan s members
+StaysFor plan members PoolsStayAtCore s = IsPermanentWaitingSet plan s members
 
 -- the members are a waiting set, and one of them waits in the queue of a pool that may start another thread
 pub record WaitsForNow (plan : Plan) (members : List ℕ) (s : State) : Type 0 where
@@ -52,7 +52,7 @@ pub record WaitsForNow (plan : Plan) (members : List ℕ) (s : State) : Type 0 w
 -- the events have this ending, and the members are in ascending order
 abbrev pub IsWitness : Plan → List Event → Ending → Type 0
 IsWitness plan events (Refused p) = EndsRefused plan events p
-IsWitness plan events (StuckForEver members reason) = IsTrue (are_rising members.items) × LeadsTo plan events (StaysFor plan members.items reason)
+IsWitness plan events (StuckForever members reason) = IsTrue (are_rising members.items) × LeadsTo plan events (StaysFor plan members.items reason)
 IsWitness plan events (StuckNow members) = IsTrue (are_rising members.items) × LeadsTo plan events (WaitsForNow plan members.items)
 
 -- no certificate accepts a plan that has a witness

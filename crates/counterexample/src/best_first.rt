@@ -2,10 +2,10 @@
 //! turn.
 
 use crate::branches::Branch;
-use crate::kinds::Choices;
-use crate::missed::Scale;
+use crate::choices::Choices;
+use crate::vectors::Potential;
 use crate::scripts::Script;
-use crate::walks::{Bad, Stepped, Walk};
+use crate::walks::{Violation, WalkStep, Walk};
 use job_bodies::Plan;
 use std::alloc::{AllocError, Global};
 use std::collections::{BinaryHeap, HashSet};
@@ -26,16 +26,16 @@ struct Node {
 
 /// A reached state, with the total loss of each vector on the way to it.
 #[derive(Drop)]
-struct Reached<'a> {
+struct ReplayedState<'a> {
     walk: Walk<'a>,
     lost: Vec<u64>,
 }
 
 /// The result of a best-first search.
 #[derive(Drop)]
-pub(crate) struct Best {
+pub(crate) struct BestFirstResult {
     /// A permanent violation, if one was found.
-    pub(crate) found: Option<(Script, Bad)>,
+    pub(crate) found: Option<(Script, Violation)>,
     /// Events that lead to jobs that wait only for each other at this moment.
     pub(crate) stuck_now: Option<Script>,
     /// The number of states that the search may still visit.
@@ -48,12 +48,12 @@ pub(crate) fn best_first(
     alloc: Global,
     plan: &Plan,
     choices: &Choices,
-    scales: &[Scale],
+    potentials: &[Potential],
     states: usize,
-) -> Result<Best, AllocError> {
-    let mut search = BestFirst::start(alloc, plan, choices, scales, states)?;
+) -> Result<BestFirstResult, AllocError> {
+    let mut search = BestFirst::start(alloc, plan, choices, potentials, states)?;
     let found = search.find()?;
-    Ok(search.ended(found))
+    Ok(search.into_result(found))
 }
 
 /// The state of a search: all reached states, by number. Each takes about 100 bytes.
@@ -62,7 +62,7 @@ struct BestFirst<'a> {
     alloc: Global,
     plan: &'a Plan,
     choices: &'a Choices,
-    scales: &'a [Scale],
+    potentials: &'a [Potential],
     nodes: Vec<Node>,
     seen: HashSet<u64, BuildHasherDefault<FoldHasher>, Global>,
     /// For each measure, a heap of the open states. A greater number is more promising.
@@ -81,19 +81,19 @@ impl<'a> BestFirst<'a> {
         alloc: Global,
         plan: &'a Plan,
         choices: &'a Choices,
-        scales: &'a [Scale],
+        potentials: &'a [Potential],
         states: usize,
     ) -> Result<BestFirst<'a>, AllocError> {
-        let scales = scales.get(..MAX_VECTORS).unwrap_or(scales);
+        let potentials = potentials.get(..MAX_VECTORS).unwrap_or(potentials);
         let mut opens = Vec::new(alloc);
-        for _ in 0..scales.len().saturating_add(2) {
+        for _ in 0..potentials.len().saturating_add(2) {
             opens.push(BinaryHeap::new(alloc))?;
         }
         let mut search = BestFirst {
             alloc,
             plan,
             choices,
-            scales,
+            potentials,
             nodes: Vec::new(alloc),
             seen: HashSet::new(alloc),
             opens,
@@ -103,14 +103,14 @@ impl<'a> BestFirst<'a> {
         };
         let start = Branch {
             place: 0,
-            behind: 0,
+            newer: 0,
         };
         search.add_node(0, start)?;
         Ok(search)
     }
 
-    fn ended(self, found: Option<(Script, Bad)>) -> Best {
-        Best {
+    fn into_result(self, found: Option<(Script, Violation)>) -> BestFirstResult {
+        BestFirstResult {
             found,
             stuck_now: self.stuck_now,
             left: self.left,
@@ -118,7 +118,7 @@ impl<'a> BestFirst<'a> {
     }
 
     /// Returns a permanent violation, or `None` if the limit was reached or no open state is left.
-    fn find(&mut self) -> Result<Option<(Script, Bad)>, AllocError> {
+    fn find(&mut self) -> Result<Option<(Script, Violation)>, AllocError> {
         for turn in 0..usize::MAX {
             if self.left == 0 {
                 break;
@@ -126,7 +126,7 @@ impl<'a> BestFirst<'a> {
             let Some(number) = self.next_open(turn) else {
                 break;
             };
-            if let Some(found) = self.go_on_from(number)? {
+            if let Some(found) = self.expand(number)? {
                 return Ok(Some(found));
             }
         }
@@ -180,17 +180,17 @@ impl<'a> BestFirst<'a> {
     }
 
     /// Visits each successor of this state.
-    fn go_on_from(&mut self, number: usize) -> Result<Option<(Script, Bad)>, AllocError> {
-        let reached = self.reached(number)?;
-        for branch in &reached.walk.branches(self.alloc)? {
+    fn expand(&mut self, number: usize) -> Result<Option<(Script, Violation)>, AllocError> {
+        let replayed = self.replayed(number)?;
+        for branch in &replayed.walk.branches(self.alloc)? {
             if self.left == 0 {
                 break;
             }
             self.left = self.left.saturating_sub(1);
-            if let Some(bad) = self.come_to(&reached, number, *branch)? {
+            if let Some(violation) = self.visit(&replayed, number, *branch)? {
                 let script = self.script_of(number, *branch)?;
-                if bad != Bad::StuckNow {
-                    return Ok(Some((script, bad)));
+                if violation != Violation::StuckNow {
+                    return Ok(Some((script, violation)));
                 }
                 self.stuck_now = Some(script);
             }
@@ -199,24 +199,24 @@ impl<'a> BestFirst<'a> {
     }
 
     /// Visits the state after this branch, and returns its violation, if there is one.
-    fn come_to(
+    fn visit(
         &mut self,
-        reached: &Reached<'a>,
+        replayed: &ReplayedState<'a>,
         number: usize,
         branch: Branch,
-    ) -> Result<Option<Bad>, AllocError> {
-        let mut walk = reached.walk.try_clone(self.alloc)?;
-        match walk.choose(branch.place, branch.behind)? {
-            Stepped::Refused => return Ok(Some(Bad::Refused)),
-            Stepped::Nothing => return Ok(None),
-            Stepped::Went => {}
+    ) -> Result<Option<Violation>, AllocError> {
+        let mut walk = replayed.walk.try_clone(self.alloc)?;
+        match walk.choose(branch.place, branch.newer)? {
+            WalkStep::Refused => return Ok(Some(Violation::Refused)),
+            WalkStep::Nothing => return Ok(None),
+            WalkStep::Advanced => {}
         }
         let print = walk.fingerprint(self.alloc)?;
         if !self.seen.insert(print)? {
             return Ok(None);
         }
         let next = self.add_node(number, branch)?;
-        self.add_open(reached, &walk, branch, next)?;
+        self.add_open(replayed, &walk, branch, next)?;
         if walk.has_blocked && walk.has_closed() {
             return walk.stuck(self.alloc, self.stuck_now.is_none());
         }
@@ -226,13 +226,13 @@ impl<'a> BestFirst<'a> {
     /// Adds the state with this number to the heap of each measure.
     fn add_open(
         &mut self,
-        reached: &Reached<'a>,
+        replayed: &ReplayedState<'a>,
         walk: &Walk<'a>,
         branch: Branch,
         number: usize,
     ) -> Result<(), AllocError> {
-        let known = reached.lost.iter().zip(self.scales).map(|(lost, scale)| {
-            lost.saturating_add(reached.walk.loss(branch, scale))
+        let known = replayed.lost.iter().zip(self.potentials).map(|(lost, potential)| {
+            lost.saturating_add(replayed.walk.loss(branch, potential))
         });
         let mut costs: Vec<u64> = known.collect(self.alloc)?;
         costs.push(walk.moving_threads())?;
@@ -244,8 +244,8 @@ impl<'a> BestFirst<'a> {
     }
 
     /// Returns the branches from the start to the state with this number.
-    fn way_to(&self, number: usize) -> Result<Vec<Branch>, AllocError> {
-        let mut way = Vec::new(self.alloc);
+    fn path_to(&self, number: usize) -> Result<Vec<Branch>, AllocError> {
+        let mut path = Vec::new(self.alloc);
         let mut number = number;
         for _ in 0..self.nodes.len() {
             if number == 0 {
@@ -254,30 +254,30 @@ impl<'a> BestFirst<'a> {
             let Some(node) = self.nodes.get(number) else {
                 break;
             };
-            way.push(node.branch)?;
+            path.push(node.branch)?;
             number = node.before;
         }
-        way.reverse();
-        Ok(way)
+        path.reverse();
+        Ok(path)
     }
 
     /// Returns the state with this number, by a replay of its branches.
-    fn reached(&self, number: usize) -> Result<Reached<'a>, AllocError> {
+    fn replayed(&self, number: usize) -> Result<ReplayedState<'a>, AllocError> {
         let mut walk = Walk::start(self.alloc, self.plan, self.choices)?;
-        let mut lost = vec![in self.alloc; 0u64; self.scales.len()]?;
-        for branch in &self.way_to(number)? {
-            for (lost, scale) in lost.iter_mut().zip(self.scales) {
-                *lost = lost.saturating_add(walk.loss(*branch, scale));
+        let mut lost = vec![in self.alloc; 0u64; self.potentials.len()]?;
+        for branch in &self.path_to(number)? {
+            for (lost, potential) in lost.iter_mut().zip(self.potentials) {
+                *lost = lost.saturating_add(walk.loss(*branch, potential));
             }
-            walk.choose(branch.place, branch.behind)?;
+            walk.choose(branch.place, branch.newer)?;
         }
-        Ok(Reached { walk, lost })
+        Ok(ReplayedState { walk, lost })
     }
 
     /// Returns the events that lead to the state after this branch.
     fn script_of(&self, number: usize, branch: Branch) -> Result<Script, AllocError> {
-        let mut reached = self.reached(number)?;
-        reached.walk.choose(branch.place, branch.behind)?;
-        Ok(reached.walk.script)
+        let mut replayed = self.replayed(number)?;
+        replayed.walk.choose(branch.place, branch.newer)?;
+        Ok(replayed.walk.script)
     }
 }

@@ -1,10 +1,10 @@
 //! The branches from a state.
 
 use crate::fingerprints::fingerprint;
-use crate::kinds::Choice;
+use crate::choices::Choice;
 use crate::losses::Losses;
 use crate::machine::Phase;
-use crate::missed::Scale;
+use crate::vectors::Potential;
 use crate::scripts::Script;
 use crate::walks::Walk;
 use std::alloc::{AllocError, Global};
@@ -13,12 +13,12 @@ use written_machine::Parent;
 /// The maximum number of actors that are tried for one choice.
 const MAX_ACTORS: usize = 8;
 
-/// A branch: a choice, and an actor that makes it. `behind` is the number of actors that became
+/// A branch: a choice, and an actor that makes it. `newer` is the number of actors that became
 /// ready for this choice after that actor.
 #[derive(Clone, Copy, PartialEq, Eq)]
 pub(crate) struct Branch {
     pub(crate) place: usize,
-    pub(crate) behind: usize,
+    pub(crate) newer: usize,
 }
 
 impl<'a> Walk<'a> {
@@ -31,7 +31,7 @@ impl<'a> Walk<'a> {
         Ok(Walk {
             machine: self.machine.try_clone(alloc)?,
             choices: self.choices,
-            script: Script::nothing(alloc),
+            script: Script::new(alloc),
             ready,
             begun: Vec::from_slice(alloc, &self.begun)?,
             has_blocked: false,
@@ -49,8 +49,8 @@ impl<'a> Walk<'a> {
                 Choice::First(_) => ready.len().min(1),
                 Choice::Later(_) | Choice::Inner(_) => ready.len().min(MAX_ACTORS),
             };
-            for behind in 0..ways {
-                branches.push(Branch { place, behind })?;
+            for newer in 0..ways {
+                branches.push(Branch { place, newer })?;
             }
         }
         Ok(branches)
@@ -64,16 +64,16 @@ impl<'a> Walk<'a> {
     }
 
     /// Returns the loss of the branch, measured by the weights of a vector.
-    pub(crate) fn loss(&self, branch: Branch, scale: &Scale) -> u64 {
+    pub(crate) fn loss(&self, branch: Branch, potential: &Potential) -> u64 {
         let Some(choice) = self.choices.all.get(branch.place).copied() else {
             return 0;
         };
-        Losses::new(&self.machine, scale).of(choice, self.actor_of(branch))
+        Losses::new(&self.machine, potential).of(choice, self.actor_of(branch))
     }
 
     fn actor_of(&self, branch: Branch) -> Option<Parent> {
         let ready = self.ready.get(branch.place)?;
-        let at = ready.len().checked_sub(1)?.checked_sub(branch.behind)?;
+        let at = ready.len().checked_sub(1)?.checked_sub(branch.newer)?;
         ready.get(at).copied()
     }
 

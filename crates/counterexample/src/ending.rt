@@ -7,7 +7,7 @@ pub enum Ending {
     Refused(usize),
     /// After the last event, the jobs with these numbers wait only for each other. They do so
     /// permanently, for this reason.
-    StuckForEver(Vec<usize>, Reason),
+    StuckForever(Vec<usize>, Reason),
     /// After the last event, the jobs with these numbers wait only for each other. A later event
     /// may end that.
     StuckNow(Vec<usize>),

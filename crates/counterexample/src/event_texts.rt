@@ -30,7 +30,7 @@ pub(crate) fn stuck_members(ending: &Ending) -> &[usize]
 {
     match ending {
         Ending::Refused(_) => &[],
-        Ending::StuckForEver(members, _) => members,
+        Ending::StuckForever(members, _) => members,
         Ending::StuckNow(members) => members,
     }
 }

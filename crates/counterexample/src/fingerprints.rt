@@ -4,7 +4,7 @@
 //! finished jobs that no actor will get, or in clients that are again at their first submit. Other
 //! states may collide by chance. The search then continues from only one of them.
 
-use crate::kinds::{Choice, Choices};
+use crate::choices::{Choice, Choices};
 use crate::machine::{Job, Machine, Phase};
 use std::alloc::{AllocError, Global};
 use written_machine::Parent;
@@ -31,7 +31,7 @@ pub(crate) fn fingerprint(
     let mut prints = Prints {
         machine,
         of_jobs: vec![in alloc; 0; machine.jobs.len()]?,
-        of_movers: vec![in alloc; 0; machine.movers()]?,
+        of_active_clients: vec![in alloc; 0; machine.active_clients()]?,
         places: vec![in alloc; 0; machine.jobs.len()]?,
         whole: 0,
     };
@@ -41,7 +41,7 @@ pub(crate) fn fingerprint(
             prints.add_job(number, job);
         }
     }
-    for number in 0..machine.movers() {
+    for number in 0..machine.active_clients() {
         prints.add_client(choices, number);
     }
     Ok(prints.whole)
@@ -62,7 +62,7 @@ struct Prints<'a> {
     /// For each job, the fingerprint of the jobs that it will get.
     of_jobs: Vec<u64>,
     /// For each client, the fingerprint of the jobs that it will get.
-    of_movers: Vec<u64>,
+    of_active_clients: Vec<u64>,
     /// For each job, its place in a queue, counted from 1, or 0.
     places: Vec<u64>,
     whole: u64,
@@ -107,7 +107,7 @@ impl Prints<'_> {
     fn add_to_parent(&mut self, parent: Parent, print: u64) {
         match parent {
             Parent::Client(client) => {
-                if let Some(of_client) = self.of_movers.get_mut(client) {
+                if let Some(of_client) = self.of_active_clients.get_mut(client) {
                     *of_client = of_client.wrapping_add(print);
                 }
             }
@@ -138,7 +138,7 @@ impl Prints<'_> {
         }
         let kind = self.machine.kind_of(actor).unwrap_or(0);
         let stands = mixed(mixed(CLIENT, kind as u64), position as u64);
-        let of_jobs = self.of_movers.get(number).copied().unwrap_or(0);
+        let of_jobs = self.of_active_clients.get(number).copied().unwrap_or(0);
         self.add(mixed(stands, of_jobs));
     }
 }

@@ -1,7 +1,7 @@
 //! Laws of witnesses. Each law is the contract of a function with an empty body.
 
 ghost use Rattle.counterexample.specs.Witness.{WitnessedPlansAreNotAccepted, WitnessedPlansAreNotSafe};
-ghost use Rattle.counterexample.specs.Lasting.{StandingPoolsStayAtCore, LastingWaitingSetsStay};
+ghost use Rattle.counterexample.specs.PermanentSets.{StandingPoolsStayAtCore, PermanentWaitingSetsStay};
 
 /// Proves that no certificate accepts a well-formed plan that has a witness, with any ending.
 pub fn witnessed_plans_are_not_accepted()
@@ -23,6 +23,6 @@ pub fn standing_pools_stay_at_core()
 /// Proves that a waiting set stays a waiting set after every list of events, and that none of its
 /// jobs ever moves again, if each pool with a queued member has all its threads or has a standing
 /// vector whose conditions hold.
-pub fn lasting_waiting_sets_stay()
-    ensures { LastingWaitingSetsStay }
+pub fn permanent_waiting_sets_stay()
+    ensures { PermanentWaitingSetsStay }
 {}

@@ -4,19 +4,19 @@
 //! trusted: a witness is replayed before it is reported.
 #![tactic(auto)]
 
-mod acts;
+mod steps;
 mod best_first;
 mod branches;
-mod confirming;
+mod confirmation;
 mod ending;
 mod event_texts;
 mod fingerprints;
-mod kinds;
+mod choices;
 mod laws;
 mod losses;
 mod machine;
-mod missed;
-mod movers;
+mod vectors;
+mod active_clients;
 mod orders;
 mod pools;
 mod replaying;
@@ -25,25 +25,25 @@ mod rising;
 mod scripts;
 mod search;
 mod shorten;
-mod standing;
-mod starting_none;
+mod pool_lines;
+mod no_thread_starts;
 mod stories;
-mod telling;
+mod description;
 mod turns;
 mod waiting_lines;
 mod waiting_sets;
 mod walks;
 mod witness;
 
-pub use confirming::confirmed;
+pub use confirmation::confirmed;
 pub use ending::{Ending, Reason};
 pub use event_texts::push_event_lines;
 pub use interleaving::Event;
 pub use laws::{
-    lasting_waiting_sets_stay, standing_pools_stay_at_core, witnessed_plans_are_not_accepted,
+    permanent_waiting_sets_stay, standing_pools_stay_at_core, witnessed_plans_are_not_accepted,
     witnessed_plans_are_not_safe,
 };
-pub use search::{Searched, SupposedWitness, search_witness};
-pub use telling::told;
+pub use search::{SearchResult, CandidateWitness, search_witness};
+pub use description::describe;
 pub use weights::Vector;
 pub use witness::Witness;

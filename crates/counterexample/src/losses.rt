@@ -1,10 +1,10 @@
 //! The losses of choices, measured by a vector. The total weight of a state never rises. If a
 //! vector misses its bound, a walk to a violation can lose only little of it.
 
-use crate::kinds::Choice;
+use crate::choices::Choice;
 use crate::machine::Machine;
-use crate::missed::Scale;
-use crate::pools::Offered;
+use crate::vectors::Potential;
+use crate::pools::Admission;
 use job_bodies::{Action, MAX_ACTIONS};
 use written_machine::Parent;
 
@@ -17,19 +17,19 @@ const MAX_PARENTS: usize = 16;
 #[derive(Clone, Copy)]
 pub(crate) struct Losses<'a> {
     machine: &'a Machine<'a>,
-    scale: &'a Scale,
+    potential: &'a Potential,
 }
 
 /// A body, the weight of an actor at each position of it, and the weight that remains after its
 /// end.
 #[derive(Clone, Copy)]
-struct Way<'a> {
+struct WeightedBody<'a> {
     body: &'a [Action],
     row: &'a [u64],
     end: u64,
 }
 
-impl Way<'_> {
+impl WeightedBody<'_> {
     fn weight_at(&self, position: usize) -> u64 {
         self.row.get(position).copied().unwrap_or(0)
     }
@@ -50,8 +50,8 @@ impl Way<'_> {
 }
 
 impl<'a> Losses<'a> {
-    pub(crate) fn new(machine: &'a Machine<'a>, scale: &'a Scale) -> Losses<'a> {
-        Losses { machine, scale }
+    pub(crate) fn new(machine: &'a Machine<'a>, potential: &'a Potential) -> Losses<'a> {
+        Losses { machine, potential }
     }
 
     /// Returns the loss of a possible choice that this actor makes.
@@ -67,42 +67,42 @@ impl<'a> Losses<'a> {
         lost.unwrap_or(MAX_LOST).min(MAX_LOST)
     }
 
-    fn way_of_client(&self, kind: usize) -> Option<Way<'a>> {
+    fn weighted_client(&self, kind: usize) -> Option<WeightedBody<'a>> {
         let client = self.machine.plan.client_at(kind)?;
-        let row: &'a [u64] = self.scale.clients.get(kind)?;
+        let row: &'a [u64] = self.potential.clients.get(kind)?;
         let end = if client.repeat {
             row.first().copied().unwrap_or(0)
         } else {
             0
         };
-        Some(Way {
+        Some(WeightedBody {
             body: &client.body,
             row,
             end,
         })
     }
 
-    fn way_of_class(&self, class: usize) -> Option<Way<'a>> {
+    fn weighted_class(&self, class: usize) -> Option<WeightedBody<'a>> {
         let body = &self.machine.plan.class_at(class)?.body;
-        let row: &'a [u64] = self.scale.classes.get(class)?;
-        Some(Way {
+        let row: &'a [u64] = self.potential.classes.get(class)?;
+        Some(WeightedBody {
             body,
             row: row.get(1..)?,
             end: self.done(class).saturating_add(self.worker(class)),
         })
     }
 
-    fn way_of(&self, actor: Parent) -> Option<Way<'a>> {
+    fn weighted_actor(&self, actor: Parent) -> Option<WeightedBody<'a>> {
         let kind = self.machine.kind_of(actor)?;
         match actor {
-            Parent::Client(_) => self.way_of_client(kind),
-            Parent::Job(_) => self.way_of_class(kind),
+            Parent::Client(_) => self.weighted_client(kind),
+            Parent::Job(_) => self.weighted_class(kind),
         }
     }
 
     /// Returns the weight of a finished job of the class.
     fn done(&self, class: usize) -> u64 {
-        match self.scale.classes.get(class) {
+        match self.potential.classes.get(class) {
             Some(row) => row.last().copied().unwrap_or(0),
             None => 0,
         }
@@ -110,7 +110,7 @@ impl<'a> Losses<'a> {
 
     /// Returns the weight of a queued job of the class.
     fn queued(&self, class: usize) -> u64 {
-        match self.scale.classes.get(class) {
+        match self.potential.classes.get(class) {
             Some(row) => row.first().copied().unwrap_or(0),
             None => 0,
         }
@@ -119,43 +119,43 @@ impl<'a> Losses<'a> {
     /// Returns the weight of a worker of the class's pool.
     fn worker(&self, class: usize) -> u64 {
         match self.machine.plan.class_at(class) {
-            Some(class) => self.scale.workers.get(class.pool).copied().unwrap_or(0),
+            Some(class) => self.potential.workers.get(class.pool).copied().unwrap_or(0),
             None => 0,
         }
     }
 
     fn of_begin(&self, kind: usize) -> Option<u64> {
-        let way = self.way_of_client(kind)?;
-        let at = way
+        let weighted = self.weighted_client(kind)?;
+        let at = weighted
             .body
             .iter()
             .position(|action| matches!(action, Action::Submit(_)))?;
-        self.of_submit(&way, 0, at)
+        self.of_submit(&weighted, 0, at)
     }
 
     fn of_actor(&self, actor: Parent) -> Option<u64> {
         let (position, _) = self.machine.point(actor)?;
-        self.of_submit(&self.way_of(actor)?, position, position)
+        self.of_submit(&self.weighted_actor(actor)?, position, position)
     }
 
     /// Returns the loss of a submit at position `at` by an actor that now has the weight of
     /// position `from`.
-    fn of_submit(&self, way: &Way, from: usize, at: usize) -> Option<u64> {
-        let Action::Submit(class) = *way.body.get(at)? else {
+    fn of_submit(&self, weighted: &WeightedBody, from: usize, at: usize) -> Option<u64> {
+        let Action::Submit(class) = *weighted.body.get(at)? else {
             return None;
         };
         let pool = self.machine.plan.class_at(class)?.pool;
-        let before = way.weight_at(from);
-        let (after, _) = way.settled(at.saturating_add(1));
+        let before = weighted.weight_at(from);
+        let (after, _) = weighted.settled(at.saturating_add(1));
         match self.machine.pools.get(pool)?.answer() {
-            Offered::Refused => Some(0),
-            Offered::Queued => {
+            Admission::Refused => Some(0),
+            Admission::Queued => {
                 let after = after.saturating_add(self.queued(class));
                 Some(before.saturating_sub(after))
             }
-            Offered::Started => {
+            Admission::Started => {
                 let before = before.saturating_add(self.worker(class));
-                let (job, _) = self.way_of_class(class)?.settled(0);
+                let (job, _) = self.weighted_class(class)?.settled(0);
                 Some(before.saturating_sub(after.saturating_add(job)))
             }
         }
@@ -168,7 +168,7 @@ impl<'a> Losses<'a> {
         let mut job = self.machine.pools.get(pool)?.next_to_take()?;
         let mut class = class;
         let mut before = self.queued(class).saturating_add(self.worker(class));
-        let (mut after, mut ends) = self.way_of_class(class)?.settled(0);
+        let (mut after, mut ends) = self.weighted_class(class)?.settled(0);
         for _ in 0..MAX_PARENTS {
             if !ends {
                 break;
@@ -178,12 +178,12 @@ impl<'a> Losses<'a> {
                 break;
             }
             let (position, _) = self.machine.point(parent)?;
-            let way = self.way_of(parent)?;
-            let (goes_on, is_end) = way.settled(position.saturating_add(1));
-            before = before.saturating_add(way.weight_at(position));
+            let weighted = self.weighted_actor(parent)?;
+            let (next, is_end) = weighted.settled(position.saturating_add(1));
+            before = before.saturating_add(weighted.weight_at(position));
             after = after
                 .saturating_sub(self.done(class))
-                .saturating_add(goes_on);
+                .saturating_add(next);
             ends = is_end;
             let Parent::Job(number) = parent else {
                 break;

@@ -1,7 +1,7 @@
 //! A lightweight machine for searches. It stores only the clients that have moved, and no history
 //! except the jobs.
 
-use crate::pools::{Offered, PoolNow};
+use crate::pools::{Admission, SearchPool};
 use job_bodies::{Action, MAX_ACTIONS, Plan};
 use std::alloc::{AllocError, Global};
 use written_machine::Parent;
@@ -31,7 +31,7 @@ pub(crate) struct Job {
 
 /// A client that has moved. Its number in this machine is its index in the list of such clients.
 #[derive(Clone, Copy, PartialEq, Eq)]
-pub(crate) struct Mover {
+pub(crate) struct ActiveClient {
     kind: usize,
     position: usize,
     newest: Option<usize>,
@@ -39,13 +39,13 @@ pub(crate) struct Mover {
 
 /// The outcome of a step.
 #[derive(Clone, Copy, PartialEq, Eq)]
-pub(crate) enum Came {
+pub(crate) enum StepOutcome {
     /// The step was not possible, and nothing has changed.
     Nothing,
     /// The actor worked, got a job or started its body again.
     Moved,
     /// The job with this number was created. `started` tells whether a thread runs it.
-    Made { job: usize, started: bool },
+    Created { job: usize, started: bool },
     /// A pool rejected a job.
     Refused,
     /// The job is done. This actor created it.
@@ -56,9 +56,9 @@ pub(crate) enum Came {
 #[derive(Drop)]
 pub(crate) struct Machine<'a> {
     pub(crate) plan: &'a Plan,
-    pub(crate) pools: Vec<PoolNow>,
+    pub(crate) pools: Vec<SearchPool>,
     pub(crate) jobs: Vec<Job>,
-    movers: Vec<Mover>,
+    active_clients: Vec<ActiveClient>,
 }
 
 impl<'a> Machine<'a> {
@@ -67,13 +67,13 @@ impl<'a> Machine<'a> {
         let pools = plan
             .pools()
             .iter()
-            .map(|pool| PoolNow::new(alloc, pool))
+            .map(|pool| SearchPool::new(alloc, pool))
             .collect(alloc)?;
         Ok(Machine {
             plan,
             pools,
             jobs: Vec::new(alloc),
-            movers: Vec::new(alloc),
+            active_clients: Vec::new(alloc),
         })
     }
 
@@ -87,19 +87,19 @@ impl<'a> Machine<'a> {
             plan: self.plan,
             pools,
             jobs: Vec::from_slice(alloc, &self.jobs)?,
-            movers: Vec::from_slice(alloc, &self.movers)?,
+            active_clients: Vec::from_slice(alloc, &self.active_clients)?,
         })
     }
 
     /// Returns the number of clients that have moved.
-    pub(crate) fn movers(&self) -> usize {
-        self.movers.len()
+    pub(crate) fn active_clients(&self) -> usize {
+        self.active_clients.len()
     }
 
     /// Adds a client of this kind to the clients that have moved, and returns it.
     pub(crate) fn begin(&mut self, kind: usize) -> Result<Parent, AllocError> {
-        let number = self.movers.len();
-        self.movers.push(Mover {
+        let number = self.active_clients.len();
+        self.active_clients.push(ActiveClient {
             kind,
             position: 0,
             newest: None,
@@ -110,7 +110,7 @@ impl<'a> Machine<'a> {
     /// Returns the number of the client's kind, or of the job's class.
     pub(crate) fn kind_of(&self, actor: Parent) -> Option<usize> {
         match actor {
-            Parent::Client(number) => self.movers.get(number).map(|mover| mover.kind),
+            Parent::Client(number) => self.active_clients.get(number).map(|client| client.kind),
             Parent::Job(number) => self.jobs.get(number).map(|job| job.class),
         }
     }
@@ -120,9 +120,9 @@ impl<'a> Machine<'a> {
     pub(crate) fn point(&self, actor: Parent) -> Option<(usize, Option<Action>)> {
         match actor {
             Parent::Client(number) => {
-                let mover = self.movers.get(number)?;
-                let body = &self.plan.client_at(mover.kind)?.body;
-                Some((mover.position, body.get(mover.position).copied()))
+                let client = self.active_clients.get(number)?;
+                let body = &self.plan.client_at(client.kind)?.body;
+                Some((client.position, body.get(client.position).copied()))
             }
             Parent::Job(number) => {
                 let job = self.jobs.get(number)?;
@@ -184,24 +184,24 @@ impl<'a> Machine<'a> {
     }
 
     /// Performs the actor's next step, and returns its outcome.
-    pub(crate) fn act(&mut self, actor: Parent) -> Result<Came, AllocError> {
+    pub(crate) fn act(&mut self, actor: Parent) -> Result<StepOutcome, AllocError> {
         let Some((position, action)) = self.point(actor) else {
-            return Ok(Came::Nothing);
+            return Ok(StepOutcome::Nothing);
         };
         match action {
             None => Ok(self.end(actor)),
             Some(Action::Work(_)) => {
                 self.go_to(actor, position.saturating_add(1));
-                Ok(Came::Moved)
+                Ok(StepOutcome::Moved)
             }
             Some(Action::Submit(class)) => self.submit(actor, position, class),
             Some(Action::Get(submit)) => {
                 let child = self.child(actor, submit);
                 if !child.is_some_and(|child| self.is_done(child)) {
-                    return Ok(Came::Nothing);
+                    return Ok(StepOutcome::Nothing);
                 }
                 self.go_to(actor, position.saturating_add(1));
-                Ok(Came::Moved)
+                Ok(StepOutcome::Moved)
             }
         }
     }
@@ -213,18 +213,18 @@ impl<'a> Machine<'a> {
         Some(job)
     }
 
-    fn submit(&mut self, actor: Parent, position: usize, class: usize) -> Result<Came, AllocError> {
+    fn submit(&mut self, actor: Parent, position: usize, class: usize) -> Result<StepOutcome, AllocError> {
         let number = self.jobs.len();
         let Some(pool) = self.plan.class_at(class).map(|class| class.pool) else {
-            return Ok(Came::Nothing);
+            return Ok(StepOutcome::Nothing);
         };
-        let Some(offered) = self.pools.get_mut(pool) else {
-            return Ok(Came::Nothing);
+        let Some(admission) = self.pools.get_mut(pool) else {
+            return Ok(StepOutcome::Nothing);
         };
-        let phase = match offered.offer(number)? {
-            Offered::Started => Phase::At(0),
-            Offered::Queued => Phase::Queued,
-            Offered::Refused => return Ok(Came::Refused),
+        let phase = match admission.offer(number)? {
+            Admission::Started => Phase::At(0),
+            Admission::Queued => Phase::Queued,
+            Admission::Refused => return Ok(StepOutcome::Refused),
         };
         let before = self.newest(actor);
         self.jobs.push(Job {
@@ -238,48 +238,48 @@ impl<'a> Machine<'a> {
         })?;
         self.set_newest(actor, Some(number));
         self.go_to(actor, position.saturating_add(1));
-        Ok(Came::Made {
+        Ok(StepOutcome::Created {
             job: number,
             started: phase != Phase::Queued,
         })
     }
 
-    fn end(&mut self, actor: Parent) -> Came {
+    fn end(&mut self, actor: Parent) -> StepOutcome {
         match actor {
             Parent::Client(number) => self.begin_again(number),
             Parent::Job(number) => {
                 let Some(job) = self.jobs.get_mut(number) else {
-                    return Came::Nothing;
+                    return StepOutcome::Nothing;
                 };
                 job.phase = Phase::Done;
                 let parent = job.parent;
                 if let Some(pool) = self.pools.get_mut(job.pool) {
                     pool.finish();
                 }
-                Came::Finished(parent)
+                StepOutcome::Finished(parent)
             }
         }
     }
 
-    fn begin_again(&mut self, number: usize) -> Came {
-        let Some(mover) = self.movers.get_mut(number) else {
-            return Came::Nothing;
+    fn begin_again(&mut self, number: usize) -> StepOutcome {
+        let Some(client) = self.active_clients.get_mut(number) else {
+            return StepOutcome::Nothing;
         };
         let repeats = self
             .plan
-            .client_at(mover.kind)
+            .client_at(client.kind)
             .is_some_and(|kind| kind.repeat);
         if !repeats {
-            return Came::Nothing;
+            return StepOutcome::Nothing;
         }
-        mover.position = 0;
-        mover.newest = None;
-        Came::Moved
+        client.position = 0;
+        client.newest = None;
+        StepOutcome::Moved
     }
 
     fn newest(&self, actor: Parent) -> Option<usize> {
         match actor {
-            Parent::Client(number) => self.movers.get(number)?.newest,
+            Parent::Client(number) => self.active_clients.get(number)?.newest,
             Parent::Job(number) => self.jobs.get(number)?.newest,
         }
     }
@@ -287,8 +287,8 @@ impl<'a> Machine<'a> {
     fn set_newest(&mut self, actor: Parent, newest: Option<usize>) {
         match actor {
             Parent::Client(number) => {
-                if let Some(mover) = self.movers.get_mut(number) {
-                    mover.newest = newest;
+                if let Some(client) = self.active_clients.get_mut(number) {
+                    client.newest = newest;
                 }
             }
             Parent::Job(number) => {
@@ -302,8 +302,8 @@ impl<'a> Machine<'a> {
     fn go_to(&mut self, actor: Parent, position: usize) {
         match actor {
             Parent::Client(number) => {
-                if let Some(mover) = self.movers.get_mut(number) {
-                    mover.position = position;
+                if let Some(client) = self.active_clients.get_mut(number) {
+                    client.position = position;
                 }
             }
             Parent::Job(number) => {

@@ -1,23 +1,23 @@
 //! Orders of the choices.
 
-use crate::kinds::Choice;
+use crate::choices::Choice;
 use std::alloc::{AllocError, Global};
 
 /// The number of fixed orders, which use no random numbers.
 pub(crate) const FIXED_ORDERS: usize = 48;
 
 /// The seed of the generator.
-const FIRST: u64 = 0x9e37_79b9_7f4a_7c15;
+const SEED: u64 = 0x9e37_79b9_7f4a_7c15;
 
 /// A deterministic pseudo-random number generator.
 #[derive(Clone, Copy)]
-pub(crate) struct Chance {
+pub(crate) struct Rng {
     state: u64,
 }
 
-impl Chance {
-    pub(crate) fn new() -> Chance {
-        Chance { state: FIRST }
+impl Rng {
+    pub(crate) fn new() -> Rng {
+        Rng { state: SEED }
     }
 
     /// Returns the next number.
@@ -36,7 +36,7 @@ pub(crate) fn fixed_order(
     choices: &[Choice],
     number: usize,
 ) -> Result<Vec<u64>, AllocError> {
-    let turn = Turn {
+    let params = OrderParams {
         groups: number % 6,
         old_first: number / 6 % 2 == 1,
         places_down: number / 12 % 2 == 1,
@@ -45,27 +45,27 @@ pub(crate) fn fixed_order(
     choices
         .iter()
         .enumerate()
-        .map(|(place, choice)| turn.key(place as u64, *choice))
+        .map(|(place, choice)| params.key(place as u64, *choice))
         .collect(alloc)
 }
 
 /// Replaces the keys by pseudo-random numbers.
-pub(crate) fn shuffle(keys: &mut [u64], chance: &mut Chance) {
+pub(crate) fn shuffle(keys: &mut [u64], rng: &mut Rng) {
     for key in keys.iter_mut() {
-        *key = chance.next_number();
+        *key = rng.next_number();
     }
 }
 
 /// The parameters of a fixed order.
 #[derive(Clone, Copy)]
-struct Turn {
+struct OrderParams {
     groups: usize,
     old_first: bool,
     places_down: bool,
     kinds_down: bool,
 }
 
-impl Turn {
+impl OrderParams {
     fn key(&self, place: u64, choice: Choice) -> u64 {
         let (group, down) = match choice {
             Choice::Begin(_) | Choice::First(_) => (0, self.kinds_down),

@@ -6,7 +6,7 @@ use std::collections::VecDeque;
 
 /// The answer of a pool to an offered job.
 #[derive(Clone, Copy, PartialEq, Eq)]
-pub(crate) enum Offered {
+pub(crate) enum Admission {
     Started,
     Queued,
     Refused,
@@ -14,7 +14,7 @@ pub(crate) enum Offered {
 
 /// A pool's sizes, its threads and its queue of job numbers.
 #[derive(Drop)]
-pub(crate) struct PoolNow {
+pub(crate) struct SearchPool {
     core: u64,
     max: u64,
     capacity: u64,
@@ -23,11 +23,11 @@ pub(crate) struct PoolNow {
     queue: VecDeque<usize>,
 }
 
-impl PoolNow {
+impl SearchPool {
     /// Creates the pool in its initial state.
-    pub(crate) fn new(alloc: Global, pool: &Pool) -> PoolNow {
+    pub(crate) fn new(alloc: Global, pool: &Pool) -> SearchPool {
         let first = pool.first_workers();
-        PoolNow {
+        SearchPool {
             core: pool.core,
             max: pool.max,
             capacity: pool.queue,
@@ -38,8 +38,8 @@ impl PoolNow {
     }
 
     /// Returns a copy of the pool.
-    pub(crate) fn copied(&self) -> Result<PoolNow, AllocError> {
-        Ok(PoolNow {
+    pub(crate) fn copied(&self) -> Result<SearchPool, AllocError> {
+        Ok(SearchPool {
             core: self.core,
             max: self.max,
             capacity: self.capacity,
@@ -50,25 +50,25 @@ impl PoolNow {
     }
 
     /// Returns the answer of the pool to a job that is offered now.
-    pub(crate) fn answer(&self) -> Offered {
+    pub(crate) fn answer(&self) -> Admission {
         if self.threads < self.core {
-            Offered::Started
+            Admission::Started
         } else if (self.queue.len() as u64) < self.capacity {
-            Offered::Queued
+            Admission::Queued
         } else if self.threads < self.max {
-            Offered::Started
+            Admission::Started
         } else {
-            Offered::Refused
+            Admission::Refused
         }
     }
 
     /// Offers the job with this number to the pool.
-    pub(crate) fn offer(&mut self, job: usize) -> Result<Offered, AllocError> {
+    pub(crate) fn offer(&mut self, job: usize) -> Result<Admission, AllocError> {
         let answer = self.answer();
         match answer {
-            Offered::Started => self.threads = self.threads.saturating_add(1),
-            Offered::Queued => self.queue.push_back(job)?,
-            Offered::Refused => {}
+            Admission::Started => self.threads = self.threads.saturating_add(1),
+            Admission::Queued => self.queue.push_back(job)?,
+            Admission::Refused => {}
         }
         Ok(answer)
     }
@@ -121,9 +121,9 @@ impl PoolNow {
         &self.queue
     }
 
-    /// Returns `true` if a queued job waits only for running ones. With `for_ever`, no further
+    /// Returns `true` if a queued job waits only for running ones. With `permanent`, no further
     /// thread may start either.
-    pub(crate) fn is_closed(&self, for_ever: bool) -> bool {
-        self.idle == 0 && (!for_ever || self.threads == self.max)
+    pub(crate) fn is_closed(&self, permanent: bool) -> bool {
+        self.idle == 0 && (!permanent || self.threads == self.max)
     }
 }

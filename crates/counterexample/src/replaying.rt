@@ -3,14 +3,14 @@
 ghost use Rattle.std.specs.Prelude.{◌≡◌, IfOk};
 ghost use Rattle.written_machine.specs.Reach.{start};
 ghost use Rattle.interleaving.specs.LiveView.{live_view};
-ghost use Rattle.counterexample.specs.Replayed.{Finds};
+ghost use Rattle.counterexample.specs.ReplayResult.{Finds};
 
 use interleaving::{Event, Outcome, World};
 use job_bodies::Plan;
 use std::alloc::AllocError;
 
 /// The result of the replay of a list.
-pub(crate) enum Replayed {
+pub(crate) enum ReplayResult {
     /// The last of this many events is rejected by the pool with this number, and no earlier one
     /// is.
     Refused(usize, usize),
@@ -29,17 +29,17 @@ pub(crate) fn replay(
     plan: &Plan,
     world: &mut World,
     events: &[Event],
-) -> Result<Replayed, AllocError>
+) -> Result<ReplayResult, AllocError>
     requires { world.old.view ≡ live_view plan.now (start plan.now) }
     ensures { IfOk result (Finds plan.now events.now world.new.view) }
 {
     for (index, event) in events.iter().enumerate() {
         let Some(outcome) = world.step(plan, *event)? else {
-            return Ok(Replayed::NotPossible);
+            return Ok(ReplayResult::NotPossible);
         };
         if let Outcome::Refused(pool) = outcome {
-            return Ok(Replayed::Refused(index + 1, pool));
+            return Ok(ReplayResult::Refused(index + 1, pool));
         }
     }
-    Ok(Replayed::Whole)
+    Ok(ReplayResult::Whole)
 }

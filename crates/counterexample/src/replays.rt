@@ -1,9 +1,9 @@
 //! Replays of selected events of a script. Events that are no longer possible are skipped.
 
-use crate::machine::{Came, Machine};
+use crate::machine::{StepOutcome, Machine};
 use crate::scripts::Script;
 use crate::waiting_sets::JobSet;
-use crate::walks::Bad;
+use crate::walks::Violation;
 use job_bodies::Plan;
 use std::alloc::{AllocError, Global};
 use written_machine::{Event, Parent};
@@ -30,12 +30,12 @@ impl<'a> Replay<'a> {
     ) -> Result<Replay<'a>, AllocError> {
         let mut replay = Replay {
             machine: Machine::start(alloc, plan)?,
-            script: Script::nothing(alloc),
+            script: Script::new(alloc),
             is_refused: false,
             clients: vec![in alloc; None; script.kinds.len()]?,
-            jobs: vec![in alloc; None; script.acts.len()]?,
+            jobs: vec![in alloc; None; script.steps.len()]?,
         };
-        for (act, kept) in script.acts.iter().zip(kept) {
+        for (act, kept) in script.steps.iter().zip(kept) {
             if *kept {
                 replay.add(script, act.event, act.made)?;
                 if replay.is_refused {
@@ -47,15 +47,15 @@ impl<'a> Replay<'a> {
     }
 
     /// Returns `true` if the replay ended in this violation.
-    pub(crate) fn is_bad(&self, alloc: Global, wanted: Bad) -> Result<bool, AllocError> {
+    pub(crate) fn has_violation(&self, alloc: Global, wanted: Violation) -> Result<bool, AllocError> {
         if self.is_refused {
             return Ok(true);
         }
-        if wanted == Bad::Refused {
+        if wanted == Violation::Refused {
             return Ok(false);
         }
-        let for_ever = wanted == Bad::StuckForEver;
-        let members = JobSet::greatest(alloc, &self.machine, for_ever)?;
+        let permanent = wanted == Violation::StuckForever;
+        let members = JobSet::greatest(alloc, &self.machine, permanent)?;
         Ok(!members.is_empty())
     }
 
@@ -98,13 +98,13 @@ impl<'a> Replay<'a> {
     }
 
     fn act(&mut self, actor: Parent, made: Option<usize>) -> Result<(), AllocError> {
-        let came = self.machine.act(actor)?;
-        if came == Came::Nothing {
+        let outcome = self.machine.act(actor)?;
+        if outcome == StepOutcome::Nothing {
             return Ok(());
         }
-        self.script.add(actor, came)?;
-        self.is_refused = came == Came::Refused;
-        if let Came::Made { job, .. } = came {
+        self.script.add(actor, outcome)?;
+        self.is_refused = outcome == StepOutcome::Refused;
+        if let StepOutcome::Created { job, .. } = outcome {
             if let Some(place) = made.and_then(|made| self.jobs.get_mut(made)) {
                 *place = Some(Parent::Job(job));
             }

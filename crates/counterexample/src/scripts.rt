@@ -1,6 +1,6 @@
 //! Lists of events in which clients are numbered in the order of their first moves.
 
-use crate::machine::{Came, Machine};
+use crate::machine::{StepOutcome, Machine};
 use job_bodies::Plan;
 use std::alloc::{AllocError, Global};
 use written_machine::{Event, Parent};
@@ -8,7 +8,7 @@ use written_machine::{Event, Parent};
 /// An event, and the job that it created. A client is identified by its number in the lightweight
 /// machine.
 #[derive(Clone, Copy, PartialEq, Eq)]
-pub(crate) struct Act {
+pub(crate) struct ScriptStep {
     pub(crate) event: Event,
     pub(crate) made: Option<usize>,
 }
@@ -16,38 +16,38 @@ pub(crate) struct Act {
 /// A list of events from a plan's start.
 #[derive(Drop)]
 pub(crate) struct Script {
-    pub(crate) acts: Vec<Act>,
+    pub(crate) steps: Vec<ScriptStep>,
     /// The kind of each client that moves, in the order of their first moves.
     pub(crate) kinds: Vec<usize>,
 }
 
 impl Script {
     /// Creates an empty script.
-    pub(crate) fn nothing(alloc: Global) -> Script {
+    pub(crate) fn new(alloc: Global) -> Script {
         Script {
-            acts: Vec::new(alloc),
+            steps: Vec::new(alloc),
             kinds: Vec::new(alloc),
         }
     }
 
     /// Appends a step of the actor with this outcome.
-    pub(crate) fn add(&mut self, actor: Parent, came: Came) -> Result<(), AllocError> {
-        let made = match came {
-            Came::Made { job, .. } => Some(job),
+    pub(crate) fn add(&mut self, actor: Parent, outcome: StepOutcome) -> Result<(), AllocError> {
+        let made = match outcome {
+            StepOutcome::Created { job, .. } => Some(job),
             _ => None,
         };
         let event = match actor {
             Parent::Client(client) => Event::Client(client),
             Parent::Job(job) => Event::Job(job),
         };
-        self.acts.push(Act { event, made })?;
+        self.steps.push(ScriptStep { event, made })?;
         Ok(())
     }
 
     /// Appends a take from the pool's queue.
     pub(crate) fn add_take(&mut self, pool: usize) -> Result<(), AllocError> {
         let event = Event::Take(pool);
-        self.acts.push(Act { event, made: None })?;
+        self.steps.push(ScriptStep { event, made: None })?;
         Ok(())
     }
 
@@ -55,7 +55,7 @@ impl Script {
     /// lowest numbers move.
     pub(crate) fn events(&self, alloc: Global, plan: &Plan) -> Result<Vec<Event>, AllocError> {
         let numbers = self.numbers(alloc, plan)?;
-        self.acts
+        self.steps
             .iter()
             .map(|act| match act.event {
                 Event::Client(client) => {

@@ -2,15 +2,15 @@
 
 ghost use Rattle.std.specs.Prelude.{◌≤◌, IfOk};
 
-use crate::best_first::{Best, best_first};
-use crate::kinds::Choices;
-use crate::missed::{Scale, missed_vectors};
-use crate::orders::{Chance, FIXED_ORDERS, fixed_order, shuffle};
+use crate::best_first::{BestFirstResult, best_first};
+use crate::choices::Choices;
+use crate::vectors::{Potential, missed_vectors};
+use crate::orders::{Rng, FIXED_ORDERS, fixed_order, shuffle};
 use crate::replays::Replay;
 use crate::scripts::Script;
-use crate::shorten::shortened;
+use crate::shorten::shorten_script;
 use crate::waiting_sets::JobSet;
-use crate::walks::{Bad, Rules, walk_by};
+use crate::walks::{Violation, Rules, perform_walk};
 use job_bodies::Plan;
 use std::alloc::{AllocError, Global};
 use written_machine::Event;
@@ -18,11 +18,11 @@ use written_machine::Event;
 /// The number of walks for each vector that misses its bound.
 const GUIDED_WALKS: usize = 256;
 /// The number of walks in random orders.
-const CHANCE_WALKS: usize = 1500;
+const RANDOM_WALKS: usize = 1500;
 
 /// Events that are probably a witness.
 #[derive(Drop)]
-pub struct SupposedWitness {
+pub struct CandidateWitness {
     /// The events, from the plan's start.
     pub events: Vec<Event>,
     /// The numbers of the jobs that wait only for each other after the events. Empty if the last
@@ -32,9 +32,9 @@ pub struct SupposedWitness {
 
 /// The result of a search.
 #[derive(Drop)]
-pub struct Searched {
+pub struct SearchResult {
     /// A probable witness, if one was found.
-    pub found: Option<SupposedWitness>,
+    pub found: Option<CandidateWitness>,
     /// The number of visited states: the start of each walk and of each search, and the state after
     /// each choice. A state counts each time it is visited.
     pub states: usize,
@@ -47,21 +47,21 @@ pub struct Searched {
 /// # Errors
 ///
 /// Returns [`AllocError`] if memory runs out.
-pub fn search_witness(alloc: Global, plan: &Plan, states: usize) -> Result<Searched, AllocError>
+pub fn search_witness(alloc: Global, plan: &Plan, states: usize) -> Result<SearchResult, AllocError>
     ensures { IfOk result (λ searched. searched.states ≤ states) }
 {
     let mut search = Search {
         alloc,
         plan,
         choices: Choices::of(alloc, plan)?,
-        chance: Chance::new(),
+        rng: Rng::new(),
         left: states,
-        aside: 0,
+        reserved: 0,
         stuck_now: None,
     };
-    let found = search.found()?;
-    search.take_back();
-    Ok(Searched {
+    let found = search.find()?;
+    search.release_reserved();
+    Ok(SearchResult {
         found,
         states: states.saturating_sub(search.left),
     })
@@ -73,97 +73,97 @@ struct Search<'a> {
     alloc: Global,
     plan: &'a Plan,
     choices: Choices,
-    chance: Chance,
+    rng: Rng,
     /// The number of states that the search may still visit.
     left: usize,
     /// The number of further states that are reserved for the later stages.
-    aside: usize,
+    reserved: usize,
     /// The result if no permanent violation is found.
     stuck_now: Option<Script>,
 }
 
 impl Search<'_> {
     /// Performs the walks, and then the best-first search.
-    fn found(&mut self) -> Result<Option<SupposedWitness>, AllocError> {
+    fn find(&mut self) -> Result<Option<CandidateWitness>, AllocError> {
         if let Some(found) = self.in_fixed_orders()? {
             return Ok(Some(found));
         }
-        let scales = missed_vectors(self.alloc, self.plan)?;
-        if let Some(found) = self.guided(&scales)? {
+        let potentials = missed_vectors(self.alloc, self.plan)?;
+        if let Some(found) = self.guided(&potentials)? {
             return Ok(Some(found));
         }
-        if let Some(found) = self.by_chance()? {
+        if let Some(found) = self.random_walks()? {
             return Ok(Some(found));
         }
-        if let Some(found) = self.best_first(&scales)? {
+        if let Some(found) = self.best_first(&potentials)? {
             return Ok(Some(found));
         }
-        self.given_up()
+        self.stuck_now_result()
     }
 
     /// Reserves half of the remaining states for the later stages.
-    fn set_half_aside(&mut self) {
-        self.aside = self.left / 2;
-        self.left = self.left.saturating_sub(self.aside);
+    fn reserve_half(&mut self) {
+        self.reserved = self.left / 2;
+        self.left = self.left.saturating_sub(self.reserved);
     }
 
-    fn take_back(&mut self) {
-        self.left = self.left.saturating_add(self.aside);
-        self.aside = 0;
+    fn release_reserved(&mut self) {
+        self.left = self.left.saturating_add(self.reserved);
+        self.reserved = 0;
     }
 
     /// Performs the walks in fixed orders. The first of them may use all remaining states.
-    fn in_fixed_orders(&mut self) -> Result<Option<SupposedWitness>, AllocError> {
+    fn in_fixed_orders(&mut self) -> Result<Option<CandidateWitness>, AllocError> {
         let first = self.fixed_rules(0)?;
-        if let Some(found) = self.look(first, None)? {
+        if let Some(found) = self.walk_once(first, None)? {
             return Ok(Some(found));
         }
-        self.set_half_aside();
+        self.reserve_half();
         for number in 1..FIXED_ORDERS {
             let rules = self.fixed_rules(number)?;
-            if let Some(found) = self.look(rules, None)? {
+            if let Some(found) = self.walk_once(rules, None)? {
                 return Ok(Some(found));
             }
         }
-        self.take_back();
+        self.release_reserved();
         Ok(None)
     }
 
     /// Performs the walks that lose little of a vector that misses its bound.
-    fn guided(&mut self, scales: &[Scale]) -> Result<Option<SupposedWitness>, AllocError> {
-        self.set_half_aside();
-        for scale in scales {
+    fn guided(&mut self, potentials: &[Potential]) -> Result<Option<CandidateWitness>, AllocError> {
+        self.reserve_half();
+        for potential in potentials {
             for number in 0..GUIDED_WALKS {
                 let rules = self.guided_rules(number)?;
-                if let Some(found) = self.look(rules, Some(scale))? {
+                if let Some(found) = self.walk_once(rules, Some(potential))? {
                     return Ok(Some(found));
                 }
             }
         }
-        self.take_back();
+        self.release_reserved();
         Ok(None)
     }
 
     /// Performs the walks in random orders.
-    fn by_chance(&mut self) -> Result<Option<SupposedWitness>, AllocError> {
-        self.set_half_aside();
-        for number in 0..CHANCE_WALKS {
-            let rules = self.chance_rules(number)?;
-            if let Some(found) = self.look(rules, None)? {
+    fn random_walks(&mut self) -> Result<Option<CandidateWitness>, AllocError> {
+        self.reserve_half();
+        for number in 0..RANDOM_WALKS {
+            let rules = self.random_rules(number)?;
+            if let Some(found) = self.walk_once(rules, None)? {
                 return Ok(Some(found));
             }
         }
-        self.take_back();
+        self.release_reserved();
         Ok(None)
     }
 
     /// Performs the best-first search.
-    fn best_first(&mut self, scales: &[Scale]) -> Result<Option<SupposedWitness>, AllocError> {
+    fn best_first(&mut self, potentials: &[Potential]) -> Result<Option<CandidateWitness>, AllocError> {
         if self.left == 0 {
             return Ok(None);
         }
-        let best = best_first(self.alloc, self.plan, &self.choices, scales, self.left)?;
-        let Best {
+        let best = best_first(self.alloc, self.plan, &self.choices, potentials, self.left)?;
+        let BestFirstResult {
             found,
             stuck_now,
             left,
@@ -173,48 +173,48 @@ impl Search<'_> {
             self.stuck_now = stuck_now;
         }
         match found {
-            Some((script, bad)) => Ok(Some(answer_of(self.alloc, self.plan, script, bad)?)),
+            Some((script, violation)) => Ok(Some(answer_of(self.alloc, self.plan, script, violation)?)),
             None => Ok(None),
         }
     }
 
     /// Performs a walk, and returns a permanent violation if the walk finds one.
-    fn look(
+    fn walk_once(
         &mut self,
         rules: Rules,
-        scale: Option<&Scale>,
-    ) -> Result<Option<SupposedWitness>, AllocError> {
+        potential: Option<&Potential>,
+    ) -> Result<Option<CandidateWitness>, AllocError> {
         let mut rules = rules;
-        rules.most_states = rules.most_states.min(self.left);
-        if rules.most_states == 0 {
+        rules.max_states = rules.max_states.min(self.left);
+        if rules.max_states == 0 {
             return Ok(None);
         }
-        let walked = walk_by(
+        let walk_result = perform_walk(
             self.alloc,
             self.plan,
             &self.choices,
             rules,
-            scale,
-            &mut self.chance,
+            potential,
+            &mut self.rng,
         )?;
-        self.left = self.left.saturating_sub(walked.states);
-        match walked.bad {
-            Some(Bad::StuckNow) => {
+        self.left = self.left.saturating_sub(walk_result.states);
+        match walk_result.violation {
+            Some(Violation::StuckNow) => {
                 if self.stuck_now.is_none() {
-                    self.stuck_now = Some(walked.script);
+                    self.stuck_now = Some(walk_result.script);
                 }
                 Ok(None)
             }
-            Some(bad) => Ok(Some(answer_of(self.alloc, self.plan, walked.script, bad)?)),
+            Some(violation) => Ok(Some(answer_of(self.alloc, self.plan, walk_result.script, violation)?)),
             None => Ok(None),
         }
     }
 
     /// Returns the result if no permanent violation was found.
-    fn given_up(&mut self) -> Result<Option<SupposedWitness>, AllocError> {
+    fn stuck_now_result(&mut self) -> Result<Option<CandidateWitness>, AllocError> {
         match self.stuck_now.take() {
             Some(script) => {
-                let found = answer_of(self.alloc, self.plan, script, Bad::StuckNow)?;
+                let found = answer_of(self.alloc, self.plan, script, Violation::StuckNow)?;
                 Ok(Some(found))
             }
             None => Ok(None),
@@ -225,8 +225,8 @@ impl Search<'_> {
     fn fixed_rules(&self, number: usize) -> Result<Rules, AllocError> {
         Ok(Rules {
             keys: fixed_order(self.alloc, &self.choices.all, number)?,
-            most_movers: usize::MAX,
-            most_states: longest_walk(self.plan),
+            max_active_clients: usize::MAX,
+            max_states: longest_walk(self.plan),
             changing: false,
         })
     }
@@ -235,18 +235,18 @@ impl Search<'_> {
     fn guided_rules(&mut self, number: usize) -> Result<Rules, AllocError> {
         let mut rules = self.fixed_rules(number)?;
         if number >= FIXED_ORDERS {
-            shuffle(&mut rules.keys, &mut self.chance);
+            shuffle(&mut rules.keys, &mut self.rng);
             rules.changing = number % 2 == 1;
         }
         Ok(rules)
     }
 
     /// Returns the rules of a walk in a random order, mostly with few clients.
-    fn chance_rules(&mut self, number: usize) -> Result<Rules, AllocError> {
+    fn random_rules(&mut self, number: usize) -> Result<Rules, AllocError> {
         let mut rules = self.fixed_rules(number)?;
-        shuffle(&mut rules.keys, &mut self.chance);
+        shuffle(&mut rules.keys, &mut self.rng);
         rules.changing = number % 2 == 1;
-        rules.most_movers = match number % 8 {
+        rules.max_active_clients = match number % 8 {
             7 => usize::MAX,
             few => few.saturating_add(1).saturating_add(number / 64),
         };
@@ -268,20 +268,20 @@ fn answer_of(
     alloc: Global,
     plan: &Plan,
     script: Script,
-    bad: Bad,
-) -> Result<SupposedWitness, AllocError> {
-    let script = shortened(alloc, plan, script, bad)?;
-    let kept = vec![in alloc; true; script.acts.len()]?;
+    violation: Violation,
+) -> Result<CandidateWitness, AllocError> {
+    let script = shorten_script(alloc, plan, script, violation)?;
+    let kept = vec![in alloc; true; script.steps.len()]?;
     let replay = Replay::of(alloc, plan, &script, &kept)?;
     let members = if replay.is_refused {
         Vec::new(alloc)
     } else {
-        let for_ever = bad == Bad::StuckForEver;
-        JobSet::greatest(alloc, &replay.machine, for_ever)?
-            .made_least(alloc, &replay.machine, for_ever)?
+        let permanent = violation == Violation::StuckForever;
+        JobSet::greatest(alloc, &replay.machine, permanent)?
+            .made_least(alloc, &replay.machine, permanent)?
             .numbers(alloc)?
     };
-    Ok(SupposedWitness {
+    Ok(CandidateWitness {
         events: replay.script.events(alloc, plan)?,
         members,
     })

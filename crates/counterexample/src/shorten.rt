@@ -2,7 +2,7 @@
 
 use crate::replays::Replay;
 use crate::scripts::Script;
-use crate::walks::Bad;
+use crate::walks::Violation;
 use job_bodies::Plan;
 use std::alloc::{AllocError, Global};
 use written_machine::Event;
@@ -19,43 +19,43 @@ const MAX_HALVES: usize = 40;
 
 /// The state of a reduction: the script, and the number of events that may still be replayed.
 #[derive(Drop)]
-struct Shorter<'a> {
+struct Shortener<'a> {
     alloc: Global,
     plan: &'a Plan,
-    bad: Bad,
+    violation: Violation,
     script: Script,
     left: u64,
 }
 
 /// Returns a script with the same violation that is at most as long.
-pub(crate) fn shortened(
+pub(crate) fn shorten_script(
     alloc: Global,
     plan: &Plan,
     script: Script,
-    bad: Bad,
+    violation: Violation,
 ) -> Result<Script, AllocError> {
-    let whole = (script.acts.len() as u64).saturating_mul(WHOLE_REPLAYS);
-    let mut shorter = Shorter {
+    let whole = (script.steps.len() as u64).saturating_mul(WHOLE_REPLAYS);
+    let mut shortener = Shortener {
         alloc,
         plan,
-        bad,
+        violation,
         script,
         left: MAX_REPLAYED.saturating_add(whole),
     };
     for _ in 0..MAX_ROUNDS {
-        let before = shorter.script.acts.len();
-        shorter.without_kinds()?;
-        shorter.without_clients()?;
-        shorter.without_chunks()?;
-        shorter.with_actors_still()?;
-        if shorter.script.acts.len() == before {
+        let before = shortener.script.steps.len();
+        shortener.without_kinds()?;
+        shortener.without_clients()?;
+        shortener.without_chunks()?;
+        shortener.with_actors_still()?;
+        if shortener.script.steps.len() == before {
             break;
         }
     }
-    Ok(shorter.script)
+    Ok(shortener.script)
 }
 
-impl Shorter<'_> {
+impl Shortener<'_> {
     /// Tries to remove all steps of jobs, and then all takes.
     fn without_kinds(&mut self) -> Result<(), AllocError> {
         self.try_without(|_, event| matches!(event, Event::Job(_)))?;
@@ -85,9 +85,9 @@ impl Shorter<'_> {
 
     /// Tries to remove runs of consecutive events, in runs of decreasing length.
     fn without_chunks(&mut self) -> Result<(), AllocError> {
-        let mut size = self.script.acts.len() / 2;
+        let mut size = self.script.steps.len() / 2;
         for _ in 0..MAX_HALVES {
-            let chunks = parts(self.script.acts.len(), size);
+            let chunks = parts(self.script.steps.len(), size);
             for chunk in (0..chunks).rev() {
                 let from = chunk.saturating_mul(size);
                 let to = from.saturating_add(size);
@@ -103,8 +103,8 @@ impl Shorter<'_> {
 
     /// Tries to remove all events of an actor from some event of that actor on.
     fn with_actors_still(&mut self) -> Result<(), AllocError> {
-        for from in (0..self.script.acts.len()).rev() {
-            if let Some(act) = self.script.acts.get(from).copied() {
+        for from in (0..self.script.steps.len()).rev() {
+            if let Some(act) = self.script.steps.get(from).copied() {
                 self.try_without(|place, event| from <= place && event == act.event)?;
             }
         }
@@ -116,14 +116,14 @@ impl Shorter<'_> {
     fn try_without<F: Fn(usize, Event) -> bool>(&mut self, is_out: F) -> Result<(), AllocError>
         requires { F.IsAlwaysCallable is_out }
     {
-        let events = self.script.acts.len() as u64;
+        let events = self.script.steps.len() as u64;
         if self.left < events {
             return Ok(());
         }
         self.left = self.left.saturating_sub(events);
-        let mut kept = Vec::with_capacity(self.alloc, self.script.acts.len())?;
+        let mut kept = Vec::with_capacity(self.alloc, self.script.steps.len())?;
         let mut all = true;
-        for (place, act) in self.script.acts.iter().enumerate() {
+        for (place, act) in self.script.steps.iter().enumerate() {
             let is_kept = !is_out(place, act.event);
             all = all && is_kept;
             kept.push(is_kept)?;
@@ -132,8 +132,8 @@ impl Shorter<'_> {
             return Ok(());
         }
         let replay = Replay::of(self.alloc, self.plan, &self.script, &kept)?;
-        if replay.is_bad(self.alloc, self.bad)?
-            && replay.script.acts.len() < self.script.acts.len()
+        if replay.has_violation(self.alloc, self.violation)?
+            && replay.script.steps.len() < self.script.steps.len()
         {
             self.script = replay.script;
         }

@@ -1,10 +1,10 @@
 //! The story of a list of events.
 
-ghost use Rattle.interleaving.specs.OfPlan.{IsOf};
+ghost use Rattle.interleaving.specs.OfPlan.{IsReachableView};
 
-use crate::acts::told_step;
-use crate::standing::push_pools;
-use crate::turns::{Run, Turns};
+use crate::steps::describe_step;
+use crate::pool_lines::push_pools;
+use crate::turns::{Run, RunBuilder};
 use crate::waiting_lines::push_waits;
 use interleaving::{Event, World};
 use job_bodies::Plan;
@@ -49,12 +49,12 @@ fn runs_of(
     plan: &Plan,
     events: &[Event],
 ) -> Result<Vec<Run>, AllocError>
-    requires { IsOf plan.now world.old.view }
-    ensures { IsOf plan.now world.new.view }
+    requires { IsReachableView plan.now world.old.view }
+    ensures { IsReachableView plan.now world.new.view }
 {
-    let mut turns = Turns::new(alloc);
+    let mut turns = RunBuilder::new(alloc);
     for event in events.iter().copied() {
-        if let Some((who, act)) = told_step(alloc, world, plan, event)? {
+        if let Some((who, act)) = describe_step(alloc, world, plan, event)? {
             turns.push(event, who, &act)?;
         }
     }

@@ -21,14 +21,14 @@ pub(crate) struct Run {
 
 /// The completed runs, and the current turn.
 #[derive(Drop)]
-pub(crate) struct Turns {
+pub(crate) struct RunBuilder {
     runs: Vec<Run>,
     current: Option<Turn>,
 }
 
-impl Turns {
-    pub(crate) fn new(alloc: Global) -> Turns {
-        Turns {
+impl RunBuilder {
+    pub(crate) fn new(alloc: Global) -> RunBuilder {
+        RunBuilder {
             runs: Vec::new(alloc),
             current: None,
         }

@@ -16,11 +16,11 @@ pub(crate) struct JobSet {
 
 impl JobSet {
     /// Returns the greatest set of jobs that wait only for each other, which may be empty. With
-    /// `for_ever`, the jobs must wait permanently.
+    /// `permanent`, the jobs must wait permanently.
     pub(crate) fn greatest(
         alloc: Global,
         machine: &Machine,
-        for_ever: bool,
+        permanent: bool,
     ) -> Result<JobSet, AllocError> {
         let is_member = machine
             .jobs
@@ -28,7 +28,7 @@ impl JobSet {
             .map(|job| job.phase != Phase::Done)
             .collect(alloc)?;
         let mut members = JobSet { is_member };
-        members.shrink(alloc, machine, for_ever)?;
+        members.shrink(alloc, machine, permanent)?;
         Ok(members)
     }
 
@@ -38,7 +38,7 @@ impl JobSet {
         self,
         alloc: Global,
         machine: &Machine,
-        for_ever: bool,
+        permanent: bool,
     ) -> Result<JobSet, AllocError> {
         let mut best = self;
         let tries = MAX_LOOKS.checked_div(machine.jobs.len()).unwrap_or(0);
@@ -55,7 +55,7 @@ impl JobSet {
                 is_member: Vec::from_slice(alloc, &best.is_member)?,
             };
             smaller.leave_out(number);
-            smaller.shrink(alloc, machine, for_ever)?;
+            smaller.shrink(alloc, machine, permanent)?;
             if !smaller.is_empty() {
                 best = smaller;
             }
@@ -97,10 +97,10 @@ impl JobSet {
         &mut self,
         alloc: Global,
         machine: &Machine,
-        for_ever: bool,
+        permanent: bool,
     ) -> Result<(), AllocError> {
         for _ in 0..MAX_POOLS + 2 {
-            let closed = self.closed_pools(alloc, machine, for_ever)?;
+            let closed = self.closed_pools(alloc, machine, permanent)?;
             if !self.shrink_once(machine, &closed) {
                 break;
             }
@@ -113,12 +113,12 @@ impl JobSet {
         &self,
         alloc: Global,
         machine: &Machine,
-        for_ever: bool,
+        permanent: bool,
     ) -> Result<Vec<bool>, AllocError> {
         let mut closed: Vec<bool> = machine
             .pools
             .iter()
-            .map(|pool| pool.is_closed(for_ever))
+            .map(|pool| pool.is_closed(permanent))
             .collect(alloc)?;
         for (job, is_member) in machine.jobs.iter().zip(&self.is_member) {
             if let Phase::At(_) = job.phase {

@@ -1,11 +1,11 @@
 //! Walks. A walk repeatedly makes the first possible choice of an order, or the possible choice
 //! that loses least of a vector.
 
-use crate::kinds::{Choice, Choices};
+use crate::choices::{Choice, Choices};
 use crate::losses::Losses;
-use crate::machine::{Came, Machine};
-use crate::missed::Scale;
-use crate::orders::{Chance, shuffle};
+use crate::machine::{StepOutcome, Machine};
+use crate::vectors::Potential;
+use crate::orders::{Rng, shuffle};
 use crate::scripts::Script;
 use crate::waiting_sets::JobSet;
 use job_bodies::{Action, Plan};
@@ -17,12 +17,12 @@ const FOR_A_LOSS: u64 = 10_000_000_000_000;
 
 /// A violation at the end of some events.
 #[derive(Clone, Copy, PartialEq, Eq)]
-pub(crate) enum Bad {
+pub(crate) enum Violation {
     /// The last event is a rejected submit.
     Refused,
     /// Some jobs wait for each other, and the pools in whose queues they wait have all their
     /// threads.
-    StuckForEver,
+    StuckForever,
     /// Some jobs wait for each other.
     StuckNow,
 }
@@ -33,26 +33,26 @@ pub(crate) struct Rules {
     /// The key of each choice. The least key comes first.
     pub(crate) keys: Vec<u64>,
     /// The maximum number of clients that move.
-    pub(crate) most_movers: usize,
+    pub(crate) max_active_clients: usize,
     /// The maximum number of states that the walk visits, its start included.
-    pub(crate) most_states: usize,
+    pub(crate) max_states: usize,
     /// Whether the keys change during the walk.
     pub(crate) changing: bool,
 }
 
 /// The result of a walk.
 #[derive(Drop)]
-pub(crate) struct Walked {
+pub(crate) struct WalkResult {
     pub(crate) script: Script,
-    pub(crate) bad: Option<Bad>,
+    pub(crate) violation: Option<Violation>,
     /// The number of visited states, the start included.
     pub(crate) states: usize,
 }
 
 /// The outcome of a choice.
 #[derive(Clone, Copy, PartialEq, Eq)]
-pub(crate) enum Stepped {
-    Went,
+pub(crate) enum WalkStep {
+    Advanced,
     Refused,
     Nothing,
 }
@@ -73,47 +73,47 @@ pub(crate) struct Walk<'a> {
 
 /// Performs a walk by these rules. Each step makes a possible choice, and then performs all work,
 /// gets of finished jobs, ends and loops that follow.
-pub(crate) fn walk_by<'a>(
+pub(crate) fn perform_walk<'a>(
     alloc: Global,
     plan: &'a Plan,
     choices: &'a Choices,
     rules: Rules,
-    scale: Option<&Scale>,
-    chance: &mut Chance,
-) -> Result<Walked, AllocError> {
+    potential: Option<&Potential>,
+    rng: &mut Rng,
+) -> Result<WalkResult, AllocError> {
     let mut walk = Walk::start(alloc, plan, choices)?;
     let mut rules = rules;
     let mut stuck_now = None;
     let mut due = 8;
     let mut states = 1usize;
-    for step in 1..rules.most_states {
-        if rules.changing && chance.next_number() % 16 == 0 {
-            shuffle(&mut rules.keys, chance);
+    for step in 1..rules.max_states {
+        if rules.changing && rng.next_number() % 16 == 0 {
+            shuffle(&mut rules.keys, rng);
         }
-        match walk.step(&rules, scale)? {
-            Stepped::Went => states = states.saturating_add(1),
-            Stepped::Refused => return Ok(walk.ended(Some(Bad::Refused), states)),
-            Stepped::Nothing => break,
+        match walk.step(&rules, potential)? {
+            WalkStep::Advanced => states = states.saturating_add(1),
+            WalkStep::Refused => return Ok(walk.into_result(Some(Violation::Refused), states)),
+            WalkStep::Nothing => break,
         }
         if walk.has_blocked && step >= due {
             walk.has_blocked = false;
             let jobs = walk.machine.jobs.len();
             due = step.saturating_add(8).saturating_add(jobs / 4);
             match walk.stuck(alloc, stuck_now.is_none())? {
-                Some(Bad::StuckNow) => stuck_now = Some(walk.script.acts.len()),
+                Some(Violation::StuckNow) => stuck_now = Some(walk.script.steps.len()),
                 None => {}
-                bad => return Ok(walk.ended(bad, states)),
+                violation => return Ok(walk.into_result(violation, states)),
             }
         }
     }
-    let mut bad = walk.stuck(alloc, true)?;
-    if bad.is_none() {
+    let mut violation = walk.stuck(alloc, true)?;
+    if violation.is_none() {
         if let Some(length) = stuck_now {
-            walk.script.acts.truncate(length);
-            bad = Some(Bad::StuckNow);
+            walk.script.steps.truncate(length);
+            violation = Some(Violation::StuckNow);
         }
     }
-    Ok(walk.ended(bad, states))
+    Ok(walk.into_result(violation, states))
 }
 
 impl<'a> Walk<'a> {
@@ -129,46 +129,46 @@ impl<'a> Walk<'a> {
         Ok(Walk {
             machine: Machine::start(alloc, plan)?,
             choices,
-            script: Script::nothing(alloc),
+            script: Script::new(alloc),
             ready,
             begun: vec![in alloc; 0; plan.clients().len()]?,
             has_blocked: false,
         })
     }
 
-    fn ended(self, bad: Option<Bad>, states: usize) -> Walked {
-        Walked {
+    fn into_result(self, violation: Option<Violation>, states: usize) -> WalkResult {
+        WalkResult {
             script: self.script,
-            bad,
+            violation,
             states,
         }
     }
 
     /// Returns the violation if jobs wait for each other. Without `now`, returns only permanent
     /// ones.
-    pub(crate) fn stuck(&self, alloc: Global, now: bool) -> Result<Option<Bad>, AllocError> {
+    pub(crate) fn stuck(&self, alloc: Global, now: bool) -> Result<Option<Violation>, AllocError> {
         let members = JobSet::greatest(alloc, &self.machine, false)?;
         if members.is_empty() {
             return Ok(None);
         }
         let members = JobSet::greatest(alloc, &self.machine, true)?;
         if !members.is_empty() {
-            return Ok(Some(Bad::StuckForEver));
+            return Ok(Some(Violation::StuckForever));
         }
-        Ok(if now { Some(Bad::StuckNow) } else { None })
+        Ok(if now { Some(Violation::StuckNow) } else { None })
     }
 
     /// Makes the first possible choice.
-    fn step(&mut self, rules: &Rules, scale: Option<&Scale>) -> Result<Stepped, AllocError> {
-        match self.first_possible(rules, scale) {
+    fn step(&mut self, rules: &Rules, potential: Option<&Potential>) -> Result<WalkStep, AllocError> {
+        match self.first_possible(rules, potential) {
             Some(place) => self.choose(place, 0),
-            None => Ok(Stepped::Nothing),
+            None => Ok(WalkStep::Nothing),
         }
     }
 
-    /// Makes the choice with this index. `behind` selects the actor: the number of actors that
+    /// Makes the choice with this index. `newer` selects the actor: the number of actors that
     /// became ready after it.
-    pub(crate) fn choose(&mut self, place: usize, behind: usize) -> Result<Stepped, AllocError> {
+    pub(crate) fn choose(&mut self, place: usize, newer: usize) -> Result<WalkStep, AllocError> {
         match self.choices.all.get(place).copied() {
             Some(Choice::Begin(kind)) => {
                 let client = self.script.begin(&mut self.machine, kind)?;
@@ -179,19 +179,19 @@ impl<'a> Walk<'a> {
                 self.submit_of(client)
             }
             Some(Choice::Take(class)) => self.take(class),
-            Some(_) => match self.called(place, behind) {
+            Some(_) => match self.take_ready(place, newer) {
                 Some(actor) => self.submit(actor),
-                None => Ok(Stepped::Nothing),
+                None => Ok(WalkStep::Nothing),
             },
-            None => Ok(Stepped::Nothing),
+            None => Ok(WalkStep::Nothing),
         }
     }
 
-    /// Removes and returns the actor that `behind` selects from those that are ready for this
+    /// Removes and returns the actor that `newer` selects from those that are ready for this
     /// choice.
-    fn called(&mut self, place: usize, behind: usize) -> Option<Parent> {
+    fn take_ready(&mut self, place: usize, newer: usize) -> Option<Parent> {
         let ready = self.ready.get_mut(place)?;
-        let at = ready.len().checked_sub(1)?.checked_sub(behind)?;
+        let at = ready.len().checked_sub(1)?.checked_sub(newer)?;
         if at < ready.len() {
             Some(ready.remove(at))
         } else {
@@ -201,7 +201,7 @@ impl<'a> Walk<'a> {
 
     /// Returns the possible choice that loses least of the vector. If there are several, returns
     /// the one with the least key.
-    fn first_possible(&self, rules: &Rules, scale: Option<&Scale>) -> Option<usize> {
+    fn first_possible(&self, rules: &Rules, potential: Option<&Potential>) -> Option<usize> {
         let mut best = None;
         let mut least = u64::MAX;
         let choices = self.choices.all.iter().zip(&rules.keys).zip(&self.ready);
@@ -209,8 +209,8 @@ impl<'a> Walk<'a> {
             if !self.is_possible(rules, *choice, ready) {
                 continue;
             }
-            let lost = match scale {
-                Some(scale) => Losses::new(&self.machine, scale).of(*choice, ready.last().copied()),
+            let lost = match potential {
+                Some(potential) => Losses::new(&self.machine, potential).of(*choice, ready.last().copied()),
                 None => 0,
             };
             let key = lost.saturating_mul(FOR_A_LOSS).saturating_add(*key);
@@ -225,7 +225,7 @@ impl<'a> Walk<'a> {
     fn is_possible(&self, rules: &Rules, choice: Choice, ready: &[Parent]) -> bool {
         match choice {
             Choice::Begin(kind) => {
-                self.machine.movers() < rules.most_movers && self.has_more(kind)
+                self.machine.active_clients() < rules.max_active_clients && self.has_more(kind)
             }
             Choice::Take(class) => self.would_take(class),
             _ => !ready.is_empty(),
@@ -266,20 +266,20 @@ impl<'a> Walk<'a> {
         Some(self.machine.plan.class_at(class)?.pool)
     }
 
-    fn take(&mut self, class: usize) -> Result<Stepped, AllocError> {
+    fn take(&mut self, class: usize) -> Result<WalkStep, AllocError> {
         let Some(pool) = self.pool_of(class) else {
-            return Ok(Stepped::Nothing);
+            return Ok(WalkStep::Nothing);
         };
         let Some(job) = self.machine.take(pool) else {
-            return Ok(Stepped::Nothing);
+            return Ok(WalkStep::Nothing);
         };
         self.script.add_take(pool)?;
         self.settle(Parent::Job(job))?;
-        Ok(Stepped::Went)
+        Ok(WalkStep::Advanced)
     }
 
     /// Makes the first submit of a new client, which is at that submit.
-    fn submit_of(&mut self, client: Parent) -> Result<Stepped, AllocError> {
+    fn submit_of(&mut self, client: Parent) -> Result<WalkStep, AllocError> {
         let place = match self.machine.point(client) {
             Some((position, _)) => self.choices.place_of(&self.machine, client, position),
             None => None,
@@ -290,20 +290,20 @@ impl<'a> Walk<'a> {
         self.submit(client)
     }
 
-    fn submit(&mut self, actor: Parent) -> Result<Stepped, AllocError> {
-        let came = self.machine.act(actor)?;
-        if came == Came::Nothing {
-            return Ok(Stepped::Nothing);
+    fn submit(&mut self, actor: Parent) -> Result<WalkStep, AllocError> {
+        let outcome = self.machine.act(actor)?;
+        if outcome == StepOutcome::Nothing {
+            return Ok(WalkStep::Nothing);
         }
-        self.script.add(actor, came)?;
-        if came == Came::Refused {
-            return Ok(Stepped::Refused);
+        self.script.add(actor, outcome)?;
+        if outcome == StepOutcome::Refused {
+            return Ok(WalkStep::Refused);
         }
         self.settle(actor)?;
-        if let Came::Made { job, started: true } = came {
+        if let StepOutcome::Created { job, started: true } = outcome {
             self.settle(Parent::Job(job))?;
         }
-        Ok(Stepped::Went)
+        Ok(WalkStep::Advanced)
     }
 
     /// Performs all steps of the actor up to its next submit, and then those of an actor that
@@ -315,16 +315,16 @@ impl<'a> Walk<'a> {
                 break;
             };
             if let Some(Action::Submit(_)) = action {
-                self.stand(actor, position)?;
+                self.add_ready(actor, position)?;
                 break;
             }
-            let came = self.machine.act(actor)?;
-            if came == Came::Nothing {
+            let outcome = self.machine.act(actor)?;
+            if outcome == StepOutcome::Nothing {
                 self.has_blocked = true;
                 break;
             }
-            self.script.add(actor, came)?;
-            if let Came::Finished(parent) = came {
+            self.script.add(actor, outcome)?;
+            if let StepOutcome::Finished(parent) = outcome {
                 let Parent::Job(child) = actor else {
                     break;
                 };
@@ -338,7 +338,7 @@ impl<'a> Walk<'a> {
     }
 
     /// Adds the actor, which is at a submit, to those that are ready for that submit.
-    fn stand(&mut self, actor: Parent, position: usize) -> Result<(), AllocError> {
+    fn add_ready(&mut self, actor: Parent, position: usize) -> Result<(), AllocError> {
         let place = self.choices.place_of(&self.machine, actor, position);
         if let Some(ready) = place.and_then(|place| self.ready.get_mut(place)) {
             ready.push(actor)?;

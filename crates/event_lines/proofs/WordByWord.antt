@@ -4,7 +4,7 @@ use Rattle.std.proofs.lemmas.Bool.{true≢false}
 use Rattle.std.proofs.lemmas.Option.{none-some, same_Some}
 use Rattle.line_words.specs.Pieces.{split_space}
 use Rattle.line_words.specs.Number.{number_of}
-use Rattle.event_lines.specs.Words.{all_of, or_nothing, members_in}
+use Rattle.event_lines.specs.Words.{all_of, unwrap_or_empty, members_in}
 use Rattle.line_words.proofs.FirstSpace.{words_more, words_end}
 
 -- ---- their numbers
@@ -33,7 +33,7 @@ none_there : {X : Type 0} (o : Option X) → is_some o ≡ false → None ≡ o
 none_there None e = refl
 none_there (Some x) e = absurd (true≢false e)
 
-some_there : {X : Type 0} (o : Option (List X)) → is_some o ≡ true → Some (or_nothing o) ≡ o
+some_there : {X : Type 0} (o : Option (List X)) → is_some o ≡ true → Some (unwrap_or_empty o) ≡ o
 some_there None e = absurd (true≢false (sym e))
 some_there (Some x) e = refl
 
@@ -49,7 +49,7 @@ read_last_bad words text read none same = none_there (members_in words) (sym sam
 pub all_numbers : (words text : List ℕ) (n : ℕ) → None ≡ split_space text → number_of text ≡ Some n → SameReading text words → is_some (members_in words) ≡ true
 all_numbers words text n read number same = sym same ∙ ap is_some (members_last text n read number)
 
-pub whole_members : (words : List ℕ) → is_some (members_in words) ≡ true → Some (or_nothing (members_in words)) ≡ members_in words
+pub whole_members : (words : List ℕ) → is_some (members_in words) ≡ true → Some (unwrap_or_empty (members_in words)) ≡ members_in words
 whole_members words all = some_there (members_in words) all
 
 -- ---- the list of the numbers
@@ -57,10 +57,10 @@ whole_members words all = some_there (members_in words) all
 abbrev pub Front : List ℕ → List ℕ → List ℕ → Type 0
 Front front rest all = option_map (λ ns. front ++ ns) (members_in rest) ≡ Some all
 
-pub front_begin : (words all : List ℕ) → is_some (members_in words) ≡ true → or_nothing (members_in words) ≡ all → Front [] words all
+pub front_begin : (words all : List ℕ) → is_some (members_in words) ≡ true → unwrap_or_empty (members_in words) ≡ all → Front [] words all
 front_begin words all some is = by_members (members_in words) some is
   where
-    by_members : (o : Option (List ℕ)) → is_some o ≡ true → or_nothing o ≡ all → option_map (λ ns. [] ++ ns) o ≡ Some all
+    by_members : (o : Option (List ℕ)) → is_some o ≡ true → unwrap_or_empty o ≡ all → option_map (λ ns. [] ++ ns) o ≡ Some all
     by_members None some is = absurd (true≢false (sym some))
     by_members (Some ns) some is = ap (λ (xs : List ℕ). Some xs) is
 

@@ -12,9 +12,9 @@ use Rattle.written_machine.specs.declared.event.Event.{Event}
 use Rattle.written_machine.specs.declared.event.Event.TheVariants.{Client, Job, Take, Retire}
 use Rattle.line_words.specs.Pieces.{is_space, split_space, words_of}
 use Rattle.line_words.specs.Number.{number_of, is_valid_number}
-use Rattle.event_lines.specs.EventLine.{Line, Happens, Stuck, pool_named, event_of, stuck_of, line_of_verb, line_of}
+use Rattle.event_lines.specs.EventLine.{Line, Perform, Stuck, pool_named, event_of, stuck_of, line_of_verb, line_of}
 use Rattle.event_lines.specs.Words.{all_of}
-use Rattle.event_lines.specs.LineText.{event_text, line_text, is_lawful_event, is_lawful_line}
+use Rattle.event_lines.specs.LineText.{event_text, line_text, is_valid_event, is_valid_line}
 use Rattle.line_words.proofs.Splits.{has_no, has_no-append, cut_at, cut_joined, joined_after, flat_map-map, is_piece}
 use Rattle.line_words.proofs.FirstSpace.{splits, split_parts}
 use Rattle.line_words.proofs.Partial.{map_some}
@@ -104,11 +104,11 @@ words_written n members valid =
 -- ---- a verb and the rest
 -- the verb and the rest are the text of the valid event
 abbrev IsEventText : Plan → List ℕ → List ℕ → Event → Type 0
-IsEventText plan verb rest event = (is_lawful_event plan event ≡ true) × (verb ++ 32 ∷ rest ≡ event_text plan event)
+IsEventText plan verb rest event = (is_valid_event plan event ≡ true) × (verb ++ 32 ∷ rest ≡ event_text plan event)
 
 -- the verb and the rest are the text of the valid line
 abbrev IsLineText : Plan → List ℕ → List ℕ → Line → Type 0
-IsLineText plan verb rest line = (is_lawful_line plan line ≡ true) × (verb ++ 32 ∷ rest ≡ line_text plan line)
+IsLineText plan verb rest line = (is_valid_line plan line ≡ true) × (verb ++ 32 ∷ rest ≡ line_text plan line)
 
 same_verb : (verb word rest text : List ℕ) → bytes_eq verb word ≡ true → rest ≡ text → verb ++ 32 ∷ rest ≡ word ++ 32 ∷ text
 same_verb verb word rest text same rests = ap₂ (λ (x y : List ℕ). x ++ 32 ∷ y) ((bytes_eq-Decides verb word).0 same) rests
@@ -162,13 +162,13 @@ verb_read : (plan : Plan) (verb rest : List ℕ) (line : Line) → line_of_verb 
 unfolding line_of_verb
 verb_read plan verb rest line read =
     ⊎_elim (λ here. stuck_read plan verb rest line here.0 here.1)
-    (λ other. let found = map_some Happens (event_of plan verb rest) line other in
+    (λ other. let found = map_some Perform (event_of plan verb rest) line other in
     subst (λ (l : Line). IsLineText plan verb rest l) found.2 (event_read plan verb rest found.0 found.1))
     (choose (bytes_eq verb (codes "stuck")) _ _ line read)
 
 -- ---- lines
 -- if a text parses as a line, it is the line's text, and the line is valid
-pub read_line_is_text : (plan : Plan) (text : List ℕ) (line : Line) → line_of plan text ≡ Some line → (is_lawful_line plan line ≡ true) × (text ≡ line_text plan line)
+pub read_line_is_text : (plan : Plan) (text : List ℕ) (line : Line) → line_of plan text ≡ Some line → (is_valid_line plan line ≡ true) × (text ≡ line_text plan line)
 unfolding line_of
 read_line_is_text plan text line read =
     option_and_then_some (λ words. line_of_verb plan words.0 words.1) (split_space text) line read (λ words split verb.
@@ -180,12 +180,12 @@ unfolding line_of
 by_verb plan verb rest none = ap (λ o. option_and_then (λ words. line_of_verb plan words.0 words.1) o) (splits verb rest none)
 
 -- if the pool names are distinct, the text of a valid line parses as that line
-pub text_reads_as_line : (plan : Plan) (line : Line) → are_distinct (pool_names plan) ≡ true → is_lawful_line plan line ≡ true → line_of plan (line_text plan line) ≡ Some line
+pub text_reads_as_line : (plan : Plan) (line : Line) → are_distinct (pool_names plan) ≡ true → is_valid_line plan line ≡ true → line_of plan (line_text plan line) ≡ Some line
 unfolding line_of_verb event_of stuck_of
-text_reads_as_line plan (Happens (Client c)) distinct valid = by_verb plan (codes "client") (decimal c) refl ∙ ap (λ o. option_map Happens (option_map (λ n. Client n) o)) (number_written c valid)
-text_reads_as_line plan (Happens (Job j)) distinct valid = by_verb plan (codes "job") (decimal j) refl ∙ ap (λ o. option_map Happens (option_map (λ n. Job n) o)) (number_written j valid)
-text_reads_as_line plan (Happens (Take p)) distinct valid = by_verb plan (codes "take") ((pool_at plan p).name) refl ∙ ap (λ o. option_map Happens (option_map (λ n. Take n) o)) (name_written plan p distinct valid)
-text_reads_as_line plan (Happens (Retire p)) distinct valid = by_verb plan (codes "retire") ((pool_at plan p).name) refl ∙ ap (λ o. option_map Happens (option_map (λ n. Retire n) o)) (name_written plan p distinct valid)
+text_reads_as_line plan (Perform (Client c)) distinct valid = by_verb plan (codes "client") (decimal c) refl ∙ ap (λ o. option_map Perform (option_map (λ n. Client n) o)) (number_written c valid)
+text_reads_as_line plan (Perform (Job j)) distinct valid = by_verb plan (codes "job") (decimal j) refl ∙ ap (λ o. option_map Perform (option_map (λ n. Job n) o)) (number_written j valid)
+text_reads_as_line plan (Perform (Take p)) distinct valid = by_verb plan (codes "take") ((pool_at plan p).name) refl ∙ ap (λ o. option_map Perform (option_map (λ n. Take n) o)) (name_written plan p distinct valid)
+text_reads_as_line plan (Perform (Retire p)) distinct valid = by_verb plan (codes "retire") ((pool_at plan p).name) refl ∙ ap (λ o. option_map Perform (option_map (λ n. Retire n) o)) (name_written plan p distinct valid)
 text_reads_as_line plan (Stuck []) distinct valid = absurd cc
 text_reads_as_line plan (Stuck (n ∷ members)) distinct valid =
     let parts = and_parts (nat_le 1 (length (n ∷ members))) (list_all is_valid_number (n ∷ members)) valid in
@@ -208,10 +208,10 @@ name_on_one_line : (plan : Plan) (p : ℕ) → list_all has_plain_name plan.pool
 name_on_one_line plan p names within = AllPass-from_list_all has_plain_name plan.pools names p no_pool (ltb-true _ _ within)
 
 -- the text of a valid line is not empty and has no newline
-pub line_on_one_line : (plan : Plan) (line : Line) → list_all has_plain_name plan.pools ≡ true → is_lawful_line plan line ≡ true → is_piece 10 (line_text plan line) ≡ true
-line_on_one_line plan (Happens (Client c)) names valid = and_from _ _ (lt-ltb 0 _ (omega arith)) (decimal_has_no 10 c (omega arith) valid)
-line_on_one_line plan (Happens (Job j)) names valid = and_from _ _ (lt-ltb 0 _ (omega arith)) (decimal_has_no 10 j (omega arith) valid)
-line_on_one_line plan (Happens (Take p)) names valid = and_from _ _ (lt-ltb 0 _ (omega arith)) (name_on_one_line plan p names valid)
-line_on_one_line plan (Happens (Retire p)) names valid = and_from _ _ (lt-ltb 0 _ (omega arith)) (name_on_one_line plan p names valid)
+pub line_on_one_line : (plan : Plan) (line : Line) → list_all has_plain_name plan.pools ≡ true → is_valid_line plan line ≡ true → is_piece 10 (line_text plan line) ≡ true
+line_on_one_line plan (Perform (Client c)) names valid = and_from _ _ (lt-ltb 0 _ (omega arith)) (decimal_has_no 10 c (omega arith) valid)
+line_on_one_line plan (Perform (Job j)) names valid = and_from _ _ (lt-ltb 0 _ (omega arith)) (decimal_has_no 10 j (omega arith) valid)
+line_on_one_line plan (Perform (Take p)) names valid = and_from _ _ (lt-ltb 0 _ (omega arith)) (name_on_one_line plan p names valid)
+line_on_one_line plan (Perform (Retire p)) names valid = and_from _ _ (lt-ltb 0 _ (omega arith)) (name_on_one_line plan p names valid)
 line_on_one_line plan (Stuck members) names valid =
     and_from _ _ (lt-ltb 0 _ (omega arith)) (members_on_one_line members (and_parts (nat_le 1 (length members)) (list_all is_valid_number members) valid).1)

@@ -10,7 +10,7 @@ use Rattle.job_bodies.specs.Plan.{Plan, Pool, pool_names}
 use Rattle.job_bodies.specs.WellFormed.{is_name_byte, is_valid_name, is_valid_pool, has_valid_sizes, are_distinct}
 use Rattle.line_words.specs.Pieces.{is_newline, without_last_newline, lines_of}
 use Rattle.event_lines.specs.EventLine.{Line, line_of, line_at, event_lines}
-use Rattle.event_lines.specs.LineText.{line_text, lines_text, is_lawful_line}
+use Rattle.event_lines.specs.LineText.{line_text, lines_text, is_valid_line}
 use Rattle.event_lines.specs.Laws.{EventLinesAreCanonical}
 use Rattle.line_words.proofs.LastNewline.{last_newline, cut_off, stays, lines_of_some}
 use Rattle.line_words.proofs.Splits.{has_no, cut_at, cut_joined, joined_before, flat_map-map, is_piece, joined_ends}
@@ -27,7 +27,7 @@ some_of_ok None fault x e = absurd cc
 
 -- the texts are those of valid lines
 abbrev AreLines : Plan → List (List ℕ) → List Line → Type 0
-AreLines plan texts lines = (list_all (is_lawful_line plan) lines ≡ true) × (texts ≡ map (line_text plan) lines)
+AreLines plan texts lines = (list_all (is_valid_line plan) lines ≡ true) × (texts ≡ map (line_text plan) lines)
 
 read_texts_are_lines : (plan : Plan) (i : ℕ) (texts : List (List ℕ)) (lines : List Line) → read_each (line_at plan) i texts ≡ Ok lines → AreLines plan texts lines
 read_texts_are_lines plan i [] [] read = (refl, refl)
@@ -40,18 +40,18 @@ read_texts_are_lines plan i (text ∷ texts) lines read =
     let whole : first.0 ∷ others.0 ≡ lines = cc (others.2) in
     subst (λ (ls : List Line). AreLines plan (text ∷ texts) ls) whole (and_from _ _ one.0 more.0, ap₂ (λ (x : List ℕ) (xs : List (List ℕ)). x ∷ xs) one.1 more.1)
 
-texts_read_as_lines : (plan : Plan) (i : ℕ) (lines : List Line) → are_distinct (pool_names plan) ≡ true → list_all (is_lawful_line plan) lines ≡ true
+texts_read_as_lines : (plan : Plan) (i : ℕ) (lines : List Line) → are_distinct (pool_names plan) ≡ true → list_all (is_valid_line plan) lines ≡ true
     → read_each (line_at plan) i (map (line_text plan) lines) ≡ Ok lines
 texts_read_as_lines plan i [] distinct valid = refl
 texts_read_as_lines plan i (line ∷ lines) distinct valid =
-    let parts = and_parts (is_lawful_line plan line) (list_all (is_lawful_line plan) lines) valid in
+    let parts = and_parts (is_valid_line plan line) (list_all (is_valid_line plan) lines) valid in
     rw (text_reads_as_line plan line distinct parts.0, texts_read_as_lines plan (i + 1) lines distinct parts.1) refl
 
-pieces_of_lines : (plan : Plan) (lines : List Line) → list_all has_plain_name plan.pools ≡ true → list_all (is_lawful_line plan) lines ≡ true
+pieces_of_lines : (plan : Plan) (lines : List Line) → list_all has_plain_name plan.pools ≡ true → list_all (is_valid_line plan) lines ≡ true
     → list_all (is_piece 10) (map (line_text plan) lines) ≡ true
 pieces_of_lines plan [] names valid = refl
 pieces_of_lines plan (line ∷ lines) names valid =
-    let parts = and_parts (is_lawful_line plan line) (list_all (is_lawful_line plan) lines) valid in
+    let parts = and_parts (is_valid_line plan line) (list_all (is_valid_line plan) lines) valid in
     and_from _ _ (line_on_one_line plan line names parts.0) (pieces_of_lines plan lines names parts.1)
 
 whole_pieces : (pieces : List (List ℕ)) → list_all (is_piece 10) pieces ≡ true → list_all (has_no 10) pieces ≡ true
@@ -80,11 +80,11 @@ same_fronts (x ∷ xs) (y ∷ ys) c e =
 -- ---- whole texts
 -- lines that are parsed from a text that is not empty
 read_lines_are_text : (plan : Plan) (text : List ℕ) (lines : List Line) → 0 < length text → read_each (line_at plan) 0 (lines_of text) ≡ Ok lines
-    → (list_all (is_lawful_line plan) lines ≡ true) × ((text ≡ lines_text plan lines) ⊎ (text ++ 10 ∷ [] ≡ lines_text plan lines))
+    → (list_all (is_valid_line plan) lines ≡ true) × ((text ≡ lines_text plan lines) ⊎ (text ++ 10 ∷ [] ≡ lines_text plan lines))
 read_lines_are_text plan text lines some read = by_lines lines (read_texts_are_lines plan 0 (lines_of text) lines read)
   where
     by_lines : (lines : List Line) → AreLines plan (lines_of text) lines
-        → (list_all (is_lawful_line plan) lines ≡ true) × ((text ≡ lines_text plan lines) ⊎ (text ++ 10 ∷ [] ≡ lines_text plan lines))
+        → (list_all (is_valid_line plan) lines ≡ true) × ((text ≡ lines_text plan lines) ⊎ (text ++ 10 ∷ [] ≡ lines_text plan lines))
     by_lines [] found = absurd (omega (arith, length-slice_split is_newline (without_last_newline text), ap (λ (ls : List (List ℕ)). length ls) (sym (lines_of_some text some) ∙ found.1)))
     by_lines (line ∷ lines) found =
         let same : without_last_newline text ≡ joined plan (line ∷ lines) =
@@ -94,14 +94,14 @@ read_lines_are_text plan text lines some read = by_lines lines (read_texts_are_l
         (found.0, ⊎_elim (λ ended. inl (ended ∙ written)) (λ open_end. inr (ap (λ (t : List ℕ). t ++ 10 ∷ []) open_end ∙ written)) (last_newline text some))
 
 texts_read : (plan : Plan) (text : List ℕ) (lines : List Line) → event_lines plan text ≡ Ok lines
-    → (list_all (is_lawful_line plan) lines ≡ true) × ((text ≡ lines_text plan lines) ⊎ (text ++ 10 ∷ [] ≡ lines_text plan lines))
+    → (list_all (is_valid_line plan) lines ≡ true) × ((text ≡ lines_text plan lines) ⊎ (text ++ 10 ∷ [] ≡ lines_text plan lines))
 unfolding event_lines lines_of
 texts_read plan [] [] read = (refl, inl refl)
 texts_read plan [] (line ∷ lines) read = absurd cc
 texts_read plan (b ∷ text) lines read = read_lines_are_text plan (b ∷ text) lines (omega arith) read
 
 -- a text that is, without its last newline, the joined text of lines
-read_back : (plan : Plan) (text : List ℕ) (line : Line) (lines : List Line) → are_distinct (pool_names plan) ≡ true → list_all has_plain_name plan.pools ≡ true → list_all (is_lawful_line plan) (line ∷ lines) ≡ true
+read_back : (plan : Plan) (text : List ℕ) (line : Line) (lines : List Line) → are_distinct (pool_names plan) ≡ true → list_all has_plain_name plan.pools ≡ true → list_all (is_valid_line plan) (line ∷ lines) ≡ true
     → 0 < length text → without_last_newline text ≡ joined plan (line ∷ lines) → event_lines plan text ≡ Ok (line ∷ lines)
 unfolding event_lines
 read_back plan text line lines distinct names valid some same =
@@ -111,7 +111,7 @@ read_back plan text line lines distinct names valid some same =
     in
     ap (λ (texts : List (List ℕ)). read_each (line_at plan) 0 texts) cut ∙ texts_read_as_lines plan 0 (line ∷ lines) distinct valid
 
-texts_written : (plan : Plan) (text : List ℕ) (lines : List Line) → are_distinct (pool_names plan) ≡ true → list_all has_plain_name plan.pools ≡ true → list_all (is_lawful_line plan) lines ≡ true
+texts_written : (plan : Plan) (text : List ℕ) (lines : List Line) → are_distinct (pool_names plan) ≡ true → list_all has_plain_name plan.pools ≡ true → list_all (is_valid_line plan) lines ≡ true
     → (text ≡ lines_text plan lines) ⊎ (text ++ 10 ∷ [] ≡ lines_text plan lines) → event_lines plan text ≡ Ok lines
 unfolding event_lines lines_of
 texts_written plan text [] distinct names valid (inl same) = ap (event_lines plan) same

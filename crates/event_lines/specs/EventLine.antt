@@ -13,12 +13,12 @@ use Rattle.line_words.specs.Number.{number_of}
 use Rattle.event_lines.specs.Words.{members_in}
 
 pub data Line : Type 0 where
-  Happens : Event → Line
+  Perform : Event → Line
   Stuck : List ℕ → Line
 
 -- the abstract view of a parsed line
 abbrev pub line_seen : EventLine → Line
-line_seen (code.Happens e) = Happens e
+line_seen (code.Perform e) = Perform e
 line_seen (code.Stuck members) = Stuck members
 
 -- the number of the pool with this name
@@ -41,7 +41,7 @@ stuck_of rest = option_map Stuck (members_in rest)
 -- the line of a verb, given the text after the space that follows it
 unfoldable pub line_of_verb : Plan → List ℕ → List ℕ → Option Line
 line_of_verb plan verb rest =
-    if bytes_eq verb (codes "stuck") then stuck_of rest else option_map Happens (event_of plan verb rest)
+    if bytes_eq verb (codes "stuck") then stuck_of rest else option_map Perform (event_of plan verb rest)
 
 -- the content of a line, for this plan
 unfoldable pub line_of : Plan → List ℕ → Option Line

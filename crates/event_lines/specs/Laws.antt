@@ -4,7 +4,7 @@ use Rattle.std.specs.List.{list_all}
 use Rattle.job_bodies.specs.Plan.{Plan}
 use Rattle.job_bodies.specs.WellFormed.{IsWellFormed}
 use Rattle.event_lines.specs.EventLine.{Line, event_lines}
-use Rattle.event_lines.specs.LineText.{lines_text, is_lawful_line}
+use Rattle.event_lines.specs.LineText.{lines_text, is_valid_line}
 
 -- the text is the canonical text of those lines, with or without the last newline
 abbrev pub Writes : Plan → List ℕ → List Line → Type 0
@@ -13,4 +13,4 @@ Writes plan text lines = (text ≡ lines_text plan lines) ⊎ (text ++ 10 ∷ []
 -- a text parses as those lines exactly if it is their canonical text and the lines are valid
 abbrev pub EventLinesAreCanonical : Type 0
 EventLinesAreCanonical = (plan : Plan) (text : List ℕ) (lines : List Line) → IsWellFormed plan
-    → event_lines plan text ≡ Ok lines ↔ IsTrue (list_all (is_lawful_line plan) lines) × Writes plan text lines
+    → event_lines plan text ≡ Ok lines ↔ IsTrue (list_all (is_valid_line plan) lines) × Writes plan text lines

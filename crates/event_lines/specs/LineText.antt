@@ -5,7 +5,7 @@ use Rattle.line_words.specs.Number.{is_valid_number}
 use Rattle.job_bodies.specs.Plan.{Plan, pool_at}
 use Rattle.written_machine.specs.declared.event.Event.{Event}
 use Rattle.written_machine.specs.declared.event.Event.TheVariants.{Client, Job, Take, Retire}
-use Rattle.event_lines.specs.EventLine.{Line, Happens, Stuck}
+use Rattle.event_lines.specs.EventLine.{Line, Perform, Stuck}
 
 -- the text of an event
 abbrev pub event_text : Plan → Event → List ℕ
@@ -16,7 +16,7 @@ event_text plan (Retire p) = codes "retire " ++ (pool_at plan p).name
 
 -- the text of a line, without its newline
 abbrev pub line_text : Plan → Line → List ℕ
-line_text plan (Happens event) = event_text plan event
+line_text plan (Perform event) = event_text plan event
 line_text plan (Stuck members) = codes "stuck" ++ flat_map (λ n. 32 ∷ decimal n) members
 
 -- the text of lines, each with its newline
@@ -24,13 +24,13 @@ abbrev pub lines_text : Plan → List Line → List ℕ
 lines_text plan lines = flat_map (λ line. line_text plan line ++ 10 ∷ []) lines
 
 -- the number of the event is within the limit, or the pool of the event exists
-abbrev pub is_lawful_event : Plan → Event → Bool
-is_lawful_event plan (Client c) = is_valid_number c
-is_lawful_event plan (Job j) = is_valid_number j
-is_lawful_event plan (Take p) = nat_lt p (length plan.pools)
-is_lawful_event plan (Retire p) = nat_lt p (length plan.pools)
+abbrev pub is_valid_event : Plan → Event → Bool
+is_valid_event plan (Client c) = is_valid_number c
+is_valid_event plan (Job j) = is_valid_number j
+is_valid_event plan (Take p) = nat_lt p (length plan.pools)
+is_valid_event plan (Retire p) = nat_lt p (length plan.pools)
 
 -- a valid event, or a question with at least one job, whose numbers are valid
-abbrev pub is_lawful_line : Plan → Line → Bool
-is_lawful_line plan (Happens event) = is_lawful_event plan event
-is_lawful_line plan (Stuck members) = nat_le 1 (length members) && list_all is_valid_number members
+abbrev pub is_valid_line : Plan → Line → Bool
+is_valid_line plan (Perform event) = is_valid_event plan event
+is_valid_line plan (Stuck members) = nat_le 1 (length members) && list_all is_valid_number members

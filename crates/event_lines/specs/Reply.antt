@@ -5,7 +5,7 @@ use Rattle.job_bodies.specs.Plan.{Plan, pool_at}
 use Rattle.written_machine.specs.declared.event.Outcome.{Outcome}
 use Rattle.written_machine.specs.declared.event.Outcome.TheVariants.{Started, Queued, Refused, Worked, Got, Looped, Finished, Took, Retired}
 use Rattle.event_lines.specs.declared.reply.Reply.{Reply}
-use Rattle.event_lines.specs.declared.reply.Reply.TheVariants.{Happened, NotPossible, Stuck}
+use Rattle.event_lines.specs.declared.reply.Reply.TheVariants.{Performed, NotPossible, Stuck}
 
 -- the text of an outcome
 abbrev pub outcome_text : Plan → Outcome → List ℕ
@@ -21,7 +21,7 @@ outcome_text plan Retired = codes "retired"
 
 -- the text of a reply
 abbrev pub reply_text : Plan → Reply → List ℕ
-reply_text plan (Happened outcome) = outcome_text plan outcome
+reply_text plan (Performed outcome) = outcome_text plan outcome
 reply_text plan NotPossible = codes "not possible"
 reply_text plan (Stuck true) = codes "stuck yes"
 reply_text plan (Stuck false) = codes "stuck no"

@@ -9,9 +9,9 @@ all_of f [] = Some []
 all_of f (x ∷ xs) = option_and_then (λ y. option_map (λ ys. y ∷ ys) (all_of f xs)) (f x)
 
 -- the list, or the empty list
-abbrev pub or_nothing : {X : Type 0} → Option (List X) → List X
-or_nothing (Some xs) = xs
-or_nothing None = []
+abbrev pub unwrap_or_empty : {X : Type 0} → Option (List X) → List X
+unwrap_or_empty (Some xs) = xs
+unwrap_or_empty None = []
 
 -- the numbers that the words of a text denote, or None if a word is not a number
 abbrev pub members_in : List ℕ → Option (List ℕ)

@@ -14,7 +14,7 @@ use written_machine::Event;
 #[derive(Drop)]
 pub enum EventLine<'a> {
     /// The event to perform.
-    Happens(Event),
+    Perform(Event),
     /// The question whether these jobs wait only for each other.
     Stuck(NamedJobs<'a>),
 }
@@ -31,20 +31,20 @@ pub(crate) fn split_event_line<'a>(plan: &Plan, text: &'a [u8]) -> Option<(Event
 {
     if let Some(job) = text.strip_prefix(b"job ") {
         let (job, behind) = split_number_line(job)?;
-        return Some((EventLine::Happens(Event::Job(job)), behind));
+        return Some((EventLine::Perform(Event::Job(job)), behind));
     }
-    if let Some(client) = behind_client(text) {
+    if let Some(client) = strip_client(text) {
         let (client, behind) = split_number_line(client)?;
-        return Some((EventLine::Happens(Event::Client(client)), behind));
+        return Some((EventLine::Perform(Event::Client(client)), behind));
     }
     let (line, behind) = split_line(text);
-    Some((line_of_others(plan, line)?, behind))
+    Some((parse_other_line(plan, line)?, behind))
 }
 
 /// Returns the text after `client `. Compares the prefix in two parts: a comparison of seven bytes
 /// compiles to vector instructions, at twice the cost.
 #[inline(always)]
-fn behind_client(text: &[u8]) -> Option<&[u8]>
+fn strip_client(text: &[u8]) -> Option<&[u8]>
     ensures { MatchOption result ((rest : List ℕ) → text.now ≢ codes "client " ++ rest)
         (λ rest. text.now ≡ codes "client " ++ rest.now) }
 {
@@ -63,18 +63,18 @@ fn split_number_line(text: &[u8]) -> Option<(usize, &[u8])>
 }
 
 /// Parses a line that does not begin with `client ` or `job `.
-fn line_of_others<'a>(plan: &Plan, line: &'a [u8]) -> Option<EventLine<'a>>
+fn parse_other_line<'a>(plan: &Plan, line: &'a [u8]) -> Option<EventLine<'a>>
     requires no_client { (number : List ℕ) → line.now ≢ codes "client " ++ number }
     requires no_job { (number : List ℕ) → line.now ≢ codes "job " ++ number }
     ensures { option_map line_seen result ≡ spec.line_of plan.now line.now }
 {
     if let Some(pool) = line.strip_prefix(b"take ") {
         let pool = pool_named(plan, pool)?;
-        return Some(EventLine::Happens(Event::Take(pool)));
+        return Some(EventLine::Perform(Event::Take(pool)));
     }
     if let Some(pool) = line.strip_prefix(b"retire ") {
         let pool = pool_named(plan, pool)?;
-        return Some(EventLine::Happens(Event::Retire(pool)));
+        return Some(EventLine::Perform(Event::Retire(pool)));
     }
     let members = NamedJobs::read(line.strip_prefix(b"stuck ")?)?;
     Some(EventLine::Stuck(members))

@@ -16,11 +16,11 @@ pub struct NamedJobs<'a> {
 
 impl<'a> Model for NamedJobs<'a> {
     ghost use Rattle.std.specs.Prelude.{ℕ, List, IsSome};
-    ghost use Rattle.event_lines.specs.Words.{members_in, or_nothing};
+    ghost use Rattle.event_lines.specs.Words.{members_in, unwrap_or_empty};
 
     ghost Value = { List ℕ };
 
-    ghost view = { λ m. or_nothing (members_in m.words.now) };
+    ghost view = { λ m. unwrap_or_empty (members_in m.words.now) };
 
     ghost invariant = { λ m. IsSome (members_in m.words.now) };
 }

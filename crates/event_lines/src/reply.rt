@@ -13,7 +13,7 @@ use written_machine::Outcome;
 #[derive(Clone, Copy, PartialEq, Eq)]
 pub enum Reply {
     /// The event was performed, with this outcome.
-    Happened(Outcome),
+    Performed(Outcome),
     /// The event was not possible.
     NotPossible,
     /// Whether the jobs wait only for each other.
@@ -45,7 +45,7 @@ fn push_reply_text(text: &mut String, plan: &Plan, reply: Reply) -> Result<(), A
     ensures { Pushes result text.old text.new (codes ": " ++ reply_text plan.now reply) }
 {
     match reply {
-        Reply::Happened(outcome) => push_outcome(text, plan, outcome),
+        Reply::Performed(outcome) => push_outcome(text, plan, outcome),
         Reply::NotPossible => text.push_str(": not possible"),
         Reply::Stuck(true) => text.push_str(": stuck yes"),
         Reply::Stuck(false) => text.push_str(": stuck no"),

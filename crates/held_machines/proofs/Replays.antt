@@ -1,7 +1,7 @@
 -- Replays of a history with one more event.
 use Rattle.std.proofs.Common.{◌≡◌, List, [], ◌∷◌, ◌++◌, Some, None, Option, Bool, true, refl, ap, sym, ◌∙◌, subst}
 use Rattle.std.proofs.lemmas.Option.{same_Some}
-use Rattle.held_machines.specs.Content.{IsReplayOf, Answers, Steps}
+use Rattle.held_machines.specs.StoredState.{IsReplayOf, Answers, Steps}
 use Rattle.held_machines.specs.Replay.{replay, Leads}
 
 -- after an impossible event there is no state
@@ -20,15 +20,15 @@ pub replay_snoc : {I E : Type 0} (next : I → E → Option I) (first i : I) (ev
 replay_snoc next first i events e leads = rw (replay_append next (Some first) events (e ∷ []), leads) refl
 
 -- after an event was performed, the new content is the replay of the history with the event
-pub grown : {I E S : Type 0} (next : I → E → Option I) (first : I) (content : I → S) (events : List E) (e : E) (before after : S) (done : Bool) → done ≡ true
-    → IsReplayOf next first content events before → Steps next first content before e done after → IsReplayOf next first content (events ++ e ∷ []) after
-grown next first content events e before after done is held made =
-    let answer = subst (λ d. Answers next content held.0 e d after) is (made held.0 (events, held.1) held.2) in
+pub grown : {I E S : Type 0} (next : I → E → Option I) (first : I) (stored_state : I → S) (events : List E) (e : E) (before after : S) (done : Bool) → done ≡ true
+    → IsReplayOf next first stored_state events before → Steps next first stored_state before e done after → IsReplayOf next first stored_state (events ++ e ∷ []) after
+grown next first stored_state events e before after done is held made =
+    let answer = subst (λ d. Answers next stored_state held.0 e d after) is (made held.0 (events, held.1) held.2) in
     (answer.0, rw (replay_snoc next first held.0 events e held.1) answer.1, answer.2)
 
 -- the new content belongs to every state to which the longer history leads
-pub settled : {I E S : Type 0} (next : I → E → Option I) (first : I) (content : I → S) (events : List E) (e : E) (before after : S) (done : Bool) (i : I) → done ≡ true
-    → IsReplayOf next first content events before → Steps next first content before e done after → Leads next first (events ++ e ∷ []) i → after ≡ content i
-settled next first content events e before after done i is held made leads =
-    let new = grown next first content events e before after done is held made in
-    sym new.2 ∙ ap content (same_Some new.0 i (sym new.1 ∙ leads))
+pub settled : {I E S : Type 0} (next : I → E → Option I) (first : I) (stored_state : I → S) (events : List E) (e : E) (before after : S) (done : Bool) (i : I) → done ≡ true
+    → IsReplayOf next first stored_state events before → Steps next first stored_state before e done after → Leads next first (events ++ e ∷ []) i → after ≡ stored_state i
+settled next first stored_state events e before after done i is held made leads =
+    let new = grown next first stored_state events e before after done is held made in
+    sym new.2 ∙ ap stored_state (same_Some new.0 i (sym new.1 ∙ leads))

@@ -1,3 +1,3 @@
 pub mod Replay
-pub mod Content
+pub mod StoredState
 pub mod HeldValue

@@ -3,7 +3,7 @@
 ghost use Rattle.std.specs.Prelude.{◌≡◌, ◌↔◌, [], length, Some, None, IfOk, IfSome, OnErr, IsSome, is_some};
 ghost use Rattle.std.specs.Option.{IfNone};
 ghost use Rattle.held_machines.specs.Replay.{Leads};
-ghost use Rattle.held_machines.specs.Content.{IsReplayOf};
+ghost use Rattle.held_machines.specs.StoredState.{IsReplayOf};
 ghost use Rattle.held_machines.specs.HeldValue.{HeldValue, with_event};
 
 use crate::Machine;
@@ -29,13 +29,13 @@ pub struct Held<M: Machine + Drop> {
 
 impl<M: Machine + Drop> Model for Held<M> {
     ghost use Rattle.held_machines.specs.HeldValue.{HeldValue};
-    ghost use Rattle.held_machines.specs.Content.{IsReplayOf};
+    ghost use Rattle.held_machines.specs.StoredState.{IsReplayOf};
 
     ghost Value = { HeldValue M M.State M.Event };
 
     ghost view = { λ held. record { machine = held.machine; state = held.state; history = held.history.items } };
 
-    ghost invariant = { λ held. IsReplayOf (M.next held.machine) (M.first held.machine) (M.content held.machine) held.history.items held.state };
+    ghost invariant = { λ held. IsReplayOf (M.next held.machine) (M.first held.machine) (M.stored_state held.machine) held.history.items held.state };
 }
 
 impl<M: Machine + Drop> Held<M> {
@@ -47,7 +47,7 @@ impl<M: Machine + Drop> Held<M> {
     /// dropped.
     pub fn new(alloc: Global, machine: M) -> Result<Held<M>, AllocError>
         ensures machine { IfOk result (λ held. held.machine ≡ machine) }
-        ensures state { IfOk result (λ held. held.state ≡ M.content machine (M.first machine)) }
+        ensures state { IfOk result (λ held. held.state ≡ M.stored_state machine (M.first machine)) }
         ensures history { IfOk result (λ held. held.history ≡ []) }
     {
         let state = machine.start(alloc)?;
@@ -62,7 +62,7 @@ impl<M: Machine + Drop> Held<M> {
     pub fn state(&self) -> &M::State
         ensures value { result.now ≡ self.now.state }
         ensures replayed { IsReplayOf (M.next self.now.machine) (M.first self.now.machine)
-            (M.content self.now.machine) self.now.history self.now.state }
+            (M.stored_state self.now.machine) self.now.history self.now.state }
     {
         &self.state
     }
@@ -71,7 +71,7 @@ impl<M: Machine + Drop> Held<M> {
     pub fn history(&self) -> &[M::Event]
         ensures value { result.now ≡ self.now.history }
         ensures replayed { IsReplayOf (M.next self.now.machine) (M.first self.now.machine)
-            (M.content self.now.machine) self.now.history self.now.state }
+            (M.stored_state self.now.machine) self.now.history self.now.state }
     {
         self.history.as_slice()
     }
@@ -80,7 +80,7 @@ impl<M: Machine + Drop> Held<M> {
     pub fn into_history(self) -> Vec<M::Event>
         ensures value { result.items ≡ self.history }
         ensures replayed { IsReplayOf (M.next self.machine) (M.first self.machine)
-            (M.content self.machine) self.history self.state }
+            (M.stored_state self.machine) self.history self.state }
     {
         self.history
     }
@@ -95,14 +95,14 @@ impl<M: Machine + Drop> Held<M> {
     pub fn act(&mut self, event: M::Event) -> Result<Option<Receipt<M::Event>>, AllocError>
         // The event is performed exactly when it is possible after the current history.
         ensures made { IfOk result (λ receipt.
-            (i : M.Ideal)
+            (i : M.SpecState)
             → Leads (M.next self.old.machine) (M.first self.old.machine) self.old.history i
             → is_some receipt ≡ is_some (M.next self.old.machine i event)) }
         ensures state { IfOk result (λ receipt.
             IfSome receipt (λ _.
-            (i : M.Ideal)
+            (i : M.SpecState)
             → Leads (M.next self.old.machine) (M.first self.old.machine) self.new.history i
-            → self.new.state ≡ M.content self.old.machine i)) }
+            → self.new.state ≡ M.stored_state self.old.machine i)) }
         ensures history { IfOk result
             (λ receipt. self.new.history ≡ with_event self.old.history event receipt) }
         ensures receipt { IfOk result (λ receipt.

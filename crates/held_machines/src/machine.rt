@@ -1,7 +1,7 @@
 //! The interface of a machine.
 
 ghost use Rattle.std.specs.Prelude.{◌≡◌, Option, IfOk, OnErr, IsTrue, true, false};
-ghost use Rattle.held_machines.specs.Content.{IsReached, Steps};
+ghost use Rattle.held_machines.specs.StoredState.{IsReached, Steps};
 
 use std::alloc::{AllocError, Global};
 
@@ -19,14 +19,14 @@ pub trait Machine {
 
     // The specification states, the initial one, and the state after an event if the event is
     // possible.
-    ghost Ideal: { Type 0 };
+    ghost SpecState: { Type 0 };
 
-    ghost first: { Self → Ideal };
+    ghost first: { Self → SpecState };
 
-    ghost next: { Self → Ideal → Self.Event → Option Ideal };
+    ghost next: { Self → SpecState → Self.Event → Option SpecState };
 
     // The stored state that belongs to a specification state.
-    ghost content: { Self → Ideal → Self.State };
+    ghost stored_state: { Self → SpecState → Self.State };
 
     /// Returns the initial state.
     ///
@@ -34,7 +34,7 @@ pub trait Machine {
     ///
     /// Returns `AllocError` if there is not enough memory.
     fn start(&self, alloc: Global) -> Result<Self::State, AllocError>
-        ensures { IfOk result (λ state. state ≡ content self.now (first self.now)) };
+        ensures { IfOk result (λ state. state ≡ stored_state self.now (first self.now)) };
 
     /// Performs the event if it is possible, and returns whether it was.
     ///
@@ -43,9 +43,9 @@ pub trait Machine {
     /// Returns `AllocError` if there is not enough memory for the event. The state is then
     /// unchanged.
     fn step(&self, state: &mut Self::State, event: Self::Event) -> Result<bool, AllocError>
-        requires { IsReached (next self.now) (first self.now) (content self.now) state.old }
+        requires { IsReached (next self.now) (first self.now) (stored_state self.now) state.old }
         ensures answered { IfOk result (λ done.
-            Steps (next self.now) (first self.now) (content self.now) state.old event done
+            Steps (next self.now) (first self.now) (stored_state self.now) state.old event done
             state.new) }
         ensures impossible_unchanged { IfOk result (λ done. done ≡ false → state.new ≡ state.old) }
         ensures error_unchanged { OnErr result (state.new ≡ state.old) };

@@ -8,22 +8,22 @@ use Rattle.written_machine.specs.declared.parent.Parent.{Parent}
 use Rattle.written_machine.specs.declared.parent.Parent.TheVariants as parent
 use Rattle.interleaving.specs.declared.job_view.Phase.{Phase}
 use Rattle.interleaving.specs.declared.job_view.JobView.{JobView}
-use Rattle.written_machine.specs.State.{Stage, Made, State, no_job, job_at, is_unfinished, child}
+use Rattle.written_machine.specs.State.{Stage, CreatedJob, State, no_job, job_at, is_unfinished, child}
 use Rattle.written_machine.specs.State.Stage.{At}
 use Rattle.written_machine.specs.Step.{point, with_stage}
-use Rattle.written_machine.proofs.Standing.{stage_of_standing, At≢Claimed, job_made}
+use Rattle.written_machine.proofs.Positions.{stage_of_standing, At≢Claimed, job_made}
 use Rattle.written_machine.proofs.Stages.{get_or-staged_same, get_or-staged_other, child-stage}
-use Rattle.interleaving.specs.LiveView.{may_ask, phase_seen, job_with, job_seen, live_view}
+use Rattle.interleaving.specs.LiveView.{may_get, phase_seen, job_with, job_seen, live_view}
 use Rattle.interleaving.specs.ViewStep.{live_job}
 use Rattle.interleaving.proofs.View.{seen, phase_with, job_seen-with, length-view, view_at, jobs_are}
 
 -- ---- one job in the view
 
-abbrev pub as_seen : Made → Phase → JobView
+abbrev pub as_seen : CreatedJob → Phase → JobView
 as_seen job phase = record { class = job.class; parent = job.parent; slot = job.slot; phase = phase }
 
 -- the view of a job stays if the job, the latest job of its submit, and whether its parent may still get it stay the same
-pub seen_same : (s s' : State) (n : ℕ) → job_at s' n ≡ job_at s n → may_ask s' (job_at s n).parent ≡ may_ask s (job_at s n).parent
+pub seen_same : (s s' : State) (n : ℕ) → job_at s' n ≡ job_at s n → may_get s' (job_at s n).parent ≡ may_get s (job_at s n).parent
     → child s' (job_at s n).parent (job_at s n).slot ≡ child s (job_at s n).parent (job_at s n).slot → seen s' n ≡ seen s n
 seen_same s s' n same asks latest =
     let job = job_at s n in
@@ -34,15 +34,15 @@ seen_at s n stage phase e there = ap (job_with (job_at s n)) (ap (phase_seen s n
 
 -- ---- a change of a stage
 
-pub may_ask-staged_other : (s : State) (j : ℕ) (stage : Stage) (a : Parent) → a ≢ parent.Job j → may_ask (with_stage j stage s) a ≡ may_ask s a
-may_ask-staged_other s j stage (parent.Client c) other = refl
-may_ask-staged_other s j stage (parent.Job m) other = ap (λ (job : Made). is_unfinished job.stage) (get_or-staged_other s.jobs j stage m no_job (λ e. other (ap parent.Job e)))
+pub may_get-staged_other : (s : State) (j : ℕ) (stage : Stage) (a : Parent) → a ≢ parent.Job j → may_get (with_stage j stage s) a ≡ may_get s a
+may_get-staged_other s j stage (parent.Client c) other = refl
+may_get-staged_other s j stage (parent.Job m) other = ap (λ (job : CreatedJob). is_unfinished job.stage) (get_or-staged_other s.jobs j stage m no_job (λ e. other (ap parent.Job e)))
 
-pub may_ask-staged : (s : State) (j : ℕ) (stage : Stage) (a : Parent) → j < length s.jobs → is_unfinished stage ≡ is_unfinished (job_at s j).stage → may_ask (with_stage j stage s) a ≡ may_ask s a
-may_ask-staged s j stage (parent.Client c) inside same = refl
-may_ask-staged s j stage (parent.Job m) inside same =
-    ⊎_elim (λ (e : m ≡ j). ap (λ k. is_unfinished (job_at (with_stage j stage s) k).stage) e ∙ ap (λ (job : Made). is_unfinished job.stage) (get_or-staged_same s.jobs j stage inside) ∙ same ∙ sym (ap (λ k. is_unfinished (job_at s k).stage) e))
-    (λ (other : m ≢ j). ap (λ (job : Made). is_unfinished job.stage) (get_or-staged_other s.jobs j stage m no_job other))
+pub may_get-staged : (s : State) (j : ℕ) (stage : Stage) (a : Parent) → j < length s.jobs → is_unfinished stage ≡ is_unfinished (job_at s j).stage → may_get (with_stage j stage s) a ≡ may_get s a
+may_get-staged s j stage (parent.Client c) inside same = refl
+may_get-staged s j stage (parent.Job m) inside same =
+    ⊎_elim (λ (e : m ≡ j). ap (λ k. is_unfinished (job_at (with_stage j stage s) k).stage) e ∙ ap (λ (job : CreatedJob). is_unfinished job.stage) (get_or-staged_same s.jobs j stage inside) ∙ same ∙ sym (ap (λ k. is_unfinished (job_at s k).stage) e))
+    (λ (other : m ≢ j). ap (λ (job : CreatedJob). is_unfinished job.stage) (get_or-staged_other s.jobs j stage m no_job other))
     (cases_eq m j)
 
 -- if an unfinished job stays unfinished, or a done job is claimed, only that job changes in the view
@@ -56,7 +56,7 @@ jobs-staged plan s j stage there inside same here =
     let made_long = length-set s.jobs j (record (job_at s j) { stage = stage }) in
     jobs_are plan s' (set jobs j there) (omega arith)
     (λ n within. ⊎_elim (λ (e : n ≡ j). ap (seen s') e ∙ here ∙ sym (ap (live_job (set jobs j there)) e ∙ get_or-set_same jobs j there None (omega arith)))
-    (λ (other : n ≢ j). seen_same s s' n (get_or-staged_other s.jobs j stage n no_job other) (may_ask-staged s j stage (job_at s n).parent inside same) (child-stage s.jobs (job_at s n).parent (job_at s n).slot j stage)
+    (λ (other : n ≢ j). seen_same s s' n (get_or-staged_other s.jobs j stage n no_job other) (may_get-staged s j stage (job_at s n).parent inside same) (child-stage s.jobs (job_at s n).parent (job_at s n).slot j stage)
     ∙ sym (get_or-set_other jobs j n there None other ∙ view_at plan s n))
     (cases_eq n j))
 
@@ -67,6 +67,6 @@ job_standing plan s j body i e =
     let stands = (stage_of_standing plan (job_at s j).class (job_at s j).stage body i e).0 in
     (job_made s j (At≢Claimed stands), stands)
 
-pub standing_asks : (plan : Plan) (s : State) (a : Parent) (body : List Action) (i : ℕ) → point plan s a ≡ Some (record { body = body; position = i }) → may_ask s a ≡ true
+pub standing_asks : (plan : Plan) (s : State) (a : Parent) (body : List Action) (i : ℕ) → point plan s a ≡ Some (record { body = body; position = i }) → may_get s a ≡ true
 standing_asks plan s (parent.Client c) body i e = refl
 standing_asks plan s (parent.Job j) body i e = ap is_unfinished (job_standing plan s j body i e).1

@@ -7,17 +7,17 @@ use Rattle.job_bodies.specs.Plan.{Plan}
 use Rattle.written_machine.specs.declared.parent.Parent.{Parent}
 use Rattle.interleaving.specs.declared.job_view.Phase.{Phase}
 use Rattle.interleaving.specs.declared.job_view.Phase.TheVariants as phase
-use Rattle.written_machine.specs.State.{Stage, Made, State, no_job, job_at, same_parent, is_made_by, child}
+use Rattle.written_machine.specs.State.{Stage, CreatedJob, State, no_job, job_at, same_parent, is_made_by, child}
 use Rattle.written_machine.specs.State.Stage.{Queued, At, Done, Claimed}
 use Rattle.written_machine.proofs.Children.{same_actor_refl, maker_of}
-use Rattle.interleaving.specs.LiveView.{may_ask, is_number, phase_seen, job_with, live_view}
+use Rattle.interleaving.specs.LiveView.{may_get, is_number, phase_seen, job_with, live_view}
 use Rattle.interleaving.specs.ViewStep.{live_job, is_live_child, live_child}
 use Rattle.interleaving.proofs.View.{seen, length-view, view_at}
 use Rattle.interleaving.proofs.Changes.{as_seen, seen_at}
 
 -- ---- the creator of a job
 
-pub made_by_itself : (job : Made) → is_made_by job.parent job.slot job ≡ true
+pub made_by_itself : (job : CreatedJob) → is_made_by job.parent job.slot job ≡ true
 made_by_itself job = and_from (same_parent job.parent job.parent) (job.slot == job.slot) (same_actor_refl job.parent) (eq-eqb job.slot job.slot refl)
 
 -- the actor created its latest job, and no later one at this position
@@ -26,7 +26,7 @@ latest s a t j e = last_where_is (is_made_by a t) s.jobs j e
 
 -- ---- live children
 
-not_child_with : (a : Parent) (t : ℕ) (job : Made) (o : Option Phase) → is_made_by a t job ≡ false → is_live_child a t (job_with job o) ≡ false
+not_child_with : (a : Parent) (t : ℕ) (job : CreatedJob) (o : Option Phase) → is_made_by a t job ≡ false → is_live_child a t (job_with job o) ≡ false
 not_child_with a t job None none = refl
 not_child_with a t job (Some phase) none = none
 
@@ -49,32 +49,32 @@ live_child_is plan s a t j phase e live =
 if_true : (b : Bool) (phase : Phase) → b ≡ true → ◌≡◌ {A = Option Phase} (if b then Some phase else None) (Some phase)
 if_true b phase e = ap (λ c. if c then Some phase else None) e
 
-live_if_done : (s : State) (j : ℕ) (job : Made) → may_ask s job.parent ≡ true → child s job.parent job.slot ≡ Some j → phase_seen s j job Done ≡ Some phase.Done
+live_if_done : (s : State) (j : ℕ) (job : CreatedJob) → may_get s job.parent ≡ true → child s job.parent job.slot ≡ Some j → phase_seen s j job Done ≡ Some phase.Done
 live_if_done s j job asks e =
-    let answers = and_from (may_ask s job.parent) (is_number (child s job.parent job.slot) j) asks (ap (λ o. is_number o j) e ∙ eq-eqb j j refl) in
-    if_true (may_ask s job.parent && is_number (child s job.parent job.slot) j) phase.Done answers
+    let answers = and_from (may_get s job.parent) (is_number (child s job.parent job.slot) j) asks (ap (λ o. is_number o j) e ∙ eq-eqb j j refl) in
+    if_true (may_get s job.parent && is_number (child s job.parent job.slot) j) phase.Done answers
 
 -- the latest job of an actor that may still get its jobs is live unless it is claimed
-is_live : (s : State) (j : ℕ) (job : Made) (stage : Stage) → may_ask s job.parent ≡ true → child s job.parent job.slot ≡ Some j → stage ≢ Claimed → (phase : Phase) × (phase_seen s j job stage ≡ Some phase)
+is_live : (s : State) (j : ℕ) (job : CreatedJob) (stage : Stage) → may_get s job.parent ≡ true → child s job.parent job.slot ≡ Some j → stage ≢ Claimed → (phase : Phase) × (phase_seen s j job stage ≡ Some phase)
 is_live s j job Queued asks e unclaimed = (phase.Queued, refl)
 is_live s j job (At i) asks e unclaimed = (phase.At i, refl)
 is_live s j job Done asks e unclaimed = (phase.Done, live_if_done s j job asks e)
 is_live s j job Claimed asks e unclaimed = absurd (unclaimed refl)
 
-pub child_live : (s : State) (a : Parent) (t j : ℕ) → may_ask s a ≡ true → child s a t ≡ Some j → (job_at s j).stage ≢ Claimed → (phase : Phase) × (phase_seen s j (job_at s j) (job_at s j).stage ≡ Some phase)
+pub child_live : (s : State) (a : Parent) (t j : ℕ) → may_get s a ≡ true → child s a t ≡ Some j → (job_at s j).stage ≢ Claimed → (phase : Phase) × (phase_seen s j (job_at s j) (job_at s j).stage ≡ Some phase)
 child_live s a t j asks e unclaimed =
     let job = job_at s j in
     let made = maker_of job a t ((latest s a t j e).passes no_job) in
-    is_live s j job job.stage (ap (may_ask s) (sym made.0) ∙ asks) (ap₂ (child s) (sym made.0) (sym made.1) ∙ e) unclaimed
+    is_live s j job job.stage (ap (may_get s) (sym made.0) ∙ asks) (ap₂ (child s) (sym made.0) (sym made.1) ∙ e) unclaimed
 
-pub child_seen : (plan : Plan) (s : State) (a : Parent) (t j : ℕ) → may_ask s a ≡ true → child s a t ≡ Some j → (job_at s j).stage ≢ Claimed → live_child (live_view plan s).jobs a t ≡ Some j
+pub child_seen : (plan : Plan) (s : State) (a : Parent) (t j : ℕ) → may_get s a ≡ true → child s a t ≡ Some j → (job_at s j).stage ≢ Claimed → live_child (live_view plan s).jobs a t ≡ Some j
 child_seen plan s a t j asks e unclaimed =
     let live = child_live s a t j asks e unclaimed in
     live_child_is plan s a t j live.0 e live.1
 
 -- a latest job that is done is in the view in the phase done, if its creator may still get it
-pub done_seen : (s : State) (a : Parent) (t j : ℕ) → may_ask s a ≡ true → child s a t ≡ Some j → (job_at s j).stage ≡ Done → seen s j ≡ Some (as_seen (job_at s j) phase.Done)
+pub done_seen : (s : State) (a : Parent) (t j : ℕ) → may_get s a ≡ true → child s a t ≡ Some j → (job_at s j).stage ≡ Done → seen s j ≡ Some (as_seen (job_at s j) phase.Done)
 done_seen s a t j asks e done =
     let job = job_at s j in
     let made = maker_of job a t ((latest s a t j e).passes no_job) in
-    seen_at s j Done phase.Done done (live_if_done s j job (ap (may_ask s) (sym made.0) ∙ asks) (ap₂ (child s) (sym made.0) (sym made.1) ∙ e))
+    seen_at s j Done phase.Done done (live_if_done s j job (ap (may_get s) (sym made.0) ∙ asks) (ap₂ (child s) (sym made.0) (sym made.1) ∙ e))

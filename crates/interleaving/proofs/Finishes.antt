@@ -12,45 +12,45 @@ use Rattle.written_machine.specs.declared.event.Outcome.{Outcome}
 use Rattle.written_machine.specs.declared.event.Outcome.TheVariants as outcome
 use Rattle.interleaving.specs.declared.job_view.Phase.{Phase}
 use Rattle.interleaving.specs.declared.job_view.Phase.TheVariants as phase
-use Rattle.written_machine.specs.State.{Stage, Made, State, no_job, job_at, pool_of, pool_view, pool_seen, is_at, is_unfinished, busy, same_parent, is_made_by, child}
+use Rattle.written_machine.specs.State.{Stage, CreatedJob, State, no_job, job_at, pool_of, pool_view, pool_seen, is_at, is_unfinished, busy, same_parent, is_made_by, child}
 use Rattle.written_machine.specs.State.Stage.{Queued, At, Done, Claimed}
 use Rattle.written_machine.specs.Step.{point, with_stage, finished_job}
-use Rattle.written_machine.specs.Laws.{IsLater}
+use Rattle.written_machine.specs.Laws.{HasGreaterNumber}
 use Rattle.written_machine.proofs.Busy.{one_if, busy-staged_here, busy-staged_elsewhere}
-use Rattle.written_machine.proofs.Kept.{Kept}
-use Rattle.written_machine.proofs.Standing.{At≢Claimed}
+use Rattle.written_machine.proofs.StateInvariant.{StateInvariant}
+use Rattle.written_machine.proofs.Positions.{At≢Claimed}
 use Rattle.written_machine.proofs.Stages.{get_or-staged_same, get_or-staged_other, child-stage}
 use Rattle.written_machine.proofs.Children.{same_actor_true, same_actor_refl}
-use Rattle.interleaving.specs.LiveView.{may_ask, is_number, phase_seen, job_with, job_seen, View, live_view}
-use Rattle.interleaving.specs.ViewStep.{live_job, live_child, is_done, may_ask_for, pool_in, with_pool_in, unless_orphan, finished_or_gone, finished_job_in}
+use Rattle.interleaving.specs.LiveView.{may_get, is_number, phase_seen, job_with, job_seen, View, live_view}
+use Rattle.interleaving.specs.ViewStep.{live_job, live_child, is_done, may_get_in, pool_in, with_pool_in, drop_if_orphan, finished_if_gettable, finished_job_in}
 use Rattle.interleaving.proofs.View.{seen, phase_with, job_seen-with, length-view, view_at, jobs_are, pool_at_view, same_views, may_ask_seen, pools-put}
-use Rattle.interleaving.proofs.Changes.{as_seen, seen_same, seen_at, may_ask-staged_other, job_standing}
+use Rattle.interleaving.proofs.Changes.{as_seen, seen_same, seen_at, may_get-staged_other, job_standing}
 use Rattle.interleaving.proofs.Children.{made_by_itself, child_seen}
-use Rattle.interleaving.proofs.Older.{Settled, latest_unclaimed}
+use Rattle.interleaving.proofs.OlderAreClaimed.{AllOlderAreClaimed, latest_unclaimed}
 
 -- ---- no actor can request the result of a done job whose parent has finished
 
-unless_orphan-kept : (j : ℕ) (job : Made) (phase : Phase) → is_done phase ≡ false → unless_orphan j (Some (as_seen job phase)) ≡ Some (as_seen job phase)
-unless_orphan-kept j job phase going = ap (λ b. if b then None else Some (as_seen job phase)) (and_right (same_parent (parent.Job j) job.parent) (is_done phase) going)
+drop_if_orphan-kept : (j : ℕ) (job : CreatedJob) (phase : Phase) → is_done phase ≡ false → drop_if_orphan j (Some (as_seen job phase)) ≡ Some (as_seen job phase)
+drop_if_orphan-kept j job phase going = ap (λ b. if b then None else Some (as_seen job phase)) (and_right (same_parent (parent.Job j) job.parent) (is_done phase) going)
 
-unless_orphan-other : (j : ℕ) (job : Made) (o : Option Phase) → same_parent (parent.Job j) job.parent ≡ false → unless_orphan j (job_with job o) ≡ job_with job o
-unless_orphan-other j job None other = refl
-unless_orphan-other j job (Some phase) other = ap (λ b. if b && is_done phase then None else Some (as_seen job phase)) other
+drop_if_orphan-other : (j : ℕ) (job : CreatedJob) (o : Option Phase) → same_parent (parent.Job j) job.parent ≡ false → drop_if_orphan j (job_with job o) ≡ job_with job o
+drop_if_orphan-other j job None other = refl
+drop_if_orphan-other j job (Some phase) other = ap (λ b. if b && is_done phase then None else Some (as_seen job phase)) other
 
-orphan_if : (j : ℕ) (job : Made) (b : Bool) → same_parent (parent.Job j) job.parent ≡ true → None ≡ unless_orphan j (job_with job (if b then Some phase.Done else None))
+orphan_if : (j : ℕ) (job : CreatedJob) (b : Bool) → same_parent (parent.Job j) job.parent ≡ true → None ≡ drop_if_orphan j (job_with job (if b then Some phase.Done else None))
 orphan_if j job true orphan = ap (λ b. if b && true then None else Some (as_seen job phase.Done)) (sym orphan)
 orphan_if j job false orphan = refl
 
-orphan_with : (j : ℕ) (job : Made) (asks : Bool) (latest latest' : Option ℕ) (n : ℕ) (stage : Stage) → same_parent (parent.Job j) job.parent ≡ true
-    → job_with job (phase_with false latest' n stage) ≡ unless_orphan j (job_with job (phase_with asks latest n stage))
-orphan_with j job asks latest latest' n Queued orphan = sym (unless_orphan-kept j job phase.Queued refl)
-orphan_with j job asks latest latest' n (At i) orphan = sym (unless_orphan-kept j job (phase.At i) refl)
+orphan_with : (j : ℕ) (job : CreatedJob) (asks : Bool) (latest latest' : Option ℕ) (n : ℕ) (stage : Stage) → same_parent (parent.Job j) job.parent ≡ true
+    → job_with job (phase_with false latest' n stage) ≡ drop_if_orphan j (job_with job (phase_with asks latest n stage))
+orphan_with j job asks latest latest' n Queued orphan = sym (drop_if_orphan-kept j job phase.Queued refl)
+orphan_with j job asks latest latest' n (At i) orphan = sym (drop_if_orphan-kept j job (phase.At i) refl)
 orphan_with j job asks latest latest' n Done orphan = orphan_if j job (asks && is_number latest n) orphan
 orphan_with j job asks latest latest' n Claimed orphan = refl
 
 -- ---- the other jobs
 
-seen-finished_other : (s : State) (j n : ℕ) → j < length s.jobs → n ≢ j → seen (with_stage j Done s) n ≡ unless_orphan j (seen s n)
+seen-finished_other : (s : State) (j n : ℕ) → j < length s.jobs → n ≢ j → seen (with_stage j Done s) n ≡ drop_if_orphan j (seen s n)
 seen-finished_other s j n inside other =
     let s' = with_stage j Done s in
     let old = job_at s n in
@@ -59,17 +59,17 @@ seen-finished_other s j n inside other =
     ⊎_elim
     (λ orphan.
     let is_parent = same_actor_true (parent.Job j) old.parent orphan in
-    let asks : may_ask s' old.parent ≡ false = ap (may_ask s') (sym is_parent) ∙ ap (λ (job : Made). is_unfinished job.stage) (get_or-staged_same s.jobs j Done inside) in
+    let asks : may_get s' old.parent ≡ false = ap (may_get s') (sym is_parent) ∙ ap (λ (job : CreatedJob). is_unfinished job.stage) (get_or-staged_same s.jobs j Done inside) in
     ap (job_seen s' n) same ∙ job_seen-with s' n old ∙ ap (λ b. job_with old (phase_with b (child s' old.parent old.slot) n old.stage)) asks
-    ∙ orphan_with j old (may_ask s old.parent) (child s old.parent old.slot) (child s' old.parent old.slot) n old.stage orphan ∙ sym (ap (unless_orphan j) (job_seen-with s n old)))
+    ∙ orphan_with j old (may_get s old.parent) (child s old.parent old.slot) (child s' old.parent old.slot) n old.stage orphan ∙ sym (ap (drop_if_orphan j) (job_seen-with s n old)))
     (λ cared.
     let not_parent : old.parent ≢ parent.Job j = λ e. both_ways (same_parent (parent.Job j) old.parent) cared (ap (same_parent (parent.Job j)) e ∙ same_actor_refl (parent.Job j)) in
-    seen_same s s' n same (may_ask-staged_other s j Done old.parent not_parent) latest ∙ sym (unless_orphan-other j old (phase_seen s n old old.stage) cared))
+    seen_same s s' n same (may_get-staged_other s j Done old.parent not_parent) latest ∙ sym (drop_if_orphan-other j old (phase_seen s n old old.stage) cared))
     (cases_Bool (same_parent (parent.Job j) old.parent))
 
 -- ---- the job itself
 
-own_parent : (a : Parent) (j : ℕ) → IsLater a j → same_parent (parent.Job j) a ≡ false
+own_parent : (a : Parent) (j : ℕ) → HasGreaterNumber a j → same_parent (parent.Job j) a ≡ false
 own_parent (parent.Client c) j after = refl
 own_parent (parent.Job m) j after = ne_eqb j m (λ (e : j ≡ m). omega arith)
 
@@ -77,16 +77,16 @@ and_same : (b x y : Bool) → (b ≡ true → x ≡ y) → (b && x) ≡ (b && y)
 and_same true x y same = same refl
 and_same false x y same = refl
 
-finished_if : (job : Made) (stage : Stage) (b : Bool) → job_with (record job { stage = stage }) (if b then Some phase.Done else None) ≡ (if b then Some (as_seen job phase.Done) else None)
+finished_if : (job : CreatedJob) (stage : Stage) (b : Bool) → job_with (record job { stage = stage }) (if b then Some phase.Done else None) ≡ (if b then Some (as_seen job phase.Done) else None)
 finished_if job stage true = refl
 finished_if job stage false = refl
 
-finished_stays : (j : ℕ) (job : Made) (b : Bool) → same_parent (parent.Job j) job.parent ≡ false → unless_orphan j (if b then Some (as_seen job phase.Done) else None) ≡ (if b then Some (as_seen job phase.Done) else None)
-finished_stays j job true other = unless_orphan-other j job (Some phase.Done) other
+finished_stays : (j : ℕ) (job : CreatedJob) (b : Bool) → same_parent (parent.Job j) job.parent ≡ false → drop_if_orphan j (if b then Some (as_seen job phase.Done) else None) ≡ (if b then Some (as_seen job phase.Done) else None)
+finished_stays j job true other = drop_if_orphan-other j job (Some phase.Done) other
 finished_stays j job false other = refl
 
 -- while the parent may still get its jobs, the view and the state agree on whether this job is the latest one
-latest_seen : (plan : Plan) (s : State) (j : ℕ) → Settled plan s → j < length s.jobs → (job_at s j).stage ≢ Claimed → may_ask s (job_at s j).parent ≡ true → (o : Option ℕ) → child s (job_at s j).parent (job_at s j).slot ≡ o
+latest_seen : (plan : Plan) (s : State) (j : ℕ) → AllOlderAreClaimed plan s → j < length s.jobs → (job_at s j).stage ≢ Claimed → may_get s (job_at s j).parent ≡ true → (o : Option ℕ) → child s (job_at s j).parent (job_at s j).slot ≡ o
     → is_number o j ≡ is_number (live_child (live_view plan s).jobs (job_at s j).parent (job_at s j).slot) j
 latest_seen plan s j settled inside unclaimed asks None e =
     let job = job_at s j in
@@ -96,8 +96,8 @@ latest_seen plan s j settled inside unclaimed asks (Some m) e =
     let last = latest_unclaimed plan s job.parent job.slot j m settled asks inside (made_by_itself job) unclaimed e in
     sym (ap (λ o. is_number o j) (child_seen plan s job.parent job.slot m asks e last))
 
-seen-finished : (plan : Plan) (s : State) (j i : ℕ) → Settled plan s → IsLater (job_at s j).parent j → j < length s.jobs → (job_at s j).stage ≡ At i
-    → seen (with_stage j Done s) j ≡ unless_orphan j (finished_or_gone (live_view plan s).jobs j (as_seen (job_at s j) (phase.At i)))
+seen-finished : (plan : Plan) (s : State) (j i : ℕ) → AllOlderAreClaimed plan s → HasGreaterNumber (job_at s j).parent j → j < length s.jobs → (job_at s j).stage ≡ At i
+    → seen (with_stage j Done s) j ≡ drop_if_orphan j (finished_if_gettable (live_view plan s).jobs j (as_seen (job_at s j) (phase.At i)))
 seen-finished plan s j i settled after inside stands =
     let s' = with_stage j Done s in
     let jobs = (live_view plan s).jobs in
@@ -106,23 +106,23 @@ seen-finished plan s j i settled after inside stands =
     let t = job.slot in
     let not_own = own_parent a j after in
     let not_itself : a ≢ parent.Job j = λ e. both_ways (same_parent (parent.Job j) a) not_own (ap (same_parent (parent.Job j)) e ∙ same_actor_refl (parent.Job j)) in
-    let now = may_ask s' a && is_number (child s' a t) j in
-    let seen_now = may_ask_for jobs a && is_number (live_child jobs a t) j in
-    let stays : now ≡ (may_ask s a && is_number (child s a t) j) = ap₂ (λ b o. b && is_number o j) (may_ask-staged_other s j Done a not_itself) (child-stage s.jobs a t j Done) in
-    let told = and_same (may_ask s a) (is_number (child s a t) j) (is_number (live_child jobs a t) j) (λ asks. latest_seen plan s j settled inside (At≢Claimed stands) asks (child s a t) refl) in
+    let now = may_get s' a && is_number (child s' a t) j in
+    let seen_now = may_get_in jobs a && is_number (live_child jobs a t) j in
+    let stays : now ≡ (may_get s a && is_number (child s a t) j) = ap₂ (λ b o. b && is_number o j) (may_get-staged_other s j Done a not_itself) (child-stage s.jobs a t j Done) in
+    let told = and_same (may_get s a) (is_number (child s a t) j) (is_number (live_child jobs a t) j) (λ asks. latest_seen plan s j settled inside (At≢Claimed stands) asks (child s a t) refl) in
     let same : now ≡ seen_now = stays ∙ told ∙ sym (ap (λ b. b && is_number (live_child jobs a t) j) (may_ask_seen plan s a)) in
     ap (job_seen s' j) (get_or-staged_same s.jobs j Done inside) ∙ finished_if job Done now ∙ ap (λ b. if b then Some (as_seen job phase.Done) else None) same ∙ sym (finished_stays j job seen_now not_own)
 
 -- ---- the event
 
-module _ (plan : Plan) (s : State) (j : ℕ) (body : List Action) (i : ℕ) (kept : Kept plan s) (settled : Settled plan s) (stands : point plan s (parent.Job j) ≡ Some (record { body = body; position = i }))
+module _ (plan : Plan) (s : State) (j : ℕ) (body : List Action) (i : ℕ) (kept : StateInvariant plan s) (settled : AllOlderAreClaimed plan s) (stands : point plan s (parent.Job j) ≡ Some (record { body = body; position = i }))
     (inside : pool_of plan (job_at s j).class < length plan.pools) where
-  jobs_after : (live_view plan (with_stage j Done s)).jobs ≡ map (unless_orphan j) (set (live_view plan s).jobs j (finished_or_gone (live_view plan s).jobs j (as_seen (job_at s j) (phase.At i))))
+  jobs_after : (live_view plan (with_stage j Done s)).jobs ≡ map (drop_if_orphan j) (set (live_view plan s).jobs j (finished_if_gettable (live_view plan s).jobs j (as_seen (job_at s j) (phase.At i))))
   jobs_after =
       let jobs = (live_view plan s).jobs in
       let at = job_standing plan s j body i stands in
-      let here = finished_or_gone jobs j (as_seen (job_at s j) (phase.At i)) in
-      let f = unless_orphan j in
+      let here = finished_if_gettable jobs j (as_seen (job_at s j) (phase.At i)) in
+      let f = drop_if_orphan j in
       let long = length-view plan s in
       let set_long = length-set jobs j here in
       let map_long = length-map (set jobs j here) f in
@@ -154,8 +154,8 @@ module _ (plan : Plan) (s : State) (j : ℕ) (body : List Action) (i : ℕ) (kep
   finish_commutes =
       let view = live_view plan s in
       let p = pool_of plan (job_at s j).class in
-      let here = finished_or_gone view.jobs j (as_seen (job_at s j) (phase.At i)) in
-      let after : View = with_pool_in p (finished (pool_in view p)) (record view { jobs = map (unless_orphan j) (set view.jobs j here) }) in
+      let here = finished_if_gettable view.jobs j (as_seen (job_at s j) (phase.At i)) in
+      let after : View = with_pool_in p (finished (pool_in view p)) (record view { jobs = map (drop_if_orphan j) (set view.jobs j here) }) in
       let same : live_view plan (finished_job plan s j p) ≡ after = same_views (live_view plan (finished_job plan s j p)) after jobs_after pools_after refl refl in
       let seen_as : finished_job_in plan view j (live_job view.jobs j) ≡ Some (after, outcome.Finished j) = ap (finished_job_in plan view j) finished_as in
       ap (λ (v : View). Some (v, outcome.Finished j)) same ∙ sym seen_as

@@ -12,18 +12,18 @@ use Rattle.written_machine.proofs.Children.{same_actor_true}
 use Rattle.interleaving.specs.declared.job_view.Phase.TheVariants as phase
 use Rattle.interleaving.specs.declared.job_view.JobView.{JobView}
 use Rattle.interleaving.specs.LiveView.{is_number}
-use Rattle.interleaving.specs.ViewStep.{live_job, is_live_child, live_child, is_done, is_unfinished_job, may_ask_for, unless_orphan, finished_or_gone}
-use Rattle.interleaving.specs.Latest.{LatestList, found, is_call}
+use Rattle.interleaving.specs.ViewStep.{live_job, is_live_child, live_child, is_done, is_unfinished_job, may_get_in, drop_if_orphan, finished_if_gettable}
+use Rattle.interleaving.specs.LatestJobs.{LatestJobsView, found, is_call}
 use Rattle.interleaving.specs.LiveJobs.{DoneAreLatest, IsLatest, AreFound, AreOrphaned, OrphansAreFound}
 use Rattle.interleaving.proofs.MakersStay.{Fades, AreFading, fading_orphans}
 use Rattle.interleaving.proofs.LatestFound.{latest_is, made_if_child, is_call_of, same_call, still_child, sound_fading, asks_before, child_of, child_itself}
 
 -- the index has each done job that an unfinished job created
-pub orphans_found : (jobs : List (Option JobView)) (latest : LatestList) (j : ℕ) → AreFound jobs latest → DoneAreLatest jobs → may_ask_for jobs (parent.Job j) ≡ true → OrphansAreFound jobs latest j
+pub orphans_found : (jobs : List (Option JobView)) (latest : LatestJobsView) (j : ℕ) → AreFound jobs latest → DoneAreLatest jobs → may_get_in jobs (parent.Job j) ≡ true → OrphansAreFound jobs latest j
 orphans_found jobs latest j f done asks = λ t k job e child is_done_job. f.complete (parent.Job j) t k asks (latest_is jobs (parent.Job j) t k (done (parent.Job j) t k job e child is_done_job))
 
 -- a job that the actor did not create is not an orphan
-pub not_orphan : (j : ℕ) (job : Option JobView) → ((t : ℕ) → is_live_child (parent.Job j) t job ≡ false) → unless_orphan j job ≡ job
+pub not_orphan : (j : ℕ) (job : Option JobView) → ((t : ℕ) → is_live_child (parent.Job j) t job ≡ false) → drop_if_orphan j job ≡ job
 not_orphan j None none = refl
 not_orphan j (Some job) none =
     let at : (same_parent (parent.Job j) job.parent && job.slot == job.slot) ≡ false = none job.slot in
@@ -40,21 +40,21 @@ latest_of jobs a t k (Some m) e child = (m, e)
 -- the job with number n finishes
 module _ (jobs : List (Option JobView)) (n : ℕ) (job : JobView) (live : live_job jobs n ≡ Some job) (other : job.parent ≢ parent.Job n) where
   abbrev fin : Option JobView
-  fin = finished_or_gone jobs n job
+  fin = finished_if_gettable jobs n job
 
   abbrev left : List (Option JobView)
-  left = map (unless_orphan n) jobs
+  left = map (drop_if_orphan n) jobs
 
   abbrev after : List (Option JobView)
   after = set left n fin
 
-  fin_if : (b : Bool) → unless_orphan n (if b then Some (record job { phase = phase.Done }) else None) ≡ (if b then Some (record job { phase = phase.Done }) else None)
+  fin_if : (b : Bool) → drop_if_orphan n (if b then Some (record job { phase = phase.Done }) else None) ≡ (if b then Some (record job { phase = phase.Done }) else None)
   fin_if true = ap (λ b. if b && true then None else Some (record job { phase = phase.Done })) (false_from_ne_true (same_parent (parent.Job n) job.parent) (λ e. other (sym (same_actor_true (parent.Job n) job.parent e))))
   fin_if false = refl
 
   -- the state in which the job finishes first and its children are removed then
-  pub after_is : after ≡ map (unless_orphan n) (set jobs n fin)
-  after_is = ap (set left n) (sym (fin_if (may_ask_for jobs job.parent && is_number (live_child jobs job.parent job.slot) n))) ∙ sym (map-set (unless_orphan n) jobs n fin)
+  pub after_is : after ≡ map (drop_if_orphan n) (set jobs n fin)
+  after_is = ap (set left n) (sym (fin_if (may_get_in jobs job.parent && is_number (live_child jobs job.parent job.slot) n))) ∙ sym (map-set (drop_if_orphan n) jobs n fin)
 
   long : length left ≡ length jobs
   long = (fading_orphans jobs n).long
@@ -68,8 +68,8 @@ module _ (jobs : List (Option JobView)) (n : ℕ) (job : JobView) (live : live_j
   at_other : (k : ℕ) → k ≢ n → live_job after k ≡ live_job left k
   at_other k apart = get_or-set_other left n k fin None apart
 
-  at_left : (k : ℕ) → live_job left k ≡ unless_orphan n (live_job jobs k)
-  at_left k = get_or-map_at (unless_orphan n) jobs k None
+  at_left : (k : ℕ) → live_job left k ≡ drop_if_orphan n (live_job jobs k)
+  at_left k = get_or-map_at (drop_if_orphan n) jobs k None
 
   fades_fin : (b : Bool) (x : Option JobView) → x ≡ Some job → Fades x (if b then Some (record job { phase = phase.Done }) else None)
   fades_fin true x e = subst (λ y. Fades y (Some (record job { phase = phase.Done }))) (sym e) (refl, refl)
@@ -79,7 +79,7 @@ module _ (jobs : List (Option JobView)) (n : ℕ) (job : JobView) (live : live_j
   fading = record {
     long = length-set left n fin ∙ long;
     each = λ k. ⊎_elim
-        (λ (here : k ≡ n). subst (λ m. Fades (live_job jobs m) (live_job after m)) (sym here) (subst (Fades (live_job jobs n)) (sym at_n) (fades_fin (may_ask_for jobs job.parent && is_number (live_child jobs job.parent job.slot) n) (live_job jobs n) live)))
+        (λ (here : k ≡ n). subst (λ m. Fades (live_job jobs m) (live_job after m)) (sym here) (subst (Fades (live_job jobs n)) (sym at_n) (fades_fin (may_get_in jobs job.parent && is_number (live_child jobs job.parent job.slot) n) (live_job jobs n) live)))
         (λ (apart : k ≢ n). subst (Fades (live_job jobs k)) (sym (at_other k apart)) ((fading_orphans jobs n).each k))
         (cases_eq k n);
   }
@@ -89,12 +89,12 @@ module _ (jobs : List (Option JobView)) (n : ℕ) (job : JobView) (live : live_j
   fin_done false = refl
 
   pub fin_finished : is_unfinished_job fin ≡ false
-  fin_finished = fin_done (may_ask_for jobs job.parent && is_number (live_child jobs job.parent job.slot) n)
+  fin_finished = fin_done (may_get_in jobs job.parent && is_number (live_child jobs job.parent job.slot) n)
 
-  n_asks_not : may_ask_for after (parent.Job n) ≡ false
+  n_asks_not : may_get_in after (parent.Job n) ≡ false
   n_asks_not = ap is_unfinished_job at_n ∙ fin_finished
 
-  unfinished_if_orphan : (x : Option JobView) → is_unfinished_job (unless_orphan n x) ≡ true → is_unfinished_job x ≡ true
+  unfinished_if_orphan : (x : Option JobView) → is_unfinished_job (drop_if_orphan n x) ≡ true → is_unfinished_job x ≡ true
   unfinished_if_orphan None e = e
   unfinished_if_orphan (Some v) e = by_test (same_parent (parent.Job n) v.parent && is_done v.phase) e
     where
@@ -102,17 +102,17 @@ module _ (jobs : List (Option JobView)) (n : ℕ) (job : JobView) (live : live_j
       by_test true e = absurd cc
       by_test false e = e
 
-  asked : (a : Parent) → may_ask_for after a ≡ true → may_ask_for jobs a ≡ true
-  asked a e = asks_before jobs after a (λ k unfinished. ⊎_elim
+  has_get : (a : Parent) → may_get_in after a ≡ true → may_get_in jobs a ≡ true
+  has_get a e = asks_before jobs after a (λ k unfinished. ⊎_elim
       (λ (here : k ≡ n). absurd (both_ways (is_unfinished_job (live_job after k)) (ap (λ m. is_unfinished_job (live_job after m)) here ∙ n_asks_not) unfinished))
       (λ (apart : k ≢ n). unfinished_if_orphan (live_job jobs k) (sym (ap is_unfinished_job (at_other k apart ∙ at_left k)) ∙ unfinished))
       (cases_eq k n)) e
 
-  not_n : (a : Parent) → may_ask_for after a ≡ true → a ≢ parent.Job n
-  not_n a e same = both_ways (may_ask_for after a) (ap (may_ask_for after) same ∙ n_asks_not) e
+  not_n : (a : Parent) → may_get_in after a ≡ true → a ≢ parent.Job n
+  not_n a e same = both_ways (may_get_in after a) (ap (may_get_in after) same ∙ n_asks_not) e
 
   -- the latest job of an actor that may still get its jobs is still live
-  survives : (a : Parent) (t m : ℕ) → may_ask_for after a ≡ true → live_child jobs a t ≡ Some m → is_live_child a t (live_job after m) ≡ true
+  survives : (a : Parent) (t m : ℕ) → may_get_in after a ≡ true → live_child jobs a t ≡ Some m → is_live_child a t (live_job after m) ≡ true
   survives a t m asks e =
       let child = (latest_is jobs a t m e).passes in
       ⊎_elim
@@ -123,22 +123,22 @@ module _ (jobs : List (Option JobView)) (n : ℕ) (job : JobView) (live : live_j
       let slot : t ≡ job.slot = mine.slot ∙ ap (λ (x : JobView). x.slot) view in
       let told : is_number (live_child jobs job.parent job.slot) n ≡ true =
       ap (λ o. is_number o n) (ap (λ b. live_child jobs b job.slot) (sym actor) ∙ ap (live_child jobs a) (sym slot) ∙ e ∙ ap Some here) ∙ eq-eqb n n refl in
-      let both = and_from (may_ask_for jobs job.parent) (is_number (live_child jobs job.parent job.slot) n) (ap (may_ask_for jobs) (sym actor) ∙ asked a asks) told in
+      let both = and_from (may_get_in jobs job.parent) (is_number (live_child jobs job.parent job.slot) n) (ap (may_get_in jobs) (sym actor) ∙ has_get a asks) told in
       let is_fin : fin ≡ Some (record job { phase = phase.Done }) = ap (λ b. if b then Some (record job { phase = phase.Done }) else None) both in
       ap (λ i. is_live_child a t (live_job after i)) here ∙ ap (is_live_child a t) (at_n ∙ is_fin) ∙ ap (is_live_child a t) (sym live ∙ ap (live_job jobs) (sym here)) ∙ child)
       (λ (apart : m ≢ n).
-      let stays : unless_orphan n (live_job jobs m) ≡ live_job jobs m = not_orphan n (live_job jobs m) (λ u. false_from_ne_true (is_live_child (parent.Job n) u (live_job jobs m)) (λ own.
+      let stays : drop_if_orphan n (live_job jobs m) ≡ live_job jobs m = not_orphan n (live_job jobs m) (λ u. false_from_ne_true (is_live_child (parent.Job n) u (live_job jobs m)) (λ own.
       let call = is_call_of a (parent.Job n) t u (live_job jobs m) child own in
       not_n a asks (sym (same_call a (parent.Job n) t u call).0))) in
       ap (is_live_child a t) (at_other m apart ∙ at_left m ∙ stays) ∙ child)
       (cases_eq m n)
 
-  module _ (latest later next : LatestList) (i : ℕ) (f : AreFound jobs latest) (o : AreOrphaned n i jobs left latest later)
+  module _ (latest later next : LatestJobsView) (i : ℕ) (f : AreFound jobs latest) (o : AreOrphaned n i jobs left latest later)
       (sub : (a : Parent) (t k : ℕ) → found next a t ≡ Some k → (found later a t ≡ Some k) × (fin ≡ None → is_call job.parent job.slot a t ≡ true → k ≢ n))
       (stay : (a : Parent) (t k : ℕ) → found later a t ≡ Some k → (fin ≡ None → k ≢ n) → found next a t ≡ Some k) where
     fin_child : (a : Parent) (t : ℕ) (x : Option JobView) → fin ≡ x → is_live_child a t (Some job) ≡ true → (x ≡ None → ⊥) → is_live_child a t x ≡ true
     fin_child a t None e child some = absurd (some refl)
-    fin_child a t (Some v) e child some = by_test (may_ask_for jobs job.parent && is_number (live_child jobs job.parent job.slot) n) e
+    fin_child a t (Some v) e child some = by_test (may_get_in jobs job.parent && is_number (live_child jobs job.parent job.slot) n) e
       where
         by_test : (b : Bool) → ◌≡◌ {A = Option JobView} (if b then Some (record job { phase = phase.Done }) else None) (Some v) → is_live_child a t (Some v) ≡ true
         by_test true same = sym (ap (is_live_child a t) same) ∙ child
@@ -157,7 +157,7 @@ module _ (jobs : List (Option JobView)) (n : ℕ) (job : JobView) (live : live_j
         (λ (apart : k ≢ n). ap (is_live_child a t) (at_other k apart ∙ two.1) ∙ was.passes)
         (cases_eq k n))
 
-    finished_complete : (a : Parent) (t k : ℕ) → may_ask_for after a ≡ true → IsLatest after a t k → found next a t ≡ Some k
+    finished_complete : (a : Parent) (t k : ℕ) → may_get_in after a ≡ true → IsLatest after a t k → found next a t ≡ Some k
     finished_complete a t k asks last =
         let child = still_child jobs after fading a t k last.passes in
         let top = latest_of jobs a t k (live_child jobs a t) refl child in
@@ -167,7 +167,7 @@ module _ (jobs : List (Option JobView)) (n : ℕ) (job : JobView) (live : live_j
         let low : m ≤ k = ⊎_elim (λ (above : k < m). absurd (both_ways (is_live_child a t (live_job after m)) (last.none_later m above) alive)) (λ below. below) (cases_lt k m) in
         let high : k ≤ m = ⊎_elim (λ (above : m < k). absurd (both_ways (is_live_child a t (live_job jobs k)) (was.none_later k above) child)) (λ below. below) (cases_lt m k) in
         let same : m ≡ k = omega arith in
-        let is_found : found later a t ≡ Some k = o.others a t (not_n a asks) ∙ f.complete a t m (asked a asks) was ∙ ap Some same in
+        let is_found : found later a t ≡ Some k = o.others a t (not_n a asks) ∙ f.complete a t m (has_get a asks) was ∙ ap Some same in
         stay a t k is_found (λ none here. both_ways (is_live_child a t (live_job after k)) (ap (λ i. is_live_child a t (live_job after i)) here ∙ ap (is_live_child a t) (at_n ∙ none)) last.passes)
 
     pub found_finished : AreFound after next

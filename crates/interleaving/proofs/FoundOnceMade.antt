@@ -6,20 +6,20 @@ use Rattle.std.proofs.lemmas.List.{get_or_past, get_or_append_left, get_or_push,
 use Rattle.written_machine.specs.declared.parent.Parent.{Parent}
 use Rattle.written_machine.specs.declared.parent.Parent.TheVariants as parent
 use Rattle.interleaving.specs.declared.job_view.JobView.{JobView}
-use Rattle.interleaving.specs.ViewStep.{live_job, is_live_child, is_done, is_unfinished_job, may_ask_for, unless_stale}
-use Rattle.interleaving.specs.Latest.{LatestList, found, is_call}
+use Rattle.interleaving.specs.ViewStep.{live_job, is_live_child, is_done, is_unfinished_job, may_get_in, drop_if_stale}
+use Rattle.interleaving.specs.LatestJobs.{LatestJobsView, found, is_call}
 use Rattle.interleaving.specs.LiveJobs.{IsLatest, AreFound}
 use Rattle.interleaving.proofs.LatestFound.{made_if_child, is_call_of, same_call, child_itself}
 
 abbrev pub with_new : List (Option JobView) → JobView → List (Option JobView)
-with_new jobs job = map (unless_stale job.parent job.slot) jobs ++ Some job ∷ []
+with_new jobs job = map (drop_if_stale job.parent job.slot) jobs ++ Some job ∷ []
 
 stale_child_if : (a b : Parent) (t u : ℕ) (v : JobView) (stale : Bool) → (stale ≡ true → is_live_child a t (Some v) ≡ true) → is_call a t b u ≡ false → is_live_child b u (if stale then None else Some v) ≡ is_live_child b u (Some v)
 stale_child_if a b t u v true of_call other = sym (false_from_ne_true (is_live_child b u (Some v)) (λ e. both_ways (is_call a t b u) other (is_call_of a b t u (Some v) (of_call refl) e)))
 stale_child_if a b t u v false of_call other = refl
 
 -- the stale job of one call is not a job of another call
-stale_child : (a b : Parent) (t u : ℕ) (x : Option JobView) → is_call a t b u ≡ false → is_live_child b u (unless_stale a t x) ≡ is_live_child b u x
+stale_child : (a b : Parent) (t u : ℕ) (x : Option JobView) → is_call a t b u ≡ false → is_live_child b u (drop_if_stale a t x) ≡ is_live_child b u x
 stale_child a b t u None other = refl
 stale_child a b t u (Some v) other = stale_child_if a b t u v (is_live_child a t (Some v) && is_done v.phase) (λ e. (and_parts (is_live_child a t (Some v)) (is_done v.phase) e).0) other
 
@@ -27,22 +27,22 @@ unfinished_if : (v : JobView) (stale : Bool) → is_unfinished_job (if stale the
 unfinished_if v true e = absurd cc
 unfinished_if v false e = e
 
-unfinished_unless_stale : (a : Parent) (t : ℕ) (x : Option JobView) → is_unfinished_job (unless_stale a t x) ≡ true → is_unfinished_job x ≡ true
+unfinished_unless_stale : (a : Parent) (t : ℕ) (x : Option JobView) → is_unfinished_job (drop_if_stale a t x) ≡ true → is_unfinished_job x ≡ true
 unfinished_unless_stale a t None e = e
 unfinished_unless_stale a t (Some v) e = unfinished_if v (is_live_child a t (Some v) && is_done v.phase) e
 
 module _ (jobs : List (Option JobView)) (job : JobView) where
   -- the job at each number
-  old_job : (k : ℕ) → k < length jobs → live_job (with_new jobs job) k ≡ unless_stale job.parent job.slot (live_job jobs k)
+  old_job : (k : ℕ) → k < length jobs → live_job (with_new jobs job) k ≡ drop_if_stale job.parent job.slot (live_job jobs k)
   old_job k inside =
-      let f = unless_stale job.parent job.slot in
+      let f = drop_if_stale job.parent job.slot in
       get_or_append_left (map f jobs) (Some job ∷ []) None k (let long = length-map jobs f in omega (arith, inside)) ∙ get_or-map f jobs k None
 
   new_job : live_job (with_new jobs job) (length jobs) ≡ Some job
-  new_job = get_or_push (map (unless_stale job.parent job.slot) jobs) (Some job) None (length jobs) (length-map jobs (unless_stale job.parent job.slot))
+  new_job = get_or_push (map (drop_if_stale job.parent job.slot) jobs) (Some job) None (length jobs) (length-map jobs (drop_if_stale job.parent job.slot))
 
   pub length-with_new : length (with_new jobs job) ≡ length jobs + 1
-  length-with_new = let long = length_push (map (unless_stale job.parent job.slot) jobs) (Some job) in let same = length-map jobs (unless_stale job.parent job.slot) in omega arith
+  length-with_new = let long = length_push (map (drop_if_stale job.parent job.slot) jobs) (Some job) in let same = length-map jobs (drop_if_stale job.parent job.slot) in omega arith
 
   none_past : (k : ℕ) → length jobs < k → live_job (with_new jobs job) k ≡ None
   none_past k past = get_or_past (with_new jobs job) k None (omega (arith, length-with_new))
@@ -68,16 +68,16 @@ module _ (jobs : List (Option JobView)) (job : JobView) where
       (subst (λ u. is_live_child job.parent u (live_job (with_new jobs job) (length jobs)) ≡ true) (sym same.1) (ap (is_live_child job.parent job.slot) new_job ∙ child_itself job))
 
   -- an actor that may get its jobs could do so before, unless it is the new job
-  asked : (a : Parent) → may_ask_for (with_new jobs job) a ≡ true → a ≢ parent.Job (length jobs) → may_ask_for jobs a ≡ true
-  asked (parent.Client c) e other = refl
-  asked (parent.Job j) e other = ⊎_elim
+  has_get : (a : Parent) → may_get_in (with_new jobs job) a ≡ true → a ≢ parent.Job (length jobs) → may_get_in jobs a ≡ true
+  has_get (parent.Client c) e other = refl
+  has_get (parent.Job j) e other = ⊎_elim
       (λ (inside : j < length jobs). unfinished_unless_stale job.parent job.slot (live_job jobs j) (sym (ap is_unfinished_job (old_job j inside)) ∙ e))
       (λ (past : length jobs ≤ j). ⊎_elim (λ (last : j ≡ length jobs). absurd (other (ap parent.Job last)))
-      (λ (behind : j ≢ length jobs). absurd (both_ways (may_ask_for (with_new jobs job) (parent.Job j)) (ap is_unfinished_job (none_past j (omega arith))) e))
+      (λ (behind : j ≢ length jobs). absurd (both_ways (may_get_in (with_new jobs job) (parent.Job j)) (ap is_unfinished_job (none_past j (omega arith))) e))
       (cases_eq j (length jobs)))
       (cases_lt j (length jobs))
 
-  module _ (latest later : LatestList) (f : AreFound jobs latest) (made : (j t k : ℕ) → is_live_child (parent.Job j) t (live_job jobs k) ≡ true → j < length jobs)
+  module _ (latest later : LatestJobsView) (f : AreFound jobs latest) (made : (j t k : ℕ) → is_live_child (parent.Job j) t (live_job jobs k) ≡ true → j < length jobs)
       (e : (a : Parent) (t : ℕ) → found later a t ≡ (if is_call job.parent job.slot a t then Some (length jobs) else found latest a t)) where
     new_sound : (a : Parent) (t k : ℕ) → found later a t ≡ Some k → IsLatest (with_new jobs job) a t k
     new_sound a t k is_found = ⊎_elim
@@ -96,7 +96,7 @@ module _ (jobs : List (Option JobView)) (job : JobView) where
         same_number : (m n : ℕ) → ◌≡◌ {A = Option ℕ} (Some m) (Some n) → m ≡ n
         same_number m n s = cc
 
-    new_complete : (a : Parent) (t k : ℕ) → may_ask_for (with_new jobs job) a ≡ true → IsLatest (with_new jobs job) a t k → found later a t ≡ Some k
+    new_complete : (a : Parent) (t k : ℕ) → may_get_in (with_new jobs job) a ≡ true → IsLatest (with_new jobs job) a t k → found later a t ≡ Some k
     new_complete a t k asks last = ⊎_elim
         (λ call.
         let child = new_child a t call in
@@ -108,7 +108,7 @@ module _ (jobs : List (Option JobView)) (job : JobView) where
         let child : is_live_child a t (live_job jobs k) ≡ true = sym (other_child a t k other) ∙ last.passes in
         let was : IsLatest jobs a t k = record { passes = child; none_later = λ i above. sym (other_child a t i other) ∙ last.none_later i above } in
         let apart : a ≢ parent.Job (length jobs) = λ same. let low = made (length jobs) t k (subst (λ b. is_live_child b t (live_job jobs k) ≡ true) same child) in omega (arith, low) in
-        e a t ∙ ap (λ b. if b then Some (length jobs) else found latest a t) other ∙ f.complete a t k (asked a asks apart) was)
+        e a t ∙ ap (λ b. if b then Some (length jobs) else found latest a t) other ∙ f.complete a t k (has_get a asks apart) was)
         (cases_Bool (is_call job.parent job.slot a t))
 
     pub found_made : AreFound (with_new jobs job) later

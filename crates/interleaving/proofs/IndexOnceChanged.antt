@@ -9,19 +9,19 @@ use Rattle.written_machine.specs.declared.parent.Parent.{Parent}
 use Rattle.written_machine.specs.declared.parent.Parent.TheVariants as parent
 use Rattle.interleaving.specs.declared.job_view.Phase.{Phase}
 use Rattle.interleaving.specs.declared.job_view.JobView.{JobView}
-use Rattle.interleaving.specs.ViewStep.{live_job, is_live_child, is_done, is_unfinished_job, may_ask_for, in_phase, with_phase, unless_stale}
-use Rattle.interleaving.specs.declared.places.KeptJob.{KeptJob}
-use Rattle.interleaving.specs.KeptJob.{place_at}
-use Rattle.interleaving.specs.Latest.{LatestList, found, is_call}
-use Rattle.interleaving.specs.LiveJobs.{IsAlone, AreFound, AreReached, AreIndexed, ReachesStay, ReachesTo, WasMade, jobs_in}
+use Rattle.interleaving.specs.ViewStep.{live_job, is_live_child, is_done, is_unfinished_job, may_get_in, in_phase, with_phase, drop_if_stale}
+use Rattle.interleaving.specs.declared.job_table.JobEntry.{JobEntry}
+use Rattle.interleaving.specs.JobEntry.{place_at}
+use Rattle.interleaving.specs.LatestJobs.{LatestJobsView, found, is_call}
+use Rattle.interleaving.specs.LiveJobs.{IsOnlyLiveJob, AreFound, AreSubmitBounds, AreIndexed, SubmitBoundsStay, HasSubmitBound, WasMade, jobs_in}
 use Rattle.interleaving.proofs.MakersStay.{Fades, AreFading, fading_set}
 use Rattle.interleaving.proofs.LatestFound.{found_phased, found_got, reached_fading, made_if_child, child_itself, same_call}
 use Rattle.interleaving.proofs.FoundOnceMade.{with_new, other_child, found_made}
-use Rattle.interleaving.proofs.ReachesStay.{stays_set, stays_freed}
+use Rattle.interleaving.proofs.SubmitBoundsStay.{stays_set, stays_freed}
 use Rattle.interleaving.proofs.JobsInPlaces.{jobs_set, length-jobs, phased_jobs}
 
 -- the invariant depends only on the list of jobs and on what the index finds
-pub indexed_as : (items new : List (Option KeptJob)) (latest later : LatestList) (n : ℕ) → new ≡ items → ((a : Parent) (t : ℕ) → found later a t ≡ found latest a t) → AreIndexed items latest n → AreIndexed new later n
+pub indexed_as : (items new : List (Option JobEntry)) (latest later : LatestJobsView) (n : ℕ) → new ≡ items → ((a : Parent) (t : ℕ) → found later a t ≡ found latest a t) → AreIndexed items latest n → AreIndexed new later n
 indexed_as items new latest later n same e x = subst (λ is. AreIndexed is later n) (sym same) (record {
   are_found = record {
     sound = λ a t k is_found. x.are_found.sound a t k (sym (e a t) ∙ is_found);
@@ -41,13 +41,13 @@ going_unfinished : (to : Phase) (x : Option JobView) → is_done to ≡ false �
 going_unfinished to None going e = absurd cc
 going_unfinished to (Some job) going e = ap not going
 
-pub indexed_phased : (items : List (Option KeptJob)) (latest : LatestList) (m n : ℕ) (place : KeptJob) (to : Phase) → AreIndexed items latest m → place_at items n ≡ Some place → may_ask_for (jobs_in items) (parent.Job n) ≡ true → is_done to ≡ false
+pub indexed_phased : (items : List (Option JobEntry)) (latest : LatestJobsView) (m n : ℕ) (place : JobEntry) (to : Phase) → AreIndexed items latest m → place_at items n ≡ Some place → may_get_in (jobs_in items) (parent.Job n) ≡ true → is_done to ≡ false
     → AreIndexed (set items n (Some (record place { job = record place.job { phase = to } }))) latest m
 indexed_phased items latest m n place to x there going fresh =
     let jobs = jobs_in items in
     let new = set items n (Some (record place { job = record place.job { phase = to } })) in
     let same : jobs_in new ≡ with_phase n to jobs = phased_jobs items n place to there in
-    let inside : n < length jobs = ⊎_elim (λ i. i) (λ past. let none : ◌≡◌ {A = Option KeptJob} None (Some place) = sym (get_or_past items n None (let long = length-jobs items in omega (arith, past))) ∙ there in absurd cc) (cases_lt n (length jobs)) in
+    let inside : n < length jobs = ⊎_elim (λ i. i) (λ past. let none : ◌≡◌ {A = Option JobEntry} None (Some place) = sym (get_or_past items n None (let long = length-jobs items in omega (arith, past))) ∙ there in absurd cc) (cases_lt n (length jobs)) in
     let counts = count_by-set is_unfinished_job jobs n (in_phase to (live_job jobs n)) None inside in
     let one : cond {A = ℕ} (is_unfinished_job (live_job jobs n)) 1 0 ≡ 1 = ap (λ b. cond b 1 0) going in
     let two : cond {A = ℕ} (is_unfinished_job (in_phase to (live_job jobs n))) 1 0 ≡ 1 = ap (λ b. cond b 1 0) (going_unfinished to (live_job jobs n) fresh going) in
@@ -61,7 +61,7 @@ indexed_phased items latest m n place to x there going fresh =
 
 -- ---- a done job is claimed by its creator
 
-pub indexed_got : (items : List (Option KeptJob)) (latest later : LatestList) (m n : ℕ) (job : JobView) → AreIndexed items latest m → live_job (jobs_in items) n ≡ Some job → is_done job.phase ≡ true → IsAlone (jobs_in items) job.parent job.slot
+pub indexed_got : (items : List (Option JobEntry)) (latest later : LatestJobsView) (m n : ℕ) (job : JobView) → AreIndexed items latest m → live_job (jobs_in items) n ≡ Some job → is_done job.phase ≡ true → IsOnlyLiveJob (jobs_in items) job.parent job.slot
     → ((b : Parent) (u : ℕ) → found later b u ≡ (if is_call job.parent job.slot b u then None else found latest b u)) → AreIndexed (set items n None) later m
 indexed_got items latest later m n job x live done alone e =
     let jobs = jobs_in items in
@@ -78,7 +78,7 @@ indexed_got items latest later m n job x live done alone e =
 
 -- ---- a job is created
 
-unless_stale_unfinished : (a : Parent) (t : ℕ) (x : Option JobView) → is_unfinished_job (unless_stale a t x) ≡ is_unfinished_job x
+unless_stale_unfinished : (a : Parent) (t : ℕ) (x : Option JobView) → is_unfinished_job (drop_if_stale a t x) ≡ is_unfinished_job x
 unless_stale_unfinished a t None = refl
 unless_stale_unfinished a t (Some v) = by_test (is_live_child a t (Some v)) (is_done v.phase) refl
   where
@@ -89,7 +89,7 @@ unless_stale_unfinished a t (Some v) = by_test (is_live_child a t (Some v)) (is_
 
 count-with_new : (jobs : List (Option JobView)) (job : JobView) → is_done job.phase ≡ false → count_by is_unfinished_job (with_new jobs job) ≡ count_by is_unfinished_job jobs + 1
 count-with_new jobs job begins =
-    let f = unless_stale job.parent job.slot in
+    let f = drop_if_stale job.parent job.slot in
     let test : Option JobView → ℕ = λ x. cond (is_unfinished_job x) 1 0 in
     let whole = sum_by-append test (map f jobs) (Some job ∷ []) in
     let last = sum_by-cons test (Some job) [] in
@@ -97,22 +97,22 @@ count-with_new jobs job begins =
     let kept : count_by is_unfinished_job (map f jobs) ≡ count_by is_unfinished_job jobs = count_by-map is_unfinished_job f jobs ∙ count_by-agree (λ x. is_unfinished_job (f x)) is_unfinished_job jobs (unless_stale_unfinished job.parent job.slot) in
     omega (arith, whole, last, one, kept)
 
-module _ (items after : List (Option KeptJob)) (latest later : LatestList) (m : ℕ) (place : KeptJob) (x : AreIndexed items latest m) (stay : ReachesStay items after)
-    (jobs_are : jobs_in after ≡ map (unless_stale place.job.parent place.job.slot) (jobs_in items)) (reaches : ReachesTo after place.job.parent (place.job.slot + 1)) (parent_made : WasMade (jobs_in items) place.job.parent)
+module _ (items after : List (Option JobEntry)) (latest later : LatestJobsView) (m : ℕ) (place : JobEntry) (x : AreIndexed items latest m) (stay : SubmitBoundsStay items after)
+    (jobs_are : jobs_in after ≡ map (drop_if_stale place.job.parent place.job.slot) (jobs_in items)) (reaches : HasSubmitBound after place.job.parent (place.job.slot + 1)) (parent_made : WasMade (jobs_in items) place.job.parent)
     (begins : is_done place.job.phase ≡ false) (e : (a : Parent) (t : ℕ) → found later a t ≡ (if is_call place.job.parent place.job.slot a t then Some (length after) else found latest a t)) where
-  abbrev pushed : List (Option KeptJob)
+  abbrev pushed : List (Option JobEntry)
   pushed = after ++ Some place ∷ []
 
   pub pushed_jobs : jobs_in pushed ≡ with_new (jobs_in items) place.job
-  pushed_jobs = map-append (option_map (λ (p : KeptJob). p.job)) after (Some place ∷ []) ∙ ap (λ js. js ++ Some place.job ∷ []) jobs_are
+  pushed_jobs = map-append (option_map (λ (p : JobEntry). p.job)) after (Some place ∷ []) ∙ ap (λ js. js ++ Some place.job ∷ []) jobs_are
 
   as_long : length after ≡ length (jobs_in items)
   as_long = stay.long ∙ sym (length-jobs items)
 
-  reach_old : (j : ℕ) (p : KeptJob) → j < length after → place_at pushed j ≡ Some p → place_at after j ≡ Some p
+  reach_old : (j : ℕ) (p : JobEntry) → j < length after → place_at pushed j ≡ Some p → place_at after j ≡ Some p
   reach_old j p inside there = sym (get_or_append_left after (Some place ∷ []) None j inside) ∙ there
 
-  below_parent : (a : Parent) (j t : ℕ) → a ≡ parent.Job j → t ≡ place.job.slot → WasMade (jobs_in items) a → ReachesTo after a (place.job.slot + 1) → (j < length pushed) × ((p : KeptJob) → place_at pushed j ≡ Some p → t < p.reach)
+  below_parent : (a : Parent) (j t : ℕ) → a ≡ parent.Job j → t ≡ place.job.slot → WasMade (jobs_in items) a → HasSubmitBound after a (place.job.slot + 1) → (j < length pushed) × ((p : JobEntry) → place_at pushed j ≡ Some p → t < p.submit_bound)
   below_parent (parent.Client c) j t same slot made to = absurd cc
   below_parent (parent.Job i) j t same slot made to =
       let number : i ≡ j = cc in
@@ -121,7 +121,7 @@ module _ (items after : List (Option KeptJob)) (latest later : LatestList) (m : 
         λ p there. let low = to p (ap (place_at after) number ∙ reach_old j p inside there) in omega (arith, low, slot),
       )
 
-  reached_pushed : AreReached pushed
+  reached_pushed : AreSubmitBounds pushed
   reached_pushed j t k child =
       let mine : is_live_child (parent.Job j) t (live_job (with_new (jobs_in items) place.job) k) ≡ true = ap (λ js. is_live_child (parent.Job j) t (live_job js k)) (sym pushed_jobs) ∙ child in
       ⊎_elim

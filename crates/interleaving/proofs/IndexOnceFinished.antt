@@ -7,19 +7,19 @@ use Rattle.written_machine.specs.declared.parent.Parent.TheVariants as parent
 use Rattle.written_machine.specs.State.{same_parent}
 use Rattle.interleaving.specs.declared.job_view.Phase.TheVariants as phase
 use Rattle.interleaving.specs.declared.job_view.JobView.{JobView}
-use Rattle.interleaving.specs.ViewStep.{live_job, is_live_child, is_done, is_unfinished_job, may_ask_for, in_phase, unless_orphan, finished_or_gone}
-use Rattle.interleaving.specs.declared.places.KeptJob.{KeptJob}
-use Rattle.interleaving.specs.Latest.{LatestList}
-use Rattle.interleaving.specs.LiveJobs.{AreFound, AreIndexed, AreOrphaned, ReachesStay, IsGone, jobs_in}
+use Rattle.interleaving.specs.ViewStep.{live_job, is_live_child, is_done, is_unfinished_job, may_get_in, in_phase, drop_if_orphan, finished_if_gettable}
+use Rattle.interleaving.specs.declared.job_table.JobEntry.{JobEntry}
+use Rattle.interleaving.specs.LatestJobs.{LatestJobsView}
+use Rattle.interleaving.specs.LiveJobs.{AreFound, AreIndexed, AreOrphaned, SubmitBoundsStay, IsGone, jobs_in}
 use Rattle.interleaving.proofs.MakersStay.{AreFading}
 use Rattle.interleaving.proofs.LatestFound.{made_if_child, reached_fading, child_itself}
 use Rattle.interleaving.proofs.FoundOnceFinished.{fading, fin_finished, found_finished}
 
 -- a job that is not done may still get its jobs
-pub asks_of : (jobs : List (Option JobView)) (n : ℕ) (job : JobView) → live_job jobs n ≡ Some job → is_done job.phase ≡ false → may_ask_for jobs (parent.Job n) ≡ true
+pub asks_of : (jobs : List (Option JobView)) (n : ℕ) (job : JobView) → live_job jobs n ≡ Some job → is_done job.phase ≡ false → may_get_in jobs (parent.Job n) ≡ true
 asks_of jobs n job live going = ap is_unfinished_job live ∙ ap not going
 
-unless_orphan_unfinished : (n : ℕ) (x : Option JobView) → is_unfinished_job (unless_orphan n x) ≡ is_unfinished_job x
+unless_orphan_unfinished : (n : ℕ) (x : Option JobView) → is_unfinished_job (drop_if_orphan n x) ≡ is_unfinished_job x
 unless_orphan_unfinished n None = refl
 unless_orphan_unfinished n (Some v) = by_test (same_parent (parent.Job n) v.parent) (is_done v.phase) refl
   where
@@ -37,7 +37,7 @@ phased_finished job was e b finished same = subst (λ o. IfSome o (λ x. in_phas
     by_test false = tt
 
 -- a job that is not done is not an orphan
-pub going_stays : (n : ℕ) (job : JobView) → is_done job.phase ≡ false → unless_orphan n (Some job) ≡ Some job
+pub going_stays : (n : ℕ) (job : JobView) → is_done job.phase ≡ false → drop_if_orphan n (Some job) ≡ Some job
 going_stays n job going = by_test (same_parent (parent.Job n) job.parent) (is_done job.phase) going
   where
     by_test : (mine done : Bool) → done ≡ false → ◌≡◌ {A = Option JobView} (if mine && done then None else Some job) (Some job)
@@ -45,19 +45,19 @@ going_stays n job going = by_test (same_parent (parent.Job n) job.parent) (is_do
     by_test true false e = refl
     by_test false done e = refl
 
-pub indexed_finished : (items after : List (Option KeptJob)) (latest later next : LatestList) (m i n : ℕ) (job : JobView) → AreIndexed items latest m → live_job (jobs_in items) n ≡ Some job → is_done job.phase ≡ false → job.parent ≢ parent.Job n
-    → jobs_in after ≡ set (map (unless_orphan n) (jobs_in items)) n (finished_or_gone (jobs_in items) n job) → ReachesStay items after → AreOrphaned n i (jobs_in items) (map (unless_orphan n) (jobs_in items)) latest later
-    → IsGone (finished_or_gone (jobs_in items) n job) later next job.parent job.slot n → AreIndexed after next (m - 1)
+pub indexed_finished : (items after : List (Option JobEntry)) (latest later next : LatestJobsView) (m i n : ℕ) (job : JobView) → AreIndexed items latest m → live_job (jobs_in items) n ≡ Some job → is_done job.phase ≡ false → job.parent ≢ parent.Job n
+    → jobs_in after ≡ set (map (drop_if_orphan n) (jobs_in items)) n (finished_if_gettable (jobs_in items) n job) → SubmitBoundsStay items after → AreOrphaned n i (jobs_in items) (map (drop_if_orphan n) (jobs_in items)) latest later
+    → IsGone (finished_if_gettable (jobs_in items) n job) later next job.parent job.slot n → AreIndexed after next (m - 1)
 indexed_finished items after latest later next m i n job x live going other jobs_are stay orphaned gone =
     let jobs = jobs_in items in
-    let left = map (unless_orphan n) jobs in
-    let fin = finished_or_gone jobs n job in
-    let inside : n < length left = let low = made_if_child jobs job.parent job.slot n (ap (is_live_child job.parent job.slot) live ∙ child_itself job) in let long = length-map jobs (unless_orphan n) in omega (arith, low, long) in
+    let left = map (drop_if_orphan n) jobs in
+    let fin = finished_if_gettable jobs n job in
+    let inside : n < length left = let low = made_if_child jobs job.parent job.slot n (ap (is_live_child job.parent job.slot) live ∙ child_itself job) in let long = length-map jobs (drop_if_orphan n) in omega (arith, low, long) in
     let counts = count_by-set is_unfinished_job left n fin None inside in
-    let was : is_unfinished_job (live_job left n) ≡ true = ap is_unfinished_job (get_or-map_at (unless_orphan n) jobs n None) ∙ unless_orphan_unfinished n (live_job jobs n) ∙ asks_of jobs n job live going in
+    let was : is_unfinished_job (live_job left n) ≡ true = ap is_unfinished_job (get_or-map_at (drop_if_orphan n) jobs n None) ∙ unless_orphan_unfinished n (live_job jobs n) ∙ asks_of jobs n job live going in
     let one : cond {A = ℕ} (is_unfinished_job (live_job left n)) 1 0 ≡ 1 = ap (λ b. cond b 1 0) was in
     let zero : cond {A = ℕ} (is_unfinished_job fin) 1 0 ≡ 0 = ap (λ b. cond b 1 0) (fin_finished jobs n job live other) in
-    let kept : count_by is_unfinished_job left ≡ count_by is_unfinished_job jobs = count_by-map is_unfinished_job (unless_orphan n) jobs ∙ count_by-agree (λ y. is_unfinished_job (unless_orphan n y)) is_unfinished_job jobs (unless_orphan_unfinished n) in
+    let kept : count_by is_unfinished_job left ≡ count_by is_unfinished_job jobs = count_by-map is_unfinished_job (drop_if_orphan n) jobs ∙ count_by-agree (λ y. is_unfinished_job (drop_if_orphan n y)) is_unfinished_job jobs (unless_orphan_unfinished n) in
     let new : count_by is_unfinished_job (jobs_in after) ≡ count_by is_unfinished_job (set left n fin) = ap (count_by is_unfinished_job) jobs_are in
     let all = x.counted in
     record {

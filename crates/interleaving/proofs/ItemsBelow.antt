@@ -2,15 +2,15 @@
 use Rattle.std.proofs.Common.{◌≡◌, ◌≢◌, ℕ, zero, suc, ◌+◌, ◌<◌, ◌≤◌, ◌==◌, cond, [], ◌∷◌, ◌++◌, length, set, Option, None, ⊎_elim, refl, sym, ap, ◌∙◌, arith, length-set, ext_get_or}
 use Rattle.std.proofs.lemmas.Bool.{cases_lt, cases_eq, false_from_ne_true, eqb-true, eq-eqb}
 use Rattle.std.proofs.lemmas.List.{get_or-set_same, get_or-set_other, get_or_append_left, get_or_push, length_push, set_past}
-use Rattle.interleaving.specs.declared.places.KeptJob.{KeptJob}
-use Rattle.interleaving.specs.KeptJob.{place_at}
-use Rattle.interleaving.specs.PlaceRow.{items_below}
+use Rattle.interleaving.specs.declared.job_table.JobEntry.{JobEntry}
+use Rattle.interleaving.specs.JobEntry.{place_at}
+use Rattle.interleaving.specs.JobRing.{items_below}
 
-pub length-items : (at : ℕ → Option KeptJob) (n : ℕ) → length (items_below at n) ≡ n
+pub length-items : (at : ℕ → Option JobEntry) (n : ℕ) → length (items_below at n) ≡ n
 length-items at zero = refl
 length-items at (suc n) = let long = length_push (items_below at n) (at n) in omega (arith, long, length-items at n)
 
-pub item_inside : (at : ℕ → Option KeptJob) (n k : ℕ) → k < n → place_at (items_below at n) k ≡ at k
+pub item_inside : (at : ℕ → Option JobEntry) (n k : ℕ) → k < n → place_at (items_below at n) k ≡ at k
 item_inside at zero k inside = absurd (omega arith)
 item_inside at (suc n) k inside = ⊎_elim
     (λ (below : k < n). get_or_append_left (items_below at n) (at n ∷ []) None k (omega (arith, below, length-items at n)) ∙ item_inside at n k below)
@@ -18,14 +18,14 @@ item_inside at (suc n) k inside = ⊎_elim
     ap (place_at (items_below at (suc n))) last ∙ get_or_push (items_below at n) (at n) None n (length-items at n) ∙ ap at (sym last))
     (cases_lt k n)
 
-updated_same : (at after : ℕ → Option KeptJob) (k : ℕ) (w : Option KeptJob) → ((q : ℕ) → after q ≡ cond (k == q) w (at q)) → after k ≡ w
+updated_same : (at after : ℕ → Option JobEntry) (k : ℕ) (w : Option JobEntry) → ((q : ℕ) → after q ≡ cond (k == q) w (at q)) → after k ≡ w
 updated_same at after k w e = e k ∙ ap (λ b. cond b w (at k)) (eq-eqb k k refl)
 
-updated_other : (at after : ℕ → Option KeptJob) (k : ℕ) (w : Option KeptJob) → ((q : ℕ) → after q ≡ cond (k == q) w (at q)) → (q : ℕ) → q ≢ k → after q ≡ at q
+updated_other : (at after : ℕ → Option JobEntry) (k : ℕ) (w : Option JobEntry) → ((q : ℕ) → after q ≡ cond (k == q) w (at q)) → (q : ℕ) → q ≢ k → after q ≡ at q
 updated_other at after k w e q other = e q ∙ ap (λ b. cond b w (at q)) (false_from_ne_true (k == q) (λ same. other (sym (eqb-true k q same))))
 
 -- one of the entries changes
-pub items-updated : (at after : ℕ → Option KeptJob) (n k : ℕ) (w : Option KeptJob) → ((q : ℕ) → after q ≡ cond (k == q) w (at q)) → items_below after n ≡ set (items_below at n) k w
+pub items-updated : (at after : ℕ → Option JobEntry) (n k : ℕ) (w : Option JobEntry) → ((q : ℕ) → after q ≡ cond (k == q) w (at q)) → items_below after n ≡ set (items_below at n) k w
 items-updated at after n k w e =
     let old = items_below at n in
     let long : length (set old k w) ≡ n = length-set old k w ∙ length-items at n in
@@ -37,11 +37,11 @@ items-updated at after n k w e =
     (cases_eq q k))
 
 -- one entry is added
-pub items-pushed : (at after : ℕ → Option KeptJob) (n : ℕ) (w : Option KeptJob) → ((q : ℕ) → after q ≡ cond (n == q) w (at q)) → items_below after (suc n) ≡ items_below at n ++ w ∷ []
+pub items-pushed : (at after : ℕ → Option JobEntry) (n : ℕ) (w : Option JobEntry) → ((q : ℕ) → after q ≡ cond (n == q) w (at q)) → items_below after (suc n) ≡ items_below at n ++ w ∷ []
 items-pushed at after n w e =
     let old = items_below at n in
     let same : items_below after n ≡ old = items-updated at after n n w e ∙ set_past old n w (let long = length-items at n in omega arith) in
     ap (λ xs. xs ++ after n ∷ []) same ∙ ap (λ x. old ++ x ∷ []) (updated_same at after n w e)
 
-pub items-pushed_one : (at after : ℕ → Option KeptJob) (n : ℕ) (w : Option KeptJob) → ((q : ℕ) → after q ≡ cond (n == q) w (at q)) → items_below after (n + 1) ≡ items_below at n ++ w ∷ []
+pub items-pushed_one : (at after : ℕ → Option JobEntry) (n : ℕ) (w : Option JobEntry) → ((q : ℕ) → after q ≡ cond (n == q) w (at q)) → items_below after (n + 1) ≡ items_below at n ++ w ∷ []
 items-pushed_one at after n w e = let one : n + 1 ≡ suc n = omega arith in ap (items_below after) one ∙ items-pushed at after n w e

@@ -10,10 +10,10 @@ use Rattle.written_machine.specs.State.{same_parent}
 use Rattle.written_machine.proofs.Children.{same_actor_true, same_actor_refl}
 use Rattle.interleaving.specs.declared.job_view.Phase.{Phase}
 use Rattle.interleaving.specs.declared.job_view.JobView.{JobView}
-use Rattle.interleaving.specs.ViewStep.{live_job, is_live_child, live_child, is_unfinished_job, may_ask_for, in_phase, with_phase}
-use Rattle.interleaving.specs.declared.places.KeptJob.{KeptJob}
-use Rattle.interleaving.specs.Latest.{LatestList, found, is_call}
-use Rattle.interleaving.specs.LiveJobs.{IsAlone, IsLatest, AreFound, AreReached, ReachesStay, jobs_in}
+use Rattle.interleaving.specs.ViewStep.{live_job, is_live_child, live_child, is_unfinished_job, may_get_in, in_phase, with_phase}
+use Rattle.interleaving.specs.declared.job_table.JobEntry.{JobEntry}
+use Rattle.interleaving.specs.LatestJobs.{LatestJobsView, found, is_call}
+use Rattle.interleaving.specs.LiveJobs.{IsOnlyLiveJob, IsLatest, AreFound, AreSubmitBounds, SubmitBoundsStay, jobs_in}
 use Rattle.interleaving.proofs.MakersStay.{fades_child, AreFading, fading_set}
 
 -- ---- the latest live job
@@ -48,7 +48,7 @@ same_answer None (Some k) f g = g k refl
 same_answer (Some k) c f g = sym (f k refl)
 
 -- an actor that may still get its jobs finds its latest job
-pub found_is_child : (jobs : List (Option JobView)) (latest : LatestList) (a : Parent) (t : ℕ) → AreFound jobs latest → may_ask_for jobs a ≡ true → found latest a t ≡ live_child jobs a t
+pub found_is_child : (jobs : List (Option JobView)) (latest : LatestJobsView) (a : Parent) (t : ℕ) → AreFound jobs latest → may_get_in jobs a ≡ true → found latest a t ≡ live_child jobs a t
 found_is_child jobs latest a t f asks =
     same_answer (found latest a t) (live_child jobs a t) (λ k e. is_latest jobs a t k (f.sound a t k e)) (λ k e. f.complete a t k asks (latest_is jobs a t k e))
 
@@ -100,7 +100,7 @@ still_child jobs after f a t k e = ⊎_elim (λ was. was)
     (cases_Bool (is_live_child a t (live_job jobs k)))
 
 -- a job in the index is still the latest if it is still live
-pub sound_fading : (jobs after : List (Option JobView)) (latest : LatestList) (a : Parent) (t k : ℕ) → AreFound jobs latest → AreFading jobs after → found latest a t ≡ Some k → is_live_child a t (live_job after k) ≡ true → IsLatest after a t k
+pub sound_fading : (jobs after : List (Option JobView)) (latest : LatestJobsView) (a : Parent) (t k : ℕ) → AreFound jobs latest → AreFading jobs after → found latest a t ≡ Some k → is_live_child a t (live_job after k) ≡ true → IsLatest after a t k
 sound_fading jobs after latest a t k found fading e still =
     let was = found.sound a t k e in
     record {
@@ -108,7 +108,7 @@ sound_fading jobs after latest a t k found fading e still =
       none_later = λ i later. fades_child a t (live_job jobs i) (live_job after i) (fading.each i) (was.none_later i later);
     }
 
-pub reached_fading : (items after : List (Option KeptJob)) → AreReached items → ReachesStay items after → AreFading (jobs_in items) (jobs_in after) → AreReached after
+pub reached_fading : (items after : List (Option JobEntry)) → AreSubmitBounds items → SubmitBoundsStay items after → AreFading (jobs_in items) (jobs_in after) → AreSubmitBounds after
 reached_fading items after reached stay fading j t k child =
     let was = reached j t k (still_child (jobs_in items) (jobs_in after) fading (parent.Job j) t k child) in
     (omega (arith, was.0, stay.long), λ place e. let old = stay.each j place e in let low = was.1 old.0 old.1 in omega (arith, low, old.2))
@@ -132,7 +132,7 @@ phased_child jobs n to a t k = ⊎_elim
     (cases_eq k n)
 
 -- an actor that may get its jobs could do so before if no job became unfinished
-pub asks_before : (jobs after : List (Option JobView)) (a : Parent) → ((k : ℕ) → is_unfinished_job (live_job after k) ≡ true → is_unfinished_job (live_job jobs k) ≡ true) → may_ask_for after a ≡ true → may_ask_for jobs a ≡ true
+pub asks_before : (jobs after : List (Option JobView)) (a : Parent) → ((k : ℕ) → is_unfinished_job (live_job after k) ≡ true → is_unfinished_job (live_job jobs k) ≡ true) → may_get_in after a ≡ true → may_get_in jobs a ≡ true
 asks_before jobs after (parent.Client c) each e = refl
 asks_before jobs after (parent.Job j) each e = each j e
 
@@ -147,7 +147,7 @@ unfinished_before jobs n new here k e = ⊎_elim
     (λ (other : k ≢ n). sym (ap is_unfinished_job (get_or-set_other jobs n k new None other)) ∙ e)
     (cases_eq k n)
 
-pub found_phased : (jobs : List (Option JobView)) (latest : LatestList) (n : ℕ) (to : Phase) → may_ask_for jobs (parent.Job n) ≡ true → AreFound jobs latest → AreFound (with_phase n to jobs) latest
+pub found_phased : (jobs : List (Option JobView)) (latest : LatestJobsView) (n : ℕ) (to : Phase) → may_get_in jobs (parent.Job n) ≡ true → AreFound jobs latest → AreFound (with_phase n to jobs) latest
 found_phased jobs latest n to going f = record {
   sound = λ a t k e. let was = f.sound a t k e in record { passes = phased_child jobs n to a t k ∙ was.passes; none_later = λ i later. phased_child jobs n to a t i ∙ was.none_later i later };
   complete = λ a t k asks last. f.complete a t k (asks_before jobs (with_phase n to jobs) a (unfinished_before jobs n (in_phase to (live_job jobs n)) (λ _. going)) asks)
@@ -163,7 +163,7 @@ pub not_called : (b : Bool) (o : Option ℕ) (k : ℕ) → (if b then None else 
 not_called true o k e = absurd cc
 not_called false o k e = (refl, e)
 
-module _ (jobs : List (Option JobView)) (latest later : LatestList) (n : ℕ) (job : JobView) (live : live_job jobs n ≡ Some job) (alone : IsAlone jobs job.parent job.slot)
+module _ (jobs : List (Option JobView)) (latest later : LatestJobsView) (n : ℕ) (job : JobView) (live : live_job jobs n ≡ Some job) (alone : IsOnlyLiveJob jobs job.parent job.slot)
     (e : (b : Parent) (u : ℕ) → found later b u ≡ (if is_call job.parent job.slot b u then None else found latest b u)) (f : AreFound jobs latest) where
   own : is_live_child job.parent job.slot (live_job jobs n) ≡ true
   own = ap (is_live_child job.parent job.slot) live ∙ child_itself job
@@ -178,7 +178,7 @@ module _ (jobs : List (Option JobView)) (latest later : LatestList) (n : ℕ) (j
       let other : k ≢ n = λ same. both_ways (is_call job.parent job.slot a t) parts.0 (is_call_of job.parent a job.slot t (live_job jobs n) own (ap (λ m. is_live_child a t (live_job jobs m)) (sym same) ∙ was.passes)) in
       sound_fading jobs (set jobs n None) latest a t k f (fading_set jobs n None tt) parts.1 (ap (is_live_child a t) (get_or-set_other jobs n k None None other) ∙ was.passes)
 
-  got_complete : (a : Parent) (t k : ℕ) → may_ask_for (set jobs n None) a ≡ true → IsLatest (set jobs n None) a t k → found later a t ≡ Some k
+  got_complete : (a : Parent) (t k : ℕ) → may_get_in (set jobs n None) a ≡ true → IsLatest (set jobs n None) a t k → found later a t ≡ Some k
   got_complete a t k asks last =
       let after = set jobs n None in
       let test = is_live_child a t in
@@ -192,8 +192,8 @@ module _ (jobs : List (Option JobView)) (latest later : LatestList) (n : ℕ) (j
             (λ (apart : i ≢ n). sym (ap test (get_or-set_other jobs n i None None apart)) ∙ last.none_later i above)
             (cases_eq i n);
       } in
-      let asked = asks_before jobs after a (unfinished_before jobs n None (λ never. absurd (false≢true never))) asks in
-      e a t ∙ ap (λ b. if b then None else found latest a t) uncalled ∙ f.complete a t k asked was
+      let has_get = asks_before jobs after a (unfinished_before jobs n None (λ never. absurd (false≢true never))) asks in
+      e a t ∙ ap (λ b. if b then None else found latest a t) uncalled ∙ f.complete a t k has_get was
 
   pub found_got : AreFound (set jobs n None) later
   found_got = record { sound = got_sound; complete = got_complete }

@@ -7,7 +7,7 @@ use Rattle.written_machine.specs.declared.parent.Parent.{Parent}
 use Rattle.written_machine.specs.declared.parent.Parent.TheVariants as parent
 use Rattle.written_machine.specs.State.{same_parent}
 use Rattle.interleaving.specs.declared.job_view.JobView.{JobView}
-use Rattle.interleaving.specs.ViewStep.{live_job, is_live_child, is_done, unless_orphan}
+use Rattle.interleaving.specs.ViewStep.{live_job, is_live_child, is_done, drop_if_orphan}
 
 -- ---- one job changes its phase or is removed
 
@@ -30,7 +30,7 @@ fades_if : (b : Bool) (job : JobView) → Fades (Some job) (if b then None else 
 fades_if true job = tt
 fades_if false job = (refl, refl)
 
-fades_unless_orphan : (j : ℕ) (job : Option JobView) → Fades job (unless_orphan j job)
+fades_unless_orphan : (j : ℕ) (job : Option JobView) → Fades job (drop_if_orphan j job)
 fades_unless_orphan j None = tt
 fades_unless_orphan j (Some job) = fades_if (same_parent (parent.Job j) job.parent && is_done job.phase) job
 
@@ -61,5 +61,5 @@ fading_map f jobs none fades = record {
       subst (Fades (live_job jobs k)) (sym at) (fades (live_job jobs k));
 }
 
-pub fading_orphans : (jobs : List (Option JobView)) (j : ℕ) → AreFading jobs (map (unless_orphan j) jobs)
-fading_orphans jobs j = fading_map (unless_orphan j) jobs refl (fades_unless_orphan j)
+pub fading_orphans : (jobs : List (Option JobView)) (j : ℕ) → AreFading jobs (map (drop_if_orphan j) jobs)
+fading_orphans jobs j = fading_map (drop_if_orphan j) jobs refl (fades_unless_orphan j)

@@ -19,10 +19,10 @@ use Rattle.interleaving.specs.ViewStep.{live_job, pool_in}
 use Rattle.interleaving.specs.Waiting.{is_at_work, is_busy_job, waits_in_queue_of}
 use Rattle.interleaving.proofs.View.{pool_at_view}
 use Rattle.interleaving.proofs.Waiting.{busy_places}
-use Rattle.interleaving.specs.declared.shares.Share.{Share}
-use Rattle.interleaving.specs.OfPlan.{IsOf}
+use Rattle.interleaving.specs.declared.activities.PoolActivity.{PoolActivity}
+use Rattle.interleaving.specs.OfPlan.{IsReachableView}
 use Rattle.interleaving.specs.Stuck.{is_in_queue, is_queued_job, has_queued}
-use Rattle.interleaving.specs.Share.{members_at_work, share_of, no_share, share_at, share_with, leaves_none}
+use Rattle.interleaving.specs.PoolActivity.{members_at_work, activity_of, no_activity, activity_at, activity_with, pool_queue_waits}
 use Rattle.interleaving.proofs.Membership.{itself_pushed, others_pushed}
 
 -- ---- counts
@@ -110,11 +110,11 @@ module _ (plan : Plan) (view : View) (members : List ℕ) (m : ℕ) where
       subst (λ j. among_more (is_busy_job plan p) members j 0 view.jobs ≡ among (is_busy_job plan p) members 0 view.jobs + one_if (is_busy_job plan p (live_job view.jobs m) && not (is_member members j))) zero_more
       (one_counts (is_busy_job plan p) members 0 m view.jobs refl)
 
-  abbrev with_job : ℕ → Option JobView → Share
+  abbrev with_job : ℕ → Option JobView → PoolActivity
   with_job p job = record { queued = has_queued plan view members p || (is_queued_job plan p job || false); at_work = members_at_work plan view.jobs members p + one_if (is_busy_job plan p job && not (is_member members m)) }
 
-  share_pushed : (p : ℕ) → share_of plan view (members ++ m ∷ []) p ≡ with_job p (live_job view.jobs m)
-  share_pushed p = ap₂ (λ (b : Bool) (n : ℕ). record { queued = b; at_work = n }) (queued_pushed p) (at_work_pushed p)
+  activity_pushed : (p : ℕ) → activity_of plan view (members ++ m ∷ []) p ≡ with_job p (live_job view.jobs m)
+  activity_pushed p = ap₂ (λ (b : Bool) (n : ℕ). record { queued = b; at_work = n }) (queued_pushed p) (at_work_pushed p)
 
   or_false : (b : Bool) → (b || false) ≡ b
   or_false true = refl
@@ -127,8 +127,8 @@ module _ (plan : Plan) (view : View) (members : List ℕ) (m : ℕ) where
   no_more : (n : ℕ) → n + 0 ≡ n
   no_more n = omega arith
 
-  share_stays : (p : ℕ) (job : Option JobView) → is_queued_job plan p job ≡ false → is_busy_job plan p job ≡ false → with_job p job ≡ share_of plan view members p
-  share_stays p job queued busy = ap₂ (λ (b : Bool) (n : ℕ). record { queued = b; at_work = n })
+  activity_stays : (p : ℕ) (job : Option JobView) → is_queued_job plan p job ≡ false → is_busy_job plan p job ≡ false → with_job p job ≡ activity_of plan view members p
+  activity_stays p job queued busy = ap₂ (λ (b : Bool) (n : ℕ). record { queued = b; at_work = n })
       (ap (λ b. has_queued plan view members p || (b || false)) queued ∙ or_false (has_queued plan view members p))
       (ap (λ b. members_at_work plan view.jobs members p + one_if (b && not (is_member members m))) busy ∙ no_more (members_at_work plan view.jobs members p))
 
@@ -137,70 +137,70 @@ module _ (plan : Plan) (view : View) (members : List ℕ) (m : ℕ) where
   and_false false c e = refl
 
   -- a number without a live job leaves the share
-  pub share_without : (p : ℕ) → live_job view.jobs m ≡ None → share_of plan view (members ++ m ∷ []) p ≡ share_of plan view members p
-  share_without p none = share_pushed p ∙ ap (with_job p) none ∙ share_stays p None refl refl
+  pub activity_without : (p : ℕ) → live_job view.jobs m ≡ None → activity_of plan view (members ++ m ∷ []) p ≡ activity_of plan view members p
+  activity_without p none = activity_pushed p ∙ ap (with_job p) none ∙ activity_stays p None refl refl
 
   -- a job of another pool leaves the share
-  pub share_elsewhere : (p : ℕ) (job : JobView) → live_job view.jobs m ≡ Some job → pool_of plan job.class ≢ p → share_of plan view (members ++ m ∷ []) p ≡ share_of plan view members p
-  share_elsewhere p job live other =
+  pub activity_elsewhere : (p : ℕ) (job : JobView) → live_job view.jobs m ≡ Some job → pool_of plan job.class ≢ p → activity_of plan view (members ++ m ∷ []) p ≡ activity_of plan view members p
+  activity_elsewhere p job live other =
       let no : (pool_of plan job.class == p) ≡ false = false_from_ne_true (pool_of plan job.class == p) (λ same. other (eqb-true (pool_of plan job.class) p same)) in
-      share_pushed p ∙ ap (with_job p) live ∙ share_stays p (Some job) (and_false (is_in_queue job.phase) _ no) (and_false (is_at_work job.phase) _ no)
+      activity_pushed p ∙ ap (with_job p) live ∙ activity_stays p (Some job) (and_false (is_in_queue job.phase) _ no) (and_false (is_at_work job.phase) _ no)
 
-  by_phase : (queued : Bool) (n : ℕ) (phase : Phase) (new : Bool) → ◌≡◌ {A = Share} (record { queued = queued || (is_in_queue phase && true || false); at_work = n + one_if (is_at_work phase && true && new) }) (share_with (record { queued = queued; at_work = n }) phase new)
+  by_phase : (queued : Bool) (n : ℕ) (phase : Phase) (new : Bool) → ◌≡◌ {A = PoolActivity} (record { queued = queued || (is_in_queue phase && true || false); at_work = n + one_if (is_at_work phase && true && new) }) (activity_with (record { queued = queued; at_work = n }) phase new)
   by_phase queued n phase.Queued new = ap₂ (λ (b : Bool) (k : ℕ). record { queued = b; at_work = k }) (or_true queued) (no_more n)
   by_phase queued n (phase.At i) true = ap₂ (λ (b : Bool) (k : ℕ). record { queued = b; at_work = k }) (or_false queued) refl
   by_phase queued n (phase.At i) false = ap₂ (λ (b : Bool) (k : ℕ). record { queued = b; at_work = k }) (or_false queued) (no_more n)
   by_phase queued n phase.Done new = ap₂ (λ (b : Bool) (k : ℕ). record { queued = b; at_work = k }) (or_false queued) (no_more n)
 
   -- a job of this pool changes the share by its phase
-  pub share_here : (job : JobView) → live_job view.jobs m ≡ Some job → share_of plan view (members ++ m ∷ []) (pool_of plan job.class) ≡ share_with (share_of plan view members (pool_of plan job.class)) job.phase (not (is_member members m))
-  share_here job live =
+  pub activity_here : (job : JobView) → live_job view.jobs m ≡ Some job → activity_of plan view (members ++ m ∷ []) (pool_of plan job.class) ≡ activity_with (activity_of plan view members (pool_of plan job.class)) job.phase (not (is_member members m))
+  activity_here job live =
       let p = pool_of plan job.class in
       let queued = has_queued plan view members p in
       let n = members_at_work plan view.jobs members p in
-      share_pushed p ∙ ap (with_job p) live
+      activity_pushed p ∙ ap (with_job p) live
       ∙ ap (λ b. record { queued = queued || (is_in_queue job.phase && b || false); at_work = n + one_if (is_at_work job.phase && b && not (is_member members m)) }) (eq-eqb p p refl)
       ∙ by_phase queued n job.phase (not (is_member members m))
 
 -- the empty set has an empty share
-pub nobody : (plan : Plan) (view : View) (p : ℕ) → share_of plan view [] p ≡ no_share
-nobody plan view p = ap (λ (n : ℕ). record { queued = false; at_work = n }) (none (places_where (is_busy_job plan p) view.jobs))
+pub no_members_no_activity : (plan : Plan) (view : View) (p : ℕ) → activity_of plan view [] p ≡ no_activity
+no_members_no_activity plan view p = ap (λ (n : ℕ). record { queued = false; at_work = n }) (none (places_where (is_busy_job plan p) view.jobs))
   where
     none : (ns : List ℕ) → count_by (is_member []) ns ≡ 0
     none [] = refl
     none (n ∷ ns) = let counts = count-cons (is_member []) n ns in let rest = none ns in omega (arith, counts, rest)
 
 -- the shares of all pools after a live job was added to the members
-module _ (plan : Plan) (view : View) (members : List ℕ) (m : ℕ) (job : JobView) (live : live_job view.jobs m ≡ Some job) (shares : List Share) (inside : pool_of plan job.class < length shares) where
-  abbrev shares_after : List Share
-  shares_after = set shares (pool_of plan job.class) (share_with (share_at shares (pool_of plan job.class)) job.phase (not (is_member members m)))
+module _ (plan : Plan) (view : View) (members : List ℕ) (m : ℕ) (job : JobView) (live : live_job view.jobs m ≡ Some job) (activities : List PoolActivity) (inside : pool_of plan job.class < length activities) where
+  abbrev activities_after : List PoolActivity
+  activities_after = set activities (pool_of plan job.class) (activity_with (activity_at activities (pool_of plan job.class)) job.phase (not (is_member members m)))
 
-  abbrev Counts : List Share → List ℕ → ℕ → ℕ → Type 0
-  Counts all those p n = (share_at all p ≡ share_of plan view those p) × ((share_at all p).at_work ≤ n)
+  abbrev Counts : List PoolActivity → List ℕ → ℕ → ℕ → Type 0
+  Counts all those p n = (activity_at all p ≡ activity_of plan view those p) × ((activity_at all p).at_work ≤ n)
 
-  one_more : (share : Share) (phase : Phase) (new : Bool) (n : ℕ) → share.at_work ≤ n → (share_with share phase new).at_work ≤ n + 1
-  one_more share phase.Queued new n low = omega arith
-  one_more share (phase.At i) true n low = omega arith
-  one_more share (phase.At i) false n low = omega arith
-  one_more share phase.Done new n low = omega arith
+  one_more : (activity : PoolActivity) (phase : Phase) (new : Bool) (n : ℕ) → activity.at_work ≤ n → (activity_with activity phase new).at_work ≤ n + 1
+  one_more activity phase.Queued new n low = omega arith
+  one_more activity (phase.At i) true n low = omega arith
+  one_more activity (phase.At i) false n low = omega arith
+  one_more activity phase.Done new n low = omega arith
 
-  pub shares_count : (p n : ℕ) → Counts shares members p n → Counts shares_after (members ++ m ∷ []) p (n + 1)
-  shares_count p n counts =
+  pub activities_count : (p n : ℕ) → Counts activities members p n → Counts activities_after (members ++ m ∷ []) p (n + 1)
+  activities_count p n counts =
       let q = pool_of plan job.class in
       let new = not (is_member members m) in
-      let share = share_with (share_at shares q) job.phase new in
+      let activity = activity_with (activity_at activities q) job.phase new in
       ⊎_elim
       (λ (here : p ≡ q).
-      let now : share_at shares_after p ≡ share = ap (share_at shares_after) here ∙ get_or-set_same shares q share no_share inside in
-      let was : share_at shares q ≡ share_of plan view members q = ap (share_at shares) (sym here) ∙ counts.0 ∙ ap (share_of plan view members) here in (
-        now ∙ ap (λ s. share_with s job.phase new) was ∙ sym (share_here plan view members m job live) ∙ ap (share_of plan view (members ++ m ∷ [])) (sym here),
-        let low : (share_at shares q).at_work ≤ n = subst (λ j. (share_at shares j).at_work ≤ n) here counts.1 in
-            subst (λ (s : Share). s.at_work ≤ n + 1) (sym now) (one_more (share_at shares q) job.phase new n low),
+      let now : activity_at activities_after p ≡ activity = ap (activity_at activities_after) here ∙ get_or-set_same activities q activity no_activity inside in
+      let was : activity_at activities q ≡ activity_of plan view members q = ap (activity_at activities) (sym here) ∙ counts.0 ∙ ap (activity_of plan view members) here in (
+        now ∙ ap (λ s. activity_with s job.phase new) was ∙ sym (activity_here plan view members m job live) ∙ ap (activity_of plan view (members ++ m ∷ [])) (sym here),
+        let low : (activity_at activities q).at_work ≤ n = subst (λ j. (activity_at activities j).at_work ≤ n) here counts.1 in
+            subst (λ (s : PoolActivity). s.at_work ≤ n + 1) (sym now) (one_more (activity_at activities q) job.phase new n low),
       ))
       (λ (other : p ≢ q).
-      let now : share_at shares_after p ≡ share_at shares p = get_or-set_other shares q p share no_share other in (
-        now ∙ counts.0 ∙ sym (share_elsewhere plan view members m p job live (λ e. other (sym e))),
-        let low = counts.1 in subst (λ (s : Share). s.at_work ≤ n + 1) (sym now) (omega (arith, low)),
+      let now : activity_at activities_after p ≡ activity_at activities p = get_or-set_other activities q p activity no_activity other in (
+        now ∙ counts.0 ∙ sym (activity_elsewhere plan view members m p job live (λ e. other (sym e))),
+        let low = counts.1 in subst (λ (s : PoolActivity). s.at_work ≤ n + 1) (sym now) (omega (arith, low)),
       ))
       (cases_eq p q)
 
@@ -215,7 +215,7 @@ at_work_in_state plan s p inside =
     omega (arith, threads, idle, many)
 
 -- the number of threads is the number of idle workers plus the number of running jobs
-at_work_in_pool : (plan : Plan) (view : View) (p : ℕ) → IsOf plan view → p < length plan.pools → (pool_in view p).threads ≡ (pool_in view p).idle + length (places_where (is_busy_job plan p) view.jobs)
+at_work_in_pool : (plan : Plan) (view : View) (p : ℕ) → IsReachableView plan view → p < length plan.pools → (pool_in view p).threads ≡ (pool_in view p).idle + length (places_where (is_busy_job plan p) view.jobs)
 at_work_in_pool plan view p of inside = subst (λ (v : View). (pool_in v p).threads ≡ (pool_in v p).idle + length (places_where (is_busy_job plan p) v.jobs)) of.2 (at_work_in_state plan of.0 p inside)
 
 flip : (a b : ℕ) → (a == b) ≡ (b == a)
@@ -233,12 +233,12 @@ waits_if_idle idle threads long n rest e all = elim (cases_Bool (idle == 0)) [
   | inr some ↦ ap (λ b. b && rest) some ∙ ap (λ b. b && threads == n) (sym some)
 ]
 
-pub queue_waits : (plan : Plan) (view : View) (members : List ℕ) (p : ℕ) → IsOf plan view → p < length plan.pools → waits_in_queue_of plan view members p ≡ ((pool_in view p).idle == 0 && (pool_in view p).threads == members_at_work plan view.jobs members p)
+pub queue_waits : (plan : Plan) (view : View) (members : List ℕ) (p : ℕ) → IsReachableView plan view → p < length plan.pools → waits_in_queue_of plan view members p ≡ ((pool_in view p).idle == 0 && (pool_in view p).threads == members_at_work plan view.jobs members p)
 queue_waits plan view members p of inside =
     let those = places_where (is_busy_job plan p) view.jobs in
     waits_if_idle (pool_in view p).idle (pool_in view p).threads (length those) (count_by (is_member members) those) (list_all (is_member members) those) (at_work_in_pool plan view p of inside) (all_by_count (is_member members) those)
 
-module _ (plan : Plan) (view : View) (members : List ℕ) (p : ℕ) (of : IsOf plan view) (inside : p < length plan.pools) (answer : Bool) (e : answer ≡ leaves_none (pool_in view p) (share_of plan view members p)) where
+module _ (plan : Plan) (view : View) (members : List ℕ) (p : ℕ) (of : IsReachableView plan view) (inside : p < length plan.pools) (answer : Bool) (e : answer ≡ pool_queue_waits (pool_in view p) (activity_of plan view members p)) where
   as_queue : answer ≡ (not (has_queued plan view members p) || waits_in_queue_of plan view members p)
   as_queue = e ∙ ap (λ b. not (has_queued plan view members p) || b) (sym (queue_waits plan view members p of inside))
 

@@ -13,9 +13,9 @@ use Rattle.job_bodies.proofs.Bodies.{HasValidBodies, ordered}
 use Rattle.written_machine.specs.declared.parent.Parent.{Parent}
 use Rattle.written_machine.specs.declared.parent.Parent.TheVariants as parent
 use Rattle.pool_machine.specs.PoolState.{PoolView}
-use Rattle.written_machine.specs.State.{Stage, Made, State, no_job, job_at, is_at, pool_of, pool_seen, is_busy_in, busy}
+use Rattle.written_machine.specs.State.{Stage, CreatedJob, State, no_job, job_at, is_at, pool_of, pool_seen, is_busy_in, busy}
 use Rattle.written_machine.specs.Reach.{IsReached}
-use Rattle.written_machine.proofs.Standing.{stage_of_standing, At≢Claimed, job_made}
+use Rattle.written_machine.proofs.Positions.{stage_of_standing, At≢Claimed, job_made}
 use Rattle.written_machine.specs.Step.{Point, point_of_client}
 use Rattle.interleaving.specs.declared.job_view.Phase.{Phase}
 use Rattle.interleaving.specs.declared.job_view.Phase.TheVariants as phase
@@ -26,10 +26,10 @@ use Rattle.written_machine.proofs.Reached.{kept}
 use Rattle.interleaving.proofs.View.{length-pools, pool_at_view, view_at, point_seen}
 use Rattle.interleaving.specs.declared.next_action.NextAction.{NextAction}
 use Rattle.interleaving.specs.NextAction.{next_action_at}
-use Rattle.interleaving.specs.OfPlan.{IsOf, HasWorker, IsAtWork}
+use Rattle.interleaving.specs.OfPlan.{IsReachableView, HasWorker, IsAtWork}
 
 -- the view has as many pools as the plan
-pub as_many_pools : (plan : Plan) (view : View) → IsOf plan view → length view.pools ≡ length plan.pools
+pub as_many_pools : (plan : Plan) (view : View) → IsReachableView plan view → length view.pools ≡ length plan.pools
 as_many_pools plan view of = subst (λ v. length v.pools ≡ length plan.pools) of.2 (length-pools plan of.0)
 
 -- ---- bodies
@@ -48,9 +48,9 @@ valid_client plan None at o e = absurd cc
 valid_client plan (Some client) at o e = subst (λ (x : Point). IsValidBody plan x.body) (same_Some _ at e) (o.clients client.kind)
 
 -- the body of an actor is valid
-lawful_point : (plan : Plan) (view : View) (a : Parent) (at : Point) → HasValidBodies plan → point_in plan view a ≡ Some at → IsValidBody plan at.body
-lawful_point plan view (parent.Client c) at o e = valid_client plan (slice_get view.clients c) at o e
-lawful_point plan view (parent.Job j) at o e = valid_job plan (live_job view.jobs j) at o e
+valid_point : (plan : Plan) (view : View) (a : Parent) (at : Point) → HasValidBodies plan → point_in plan view a ≡ Some at → IsValidBody plan at.body
+valid_point plan view (parent.Client c) at o e = valid_client plan (slice_get view.clients c) at o e
+valid_point plan view (parent.Job j) at o e = valid_job plan (live_job view.jobs j) at o e
 
 -- the point at which an actor has this next action
 pub point_of_next : (at : Option Point) (next : NextAction) → option_map next_action_at at ≡ Some next → (x : Point) × (at ≡ Some x) × (next_action_at x ≡ next)
@@ -58,11 +58,11 @@ point_of_next None next e = absurd cc
 point_of_next (Some x) next e = (x, refl, same_Some _ next e)
 
 -- the pool of a submitted class is a pool of the view
-pub pool_of_submit : (plan : Plan) (view : View) (a : Parent) (next : NextAction) (k : ℕ) → IsOf plan view → IsWellFormed plan → option_map next_action_at (point_in plan view a) ≡ Some next → next.action ≡ Some (Submit k) → pool_of plan k < length view.pools
+pub pool_of_submit : (plan : Plan) (view : View) (a : Parent) (next : NextAction) (k : ℕ) → IsReachableView plan view → IsWellFormed plan → option_map next_action_at (point_in plan view a) ≡ Some next → next.action ≡ Some (Submit k) → pool_of plan k < length view.pools
 pool_of_submit plan view a next k of w e submits =
     let o = ordered plan w in
     let found = point_of_next (point_in plan view a) next e in
-    let valid = lawful_point plan view a found.0 o found.1 in
+    let valid = valid_point plan view a found.0 o found.1 in
     let class = valid.submit found.0.position k (ap (λ (p : NextAction). p.action) found.2 ∙ submits) in
     let pools = as_many_pools plan view of in
     let inside = o.pools k class in
@@ -72,7 +72,7 @@ pool_of_submit plan view a next k of w e submits =
 pub past_start : (plan : Plan) (view : View) (a : Parent) (next : NextAction) (t : ℕ) → IsWellFormed plan → option_map next_action_at (point_in plan view a) ≡ Some next → next.action ≡ Some (Get t) → 0 < next.position
 past_start plan view a next t w e gets =
     let found = point_of_next (point_in plan view a) next e in
-    let valid = lawful_point plan view a found.0 (ordered plan w) found.1 in
+    let valid = valid_point plan view a found.0 (ordered plan w) found.1 in
     let behind = valid.behind found.0.position t (ap (λ (p : NextAction). p.action) found.2 ∙ gets) in
     let same = ap (λ (p : NextAction). p.position) found.2 in
     omega (arith, behind, same)
@@ -122,7 +122,7 @@ job_at_work plan s j at reached w e =
     subst (λ (o : Option JobView). IfSome o (HasWorker plan (live_view plan s))) (sym seen) (has_worker plan s j at.position job refl stage inside)
 
 -- an actor with a next action is a client, or a job whose pool has a busy worker
-pub at_work : (plan : Plan) (view : View) (a : Parent) (next : NextAction) → IsOf plan view → IsWellFormed plan → option_map next_action_at (point_in plan view a) ≡ Some next → IsAtWork plan view a
+pub at_work : (plan : Plan) (view : View) (a : Parent) (next : NextAction) → IsReachableView plan view → IsWellFormed plan → option_map next_action_at (point_in plan view a) ≡ Some next → IsAtWork plan view a
 at_work plan view (parent.Client c) next of w e = tt
 at_work plan view (parent.Job j) next of w e =
     let found = point_of_next (point_in plan view (parent.Job j)) next e in
@@ -130,7 +130,7 @@ at_work plan view (parent.Job j) next of w e =
 
 -- ---- live jobs
 
-job_of_seen : (made : Made) (phase : Option Phase) (job : JobView) → job_with made phase ≡ Some job → job.class ≡ made.class
+job_of_seen : (made : CreatedJob) (phase : Option Phase) (job : JobView) → job_with made phase ≡ Some job → job.class ≡ made.class
 job_of_seen made None job e = absurd cc
 job_of_seen made (Some phase) job e = ap (λ (x : JobView). x.class) (sym (same_Some _ job e))
 
@@ -151,7 +151,7 @@ class_of_seen plan s j job reached w e =
     omega (arith, length-pools plan s)
 
 -- the pool of a live job is a pool of the plan
-pub pool_of_live_job : (plan : Plan) (view : View) (j : ℕ) (job : JobView) → IsOf plan view → IsWellFormed plan → live_job view.jobs j ≡ Some job → pool_of plan job.class < length plan.pools
+pub pool_of_live_job : (plan : Plan) (view : View) (j : ℕ) (job : JobView) → IsReachableView plan view → IsWellFormed plan → live_job view.jobs j ≡ Some job → pool_of plan job.class < length plan.pools
 pool_of_live_job plan view j job of w found =
     let inside = subst (λ (v : View). live_job v.jobs j ≡ Some job → pool_of plan job.class < length v.pools) of.2 (class_of_seen plan of.0 j job of.1 w) found in
     omega (arith, as_many_pools plan view of)

@@ -10,24 +10,24 @@ use Rattle.written_machine.specs.declared.event.Outcome.{Outcome}
 use Rattle.written_machine.specs.State.{State}
 use Rattle.written_machine.specs.Step.{step}
 use Rattle.written_machine.specs.Reach.{start, state_after, replay, IsReached}
-use Rattle.written_machine.proofs.Kept.{Kept}
-use Rattle.written_machine.proofs.KeptStart.{kept_start}
-use Rattle.written_machine.proofs.KeptStep.{kept_step}
+use Rattle.written_machine.proofs.StateInvariant.{StateInvariant}
+use Rattle.written_machine.proofs.InvariantAtStart.{kept_start}
+use Rattle.written_machine.proofs.InvariantStep.{kept_step}
 use Rattle.written_machine.proofs.Reached.{replay_none, reached_keeps, kept}
 use Rattle.interleaving.specs.LiveView.{View, live_view}
 use Rattle.interleaving.specs.ViewStep.{view_step}
 use Rattle.interleaving.specs.ViewAnswers.{AnswersAs}
 use Rattle.interleaving.specs.Laws.{seen_after, StartIsSeen, StepsCommute, UnfinishedJobsAreLive, WaitingSetsAreSeen, DeadJobsStayDead}
 use Rattle.interleaving.proofs.View.{length-view}
-use Rattle.interleaving.proofs.Older.{Settled}
-use Rattle.interleaving.proofs.Settling.{settled_start, settled_step}
+use Rattle.interleaving.proofs.OlderAreClaimed.{AllOlderAreClaimed}
+use Rattle.interleaving.proofs.ClaimedJobs.{settled_start, settled_step}
 use Rattle.interleaving.proofs.Commute.{step_commutes}
 use Rattle.interleaving.proofs.Waiting.{unfinished_counted, waiting_seen, start_seen}
-use Rattle.interleaving.proofs.Dead.{Leaves, step_leaves}
+use Rattle.interleaving.proofs.Dead.{StaysDeadAfter, step_leaves}
 
-pub settled : (plan : Plan) (s : State) → IsWellFormed plan → IsReached plan s → Settled plan s
+pub settled : (plan : Plan) (s : State) → IsWellFormed plan → IsReached plan s → AllOlderAreClaimed plan s
 settled plan s well_formed reached =
-    let both = reached_keeps plan (λ s. Kept plan s × Settled plan s) (kept_start plan (ordered plan well_formed), settled_start plan)
+    let both = reached_keeps plan (λ s. StateInvariant plan s × AllOlderAreClaimed plan s) (kept_start plan (ordered plan well_formed), settled_start plan)
     (λ s₁ e s₂ o held happened. (kept_step plan s₁ s₂ o (ordered plan well_formed) held.0 happened, settled_step plan s₁ s₂ o (ordered plan well_formed) held.0 held.1 happened)) s reached in
     both.1
 
@@ -61,7 +61,7 @@ pub stays_dead : DeadJobsStayDead
 stays_dead plan s s' event outcome j well_formed reached happened inside dead =
     let view = live_view plan s in
     let seen : view_step plan view event ≡ Some (live_view plan s', outcome) = sym (commutes plan s event well_formed reached) ∙ ap (option_map (seen_after plan)) happened in
-    let gone = subst (Leaves view) seen (step_leaves plan view event) in
+    let gone = subst (StaysDeadAfter view) seen (step_leaves plan view event) in
     gone.stays j (let long = length-view plan s in omega arith) dead
 
 -- ---- the answers of a world

@@ -11,11 +11,11 @@ use Rattle.written_machine.specs.declared.parent.Parent.TheVariants as parent
 use Rattle.interleaving.specs.declared.job_view.Phase.{Phase}
 use Rattle.interleaving.specs.declared.job_view.Phase.TheVariants as phase
 use Rattle.interleaving.specs.declared.job_view.JobView.{JobView}
-use Rattle.written_machine.specs.State.{Stage, Made, State, no_job, job_at, pool_seen, is_unfinished, child, PoolPart, no_pool_part, pool_part, part_of, pool_view, busy}
+use Rattle.written_machine.specs.State.{Stage, CreatedJob, State, no_job, job_at, pool_seen, is_unfinished, child, PoolPart, no_pool_part, pool_part, part_of, pool_view, busy}
 use Rattle.written_machine.specs.State.Stage.{Queued, At, Done, Claimed}
 use Rattle.written_machine.specs.Step.{point, point_of_job, with_pool}
-use Rattle.interleaving.specs.LiveView.{may_ask, is_number, phase_seen, job_with, job_seen, View, live_view}
-use Rattle.interleaving.specs.ViewStep.{live_job, is_unfinished_job, may_ask_for, point_of_live_job, point_in, no_pool_view, pool_in}
+use Rattle.interleaving.specs.LiveView.{may_get, is_number, phase_seen, job_with, job_seen, View, live_view}
+use Rattle.interleaving.specs.ViewStep.{live_job, is_unfinished_job, may_get_in, point_of_live_job, point_in, no_pool_view, pool_in}
 
 -- the element of the view at number n
 abbrev pub seen : State → ℕ → Option JobView
@@ -28,13 +28,13 @@ phase_with asks latest j (At i) = Some (phase.At i)
 phase_with asks latest j Done = if asks && is_number latest j then Some phase.Done else None
 phase_with asks latest j Claimed = None
 
-phase_seen-with : (s : State) (j : ℕ) (job : Made) (stage : Stage) → phase_seen s j job stage ≡ phase_with (may_ask s job.parent) (child s job.parent job.slot) j stage
+phase_seen-with : (s : State) (j : ℕ) (job : CreatedJob) (stage : Stage) → phase_seen s j job stage ≡ phase_with (may_get s job.parent) (child s job.parent job.slot) j stage
 phase_seen-with s j job Queued = refl
 phase_seen-with s j job (At i) = refl
 phase_seen-with s j job Done = refl
 phase_seen-with s j job Claimed = refl
 
-pub job_seen-with : (s : State) (j : ℕ) (job : Made) → job_seen s j job ≡ job_with job (phase_with (may_ask s job.parent) (child s job.parent job.slot) j job.stage)
+pub job_seen-with : (s : State) (j : ℕ) (job : CreatedJob) → job_seen s j job ≡ job_with job (phase_with (may_get s job.parent) (child s job.parent job.slot) j job.stage)
 job_seen-with s j job = ap (job_with job) (phase_seen-with s j job job.stage)
 
 -- ---- the jobs
@@ -44,7 +44,7 @@ length-view plan s = length-map (enumerate_from 0 s.jobs) (λ entry. job_seen s 
 
 pub view_at : (plan : Plan) (s : State) (j : ℕ) → live_job (live_view plan s).jobs j ≡ seen s j
 view_at plan s j = elim (cases_lt j (length s.jobs)) [
-  | inl inside ↦ let f : ℕ × Made → Option JobView = λ entry. job_seen s entry.0 entry.1 in
+  | inl inside ↦ let f : ℕ × CreatedJob → Option JobView = λ entry. job_seen s entry.0 entry.1 in
       let long = length-enumerate_from 0 s.jobs in
       get_or-map f (enumerate_from 0 s.jobs) j (0, no_job) None (omega arith) ∙ ap f (get_or-enumerate_from 0 s.jobs j (0, no_job) inside) ∙ ap (λ k. job_seen s k (job_at s j)) (zero-add j)
   | inr past ↦ let long = length-view plan s in
@@ -114,28 +114,28 @@ same_views v w jobs pools clients refusals =
 
 -- ---- the fields of a live job
 
-unfinished_if : (job : Made) (b : Bool) → is_unfinished_job (job_with job (if b then Some phase.Done else None)) ≡ false
+unfinished_if : (job : CreatedJob) (b : Bool) → is_unfinished_job (job_with job (if b then Some phase.Done else None)) ≡ false
 unfinished_if job true = refl
 unfinished_if job false = refl
 
-unfinished_with : (job : Made) (asks : Bool) (latest : Option ℕ) (j : ℕ) (stage : Stage) → is_unfinished_job (job_with job (phase_with asks latest j stage)) ≡ is_unfinished stage
+unfinished_with : (job : CreatedJob) (asks : Bool) (latest : Option ℕ) (j : ℕ) (stage : Stage) → is_unfinished_job (job_with job (phase_with asks latest j stage)) ≡ is_unfinished stage
 unfinished_with job asks latest j Queued = refl
 unfinished_with job asks latest j (At i) = refl
 unfinished_with job asks latest j Done = unfinished_if job (asks && is_number latest j)
 unfinished_with job asks latest j Claimed = refl
 
-pub unfinished_seen : (s : State) (j : ℕ) (job : Made) → is_unfinished_job (job_seen s j job) ≡ is_unfinished job.stage
-unfinished_seen s j job = ap is_unfinished_job (job_seen-with s j job) ∙ unfinished_with job (may_ask s job.parent) (child s job.parent job.slot) j job.stage
+pub unfinished_seen : (s : State) (j : ℕ) (job : CreatedJob) → is_unfinished_job (job_seen s j job) ≡ is_unfinished job.stage
+unfinished_seen s j job = ap is_unfinished_job (job_seen-with s j job) ∙ unfinished_with job (may_get s job.parent) (child s job.parent job.slot) j job.stage
 
-pub may_ask_seen : (plan : Plan) (s : State) (a : Parent) → may_ask_for (live_view plan s).jobs a ≡ may_ask s a
+pub may_ask_seen : (plan : Plan) (s : State) (a : Parent) → may_get_in (live_view plan s).jobs a ≡ may_get s a
 may_ask_seen plan s (parent.Client c) = refl
 may_ask_seen plan s (parent.Job j) = ap is_unfinished_job (view_at plan s j) ∙ unfinished_seen s j (job_at s j)
 
-point_if : (plan : Plan) (job : Made) (b : Bool) → point_of_live_job plan (job_with job (if b then Some phase.Done else None)) ≡ None
+point_if : (plan : Plan) (job : CreatedJob) (b : Bool) → point_of_live_job plan (job_with job (if b then Some phase.Done else None)) ≡ None
 point_if plan job true = refl
 point_if plan job false = refl
 
-point_with : (plan : Plan) (job : Made) (asks : Bool) (latest : Option ℕ) (j : ℕ) (stage : Stage) → point_of_live_job plan (job_with job (phase_with asks latest j stage)) ≡ point_of_job plan job.class stage
+point_with : (plan : Plan) (job : CreatedJob) (asks : Bool) (latest : Option ℕ) (j : ℕ) (stage : Stage) → point_of_live_job plan (job_with job (phase_with asks latest j stage)) ≡ point_of_job plan job.class stage
 point_with plan job asks latest j Queued = refl
 point_with plan job asks latest j (At i) = refl
 point_with plan job asks latest j Done = point_if plan job (asks && is_number latest j)
@@ -146,4 +146,4 @@ pub point_seen : (plan : Plan) (s : State) (a : Parent) → point_in plan (live_
 point_seen plan s (parent.Client c) = refl
 point_seen plan s (parent.Job j) =
     let job = job_at s j in
-    ap (point_of_live_job plan) (view_at plan s j ∙ job_seen-with s j job) ∙ point_with plan job (may_ask s job.parent) (child s job.parent job.slot) j job.stage
+    ap (point_of_live_job plan) (view_at plan s j ∙ job_seen-with s j job) ∙ point_with plan job (may_get s job.parent) (child s job.parent job.slot) j job.stage

@@ -10,13 +10,13 @@ use Rattle.written_machine.specs.declared.parent.Parent.{Parent}
 use Rattle.written_machine.specs.declared.parent.Parent.TheVariants as parent
 use Rattle.written_machine.specs.declared.event.Outcome.TheVariants.{Got, Looped}
 use Rattle.interleaving.specs.declared.job_view.Phase.TheVariants as phase
-use Rattle.written_machine.specs.State.{Stage, Made, State, job_at, is_at, is_unfinished, busy, child}
+use Rattle.written_machine.specs.State.{Stage, CreatedJob, State, job_at, is_at, is_unfinished, busy, child}
 use Rattle.written_machine.specs.State.Stage.{Queued, At, Done, Claimed}
 use Rattle.written_machine.specs.Step.{point, with_stage, with_position, got, got_child, looped}
 use Rattle.written_machine.proofs.Stages.{get_or-staged_same}
 use Rattle.written_machine.proofs.Busy.{busy_in-as, busy-staged_same, busy-moved}
-use Rattle.written_machine.proofs.Kept.{Kept}
-use Rattle.written_machine.proofs.Standing.{job_made, job_at-with_position}
+use Rattle.written_machine.proofs.StateInvariant.{StateInvariant}
+use Rattle.written_machine.proofs.Positions.{job_made, job_at-with_position}
 use Rattle.interleaving.specs.LiveView.{job_seen, View, live_view}
 use Rattle.interleaving.specs.ViewStep.{live_job, live_child, in_phase, move_actor, got_in, got_child_in, looped_in}
 use Rattle.interleaving.specs.Laws.{seen_after}
@@ -65,7 +65,7 @@ claimed_seen plan s a body i j stands done =
     let moved = with_position a (i + 1) s in
     let elsewhere = λ (n : ℕ) (at : (job_at s j).stage ≡ At n). let f : Done ≡ At n = sym done ∙ at in absurd cc in
     let stays : job_at moved j ≡ job_at s j = job_at-with_position plan s a body i (i + 1) j stands elsewhere in
-    let claimed : live_view plan (with_stage j Claimed moved) ≡ record (live_view plan moved) { jobs = set (live_view plan moved).jobs j None } = claim_seen plan moved j (ap (λ (job : Made). job.stage) stays ∙ done) in
+    let claimed : live_view plan (with_stage j Claimed moved) ≡ record (live_view plan moved) { jobs = set (live_view plan moved).jobs j None } = claim_seen plan moved j (ap (λ (job : CreatedJob). job.stage) stays ∙ done) in
     let now : live_view plan moved ≡ move_actor a (i + 1) (live_view plan s) = move_seen plan s a body i (i + 1) stands in
     subst (λ (v : View). live_view plan (with_stage j Claimed moved) ≡ record v { jobs = set v.jobs j None }) now claimed
 
@@ -78,7 +78,7 @@ got_commutes plan s a body i t j Done stands is_child unclaimed e =
     ap (λ v. Some (v, Got j)) (claimed_seen plan s a body i j stands e) ∙ sym (ap (got_in view a i j) (done_seen s a t j (standing_asks plan s a body i stands) is_child e))
 got_commutes plan s a body i t j Claimed stands is_child unclaimed e = absurd (unclaimed e)
 
-pub get_commutes : (plan : Plan) (s : State) (a : Parent) (body : List Action) (i t : ℕ) → IsValidBody plan body → Kept plan s → point plan s a ≡ Some (record { body = body; position = i }) → slice_get body i ≡ Some (Get t)
+pub get_commutes : (plan : Plan) (s : State) (a : Parent) (body : List Action) (i t : ℕ) → IsValidBody plan body → StateInvariant plan s → point plan s a ≡ Some (record { body = body; position = i }) → slice_get body i ≡ Some (Get t)
     → option_map (seen_after plan) (got_child s a i (child s a t)) ≡ got_child_in (live_view plan s) a i (live_child (live_view plan s).jobs a t)
 get_commutes plan s a body i t valid kept stands there =
     let view = live_view plan s in

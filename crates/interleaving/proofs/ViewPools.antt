@@ -9,20 +9,20 @@ use Rattle.written_machine.specs.declared.event.Outcome.TheVariants as outcome
 use Rattle.interleaving.specs.declared.job_view.Phase.TheVariants as phase
 use Rattle.written_machine.specs.State.{Stage, State, PoolPart, no_pool_part, job_at, pool_part, pool_view, pool_seen, is_at, is_unfinished, busy}
 use Rattle.written_machine.specs.State.Stage.{Queued, At}
-use Rattle.written_machine.specs.Step.{with_stage, with_pool, took, let_go}
+use Rattle.written_machine.specs.Step.{with_stage, with_pool, take_head, let_go}
 use Rattle.written_machine.proofs.Stages.{get_or-staged_same}
 use Rattle.written_machine.proofs.Busy.{one_if, busy-staged_here, busy-staged_elsewhere}
-use Rattle.written_machine.proofs.Kept.{Kept}
+use Rattle.written_machine.proofs.StateInvariant.{StateInvariant}
 use Rattle.written_machine.proofs.Queues.{IsHead, head_of_queue}
 use Rattle.interleaving.specs.LiveView.{job_seen, live_view}
-use Rattle.interleaving.specs.ViewStep.{live_job, in_phase, with_phase, no_pool_view, pool_in, with_pool_in, took_in, let_go_in}
+use Rattle.interleaving.specs.ViewStep.{live_job, in_phase, with_phase, no_pool_view, pool_in, with_pool_in, take_head_in, retire_worker_in}
 use Rattle.interleaving.specs.Laws.{seen_after}
 use Rattle.interleaving.proofs.View.{seen, view_at, length-pools, pool_at_view, same_views, pools-put}
 use Rattle.interleaving.proofs.Changes.{as_seen, seen_at, jobs-staged}
 
 -- ---- a take
 
-take_seen : (plan : Plan) (s : State) (p j idle : ℕ) (queue : List ℕ) → Kept plan s → p < length plan.pools → (pool_part s p).idle ≡ suc idle → IsHead plan s p j queue
+take_seen : (plan : Plan) (s : State) (p j idle : ℕ) (queue : List ℕ) → StateInvariant plan s → p < length plan.pools → (pool_part s p).idle ≡ suc idle → IsHead plan s p j queue
     → live_view plan (with_pool p (record (pool_seen plan s p) { idle = idle; queue = queue }) (with_stage j (At 0) s))
     ≡ record (live_view plan s) { jobs = with_phase j (phase.At 0) (live_view plan s).jobs; pools = set (live_view plan s).pools p (record (pool_seen plan s p) { idle = idle; queue = queue }) }
 take_seen plan s p j idle queue kept inside is_idle head =
@@ -38,8 +38,8 @@ take_seen plan s p j idle queue kept inside is_idle head =
     let pools = pools-put plan s s2 p pool refl kept.as_many inside pool_now (λ q other. busy-staged_elsewhere plan s.jobs j (At 0) q (λ same. other (sym same ∙ head.of_pool))) in
     same_views (live_view plan (with_pool p pool s2)) (record view { jobs = with_phase j (phase.At 0) view.jobs; pools = set view.pools p pool }) jobs pools refl refl
 
-taken_commutes : (plan : Plan) (s : State) (p : ℕ) → Kept plan s → p < length plan.pools → (idle : ℕ) (queue : List ℕ) → (pool_part s p).idle ≡ idle → (pool_part s p).queue ≡ queue
-    → option_map (seen_after plan) (took s p (taken_from (pool_seen plan s p) idle queue)) ≡ took_in (live_view plan s) p (taken_from (pool_seen plan s p) idle queue)
+taken_commutes : (plan : Plan) (s : State) (p : ℕ) → StateInvariant plan s → p < length plan.pools → (idle : ℕ) (queue : List ℕ) → (pool_part s p).idle ≡ idle → (pool_part s p).queue ≡ queue
+    → option_map (seen_after plan) (take_head s p (taken_from (pool_seen plan s p) idle queue)) ≡ take_head_in (live_view plan s) p (taken_from (pool_seen plan s p) idle queue)
 taken_commutes plan s p kept inside zero [] is_idle is_queue = refl
 taken_commutes plan s p kept inside zero (j ∷ queue) is_idle is_queue = refl
 taken_commutes plan s p kept inside (suc idle) [] is_idle is_queue = refl
@@ -47,30 +47,30 @@ taken_commutes plan s p kept inside (suc idle) (j ∷ queue) is_idle is_queue =
     ap (λ v. Some (v, outcome.Took j)) (take_seen plan s p j idle queue kept inside is_idle (head_of_queue plan s p j queue kept is_queue))
 
 -- a number past the plan's pools has an empty part
-no_pool_there : (plan : Plan) (s : State) (p : ℕ) → Kept plan s → length plan.pools ≤ p → pool_part s p ≡ no_pool_part
+no_pool_there : (plan : Plan) (s : State) (p : ℕ) → StateInvariant plan s → length plan.pools ≤ p → pool_part s p ≡ no_pool_part
 no_pool_there plan s p kept past = get_or_past s.pools p no_pool_part (omega (arith, kept.as_many))
 
 no_pool_in_view : (plan : Plan) (s : State) (p : ℕ) → length plan.pools ≤ p → pool_in (live_view plan s) p ≡ no_pool_view
 no_pool_in_view plan s p past = let long = length-pools plan s in get_or_past (live_view plan s).pools p no_pool_view (omega arith)
 
-pub take_commutes : (plan : Plan) (s : State) (p : ℕ) → Kept plan s → option_map (seen_after plan) (took s p (taken (pool_seen plan s p))) ≡ took_in (live_view plan s) p (taken (pool_in (live_view plan s) p))
+pub take_commutes : (plan : Plan) (s : State) (p : ℕ) → StateInvariant plan s → option_map (seen_after plan) (take_head s p (taken (pool_seen plan s p))) ≡ take_head_in (live_view plan s) p (taken (pool_in (live_view plan s) p))
 take_commutes plan s p kept =
     let view = live_view plan s in
     ⊎_elim
-    (λ inside. taken_commutes plan s p kept inside (pool_part s p).idle (pool_part s p).queue refl refl ∙ sym (ap (λ pool. took_in view p (taken pool)) (pool_at_view plan s p inside)))
-    (λ past. ap (λ (part : PoolPart). option_map (seen_after plan) (took s p (taken_from (pool_seen plan s p) part.idle part.queue))) (no_pool_there plan s p kept past)
-    ∙ sym (ap (λ pool. took_in view p (taken pool)) (no_pool_in_view plan s p past)))
+    (λ inside. taken_commutes plan s p kept inside (pool_part s p).idle (pool_part s p).queue refl refl ∙ sym (ap (λ pool. take_head_in view p (taken pool)) (pool_at_view plan s p inside)))
+    (λ past. ap (λ (part : PoolPart). option_map (seen_after plan) (take_head s p (taken_from (pool_seen plan s p) part.idle part.queue))) (no_pool_there plan s p kept past)
+    ∙ sym (ap (λ pool. take_head_in view p (taken pool)) (no_pool_in_view plan s p past)))
     (cases_lt p (length plan.pools))
 
 -- ---- a retirement
 
 retire_if : (plan : Plan) (s : State) (p : ℕ) (pool : PoolView) (b : Bool) → live_view plan (with_pool p pool s) ≡ with_pool_in p pool (live_view plan s)
-    → option_map (seen_after plan) (let_go s p (if b then Some pool else None)) ≡ let_go_in (live_view plan s) p (if b then Some pool else None)
+    → option_map (seen_after plan) (let_go s p (if b then Some pool else None)) ≡ retire_worker_in (live_view plan s) p (if b then Some pool else None)
 retire_if plan s p pool true same = ap (λ v. Some (v, outcome.Retired)) same
 retire_if plan s p pool false same = refl
 
-retired_commutes : (plan : Plan) (s : State) (p : ℕ) → Kept plan s → p < length plan.pools → (idle : ℕ) → (pool_part s p).idle ≡ idle
-    → option_map (seen_after plan) (let_go s p (retired_of (pool_seen plan s p) idle)) ≡ let_go_in (live_view plan s) p (retired_of (pool_seen plan s p) idle)
+retired_commutes : (plan : Plan) (s : State) (p : ℕ) → StateInvariant plan s → p < length plan.pools → (idle : ℕ) → (pool_part s p).idle ≡ idle
+    → option_map (seen_after plan) (let_go s p (retired_of (pool_seen plan s p) idle)) ≡ retire_worker_in (live_view plan s) p (retired_of (pool_seen plan s p) idle)
 retired_commutes plan s p kept inside zero is_idle = refl
 retired_commutes plan s p kept inside (suc idle) is_idle =
     let seen_pool = pool_seen plan s p in
@@ -80,11 +80,11 @@ retired_commutes plan s p kept inside (suc idle) is_idle =
     let pools = pools-put plan s s p pool refl kept.as_many inside pool_now (λ q other. refl) in
     retire_if plan s p pool (nat_lt seen_pool.core seen_pool.threads) (same_views (live_view plan (with_pool p pool s)) (with_pool_in p pool (live_view plan s)) refl pools refl refl)
 
-pub retire_commutes : (plan : Plan) (s : State) (p : ℕ) → Kept plan s → option_map (seen_after plan) (let_go s p (retired (pool_seen plan s p))) ≡ let_go_in (live_view plan s) p (retired (pool_in (live_view plan s) p))
+pub retire_commutes : (plan : Plan) (s : State) (p : ℕ) → StateInvariant plan s → option_map (seen_after plan) (let_go s p (retired (pool_seen plan s p))) ≡ retire_worker_in (live_view plan s) p (retired (pool_in (live_view plan s) p))
 retire_commutes plan s p kept =
     let view = live_view plan s in
     ⊎_elim
-    (λ inside. retired_commutes plan s p kept inside (pool_part s p).idle refl ∙ sym (ap (λ pool. let_go_in view p (retired pool)) (pool_at_view plan s p inside)))
+    (λ inside. retired_commutes plan s p kept inside (pool_part s p).idle refl ∙ sym (ap (λ pool. retire_worker_in view p (retired pool)) (pool_at_view plan s p inside)))
     (λ past. ap (λ (part : PoolPart). option_map (seen_after plan) (let_go s p (retired_of (pool_seen plan s p) part.idle))) (no_pool_there plan s p kept past)
-    ∙ sym (ap (λ pool. let_go_in view p (retired pool)) (no_pool_in_view plan s p past)))
+    ∙ sym (ap (λ pool. retire_worker_in view p (retired pool)) (no_pool_in_view plan s p past)))
     (cases_lt p (length plan.pools))

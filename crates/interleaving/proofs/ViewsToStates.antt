@@ -14,7 +14,7 @@ use Rattle.interleaving.specs.Waiting.{is_waiting_set_in}
 use Rattle.interleaving.specs.ViewAnswers.{AnswersAs}
 use Rattle.interleaving.proofs.Reached.{unfinished, sets_seen, answers_possible, answers_impossible, reached_after}
 use Rattle.interleaving.specs.World.{WorldValue}
-use Rattle.interleaving.specs.OfPlan.{IsOf}
+use Rattle.interleaving.specs.OfPlan.{IsReachableView}
 use Rattle.interleaving.specs.Answers.{AnswersIn}
 
 -- ---- steps
@@ -32,18 +32,18 @@ pub raised : {E : Type 0} (plan : Plan) (event : Event) (old new : View) (answer
 raised plan event old new (Ok answer) w a = λ s reached same. answers_in plan s event answer old new w reached same a
 raised plan event old new (Err e) w a = tt
 
-of_plan_after : (plan : Plan) (event : Event) (answer : Option Outcome) (s : State) (new : View) → IsReached plan s → AnswersAs plan s event answer new → IsOf plan new
+of_plan_after : (plan : Plan) (event : Event) (answer : Option Outcome) (s : State) (new : View) → IsReached plan s → AnswersAs plan s event answer new → IsReachableView plan new
 of_plan_after plan event None s new reached a = (s, reached, sym a.1)
 of_plan_after plan event (Some outcome) s new reached a = (a.0, reached_after plan s a.0 event outcome reached a.1, sym a.2)
 
 -- the world is still a world of the plan after the event
-pub still_of_plan : {E : Type 0} (plan : Plan) (event : Event) (old new : WorldValue) (answered : Result (Option Outcome) E) → IsWellFormed plan → IsOf plan old.view → IfOk answered (λ answer. AnswersIn plan old.view event answer new.view) → OnErr answered (new ≡ old)
-    → IsOf plan new.view
+pub still_of_plan : {E : Type 0} (plan : Plan) (event : Event) (old new : WorldValue) (answered : Result (Option Outcome) E) → IsWellFormed plan → IsReachableView plan old.view → IfOk answered (λ answer. AnswersIn plan old.view event answer new.view) → OnErr answered (new ≡ old)
+    → IsReachableView plan new.view
 still_of_plan plan event old new (Ok answer) w of a unchanged = of_plan_after plan event answer of.0 new.view of.1 (answers_in plan of.0 event answer old.view new.view w of.1 of.2 a)
-still_of_plan plan event old new (Err e) w of a unchanged = subst (λ (world : WorldValue). IsOf plan world.view) (sym unchanged) of
+still_of_plan plan event old new (Err e) w of a unchanged = subst (λ (world : WorldValue). IsReachableView plan world.view) (sym unchanged) of
 
 -- the world at the start is a world of the plan
-pub start_of_plan : (plan : Plan) (view : View) → view ≡ live_view plan (start plan) → IsOf plan view
+pub start_of_plan : (plan : Plan) (view : View) → view ≡ live_view plan (start plan) → IsReachableView plan view
 start_of_plan plan view e = (start plan, ([], refl), sym e)
 
 -- ---- look-ups

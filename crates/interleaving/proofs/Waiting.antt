@@ -12,16 +12,16 @@ use Rattle.job_bodies.proofs.Bodies.{HasValidBodies}
 use Rattle.pool_machine.specs.PoolState.{PoolView, new_pool}
 use Rattle.written_machine.specs.declared.parent.Parent.TheVariants as parent
 use Rattle.interleaving.specs.declared.job_view.Phase.TheVariants as phase
-use Rattle.written_machine.specs.State.{Stage, Made, State, PoolPart, no_job, job_at, pool_of, part_of, pool_view, pool_seen, is_unfinished, is_busy_in, child}
+use Rattle.written_machine.specs.State.{Stage, CreatedJob, State, PoolPart, no_job, job_at, pool_of, part_of, pool_view, pool_seen, is_unfinished, is_busy_in, child}
 use Rattle.written_machine.specs.State.Stage.{Queued, At, Done, Claimed}
 use Rattle.written_machine.specs.Step.{point, point_of_job}
 use Rattle.written_machine.specs.Reach.{start}
-use Rattle.written_machine.specs.Waiting.{is_member, is_some_member, is_none, waits_at, waits_as, waits, is_waiting_set}
-use Rattle.written_machine.proofs.Kept.{Kept}
-use Rattle.written_machine.proofs.KeptStart.{pool_part_at_start}
-use Rattle.written_machine.proofs.Standing.{job_made}
+use Rattle.written_machine.specs.Waiting.{is_member, is_some_member, is_none, waits_at, waits_at_stage, waits, is_waiting_set}
+use Rattle.written_machine.proofs.StateInvariant.{StateInvariant}
+use Rattle.written_machine.proofs.InvariantAtStart.{pool_part_at_start}
+use Rattle.written_machine.proofs.Positions.{job_made}
 use Rattle.written_machine.proofs.Queues.{Queued≢Claimed, pool_of_made}
-use Rattle.interleaving.specs.LiveView.{may_ask, is_number, phase_seen, job_with, job_seen, View, live_view}
+use Rattle.interleaving.specs.LiveView.{may_get, is_number, phase_seen, job_with, job_seen, View, live_view}
 use Rattle.interleaving.specs.ViewStep.{is_unfinished_job, no_pool_view}
 use Rattle.interleaving.specs.Waiting.{is_busy_job, waits_at_in, waits_job, waits_in, is_waiting_set_in}
 use Rattle.interleaving.specs.Laws.{new_view}
@@ -31,18 +31,18 @@ use Rattle.interleaving.proofs.Children.{child_seen}
 
 -- ---- running jobs, and unfinished jobs
 
-busy_if : (plan : Plan) (p : ℕ) (job : Made) (b : Bool) → is_busy_job plan p (job_with job (if b then Some phase.Done else None)) ≡ false
+busy_if : (plan : Plan) (p : ℕ) (job : CreatedJob) (b : Bool) → is_busy_job plan p (job_with job (if b then Some phase.Done else None)) ≡ false
 busy_if plan p job true = refl
 busy_if plan p job false = refl
 
-busy_with : (plan : Plan) (p : ℕ) (job : Made) (asks : Bool) (latest : Option ℕ) (j : ℕ) (stage : Stage) → is_busy_job plan p (job_with job (phase_with asks latest j stage)) ≡ is_busy_in plan p (record job { stage = stage })
+busy_with : (plan : Plan) (p : ℕ) (job : CreatedJob) (asks : Bool) (latest : Option ℕ) (j : ℕ) (stage : Stage) → is_busy_job plan p (job_with job (phase_with asks latest j stage)) ≡ is_busy_in plan p (record job { stage = stage })
 busy_with plan p job asks latest j Queued = refl
 busy_with plan p job asks latest j (At i) = refl
 busy_with plan p job asks latest j Done = busy_if plan p job (asks && is_number latest j)
 busy_with plan p job asks latest j Claimed = refl
 
-busy_seen : (plan : Plan) (p : ℕ) (s : State) (j : ℕ) (job : Made) → is_busy_job plan p (job_seen s j job) ≡ is_busy_in plan p job
-busy_seen plan p s j job = ap (is_busy_job plan p) (job_seen-with s j job) ∙ busy_with plan p job (may_ask s job.parent) (child s job.parent job.slot) j job.stage
+busy_seen : (plan : Plan) (p : ℕ) (s : State) (j : ℕ) (job : CreatedJob) → is_busy_job plan p (job_seen s j job) ≡ is_busy_in plan p job
+busy_seen plan p s j job = ap (is_busy_job plan p) (job_seen-with s j job) ∙ busy_with plan p job (may_get s job.parent) (child s job.parent job.slot) j job.stage
 
 pub busy_places : (plan : Plan) (s : State) (p : ℕ) → places_where (is_busy_job plan p) (live_view plan s).jobs ≡ places_where (is_busy_in plan p) s.jobs
 busy_places plan s p =
@@ -52,12 +52,12 @@ busy_places plan s p =
 
 pub unfinished_counted : (plan : Plan) (s : State) → count_by is_unfinished_job (live_view plan s).jobs ≡ count_by (λ job. is_unfinished job.stage) s.jobs
 unfinished_counted plan s =
-    count_by-agree_at is_unfinished_job (λ (job : Made). is_unfinished job.stage) (live_view plan s).jobs s.jobs None no_job (length-view plan s)
+    count_by-agree_at is_unfinished_job (λ (job : CreatedJob). is_unfinished job.stage) (live_view plan s).jobs s.jobs None no_job (length-view plan s)
     (λ j inside. ap is_unfinished_job (view_at plan s j) ∙ unfinished_seen s j (job_at s j))
 
 -- ---- waiting sets
 
-waits_if : (plan : Plan) (view : View) (members : List ℕ) (j : ℕ) (job : Made) (b : Bool) → waits_job plan view members j (job_with job (if b then Some phase.Done else None)) ≡ false
+waits_if : (plan : Plan) (view : View) (members : List ℕ) (j : ℕ) (job : CreatedJob) (b : Bool) → waits_job plan view members j (job_with job (if b then Some phase.Done else None)) ≡ false
 waits_if plan view members j job true = refl
 waits_if plan view members j job false = refl
 
@@ -65,7 +65,7 @@ list_all_agree : {X : Type 0} (p q : X → Bool) (xs : List X) → ((x : X) → 
 list_all_agree p q [] same = refl
 list_all_agree p q (x ∷ xs) same = ap₂ (λ a b. a && b) (same x) (list_all_agree p q xs same)
 
-module _ (plan : Plan) (s : State) (members : List ℕ) (ordered : HasValidBodies plan) (kept : Kept plan s) where
+module _ (plan : Plan) (s : State) (members : List ℕ) (ordered : HasValidBodies plan) (kept : StateInvariant plan s) where
   -- a job at a get
   waits_at_seen : (j i : ℕ) (action : Option Action) → (job_at s j).stage ≡ At i → slice_get (class_at plan (job_at s j).class).body i ≡ action
       → waits_at s members (parent.Job j) action ≡ waits_at_in (live_view plan s) members (parent.Job j) action
@@ -80,7 +80,7 @@ module _ (plan : Plan) (s : State) (members : List ℕ) (ordered : HasValidBodie
       let is_child : child s (parent.Job j) t ≡ Some found.number = found.is_child in
       ap (is_some_member members) (is_child ∙ sym (child_seen plan s (parent.Job j) t found.number (ap is_unfinished at) is_child found.unclaimed))
 
-  waits_seen_as : (j : ℕ) (stage : Stage) → (job_at s j).stage ≡ stage → waits_as plan s members j (job_at s j).class stage ≡ waits_job plan (live_view plan s) members j (seen s j)
+  waits_seen_as : (j : ℕ) (stage : Stage) → (job_at s j).stage ≡ stage → waits_at_stage plan s members j (job_at s j).class stage ≡ waits_job plan (live_view plan s) members j (seen s j)
   waits_seen_as j Queued e =
       let view = live_view plan s in
       let p = pool_of plan (job_at s j).class in
@@ -94,7 +94,7 @@ module _ (plan : Plan) (s : State) (members : List ℕ) (ordered : HasValidBodie
   waits_seen_as j Done e =
       let job = job_at s j in
       sym (ap (λ o. waits_job plan (live_view plan s) members j (job_with job o)) (ap (phase_seen s j job) e)
-      ∙ waits_if plan (live_view plan s) members j job (may_ask s job.parent && is_number (child s job.parent job.slot) j))
+      ∙ waits_if plan (live_view plan s) members j job (may_get s job.parent && is_number (child s job.parent job.slot) j))
   waits_seen_as j Claimed e = sym (ap (λ stage. waits_job plan (live_view plan s) members j (job_with (job_at s j) (phase_seen s j (job_at s j) stage))) e)
 
   waits_seen : (j : ℕ) → waits plan s members j ≡ waits_in plan (live_view plan s) members j

@@ -13,7 +13,7 @@ use Rattle.interleaving.specs.declared.job_view.Phase.TheVariants as phase
 use Rattle.interleaving.specs.declared.job_view.JobView.{JobView}
 use Rattle.interleaving.specs.LiveView.{View}
 use Rattle.interleaving.specs.ViewStep.{live_job}
-use Rattle.interleaving.specs.OfPlan.{IsOf}
+use Rattle.interleaving.specs.OfPlan.{IsReachableView}
 use Rattle.interleaving.specs.Waiting.{waits_in_queue_of, waits_in_phase, waits_job, waits_in, is_waiting_set_in}
 use Rattle.interleaving.specs.Stuck.{is_in_queue, is_queued_job, waits_unless_queued, job_waits_unless_queued, unqueued_wait, QueuesWait}
 use Rattle.interleaving.proofs.OfPlan.{pool_of_live_job}
@@ -54,14 +54,14 @@ job_waits plan view members j (Some job) e queue = phase_waits plan view members
 
 -- ---- all members
 
-member_waits : (plan : Plan) (view : View) (members : List ℕ) (j : ℕ) → IsOf plan view → IsWellFormed plan → QueuesWait plan view members → In j members → job_waits_unless_queued plan view members j (live_job view.jobs j) ≡ true → waits_in plan view members j ≡ true
+member_waits : (plan : Plan) (view : View) (members : List ℕ) (j : ℕ) → IsReachableView plan view → IsWellFormed plan → QueuesWait plan view members → In j members → job_waits_unless_queued plan view members j (live_job view.jobs j) ≡ true → waits_in plan view members j ≡ true
 member_waits plan view members j of w queues i e =
     job_waits plan view members j (live_job view.jobs j) e (λ live found queued.
     let p = pool_of plan live.class in
     let is_queued : is_queued_job plan p (live_job view.jobs j) ≡ true = ap (is_queued_job plan p) found ∙ ap (λ b. b && p == p) queued ∙ eq-eqb p p refl in
     queues p (pool_of_live_job plan view j live of w found) (list_any_at_In (λ n. is_queued_job plan p (live_job view.jobs n)) i is_queued))
 
-all_wait : (plan : Plan) (view : View) (members : List ℕ) → IsOf plan view → IsWellFormed plan → QueuesWait plan view members → unqueued_wait plan view members ≡ true → list_all (waits_in plan view members) members ≡ true
+all_wait : (plan : Plan) (view : View) (members : List ℕ) → IsReachableView plan view → IsWellFormed plan → QueuesWait plan view members → unqueued_wait plan view members ≡ true → list_all (waits_in plan view members) members ≡ true
 all_wait plan view members of w queues e =
     list_all_from_In (waits_in plan view members) members (λ j i. member_waits plan view members j of w queues i (list_all_at_In (λ n. job_waits_unless_queued plan view members n (live_job view.jobs n)) e i))
 
@@ -79,12 +79,12 @@ pub none_without_queues : (plan : Plan) (view : View) (members : List ℕ) (queu
 none_without_queues plan view members queues iff e =
     false_from_ne_true _ (λ set. both_ways queues e (iff.1 (queues_of_all plan view members (and_parts (not (is_none members)) _ set).1)))
 
-waits_as_others : (plan : Plan) (view : View) (members : List ℕ) (others : Bool) → IsOf plan view → IsWellFormed plan → QueuesWait plan view members → unqueued_wait plan view members ≡ others → list_all (waits_in plan view members) members ≡ others
+waits_as_others : (plan : Plan) (view : View) (members : List ℕ) (others : Bool) → IsReachableView plan view → IsWellFormed plan → QueuesWait plan view members → unqueued_wait plan view members ≡ others → list_all (waits_in plan view members) members ≡ others
 waits_as_others plan view members true of w queues e = all_wait plan view members of w queues e
 waits_as_others plan view members false of w queues e = false_from_ne_true _ (λ all. both_ways _ e (others_of_all plan view members all))
 
 -- if the queues wait, the members are a waiting set exactly if the other members wait
-pub set_as_others : (plan : Plan) (view : View) (members : List ℕ) (others : Bool) → IsOf plan view → IsWellFormed plan → is_none members ≡ false → QueuesWait plan view members → others ≡ unqueued_wait plan view members → others ≡ is_waiting_set_in plan view members
+pub set_as_others : (plan : Plan) (view : View) (members : List ℕ) (others : Bool) → IsReachableView plan view → IsWellFormed plan → is_none members ≡ false → QueuesWait plan view members → others ≡ unqueued_wait plan view members → others ≡ is_waiting_set_in plan view members
 set_as_others plan view members others of w some queues e = sym (ap (λ b. not b && list_all (waits_in plan view members) members) some ∙ waits_as_others plan view members others of w queues (sym e))
 
 -- the empty list is not a waiting set

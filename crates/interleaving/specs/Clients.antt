@@ -15,9 +15,9 @@ abbrev pub client_of : List ClientState → ℕ → ClientState
 client_of clients c = slice_index_or clients c (record { kind = 0; position = 0 })
 
 -- if the actor is a client, it is at position i
-abbrev pub StandsAt : List ClientState → Parent → ℕ → Type 0
-StandsAt clients (parent.Client c) i = (client_of clients c).position ≡ i
-StandsAt clients (parent.Job j) i = Unit {0}
+abbrev pub IsClientAt : List ClientState → Parent → ℕ → Type 0
+IsClientAt clients (parent.Client c) i = (client_of clients c).position ≡ i
+IsClientAt clients (parent.Job j) i = Unit {0}
 
 -- if the actor is a client at the start of its body, there is room for its move
 abbrev pub CanMove : ClientList → Parent → Type 0

@@ -3,11 +3,11 @@ pub mod ViewStep
 pub mod Waiting
 pub mod ViewAnswers
 pub mod Laws
-pub mod KeptJob
-pub mod PlaceRow
-pub mod Places
-pub mod Calls
-pub mod Latest
+pub mod JobEntry
+pub mod JobRing
+pub mod JobTable
+pub mod SubmitMap
+pub mod LatestJobs
 pub mod LiveJobs
 pub mod MovedClients
 pub mod Clients
@@ -16,4 +16,4 @@ pub mod OfPlan
 pub mod Answers
 pub mod NextAction
 pub mod Stuck
-pub mod Share
+pub mod PoolActivity

@@ -4,11 +4,11 @@ use Rattle.std.specs.Option.{option_map}
 use Rattle.written_machine.specs.declared.parent.Parent.{Parent}
 use Rattle.written_machine.specs.declared.parent.Parent.TheVariants as parent
 use Rattle.interleaving.specs.declared.job_view.JobView.{JobView}
-use Rattle.interleaving.specs.ViewStep.{live_job, is_live_child, live_child, is_done, is_unfinished_job, may_ask_for, unless_stale, unless_orphan}
-use Rattle.interleaving.specs.declared.places.KeptJob.{KeptJob}
-use Rattle.interleaving.specs.Places.{PlaceList}
-use Rattle.interleaving.specs.KeptJob.{place_at}
-use Rattle.interleaving.specs.Latest.{LatestList, found, is_call}
+use Rattle.interleaving.specs.ViewStep.{live_job, is_live_child, live_child, is_done, is_unfinished_job, may_get_in, drop_if_stale, drop_if_orphan}
+use Rattle.interleaving.specs.declared.job_table.JobEntry.{JobEntry}
+use Rattle.interleaving.specs.JobTable.{JobTableView}
+use Rattle.interleaving.specs.JobEntry.{place_at}
+use Rattle.interleaving.specs.LatestJobs.{LatestJobsView, found, is_call}
 
 -- the number of further jobs for which there is room, of clients and of jobs
 pub record Room : Type 0 where
@@ -44,16 +44,16 @@ DoneAreLatest jobs = (a : Parent) (t k : ℕ) (job : JobView) → live_job jobs 
 
 -- of the jobs that the actor created at position t, only the latest can be stale
 abbrev pub NoOtherIsStale : List (Option JobView) → Option ℕ → Parent → ℕ → Type 0
-NoOtherIsStale jobs latest a t = (k : ℕ) → latest ≢ Some k → unless_stale a t (live_job jobs k) ≡ live_job jobs k
+NoOtherIsStale jobs latest a t = (k : ℕ) → latest ≢ Some k → drop_if_stale a t (live_job jobs k) ≡ live_job jobs k
 
 -- the actor has at most one live job from position t
-abbrev pub IsAlone : List (Option JobView) → Parent → ℕ → Type 0
-IsAlone jobs a t = (i k : ℕ) → is_live_child a t (live_job jobs i) ≡ true → is_live_child a t (live_job jobs k) ≡ true → i ≡ k
+abbrev pub IsOnlyLiveJob : List (Option JobView) → Parent → ℕ → Type 0
+IsOnlyLiveJob jobs a t = (i k : ℕ) → is_live_child a t (live_job jobs i) ≡ true → is_live_child a t (live_job jobs k) ≡ true → i ≡ k
 
 -- ---- the places
 
 -- the jobs of the stored data
-abbrev pub jobs_in : List (Option KeptJob) → List (Option JobView)
+abbrev pub jobs_in : List (Option JobEntry) → List (Option JobView)
 jobs_in items = map (option_map (λ place. place.job)) items
 
 -- job k is the latest live job that the actor created at position t
@@ -62,46 +62,46 @@ pub record IsLatest (jobs : List (Option JobView)) (a : Parent) (t k : ℕ) : Ty
   pub none_later : (i : ℕ) → k < i → is_live_child a t (live_job jobs i) ≡ false
 
 -- the index has the latest job of every actor that may request one; every job in the index is live and the latest
-pub record AreFound (jobs : List (Option JobView)) (latest : LatestList) : Type 0 where
+pub record AreFound (jobs : List (Option JobView)) (latest : LatestJobsView) : Type 0 where
   pub sound : (a : Parent) (t k : ℕ) → found latest a t ≡ Some k → IsLatest jobs a t k
-  pub complete : (a : Parent) (t k : ℕ) → may_ask_for jobs a ≡ true → IsLatest jobs a t k → found latest a t ≡ Some k
+  pub complete : (a : Parent) (t k : ℕ) → may_get_in jobs a ≡ true → IsLatest jobs a t k → found latest a t ≡ Some k
 
 -- the live jobs that a job created come from positions below its reach
-abbrev pub AreReached : List (Option KeptJob) → Type 0
-AreReached items = (j t k : ℕ) → is_live_child (parent.Job j) t (live_job (jobs_in items) k) ≡ true → (j < length items) × ((place : KeptJob) → place_at items j ≡ Some place → t < place.reach)
+abbrev pub AreSubmitBounds : List (Option JobEntry) → Type 0
+AreSubmitBounds items = (j t k : ℕ) → is_live_child (parent.Job j) t (live_job (jobs_in items) k) ≡ true → (j < length items) × ((place : JobEntry) → place_at items j ≡ Some place → t < place.submit_bound)
 
-pub record AreIndexed (items : List (Option KeptJob)) (latest : LatestList) (unfinished : ℕ) : Type 0 where
+pub record AreIndexed (items : List (Option JobEntry)) (latest : LatestJobsView) (unfinished : ℕ) : Type 0 where
   pub are_found : AreFound (jobs_in items) latest
-  pub reached : AreReached items
+  pub reached : AreSubmitBounds items
   pub counted : unfinished ≡ count_by is_unfinished_job (jobs_in items)
 
 -- no job became live, and no reach got lower
-pub record ReachesStay (items after : List (Option KeptJob)) : Type 0 where
+pub record SubmitBoundsStay (items after : List (Option JobEntry)) : Type 0 where
   pub long : length after ≡ length items
-  pub each : (k : ℕ) (place : KeptJob) → place_at after k ≡ Some place → (was : KeptJob) × (place_at items k ≡ Some was) × (was.reach ≤ place.reach)
+  pub each : (k : ℕ) (place : JobEntry) → place_at after k ≡ Some place → (was : JobEntry) × (place_at items k ≡ Some was) × (was.submit_bound ≤ place.submit_bound)
 
 -- if the actor is a live job, its reach is at least n
-abbrev pub ReachesTo : List (Option KeptJob) → Parent → ℕ → Type 0
-ReachesTo items (parent.Client c) n = Unit {0}
-ReachesTo items (parent.Job j) n = (place : KeptJob) → place_at items j ≡ Some place → n ≤ place.reach
+abbrev pub HasSubmitBound : List (Option JobEntry) → Parent → ℕ → Type 0
+HasSubmitBound items (parent.Client c) n = Unit {0}
+HasSubmitBound items (parent.Job j) n = (place : JobEntry) → place_at items j ≡ Some place → n ≤ place.submit_bound
 
 -- ---- the children of a job that finishes
 
 -- the index has each done job that job j created
-abbrev pub OrphansAreFound : List (Option JobView) → LatestList → ℕ → Type 0
+abbrev pub OrphansAreFound : List (Option JobView) → LatestJobsView → ℕ → Type 0
 OrphansAreFound jobs latest j = (t k : ℕ) (job : JobView) → live_job jobs k ≡ Some job → is_live_child (parent.Job j) t (Some job) ≡ true → is_done job.phase ≡ true → found latest (parent.Job j) t ≡ Some k
 
 -- the done jobs that job j created at positions below n are removed, from the list and from the index
-pub record AreOrphaned (j n : ℕ) (jobs after : List (Option JobView)) (latest later : LatestList) : Type 0 where
+pub record AreOrphaned (j n : ℕ) (jobs after : List (Option JobView)) (latest later : LatestJobsView) : Type 0 where
   pub long : length after ≡ length jobs
-  pub each : (k : ℕ) → (live_job after k ≡ live_job jobs k) ⊎ ((live_job after k ≡ None) × (unless_orphan j (live_job jobs k) ≡ None))
+  pub each : (k : ℕ) → (live_job after k ≡ live_job jobs k) ⊎ ((live_job after k ≡ None) × (drop_if_orphan j (live_job jobs k) ≡ None))
   pub gone : (t k : ℕ) (job : JobView) → t < n → live_job after k ≡ Some job → is_live_child (parent.Job j) t (Some job) ≡ true → is_done job.phase ≡ false
   pub sub : (a : Parent) (t k : ℕ) → found later a t ≡ Some k → (found latest a t ≡ Some k) × (live_job after k ≡ live_job jobs k)
   pub others : (a : Parent) (t : ℕ) → a ≢ parent.Job j → found later a t ≡ found latest a t
   pub behind : (t : ℕ) → n ≤ t → found later (parent.Job j) t ≡ found latest (parent.Job j) t
 
 -- if the finished job is gone, this submit no longer finds it; all other entries of the index stay
-pub record IsGone (finished : Option JobView) (latest later : LatestList) (a : Parent) (t number : ℕ) : Type 0 where
+pub record IsGone (finished : Option JobView) (latest later : LatestJobsView) (a : Parent) (t number : ℕ) : Type 0 where
   pub sub : (b : Parent) (u k : ℕ) → found later b u ≡ Some k → (found latest b u ≡ Some k) × (finished ≡ None → is_call a t b u ≡ true → k ≢ number)
   pub stay : (b : Parent) (u k : ℕ) → found latest b u ≡ Some k → (finished ≡ None → k ≢ number) → found later b u ≡ Some k
 
@@ -111,15 +111,15 @@ is_done_job None = false
 is_done_job (Some job) = is_done job.phase
 
 -- if the flag is set, the entry of job k and the index entry of its call are cleared; otherwise nothing changes
-abbrev pub ForgetsNumber : ℕ → ℕ → ℕ → Bool → PlaceList → PlaceList → LatestList → LatestList → Type 0
-ForgetsNumber j t k false kept kept' latest latest' = (kept' ≡ kept) × (latest' ≡ latest)
-ForgetsNumber j t k true kept kept' latest latest' = (kept'.items ≡ slice_set kept.items k None) × (kept'.places ≡ kept.places)
+abbrev pub RemovesNumber : ℕ → ℕ → ℕ → Bool → JobTableView → JobTableView → LatestJobsView → LatestJobsView → Type 0
+RemovesNumber j t k false kept kept' latest latest' = (kept' ≡ kept) × (latest' ≡ latest)
+RemovesNumber j t k true kept kept' latest latest' = (kept'.items ≡ slice_set kept.items k None) × (kept'.places ≡ kept.places)
     × ((b : Parent) (u : ℕ) → found latest' b u ≡ (if is_call (parent.Job j) t b u then None else found latest b u))
 
 -- the effect on the job that job j created at position t: it is removed if it is done
-abbrev pub ForgetsFound : ℕ → ℕ → Option ℕ → PlaceList → PlaceList → LatestList → LatestList → Type 0
-ForgetsFound j t None kept kept' latest latest' = (kept' ≡ kept) × (latest' ≡ latest)
-ForgetsFound j t (Some k) kept kept' latest latest' = ForgetsNumber j t k (is_done_job (live_job (jobs_in kept.items) k)) kept kept' latest latest'
+abbrev pub RemovesFound : ℕ → ℕ → Option ℕ → JobTableView → JobTableView → LatestJobsView → LatestJobsView → Type 0
+RemovesFound j t None kept kept' latest latest' = (kept' ≡ kept) × (latest' ≡ latest)
+RemovesFound j t (Some k) kept kept' latest latest' = RemovesNumber j t k (is_done_job (live_job (jobs_in kept.items) k)) kept kept' latest latest'
 
-abbrev pub ForgetsOrphan : ℕ → ℕ → PlaceList → PlaceList → LatestList → LatestList → Type 0
-ForgetsOrphan j t kept kept' latest latest' = ForgetsFound j t (found latest (parent.Job j) t) kept kept' latest latest'
+abbrev pub RemovesOrphan : ℕ → ℕ → JobTableView → JobTableView → LatestJobsView → LatestJobsView → Type 0
+RemovesOrphan j t kept kept' latest latest' = RemovesFound j t (found latest (parent.Job j) t) kept kept' latest latest'

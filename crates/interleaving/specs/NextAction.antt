@@ -20,7 +20,7 @@ IsAmong clients jobs (parent.Job j) = j < jobs
 
 -- the position in the body, the action there, and whether it is a submit whose job a get of the body requests
 abbrev pub next_action_in : List Action → ℕ → NextAction
-next_action_in body i = record { position = i; action = slice_get body i; asked = submits (slice_get body i) && has_get_of body i }
+next_action_in body i = record { position = i; action = slice_get body i; has_get = submits (slice_get body i) && has_get_of body i }
 
 abbrev pub next_action_at : Point → NextAction
 next_action_at at = next_action_in at.body at.position

@@ -8,15 +8,15 @@ use Rattle.written_machine.specs.State.{State, pool_of}
 use Rattle.written_machine.specs.Reach.{IsReached}
 use Rattle.interleaving.specs.declared.job_view.JobView.{JobView}
 use Rattle.interleaving.specs.LiveView.{View, live_view}
-use Rattle.interleaving.specs.ViewStep.{live_job, may_ask_for, pool_in}
+use Rattle.interleaving.specs.ViewStep.{live_job, may_get_in, pool_in}
 
 -- the view is the live view of a reachable state
-abbrev pub IsOf : Plan → View → Type 0
-IsOf plan view = (s : State) × IsReached plan s × (live_view plan s ≡ view)
+abbrev pub IsReachableView : Plan → View → Type 0
+IsReachableView plan view = (s : State) × IsReached plan s × (live_view plan s ≡ view)
 
 -- the job that an idle worker would take from the pool's queue is not done
 abbrev pub WaitsAtHead : View → ℕ → Type 0
-WaitsAtHead view p = (j : ℕ) (pool : PoolView) → taken (pool_in view p) ≡ Some (j, pool) → may_ask_for view.jobs (parent.Job j) ≡ true
+WaitsAtHead view p = (j : ℕ) (pool : PoolView) → taken (pool_in view p) ≡ Some (j, pool) → may_get_in view.jobs (parent.Job j) ≡ true
 
 -- a worker of the job's pool is busy
 pub record HasWorker (plan : Plan) (view : View) (job : JobView) : Type 0 where

@@ -8,7 +8,7 @@ use Rattle.job_bodies.specs.declared.action.Action.TheVariants.{Work, Submit, Ge
 use Rattle.job_bodies.specs.Plan.{Plan, class_at, client_at}
 use Rattle.pool_machine.specs.declared.offer.Offer.{Offer}
 use Rattle.pool_machine.specs.declared.offer.Offer.TheVariants as offer
-use Rattle.pool_machine.specs.PoolState.{PoolView, answer, after_answer, taken, finished, retired}
+use Rattle.pool_machine.specs.PoolState.{PoolView, answer, apply_answer, taken, finished, retired}
 use Rattle.written_machine.specs.declared.client_state.ClientState.{ClientState}
 use Rattle.written_machine.specs.declared.parent.Parent.{Parent}
 use Rattle.written_machine.specs.declared.parent.Parent.TheVariants as parent
@@ -47,9 +47,9 @@ is_unfinished_job None = false
 is_unfinished_job (Some job) = not (is_done job.phase)
 
 -- the actor may still get jobs that it created
-abbrev pub may_ask_for : List (Option JobView) → Parent → Bool
-may_ask_for jobs (parent.Client c) = true
-may_ask_for jobs (parent.Job j) = is_unfinished_job (live_job jobs j)
+abbrev pub may_get_in : List (Option JobView) → Parent → Bool
+may_get_in jobs (parent.Client c) = true
+may_get_in jobs (parent.Job j) = is_unfinished_job (live_job jobs j)
 
 -- the job with its phase replaced
 abbrev pub in_phase : Phase → Option JobView → Option JobView
@@ -60,19 +60,19 @@ abbrev pub with_phase : ℕ → Phase → List (Option JobView) → List (Option
 with_phase j phase jobs = slice_set jobs j (in_phase phase (live_job jobs j))
 
 -- a new job of the actor at position t makes its done job of that position stale
-abbrev pub unless_stale : Parent → ℕ → Option JobView → Option JobView
-unless_stale a t None = None
-unless_stale a t (Some job) = if is_live_child a t (Some job) && is_done job.phase then None else Some job
+abbrev pub drop_if_stale : Parent → ℕ → Option JobView → Option JobView
+drop_if_stale a t None = None
+drop_if_stale a t (Some job) = if is_live_child a t (Some job) && is_done job.phase then None else Some job
 
 -- no actor can request the result of a done job whose parent has finished
-abbrev pub unless_orphan : ℕ → Option JobView → Option JobView
-unless_orphan j None = None
-unless_orphan j (Some job) = if same_parent (parent.Job j) job.parent && is_done job.phase then None else Some job
+abbrev pub drop_if_orphan : ℕ → Option JobView → Option JobView
+drop_if_orphan j None = None
+drop_if_orphan j (Some job) = if same_parent (parent.Job j) job.parent && is_done job.phase then None else Some job
 
 -- a job that finishes stays live exactly if it is the latest of its submit and its parent may still get it
-abbrev pub finished_or_gone : List (Option JobView) → ℕ → JobView → Option JobView
-finished_or_gone jobs j job =
-    if may_ask_for jobs job.parent && is_number (live_child jobs job.parent job.slot) j then Some (record job { phase = phase.Done }) else None
+abbrev pub finished_if_gettable : List (Option JobView) → ℕ → JobView → Option JobView
+finished_if_gettable jobs j job =
+    if may_get_in jobs job.parent && is_number (live_child jobs job.parent job.slot) j then Some (record job { phase = phase.Done }) else None
 
 -- ---- the position of an actor
 
@@ -122,16 +122,16 @@ new_live_job k a i phase = record { class = k; parent = a; slot = i; phase = pha
 abbrev pub made : Parent → ℕ → JobView → View → View
 made a i job view =
     let moved = move_actor a (i + 1) view in
-    record moved { jobs = map (unless_stale a i) moved.jobs ++ Some job ∷ [] }
+    record moved { jobs = map (drop_if_stale a i) moved.jobs ++ Some job ∷ [] }
 
 abbrev pub answered_in : Plan → View → Parent → ℕ → ℕ → Offer → View × Outcome
 answered_in plan view a i k offer.Started = (
-  with_pool_in (pool_of plan k) (after_answer (pool_in view (pool_of plan k)) (length view.jobs) offer.Started)
+  with_pool_in (pool_of plan k) (apply_answer (pool_in view (pool_of plan k)) (length view.jobs) offer.Started)
       (made a i (new_live_job k a i (phase.At 0)) view),
   Started (length view.jobs),
 )
 answered_in plan view a i k offer.Queued = (
-  with_pool_in (pool_of plan k) (after_answer (pool_in view (pool_of plan k)) (length view.jobs) offer.Queued)
+  with_pool_in (pool_of plan k) (apply_answer (pool_in view (pool_of plan k)) (length view.jobs) offer.Queued)
       (made a i (new_live_job k a i phase.Queued) view),
   Queued (length view.jobs),
 )
@@ -154,7 +154,7 @@ abbrev pub finished_job_in : Plan → View → ℕ → Option JobView → Option
 finished_job_in plan view j None = None
 finished_job_in plan view j (Some job) = Some (
   with_pool_in (pool_of plan job.class) (finished (pool_in view (pool_of plan job.class)))
-      (record view { jobs = map (unless_orphan j) (slice_set view.jobs j (finished_or_gone view.jobs j job)) }),
+      (record view { jobs = map (drop_if_orphan j) (slice_set view.jobs j (finished_if_gettable view.jobs j job)) }),
   Finished j,
 )
 
@@ -162,31 +162,31 @@ abbrev pub looped_in : Plan → View → ℕ → Option ClientState → Option (
 looped_in plan view c None = None
 looped_in plan view c (Some client) = if (client_at plan client.kind).repeat then Some (move_actor (parent.Client c) 0 view, Looped) else None
 
-abbrev pub ended_in : Plan → View → Parent → Option (View × Outcome)
-ended_in plan view (parent.Client c) = looped_in plan view c (slice_get view.clients c)
-ended_in plan view (parent.Job j) = finished_job_in plan view j (live_job view.jobs j)
+abbrev pub step_at_end_in : Plan → View → Parent → Option (View × Outcome)
+step_at_end_in plan view (parent.Client c) = looped_in plan view c (slice_get view.clients c)
+step_at_end_in plan view (parent.Job j) = finished_job_in plan view j (live_job view.jobs j)
 
-abbrev pub acted_in : Plan → View → Parent → ℕ → Option Action → Option (View × Outcome)
-acted_in plan view a i None = ended_in plan view a
-acted_in plan view a i (Some (Work u)) = Some (move_actor a (i + 1) view, Worked u)
-acted_in plan view a i (Some (Submit k)) = Some (submitted_in plan view a i k)
-acted_in plan view a i (Some (Get t)) = got_child_in view a i (live_child view.jobs a t)
+abbrev pub step_action_in : Plan → View → Parent → ℕ → Option Action → Option (View × Outcome)
+step_action_in plan view a i None = step_at_end_in plan view a
+step_action_in plan view a i (Some (Work u)) = Some (move_actor a (i + 1) view, Worked u)
+step_action_in plan view a i (Some (Submit k)) = Some (submitted_in plan view a i k)
+step_action_in plan view a i (Some (Get t)) = got_child_in view a i (live_child view.jobs a t)
 
 abbrev pub step_actor : Plan → View → Parent → Option Point → Option (View × Outcome)
 step_actor plan view a None = None
-step_actor plan view a (Some at) = acted_in plan view a at.position (slice_get at.body at.position)
+step_actor plan view a (Some at) = step_action_in plan view a at.position (slice_get at.body at.position)
 
-abbrev pub took_in : View → ℕ → Option (ℕ × PoolView) → Option (View × Outcome)
-took_in view p None = None
-took_in view p (Some x) = Some (record view { jobs = with_phase x.0 (phase.At 0) view.jobs; pools = slice_set view.pools p x.1 }, Took x.0)
+abbrev pub take_head_in : View → ℕ → Option (ℕ × PoolView) → Option (View × Outcome)
+take_head_in view p None = None
+take_head_in view p (Some x) = Some (record view { jobs = with_phase x.0 (phase.At 0) view.jobs; pools = slice_set view.pools p x.1 }, Took x.0)
 
-abbrev pub let_go_in : View → ℕ → Option PoolView → Option (View × Outcome)
-let_go_in view p None = None
-let_go_in view p (Some pool) = Some (with_pool_in p pool view, Retired)
+abbrev pub retire_worker_in : View → ℕ → Option PoolView → Option (View × Outcome)
+retire_worker_in view p None = None
+retire_worker_in view p (Some pool) = Some (with_pool_in p pool view, Retired)
 
 -- the view and the outcome after the event, or None if the event is not possible
 abbrev pub view_step : Plan → View → Event → Option (View × Outcome)
 view_step plan view (Client c) = step_actor plan view (parent.Client c) (point_in plan view (parent.Client c))
 view_step plan view (Job j) = step_actor plan view (parent.Job j) (point_in plan view (parent.Job j))
-view_step plan view (Take p) = took_in view p (taken (pool_in view p))
-view_step plan view (Retire p) = let_go_in view p (retired (pool_in view p))
+view_step plan view (Take p) = take_head_in view p (taken (pool_in view p))
+view_step plan view (Retire p) = retire_worker_in view p (retired (pool_in view p))

@@ -17,5 +17,5 @@ pub record IsOnePlaceMore (old new : WorldValue) : Type 0 where
   pub full : live_jobs old.view ≡ old.places
 
 -- the number of places stays, or it grows by one for a job that finds none free
-abbrev pub UsesPlacesAgain : WorldValue → WorldValue → Type 0
-UsesPlacesAgain old new = (new.places ≡ old.places) ⊎ IsOnePlaceMore old new
+abbrev pub ReusesPlaces : WorldValue → WorldValue → Type 0
+ReusesPlaces old new = (new.places ≡ old.places) ⊎ IsOnePlaceMore old new

@@ -7,7 +7,7 @@ ghost use Rattle.std.specs.HashMap.{get, spare};
 ghost use Rattle.job_bodies.specs.declared.limits.TheConstants.{MAX_SIZE, MAX_CLIENT_KINDS};
 ghost use Rattle.written_machine.specs.Reach.{new_clients};
 ghost use Rattle.interleaving.specs.MovedClients.{at_position};
-ghost use Rattle.interleaving.specs.Clients.{client_of, StandsAt, CanMove, IsFirst, ends_from, IsRising, starting};
+ghost use Rattle.interleaving.specs.Clients.{client_of, IsClientAt, CanMove, IsFirst, ends_from, IsRising, starting};
 
 use crate::moved_clients::MovedClients;
 use job_bodies::Client;
@@ -73,7 +73,7 @@ impl Clients {
     ///
     /// Returns `AllocError` if there is not enough memory. The clients are then unchanged.
     pub fn reserve_for(&mut self, actor: Parent, position: usize) -> Result<(), AllocError>
-        requires { StandsAt self.old.items actor position }
+        requires { IsClientAt self.old.items actor position }
         ensures items { self.new.items ≡ self.old.items }
         ensures room { OnOk result (CanMove self.new actor) }
         ensures error_only_at_start { OnErr result (IsFirst actor position) }
@@ -92,12 +92,12 @@ impl Clients {
             ≡ slice_set self.old.items number
             (at_position position (client_of self.old.items number)) }
     {
-        if self.moved.go_on(number, position) {
+        if self.moved.move_again(number, position) {
             return;
         }
         if let Some(client) = start_of(&self.ends, number) {
             self.moved
-                .set_out(number, ClientState { position, ..client });
+                .move_first(number, ClientState { position, ..client });
         }
     }
 
@@ -106,7 +106,7 @@ impl Clients {
         ensures { self.new.items
             ≡ slice_set self.old.items number (at_position 0 (client_of self.old.items number)) }
     {
-        self.moved.go_on(number, 0);
+        self.moved.move_again(number, 0);
     }
 }
 

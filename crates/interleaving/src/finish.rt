@@ -4,7 +4,7 @@ ghost use Rattle.std.specs.Prelude.{◌≡◌, ◌≢◌, ◌<◌, true, false, 
 ghost use Rattle.written_machine.specs.State.{pool_of};
 ghost use Rattle.written_machine.specs.declared.parent.Parent.TheVariants.{Job};
 ghost use Rattle.interleaving.specs.LiveJobs.{DoneAreLatest};
-ghost use Rattle.interleaving.specs.ViewStep.{live_job, is_done, may_ask_for, pool_in, looped_in, finished_job_in, ended_in};
+ghost use Rattle.interleaving.specs.ViewStep.{live_job, is_done, may_get_in, pool_in, looped_in, finished_job_in, step_at_end_in};
 
 use crate::plans::pool_of;
 use crate::{JobView, World};
@@ -12,17 +12,17 @@ use job_bodies::Plan;
 use written_machine::{Outcome, Parent};
 
 impl World {
-    ghost use Rattle.interleaving.specs.Answers.{AreOf};
+    ghost use Rattle.interleaving.specs.Answers.{MatchesResult};
     ghost use Rattle.interleaving.specs.OfPlan.{IsAtWork, MadeByOther};
 
     /// Performs the step of an actor at the end of its body. A job finishes, and a client of a
     /// repeating kind starts its body again. Returns `None` if the kind does not repeat.
     pub(crate) fn end(&mut self, plan: &Plan, actor: Parent) -> Option<Outcome>
         requires at_work { IsAtWork plan.now self.old.view actor }
-        requires asks { may_ask_for self.old.view.jobs actor ≡ true }
+        requires asks { may_get_in self.old.view.jobs actor ≡ true }
         requires other { MadeByOther self.old.view.jobs actor }
         requires done { DoneAreLatest self.old.view.jobs }
-        ensures value { AreOf (ended_in plan.now self.old.view actor) self.old.view result
+        ensures value { MatchesResult (step_at_end_in plan.now self.old.view actor) self.old.view result
             self.new.view }
         ensures places { self.new.places ≡ self.old.places }
     {
@@ -36,7 +36,7 @@ impl World {
     }
 
     fn begin_again(&mut self, plan: &Plan, client: usize) -> Option<Outcome>
-        ensures value { AreOf
+        ensures value { MatchesResult
             (looped_in plan.now self.old.view client (slice_get self.old.view.clients client))
             self.old.view result self.new.view }
         ensures places { self.new.places ≡ self.old.places }

@@ -1,27 +1,27 @@
 //! The get action.
 
 ghost use Rattle.std.specs.Prelude.{◌≡◌, ◌+◌, ◌<◌, ◌^◌, true};
-ghost use Rattle.interleaving.specs.Clients.{StandsAt};
-ghost use Rattle.interleaving.specs.LiveJobs.{IsAlone};
-ghost use Rattle.interleaving.specs.ViewStep.{got_child_in, live_child, may_ask_for};
+ghost use Rattle.interleaving.specs.Clients.{IsClientAt};
+ghost use Rattle.interleaving.specs.LiveJobs.{IsOnlyLiveJob};
+ghost use Rattle.interleaving.specs.ViewStep.{got_child_in, live_child, may_get_in};
 
 use crate::World;
 use crate::moves::move_actor;
 use written_machine::{Outcome, Parent};
 
 impl World {
-    ghost use Rattle.interleaving.specs.Answers.{AreOf};
+    ghost use Rattle.interleaving.specs.Answers.{MatchesResult};
 
     /// Gets the latest job that the actor created by the submit, if that job is done, and moves the
     /// actor to its next position. Returns `None` if the job is not done. `position`, the actor's
     /// current position, must not be 0.
     pub(crate) fn get(&mut self, actor: Parent, position: usize, submit: usize) -> Option<Outcome>
-        requires stands { StandsAt self.old.view.clients actor position }
+        requires stands { IsClientAt self.old.view.clients actor position }
         requires begun { 0 < position }
         requires can_move_on { position + 1 < 2 ^ 64 }
-        requires asks { may_ask_for self.old.view.jobs actor ≡ true }
-        requires alone { IsAlone self.old.view.jobs actor submit }
-        ensures value { AreOf
+        requires asks { may_get_in self.old.view.jobs actor ≡ true }
+        requires alone { IsOnlyLiveJob self.old.view.jobs actor submit }
+        ensures value { MatchesResult
             (got_child_in self.old.view actor position (live_child self.old.view.jobs actor submit))
             self.old.view result self.new.view }
         ensures places { self.new.places ≡ self.old.places }
@@ -32,7 +32,7 @@ impl World {
             return None;
         }
         move_actor(&mut self.jobs, &mut self.clients, actor, position + 1);
-        self.jobs.forget(number, job);
+        self.jobs.remove(number, job);
         Some(Outcome::Got(number))
     }
 }

@@ -2,7 +2,7 @@
 //! requested.
 
 ghost use Rattle.std.specs.Prelude.{◌≡◌, Some};
-ghost use Rattle.interleaving.specs.ViewStep.{is_done, is_live_child, unless_stale, unless_orphan};
+ghost use Rattle.interleaving.specs.ViewStep.{is_done, is_live_child, drop_if_stale, drop_if_orphan};
 
 use written_machine::Parent;
 
@@ -47,8 +47,8 @@ impl JobView {
     /// Returns the job as it is after the actor creates another job by the submit at this position,
     /// or `None` if this job is then no longer live. That is so if the same submit created this job
     /// and it is done.
-    pub fn unless_stale(self, actor: Parent, submit: usize) -> Option<JobView>
-        ensures { result ≡ unless_stale actor submit (Some self) }
+    pub fn drop_if_stale(self, actor: Parent, submit: usize) -> Option<JobView>
+        ensures { result ≡ drop_if_stale actor submit (Some self) }
     {
         if self.is_child_of(actor, submit) && self.is_done() {
             None
@@ -59,8 +59,8 @@ impl JobView {
 
     /// Returns the job as it is after the job with this number finishes, or `None` if this job is
     /// then no longer live. That is so if the finished job created this job and this job is done.
-    pub fn unless_orphan(self, parent: usize) -> Option<JobView>
-        ensures { result ≡ unless_orphan parent (Some self) }
+    pub fn drop_if_orphan(self, parent: usize) -> Option<JobView>
+        ensures { result ≡ drop_if_orphan parent (Some self) }
     {
         if self.parent == Parent::Job(parent) && self.is_done() {
             None

@@ -4,23 +4,23 @@
 //! definition in `written_machine`.
 #![tactic(auto)]
 
-mod calls;
+mod submit_map;
 mod clients;
 mod finish;
 mod get;
 mod job_view;
-mod latest;
+mod latest_jobs;
 mod laws;
 mod live_jobs;
 mod members;
 mod moved_clients;
 mod moves;
 mod next_action;
-mod place_row;
-mod places;
+mod job_ring;
+mod job_table;
 mod plans;
 mod pools;
-mod shares;
+mod activities;
 mod step;
 mod stuck;
 mod submit;

@@ -3,11 +3,11 @@
 ghost use Rattle.std.specs.Prelude.{◌≡◌, ◌≢◌, ℕ, ◌+◌, ◌<◌, ◌≤◌, ◌^◌, [], ◌∷◌, ◌++◌, length, map, count_by, is_some, slice_set, IsSome, IfSome, true, false, None, Some, OnOk};
 ghost use Rattle.written_machine.specs.declared.parent.Parent.TheVariants.{Job};
 ghost use Rattle.interleaving.specs.declared.job_view.Phase.TheVariants.{At};
-ghost use Rattle.interleaving.specs.ViewStep.{live_job, live_child, is_done, is_unfinished_job, may_ask_for, with_phase, in_phase, unless_stale, unless_orphan, finished_or_gone};
-ghost use Rattle.interleaving.specs.LiveJobs.{room_for, WasMade, DoneAreLatest, NoOtherIsStale, IsAlone, places_made, jobs_in, AreReached, ReachesStay, ReachesTo, OrphansAreFound, AreOrphaned, AreFound, IsGone, ForgetsOrphan, is_done_job};
+ghost use Rattle.interleaving.specs.ViewStep.{live_job, live_child, is_done, is_unfinished_job, may_get_in, with_phase, in_phase, drop_if_stale, drop_if_orphan, finished_if_gettable};
+ghost use Rattle.interleaving.specs.LiveJobs.{room_for, WasMade, DoneAreLatest, NoOtherIsStale, IsOnlyLiveJob, places_made, jobs_in, AreSubmitBounds, SubmitBoundsStay, HasSubmitBound, OrphansAreFound, AreOrphaned, AreFound, IsGone, RemovesOrphan, is_done_job};
 
-use crate::latest::Latest;
-use crate::places::{KeptJob, Places};
+use crate::latest_jobs::LatestJobs;
+use crate::job_table::{JobEntry, JobTable};
 use crate::{JobView, Phase};
 use std::alloc::{AllocError, Global};
 use std::marker::Model;
@@ -17,8 +17,8 @@ use written_machine::Parent;
 /// position of a submit, it also stores the latest job that the actor created there.
 #[derive(Drop)]
 pub struct LiveJobs {
-    kept: Places,
-    latest: Latest,
+    kept: JobTable,
+    latest: LatestJobs,
     // The number of jobs that are queued or at a position.
     unfinished: usize,
 }
@@ -41,8 +41,8 @@ impl LiveJobs {
         ensures places { result.places ≡ 0 }
     {
         LiveJobs {
-            kept: Places::new(alloc),
-            latest: Latest::new(alloc),
+            kept: JobTable::new(alloc),
+            latest: LatestJobs::new(alloc),
             unfinished: 0,
         }
     }
@@ -80,7 +80,7 @@ impl LiveJobs {
     /// Returns the number of the latest live job that the actor created by the submit at this
     /// position of its body. The actor must be a client or an unfinished job.
     pub fn latest(&self, actor: Parent, submit: usize) -> Option<usize>
-        requires { may_ask_for self.now.jobs actor ≡ true }
+        requires { may_get_in self.now.jobs actor ≡ true }
         ensures { result ≡ live_child self.now.jobs actor submit }
     {
         self.latest.get(actor, submit)
@@ -88,7 +88,7 @@ impl LiveJobs {
 
     /// Moves the unfinished job with this number to this position of its body.
     pub fn go_to(&mut self, number: usize, position: usize)
-        requires { may_ask_for self.old.jobs (Job number) ≡ true }
+        requires { may_get_in self.old.jobs (Job number) ≡ true }
         ensures jobs { self.new.jobs ≡ with_phase number (At position) self.old.jobs }
         ensures places { self.new.places ≡ self.old.places }
         ensures room { self.new.room ≡ self.old.room }
@@ -98,14 +98,14 @@ impl LiveJobs {
 
     /// Removes the done job with this number, since its creator gets it. It must be the only live
     /// job that its creator created at its position.
-    pub fn forget(&mut self, number: usize, job: JobView)
+    pub fn remove(&mut self, number: usize, job: JobView)
         requires live { live_job self.old.jobs number ≡ Some job }
         requires done { is_done job.phase ≡ true }
-        requires alone { IsAlone self.old.jobs job.parent job.slot }
+        requires alone { IsOnlyLiveJob self.old.jobs job.parent job.slot }
         ensures jobs { self.new.jobs ≡ slice_set self.old.jobs number None }
         ensures places { self.new.places ≡ self.old.places }
     {
-        self.latest.forget(job.parent, job.slot);
+        self.latest.remove(job.parent, job.slot);
         self.kept.free(number);
     }
 
@@ -127,21 +127,21 @@ impl LiveJobs {
 
     /// Adds a new job of its parent. Room must have been reserved. Removes the parent's done job of
     /// the same submit, which can only be the job `latest`.
-    pub fn make(&mut self, latest: Option<usize>, job: JobView)
+    pub fn create(&mut self, latest: Option<usize>, job: JobView)
         requires room { 0 < room_for self.old.room job.parent }
         requires parent { WasMade self.old.jobs job.parent }
         requires stale { NoOtherIsStale self.old.jobs latest job.parent job.slot }
         requires begins { is_done job.phase ≡ false }
         requires fits { job.slot + 1 < 2 ^ 64 }
         ensures jobs { self.new.jobs
-            ≡ map (unless_stale job.parent job.slot) self.old.jobs ++ Some job ∷ [] }
+            ≡ map (drop_if_stale job.parent job.slot) self.old.jobs ++ Some job ∷ [] }
         ensures places { self.new.places
-            ≡ places_made self.old (map (unless_stale job.parent job.slot) self.old.jobs) }
+            ≡ places_made self.old (map (drop_if_stale job.parent job.slot) self.old.jobs) }
     {
         free_stale(&mut self.kept, latest, job.parent, job.slot);
         let number = self.kept.made();
-        reach_to(&mut self.kept, job.parent, job.slot + 1);
-        self.kept.push(KeptJob { job, reach: 0 });
+        raise_submit_bound(&mut self.kept, job.parent, job.slot + 1);
+        self.kept.push(JobEntry { job, submit_bound: 0 });
         self.latest.set(job.parent, job.slot, number);
         self.unfinished += 1;
     }
@@ -155,21 +155,21 @@ impl LiveJobs {
         requires other { job.parent ≢ Job number }
         requires done { DoneAreLatest self.old.jobs }
         ensures jobs { self.new.jobs
-            ≡ map (unless_orphan number)
-            (slice_set self.old.jobs number (finished_or_gone self.old.jobs number job)) }
+            ≡ map (drop_if_orphan number)
+            (slice_set self.old.jobs number (finished_if_gettable self.old.jobs number job)) }
         ensures places { self.new.places ≡ self.old.places }
     {
-        let finished = self.finished_or_gone(number, job);
-        forget_orphans(&mut self.kept, &mut self.latest, number);
+        let finished = self.finished_if_gettable(number, job);
+        remove_orphans(&mut self.kept, &mut self.latest, number);
         finish_in(&mut self.kept, number, finished);
-        forget_if_gone(&mut self.latest, finished, job.parent, job.slot, number);
+        remove_if_gone(&mut self.latest, finished, job.parent, job.slot, number);
         self.unfinished -= 1;
     }
 
-    fn finished_or_gone(&self, number: usize, job: JobView) -> Option<JobView>
-        ensures { result ≡ finished_or_gone self.now.jobs number job }
+    fn finished_if_gettable(&self, number: usize, job: JobView) -> Option<JobView>
+        ensures { result ≡ finished_if_gettable self.now.jobs number job }
     {
-        if self.may_ask(job.parent) && self.latest(job.parent, job.slot) == Some(number) {
+        if self.may_get(job.parent) && self.latest(job.parent, job.slot) == Some(number) {
             Some(JobView {
                 phase: Phase::Done,
                 ..job
@@ -180,8 +180,8 @@ impl LiveJobs {
     }
 
     // Returns `true` if the actor may still request a job that it created.
-    fn may_ask(&self, actor: Parent) -> bool
-        ensures { result ≡ may_ask_for self.now.jobs actor }
+    fn may_get(&self, actor: Parent) -> bool
+        ensures { result ≡ may_get_in self.now.jobs actor }
     {
         match actor {
             Parent::Client(_) => true,
@@ -191,11 +191,11 @@ impl LiveJobs {
 }
 
 // Removes the actor's done job of this submit, which can only be the job `latest`.
-fn free_stale(kept: &mut Places, latest: Option<usize>, actor: Parent, submit: usize)
+fn free_stale(kept: &mut JobTable, latest: Option<usize>, actor: Parent, submit: usize)
     requires { NoOtherIsStale (jobs_in kept.old.items) latest actor submit }
     ensures jobs { jobs_in kept.new.items
-        ≡ map (unless_stale actor submit) (jobs_in kept.old.items) }
-    ensures reaches { ReachesStay kept.old.items kept.new.items }
+        ≡ map (drop_if_stale actor submit) (jobs_in kept.old.items) }
+    ensures reaches { SubmitBoundsStay kept.old.items kept.new.items }
     ensures places { kept.new.places ≡ kept.old.places }
     ensures room { kept.old.room ≤ kept.new.room }
 {
@@ -205,44 +205,44 @@ fn free_stale(kept: &mut Places, latest: Option<usize>, actor: Parent, submit: u
 }
 
 // Removes the job with this number if it is a done job of this submit.
-fn free_if_stale(kept: &mut Places, number: usize, actor: Parent, submit: usize)
+fn free_if_stale(kept: &mut JobTable, number: usize, actor: Parent, submit: usize)
     ensures jobs { jobs_in kept.new.items
         ≡ slice_set (jobs_in kept.old.items) number
-        (unless_stale actor submit (live_job (jobs_in kept.old.items) number)) }
-    ensures reaches { ReachesStay kept.old.items kept.new.items }
+        (drop_if_stale actor submit (live_job (jobs_in kept.old.items) number)) }
+    ensures reaches { SubmitBoundsStay kept.old.items kept.new.items }
     ensures places { kept.new.places ≡ kept.old.places }
     ensures room { kept.old.room ≤ kept.new.room }
 {
     if let Some(place) = kept.get(number)
-        && place.job.unless_stale(actor, submit).is_none()
+        && place.job.drop_if_stale(actor, submit).is_none()
     {
         kept.free(number);
     }
 }
 
 // Raises the reach of the actor, if it is a live job, to at least this position.
-fn reach_to(kept: &mut Places, actor: Parent, reach: usize)
+fn raise_submit_bound(kept: &mut JobTable, actor: Parent, submit_bound: usize)
     ensures jobs { jobs_in kept.new.items ≡ jobs_in kept.old.items }
-    ensures reaches { ReachesStay kept.old.items kept.new.items }
-    ensures reached { ReachesTo kept.new.items actor reach }
+    ensures reaches { SubmitBoundsStay kept.old.items kept.new.items }
+    ensures reached { HasSubmitBound kept.new.items actor submit_bound }
     ensures places { kept.new.places ≡ kept.old.places }
     ensures room { kept.new.room ≡ kept.old.room }
 {
     if let Parent::Job(number) = actor
         && let Some(place) = kept.get(number)
-        && place.reach < reach
+        && place.submit_bound < submit_bound
     {
-        kept.set(number, KeptJob { reach, ..place });
+        kept.set(number, JobEntry { submit_bound, ..place });
     }
 }
 
 // Replaces the phase of the live job with this number, or removes the job.
-fn finish_in(kept: &mut Places, number: usize, finished: Option<JobView>)
+fn finish_in(kept: &mut JobTable, number: usize, finished: Option<JobView>)
     requires live { IsSome (live_job (jobs_in kept.old.items) number) }
     requires phased { IfSome finished
         (λ job. in_phase job.phase (live_job (jobs_in kept.old.items) number) ≡ Some job) }
     ensures jobs { jobs_in kept.new.items ≡ slice_set (jobs_in kept.old.items) number finished }
-    ensures reaches { ReachesStay kept.old.items kept.new.items }
+    ensures reaches { SubmitBoundsStay kept.old.items kept.new.items }
     ensures places { kept.new.places ≡ kept.old.places }
 {
     match finished {
@@ -252,8 +252,8 @@ fn finish_in(kept: &mut Places, number: usize, finished: Option<JobView>)
 }
 
 // Removes the index entry of this submit if it has the job with this number and the job is gone.
-fn forget_if_gone(
-    latest: &mut Latest,
+fn remove_if_gone(
+    latest: &mut LatestJobs,
     finished: Option<JobView>,
     actor: Parent,
     submit: usize,
@@ -262,43 +262,43 @@ fn forget_if_gone(
     ensures { IsGone finished latest.old latest.new actor submit number }
 {
     if finished.is_none() && latest.get(actor, submit) == Some(number) {
-        latest.forget(actor, submit);
+        latest.remove(actor, submit);
     }
 }
 
 // Removes the done jobs that this job created. The index has all of them, at positions below the
 // reach of the job.
-fn forget_orphans(kept: &mut Places, latest: &mut Latest, parent: usize)
+fn remove_orphans(kept: &mut JobTable, latest: &mut LatestJobs, parent: usize)
     requires live { IsSome (live_job (jobs_in kept.old.items) parent) }
-    requires reached { AreReached kept.old.items }
+    requires reached { AreSubmitBounds kept.old.items }
     requires are_found { AreFound (jobs_in kept.old.items) latest.old }
     requires orphans { OrphansAreFound (jobs_in kept.old.items) latest.old parent }
-    ensures jobs { jobs_in kept.new.items ≡ map (unless_orphan parent) (jobs_in kept.old.items) }
+    ensures jobs { jobs_in kept.new.items ≡ map (drop_if_orphan parent) (jobs_in kept.old.items) }
     ensures orphaned { (n : ℕ)
         × AreOrphaned parent n (jobs_in kept.old.items) (jobs_in kept.new.items) latest.old
         latest.new }
-    ensures reaches { ReachesStay kept.old.items kept.new.items }
+    ensures reaches { SubmitBoundsStay kept.old.items kept.new.items }
     ensures places { kept.new.places ≡ kept.old.places }
 {
-    let reach = kept.get(parent).map_or(0, |place| place.reach);
-    for submit in 0..reach {
-        forget_orphan(kept, latest, parent, submit);
+    let submit_bound = kept.get(parent).map_or(0, |place| place.submit_bound);
+    for submit in 0..submit_bound {
+        remove_orphan(kept, latest, parent, submit);
     }
 }
 
 // Removes the job that this job created by this submit, if it is done.
-fn forget_orphan(kept: &mut Places, latest: &mut Latest, parent: usize, submit: usize)
-    ensures { ForgetsOrphan parent submit kept.old kept.new latest.old latest.new }
+fn remove_orphan(kept: &mut JobTable, latest: &mut LatestJobs, parent: usize, submit: usize)
+    ensures { RemovesOrphan parent submit kept.old kept.new latest.old latest.new }
 {
     if let Some(number) = latest.get(Parent::Job(parent), submit)
         && is_done(kept, number)
     {
         kept.free(number);
-        latest.forget(Parent::Job(parent), submit);
+        latest.remove(Parent::Job(parent), submit);
     }
 }
 
-fn is_done(kept: &Places, number: usize) -> bool
+fn is_done(kept: &JobTable, number: usize) -> bool
     ensures { result ≡ is_done_job (live_job (jobs_in kept.now.items) number) }
 {
     kept.get(number).is_some_and(|place| place.job.is_done())

@@ -62,7 +62,7 @@ impl MovedClients {
 
     /// Moves the client with this number to this position of its body if it has moved before.
     /// Returns `true` if it has.
-    pub(crate) fn go_on(&mut self, number: usize, position: usize) -> bool
+    pub(crate) fn move_again(&mut self, number: usize, position: usize) -> bool
         ensures is_among { result ≡ is_some (moved_at self.old number) }
         ensures moves { (q : ℕ)
             → moved_at self.new q
@@ -74,11 +74,11 @@ impl MovedClients {
             self.front[number].position = position;
             return true;
         }
-        go_on(&mut self.others, number, position)
+        move_again(&mut self.others, number, position)
     }
 
     /// Records the first move of the client with this number. Room must have been reserved.
-    pub(crate) fn set_out(&mut self, number: usize, client: ClientState)
+    pub(crate) fn move_first(&mut self, number: usize, client: ClientState)
         requires room { 0 < self.old.room }
         requires stood { is_some (moved_at self.old number) ≡ false }
         ensures { (q : ℕ)
@@ -87,12 +87,12 @@ impl MovedClients {
         if number == self.front.len() {
             self.front.push_reserved(client);
         } else {
-            set_out(&mut self.others, number, client);
+            move_first(&mut self.others, number, client);
         }
     }
 }
 
-fn go_on(moved: &mut HashMap<usize, ClientState>, number: usize, position: usize) -> bool
+fn move_again(moved: &mut HashMap<usize, ClientState>, number: usize, position: usize) -> bool
     ensures is_among { result ≡ is_some (get nat_eq moved.old number) }
     ensures moves { (q : ℕ)
         → get nat_eq moved.new q
@@ -109,7 +109,7 @@ fn go_on(moved: &mut HashMap<usize, ClientState>, number: usize, position: usize
     }
 }
 
-fn set_out(moved: &mut HashMap<usize, ClientState>, number: usize, client: ClientState)
+fn move_first(moved: &mut HashMap<usize, ClientState>, number: usize, client: ClientState)
     requires { 0 < spare moved.old }
     ensures { (q : ℕ)
         → get nat_eq moved.new q ≡ (if number == q then Some client else get nat_eq moved.old q) }

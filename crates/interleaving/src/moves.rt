@@ -3,7 +3,7 @@
 ghost use Rattle.std.specs.Prelude.{◌≡◌, true};
 ghost use Rattle.interleaving.specs.LiveView.{View};
 ghost use Rattle.interleaving.specs.Clients.{CanMove};
-ghost use Rattle.interleaving.specs.ViewStep.{may_ask_for, moved_live_jobs, moved_live_clients};
+ghost use Rattle.interleaving.specs.ViewStep.{may_get_in, moved_live_jobs, moved_live_clients};
 
 use crate::{Clients, LiveJobs};
 use written_machine::Parent;
@@ -11,7 +11,7 @@ use written_machine::Parent;
 /// Moves the actor, which is a client or an unfinished job, to this position of its body. Room must
 /// have been reserved.
 pub(crate) fn move_actor(jobs: &mut LiveJobs, clients: &mut Clients, actor: Parent, position: usize)
-    requires asks { may_ask_for jobs.old.jobs actor ≡ true }
+    requires asks { may_get_in jobs.old.jobs actor ≡ true }
     requires room { CanMove clients.old actor }
     ensures jobs { (view : View)
         → view.jobs ≡ jobs.old.jobs

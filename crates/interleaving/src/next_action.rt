@@ -4,8 +4,8 @@ ghost use Rattle.std.specs.Prelude.{◌≡◌, ◌+◌, ◌<◌, ◌^◌, length
 ghost use Rattle.job_bodies.specs.WellFormed.{IsWellFormed};
 ghost use Rattle.std.specs.Option.{option_map};
 ghost use Rattle.written_machine.specs.declared.parent.Parent.TheVariants as parent;
-ghost use Rattle.interleaving.specs.ViewStep.{point_in, may_ask_for};
-ghost use Rattle.interleaving.specs.Clients.{StandsAt};
+ghost use Rattle.interleaving.specs.ViewStep.{point_in, may_get_in};
+ghost use Rattle.interleaving.specs.Clients.{IsClientAt};
 ghost use Rattle.interleaving.specs.NextAction.{IsAmong, next_action_in};
 
 use crate::plans::{body_of_class, body_of_kind};
@@ -19,7 +19,7 @@ pub(crate) struct NextAction {
     pub(crate) position: usize,
     pub(crate) action: Option<Action>,
     // Whether the action is a submit whose job a get of the body requests.
-    pub(crate) asked: bool,
+    pub(crate) has_get: bool,
 }
 
 impl NextAction {
@@ -31,7 +31,7 @@ impl NextAction {
         NextAction {
             position,
             action,
-            asked: matches!(action, Some(Action::Submit(_))) && has_get_of(body, position),
+            has_get: matches!(action, Some(Action::Submit(_))) && has_get_of(body, position),
         }
     }
 }
@@ -48,9 +48,9 @@ impl World {
         ensures well_formed { IsWellFormed plan.now }
         ensures there { OnSome result
             (IsAmong (length self.now.view.clients) (length self.now.view.jobs) actor) }
-        ensures asks { OnSome result (may_ask_for self.now.view.jobs actor ≡ true) }
+        ensures asks { OnSome result (may_get_in self.now.view.jobs actor ≡ true) }
         ensures stands { IfSome result
-            (λ next. StandsAt self.now.view.clients actor next.position) }
+            (λ next. IsClientAt self.now.view.clients actor next.position) }
     {
         match actor {
             Parent::Client(client) => self.next_of_client(plan, client),
@@ -61,7 +61,7 @@ impl World {
     fn next_of_client(&self, plan: &Plan, client: usize) -> Option<NextAction>
         ensures there { OnSome result (client < length self.now.view.clients) }
         ensures stands { IfSome result
-            (λ next. StandsAt self.now.view.clients (parent.Client client) next.position) }
+            (λ next. IsClientAt self.now.view.clients (parent.Client client) next.position) }
         ensures value { result
             ≡ option_map next_action_at (point_in plan.now self.now.view (parent.Client client)) }
         ensures can_move_on { IfSome result
@@ -75,7 +75,7 @@ impl World {
 
     fn next_of_job(&self, plan: &Plan, number: usize) -> Option<NextAction>
         ensures there { OnSome result (number < length self.now.view.jobs) }
-        ensures asks { OnSome result (may_ask_for self.now.view.jobs (parent.Job number) ≡ true) }
+        ensures asks { OnSome result (may_get_in self.now.view.jobs (parent.Job number) ≡ true) }
         ensures value { result
             ≡ option_map next_action_at (point_in plan.now self.now.view (parent.Job number)) }
         ensures can_move_on { IfSome result

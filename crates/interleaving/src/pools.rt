@@ -3,7 +3,7 @@
 ghost use Rattle.std.specs.Prelude.{◌≡◌, length, map, All, IsTrue, IfOk};
 ghost use Rattle.job_bodies.specs.WellFormed.{IsWellFormed, has_valid_sizes};
 ghost use Rattle.pool_machine.specs.PoolState.{new_pool, taken, retired};
-ghost use Rattle.interleaving.specs.ViewStep.{pool_in, took_in, let_go_in};
+ghost use Rattle.interleaving.specs.ViewStep.{pool_in, take_head_in, retire_worker_in};
 
 use crate::World;
 use job_bodies::{Plan, Pool};
@@ -24,15 +24,15 @@ pub(crate) fn new_pools(alloc: Global, pools: &[Pool]) -> Result<Vec<PoolState>,
 }
 
 impl World {
-    ghost use Rattle.interleaving.specs.Answers.{AreOf};
-    ghost use Rattle.interleaving.specs.OfPlan.{IsOf};
+    ghost use Rattle.interleaving.specs.Answers.{MatchesResult};
+    ghost use Rattle.interleaving.specs.OfPlan.{IsReachableView};
 
     /// Lets an idle worker of the pool take the head of its queue. Returns `None` if there is no
     /// such pool, no idle worker or no queued job.
     pub(crate) fn take(&mut self, plan: &Plan, pool: usize) -> Option<Outcome>
         requires pools { length self.old.view.pools ≡ length plan.now.pools }
-        requires of_plan { IsOf plan.now self.old.view }
-        ensures value { AreOf (took_in self.old.view pool (taken (pool_in self.old.view pool)))
+        requires of_plan { IsReachableView plan.now self.old.view }
+        ensures value { MatchesResult (take_head_in self.old.view pool (taken (pool_in self.old.view pool)))
             self.old.view result self.new.view }
         ensures places { self.new.places ≡ self.old.places }
         ensures well_formed { IsWellFormed plan.now }
@@ -48,7 +48,7 @@ impl World {
     /// Ends an idle worker of the pool. Returns `None` if that is not possible.
     pub(crate) fn retire(&mut self, plan: &Plan, pool: usize) -> Option<Outcome>
         requires { length self.old.view.pools ≡ length plan.now.pools }
-        ensures value { AreOf (let_go_in self.old.view pool (retired (pool_in self.old.view pool)))
+        ensures value { MatchesResult (retire_worker_in self.old.view pool (retired (pool_in self.old.view pool)))
             self.old.view result self.new.view }
         ensures places { self.new.places ≡ self.old.places }
         ensures well_formed { IsWellFormed plan.now }

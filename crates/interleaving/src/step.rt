@@ -5,7 +5,7 @@ ghost use Rattle.job_bodies.specs.WellFormed.{IsWellFormed};
 ghost use Rattle.written_machine.specs.State.{State};
 ghost use Rattle.written_machine.specs.Reach.{IsReached};
 ghost use Rattle.interleaving.specs.LiveView.{live_view};
-ghost use Rattle.interleaving.specs.ViewStep.{step_actor, point_in, may_ask_for, move_actor};
+ghost use Rattle.interleaving.specs.ViewStep.{step_actor, point_in, may_get_in, move_actor};
 ghost use Rattle.interleaving.specs.ViewAnswers.{AnswersAs};
 
 use crate::World;
@@ -15,11 +15,11 @@ use std::alloc::AllocError;
 use written_machine::{Event, Outcome, Parent};
 
 impl World {
-    ghost use Rattle.interleaving.specs.Answers.{AreOf, AnswersIn};
+    ghost use Rattle.interleaving.specs.Answers.{MatchesResult, AnswersIn};
     ghost use Rattle.interleaving.specs.NextAction.{MayGrow, ActorMayGrow};
-    ghost use Rattle.interleaving.specs.Clients.{StandsAt, IsFirst};
-    ghost use Rattle.interleaving.specs.OfPlan.{IsOf};
-    ghost use Rattle.interleaving.specs.World.{UsesPlacesAgain};
+    ghost use Rattle.interleaving.specs.Clients.{IsClientAt, IsFirst};
+    ghost use Rattle.interleaving.specs.OfPlan.{IsReachableView};
+    ghost use Rattle.interleaving.specs.World.{ReusesPlaces};
 
     /// Performs the event if it is possible, and returns its outcome, or `None` if it is not
     /// possible.
@@ -33,7 +33,7 @@ impl World {
     /// Returns `AllocError` if a submit or a client's first action finds not enough memory, or if
     /// the number of jobs or of refusals is at its maximum. The world is then unchanged.
     pub fn step(&mut self, plan: &Plan, event: Event) -> Result<Option<Outcome>, AllocError>
-        requires { IsOf plan.now self.old.view }
+        requires { IsReachableView plan.now self.old.view }
 
         // The outcome is that of the reference machine, in each state with this live view.
         ensures answered { IfOk result (λ answer.
@@ -45,11 +45,11 @@ impl World {
             (λ answer. AnswersIn plan.now self.old.view event answer self.new.view) }
 
         // With every result, the world is still a world of this plan.
-        ensures of_plan { IsOf plan.now self.new.view }
+        ensures of_plan { IsReachableView plan.now self.new.view }
         ensures well_formed { IsWellFormed plan.now }
 
         // A new place is added only for a job that is created while each place holds a live job.
-        ensures places { UsesPlacesAgain self.old self.new }
+        ensures places { ReusesPlaces self.old self.new }
         ensures error_unchanged { OnErr result (self.new ≡ self.old) }
         ensures error_only_where_it_grows { OnErr result (MayGrow plan.now self.old.view event) }
     {
@@ -58,11 +58,11 @@ impl World {
 
     // Performs the event, as defined on views.
     fn act(&mut self, plan: &Plan, event: Event) -> Result<Option<Outcome>, AllocError>
-        requires { IsOf plan.now self.old.view }
+        requires { IsReachableView plan.now self.old.view }
         ensures answered { IfOk result
             (λ answer. AnswersIn plan.now self.old.view event answer self.new.view) }
         ensures well_formed { IsWellFormed plan.now }
-        ensures places { UsesPlacesAgain self.old self.new }
+        ensures places { ReusesPlaces self.old self.new }
         ensures error_unchanged { OnErr result (self.new ≡ self.old) }
         ensures error_only_where_it_grows { OnErr result (MayGrow plan.now self.old.view event) }
     {
@@ -75,12 +75,12 @@ impl World {
     }
 
     fn step_actor(&mut self, plan: &Plan, actor: Parent) -> Result<Option<Outcome>, AllocError>
-        requires { IsOf plan.now self.old.view }
+        requires { IsReachableView plan.now self.old.view }
         ensures answered { IfOk result (λ answer.
-            AreOf (step_actor plan.now self.old.view actor (point_in plan.now self.old.view actor))
+            MatchesResult (step_actor plan.now self.old.view actor (point_in plan.now self.old.view actor))
             self.old.view answer self.new.view) }
         ensures well_formed { IsWellFormed plan.now }
-        ensures places { UsesPlacesAgain self.old self.new }
+        ensures places { ReusesPlaces self.old self.new }
         ensures error_unchanged { OnErr result (self.new ≡ self.old) }
         ensures error_only_where_it_grows { OnErr result
             (ActorMayGrow plan.now self.old.view actor) }
@@ -91,7 +91,7 @@ impl World {
         match next.action {
             None => Ok(self.end(plan, actor)),
             Some(Action::Work(units)) => {
-                self.move_on(actor, next.position)?;
+                self.advance(actor, next.position)?;
                 Ok(Some(Outcome::Worked(units)))
             }
             Some(Action::Submit(class)) => Ok(Some(self.submit(plan, actor, next, class)?)),
@@ -100,10 +100,10 @@ impl World {
     }
 
     // Moves the actor, which is at this position of its body, to the next position.
-    fn move_on(&mut self, actor: Parent, position: usize) -> Result<(), AllocError>
-        requires stands { StandsAt self.old.view.clients actor position }
+    fn advance(&mut self, actor: Parent, position: usize) -> Result<(), AllocError>
+        requires stands { IsClientAt self.old.view.clients actor position }
         requires can_move_on { position + 1 < 2 ^ 64 }
-        requires asks { may_ask_for self.old.view.jobs actor ≡ true }
+        requires asks { may_get_in self.old.view.jobs actor ≡ true }
         ensures ok { OnOk result (self.new.view ≡ move_actor actor (position + 1) self.old.view) }
         ensures places { self.new.places ≡ self.old.places }
         ensures err { OnErr result (self.new ≡ self.old) }

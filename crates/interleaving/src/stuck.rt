@@ -7,20 +7,20 @@ ghost use Rattle.written_machine.specs.State.{State};
 ghost use Rattle.written_machine.specs.Reach.{IsReached};
 ghost use Rattle.written_machine.specs.Waiting.{is_none, is_some_member, IsWaitingSet, is_waiting_set};
 ghost use Rattle.interleaving.specs.LiveView.{live_view};
-ghost use Rattle.interleaving.specs.ViewStep.{pool_in, live_job, live_child, may_ask_for};
+ghost use Rattle.interleaving.specs.ViewStep.{pool_in, live_job, live_child, may_get_in};
 ghost use Rattle.interleaving.specs.Waiting.{is_waiting_set_in};
 ghost use Rattle.interleaving.specs.Stuck.{job_waits_unless_queued, unqueued_wait, QueuesWait};
-ghost use Rattle.interleaving.specs.Share.{leaves_none};
+ghost use Rattle.interleaving.specs.PoolActivity.{pool_queue_waits};
 
 use crate::members::Members;
 use crate::plans::body_of_class;
-use crate::shares::Share;
+use crate::activities::PoolActivity;
 use crate::{Phase, World};
 use job_bodies::{Action, Plan};
 use written_machine::Parent;
 
 impl World {
-    ghost use Rattle.interleaving.specs.OfPlan.{IsOf};
+    ghost use Rattle.interleaving.specs.OfPlan.{IsReachableView};
 
     /// Returns `true` if the jobs with these numbers, taken as a set, wait only for one another.
     /// Each of them must be at a get whose job is a member, or be queued in a pool that has no idle
@@ -30,7 +30,7 @@ impl World {
     /// Allocates no memory. If the list is sorted, each member is looked up a few times by binary
     /// search; otherwise each look-up scans the list.
     pub fn stuck(&self, plan: &Plan, members: &[usize]) -> bool
-        requires { IsOf plan.now self.now.view }
+        requires { IsReachableView plan.now self.now.view }
         ensures in_words { (s : State)
             → IsReached plan.now s
             → live_view plan.now s ≡ self.now.view
@@ -48,7 +48,7 @@ impl World {
     }
 
     fn is_waiting_set(&self, plan: &Plan, members: &Members<'_>) -> bool
-        requires of_plan { IsOf plan.now self.now.view }
+        requires of_plan { IsReachableView plan.now self.now.view }
         requires some { is_none members.now ≡ false }
         ensures value { result ≡ is_waiting_set_in plan.now self.now.view members.now }
         ensures well_formed { IsWellFormed plan.now }
@@ -85,7 +85,7 @@ impl World {
     }
 
     fn waits_for_member(&self, members: &Members<'_>, number: usize, submit: usize) -> bool
-        requires { may_ask_for self.now.view.jobs (parent.Job number) ≡ true }
+        requires { may_get_in self.now.view.jobs (parent.Job number) ≡ true }
         ensures { result
             ≡ is_some_member members.now
             (live_child self.now.view.jobs (parent.Job number) submit) }
@@ -99,25 +99,25 @@ impl World {
     // Returns `true` if the queued members wait only for members. Checks each pool once, however
     // many of its queued jobs are members.
     fn queues_wait(&self, plan: &Plan, members: &Members<'_>) -> bool
-        requires { IsOf plan.now self.now.view }
+        requires { IsReachableView plan.now self.now.view }
         ensures value { IsTrue result ↔ QueuesWait plan.now self.now.view members.now }
         ensures well_formed { IsWellFormed plan.now }
     {
         let pools = plan.pools().len();
-        let shares = self.shares(plan, members);
+        let activities = self.activities(plan, members);
         for pool in 0..pools {
-            if !self.leaves_none(pool, shares[pool]) {
+            if !self.pool_queue_waits(pool, activities[pool]) {
                 return false;
             }
         }
         true
     }
 
-    fn leaves_none(&self, pool: usize, share: Share) -> bool
+    fn pool_queue_waits(&self, pool: usize, activity: PoolActivity) -> bool
         requires { pool < length self.now.view.pools }
-        ensures { result ≡ leaves_none (pool_in self.now.view pool) share }
+        ensures { result ≡ pool_queue_waits (pool_in self.now.view pool) activity }
     {
         let pool = &self.pools[pool];
-        !share.queued || pool.idle() == 0 && pool.threads() == share.at_work as u64
+        !activity.queued || pool.idle() == 0 && pool.threads() == activity.at_work as u64
     }
 }

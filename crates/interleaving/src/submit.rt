@@ -2,8 +2,8 @@
 
 ghost use Rattle.std.specs.Prelude.{◌≡◌, ◌+◌, ◌<◌, ◌^◌, length, true, None, IfOk, OnErr};
 ghost use Rattle.written_machine.specs.State.{pool_of};
-ghost use Rattle.interleaving.specs.ViewStep.{live_child, may_ask_for, submitted_in};
-ghost use Rattle.interleaving.specs.Clients.{StandsAt};
+ghost use Rattle.interleaving.specs.ViewStep.{live_child, may_get_in, submitted_in};
+ghost use Rattle.interleaving.specs.Clients.{IsClientAt};
 ghost use Rattle.interleaving.specs.LiveJobs.{DoneAreLatest};
 ghost use Rattle.interleaving.specs.NextAction.{IsAmong};
 
@@ -17,7 +17,7 @@ use std::alloc::AllocError;
 use written_machine::{Outcome, Parent};
 
 impl World {
-    ghost use Rattle.interleaving.specs.World.{UsesPlacesAgain};
+    ghost use Rattle.interleaving.specs.World.{ReusesPlaces};
 
     /// Offers a job of the class to the class's pool, for an actor at a submit. If a get of the
     /// body requests the job, the earlier jobs of this submit must all be claimed. All allocations
@@ -31,16 +31,16 @@ impl World {
     ) -> Result<Outcome, AllocError>
         requires pool { pool_of plan.now class < length self.old.view.pools }
         requires there { IsAmong (length self.old.view.clients) (length self.old.view.jobs) actor }
-        requires stands { StandsAt self.old.view.clients actor next.position }
+        requires stands { IsClientAt self.old.view.clients actor next.position }
         requires can_move_on { next.position + 1 < 2 ^ 64 }
-        requires asks { may_ask_for self.old.view.jobs actor ≡ true }
-        requires asked { next.asked ≡ true
+        requires asks { may_get_in self.old.view.jobs actor ≡ true }
+        requires has_get { next.has_get ≡ true
             → live_child self.old.view.jobs actor next.position ≡ None }
         requires done { DoneAreLatest self.old.view.jobs }
         ensures ok { IfOk result (λ outcome.
             submitted_in plan.now self.old.view actor next.position class
             ≡ (self.new.view, outcome)) }
-        ensures places { UsesPlacesAgain self.old self.new }
+        ensures places { ReusesPlaces self.old self.new }
         ensures err { OnErr result (self.new ≡ self.old) }
     {
         let pool = pool_of(plan, class);
@@ -57,7 +57,7 @@ impl World {
             }
         };
         move_actor(&mut self.jobs, &mut self.clients, actor, next.position + 1);
-        self.jobs.make(
+        self.jobs.create(
             latest,
             JobView {
                 class,
@@ -72,12 +72,12 @@ impl World {
     // Returns the latest live job that the actor created by this submit, or `None` if a get of the
     // body requested the earlier ones.
     fn latest_before(&self, actor: Parent, next: NextAction) -> Option<usize>
-        requires asks { may_ask_for self.now.view.jobs actor ≡ true }
-        requires asked { next.asked ≡ true
+        requires asks { may_get_in self.now.view.jobs actor ≡ true }
+        requires has_get { next.has_get ≡ true
             → live_child self.now.view.jobs actor next.position ≡ None }
         ensures { result ≡ live_child self.now.view.jobs actor next.position }
     {
-        if next.asked {
+        if next.has_get {
             None
         } else {
             self.jobs.latest(actor, next.position)

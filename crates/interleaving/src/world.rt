@@ -38,7 +38,7 @@ impl Model for World {
 }
 
 impl World {
-    ghost use Rattle.interleaving.specs.OfPlan.{IsOf};
+    ghost use Rattle.interleaving.specs.OfPlan.{IsReachableView};
     ghost use Rattle.interleaving.specs.World.{live_jobs};
 
     /// Creates the plan's world before its first event. It has no jobs. Each prestarted pool has
@@ -50,7 +50,7 @@ impl World {
     /// Returns `AllocError` if there is not enough memory for the pools and the client kinds.
     pub fn start(alloc: Global, plan: &Plan) -> Result<World, AllocError>
         ensures value { IfOk result (λ world. world.view ≡ live_view plan.now (start plan.now)) }
-        ensures of_plan { IfOk result (λ world. IsOf plan.now world.view) }
+        ensures of_plan { IfOk result (λ world. IsReachableView plan.now world.view) }
         ensures places { IfOk result (λ world. world.places ≡ 0) }
     {
         let pools = new_pools(alloc, plan.pools())?;

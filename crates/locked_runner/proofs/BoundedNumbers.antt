@@ -12,7 +12,7 @@ use Rattle.job_bodies.proofs.Bodies.{ordered}
 use Rattle.weights.specs.Ranks.{Ranks}
 use Rattle.locked_runner.specs.Complete.{rounds_of, events_of_client}
 use Rattle.soundness.specs.Drain.{of_submit}
-use Rattle.locked_runner.specs.RunNumbers.{units_of, units_in, submitted, caused_within, caused, greatest, submitted_by, by_jobs, units_of_clients, events_of_clients, jobs, units, most_events, capped}
+use Rattle.locked_runner.specs.RunNumbers.{units_of, units_in, submitted, quantity_within, total_quantity, greatest, submitted_by, by_jobs, units_of_clients, events_of_clients, jobs, units, most_events, capped}
 
 -- a factor n keeps a bound by c times the other number
 scaled : (c n x y : ℕ) → x ≤ c * y → n * x ≤ c * (n * y)
@@ -37,19 +37,19 @@ submitted_within c f g body each = sums_within c (of_submit f) (of_submit g) bod
     at i (Get t) e = omega arith
 
 -- a bound on the quantity of one job of each class holds for the quantities with the jobs that it causes
-caused_in : (plan : Plan) (c : ℕ) (a b : Class → ℕ) → ((k : ℕ) → a (class_at plan k) ≤ c * b (class_at plan k)) → (n k : ℕ) → caused_within plan a n k ≤ c * caused_within plan b n k
-caused_in plan c a b each zero k = omega arith
-caused_in plan c a b each (suc n) k =
-    added c (a (class_at plan k)) (b (class_at plan k)) (submitted (caused_within plan a n) (class_at plan k).body) (submitted (caused_within plan b n) (class_at plan k).body)
+total_in : (plan : Plan) (c : ℕ) (a b : Class → ℕ) → ((k : ℕ) → a (class_at plan k) ≤ c * b (class_at plan k)) → (n k : ℕ) → quantity_within plan a n k ≤ c * quantity_within plan b n k
+total_in plan c a b each zero k = omega arith
+total_in plan c a b each (suc n) k =
+    added c (a (class_at plan k)) (b (class_at plan k)) (submitted (quantity_within plan a n) (class_at plan k).body) (submitted (quantity_within plan b n) (class_at plan k).body)
     (each k)
-    (submitted_within c (caused_within plan a n) (caused_within plan b n) (class_at plan k).body (caused_in plan c a b each n))
+    (submitted_within c (quantity_within plan a n) (quantity_within plan b n) (class_at plan k).body (total_in plan c a b each n))
 
 by_jobs_in : (plan : Plan) (ranks : Ranks) (rounds c : ℕ) (a b : Class → ℕ) → ((k : ℕ) → a (class_at plan k) ≤ c * b (class_at plan k)) → by_jobs plan ranks rounds a ≤ c * by_jobs plan ranks rounds b
-by_jobs_in plan ranks rounds c a b each = sums_within c (submitted_by rounds (caused plan ranks a)) (submitted_by rounds (caused plan ranks b)) plan.clients of_kind
+by_jobs_in plan ranks rounds c a b each = sums_within c (submitted_by rounds (total_quantity plan ranks a)) (submitted_by rounds (total_quantity plan ranks b)) plan.clients of_kind
   where
-    of_kind : (i : ℕ) (client : Client) → slice_get plan.clients i ≡ Some client → submitted_by rounds (caused plan ranks a) client ≤ c * submitted_by rounds (caused plan ranks b) client
+    of_kind : (i : ℕ) (client : Client) → slice_get plan.clients i ≡ Some client → submitted_by rounds (total_quantity plan ranks a) client ≤ c * submitted_by rounds (total_quantity plan ranks b) client
     of_kind i client e =
-        let once = submitted_within c (caused plan ranks a) (caused plan ranks b) client.body (caused_in plan c a b each (greatest ranks.levels + 1)) in
+        let once = submitted_within c (total_quantity plan ranks a) (total_quantity plan ranks b) client.body (total_in plan c a b each (greatest ranks.levels + 1)) in
         scaled c client.count _ _ (scaled c (rounds_of rounds client) _ _ once)
 
 -- an action has at most 1,000,000 units of work

@@ -11,16 +11,16 @@ use Rattle.locked_runner.specs.declared.report.ThreadFault.TheVariants as cause
 use Rattle.locked_runner.specs.declared.report.RunFault.{RunFault}
 use Rattle.locked_runner.specs.Faults.{IsFaultOf}
 
-answer_of : (plan : Plan) (rounds jobs units : ℕ) (history : List Event) (lists : List (List (Receipt Event))) (met : Option ThreadFault) (fault : RunFault) → IsAnswerTo plan rounds jobs units history lists met fault → IsFaultOf false fault
+answer_of : (plan : Plan) (rounds jobs units : ℕ) (history : List Event) (lists : List (List (Receipt Event))) (reported : Option ThreadFault) (fault : RunFault) → IsAnswerTo plan rounds jobs units history lists reported fault → IsFaultOf false fault
 answer_of plan rounds jobs units history lists (Some cause.Memory) fault is = inr (inr (inl is))
 answer_of plan rounds jobs units history lists (Some cause.Gate) fault is = inr (inr (inr is))
 answer_of plan rounds jobs units history lists None fault (inl strange) = inl strange.number
 answer_of plan rounds jobs units history lists None fault (inr mixed) = inr (inl mixed.number)
 
-pub answered : (plan : Plan) (rounds jobs units : ℕ) (history : List Event) (lists : List (List (Receipt Event))) (met : Option ThreadFault) (fault : RunFault) → (fault.number ≢ MEMORY → IsAnswerTo plan rounds jobs units history lists met fault) → IsFaultOf false fault
-answered plan rounds jobs units history lists met fault is = elim (cases_eq fault.number MEMORY) [
+pub answered : (plan : Plan) (rounds jobs units : ℕ) (history : List Event) (lists : List (List (Receipt Event))) (reported : Option ThreadFault) (fault : RunFault) → (fault.number ≢ MEMORY → IsAnswerTo plan rounds jobs units history lists reported fault) → IsFaultOf false fault
+answered plan rounds jobs units history lists reported fault is = elim (cases_eq fault.number MEMORY) [
   | inl memory ↦ inr (inr (inl memory))
-  | inr other ↦ answer_of plan rounds jobs units history lists met fault (is other)
+  | inr other ↦ answer_of plan rounds jobs units history lists reported fault (is other)
 ]
 
 -- the fault of a run that exceeds a limit

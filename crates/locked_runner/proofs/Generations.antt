@@ -10,7 +10,7 @@ use Rattle.job_bodies.specs.ValidBody.{IsValidBody}
 use Rattle.job_bodies.proofs.Bodies.{ordered}
 use Rattle.locked_runner.specs.Complete.{rounds_of}
 use Rattle.soundness.specs.Drain.{of_submit}
-use Rattle.locked_runner.specs.RunNumbers.{capped, AreCapped, AreCaused, submitted, submitted_by, caused_within}
+use Rattle.locked_runner.specs.RunNumbers.{capped, AreCapped, AreQuantities, submitted, submitted_by, quantity_within}
 use Rattle.locked_runner.proofs.Capped.{capped_sums, capped_products}
 
 -- a body submits only classes of the plan
@@ -27,32 +27,32 @@ of_numbers plan f numbers body valid are =
     submits_capped plan (slice_index numbers) f body valid (λ k inside. let at : slice_index numbers k ≡ min (f k) (2 ^ 64 - 1) = are k inside in omega arith)
 
 abbrev pub with_jobs : (Class → ℕ) → List ℕ → Class → ℕ
-with_jobs own numbers class = own class + submitted (slice_index numbers) class.body
+with_jobs own_quantity numbers class = own_quantity class + submitted (slice_index numbers) class.body
 
-pub one_more : (plan : Plan) (own : Class → ℕ) (n : ℕ) (numbers next : List ℕ) → IsWellFormed plan → next ≡ map (λ class. capped (with_jobs own numbers class)) plan.classes
-    → AreCaused plan own n numbers → AreCaused plan own (suc n) next
-one_more plan own n numbers next formed is are k inside =
+pub add_generation : (plan : Plan) (own_quantity : Class → ℕ) (n : ℕ) (numbers next : List ℕ) → IsWellFormed plan → next ≡ map (λ class. capped (with_jobs own_quantity numbers class)) plan.classes
+    → AreQuantities plan own_quantity n numbers → AreQuantities plan own_quantity (suc n) next
+add_generation plan own_quantity n numbers next formed is are k inside =
     let class : Class = class_at plan k in
-    let at : slice_index next k ≡ capped (with_jobs own numbers class) = ap (λ (xs : List ℕ). slice_index xs k) is ∙ get_or-map (λ class. capped (with_jobs own numbers class)) plan.classes k no_class 0 inside in
-    let same : capped (submitted (slice_index numbers) class.body) ≡ capped (submitted (caused_within plan own n) class.body) = of_numbers plan (caused_within plan own n) numbers class.body ((ordered plan formed).classes k) are in
-    let sums : capped (own class + submitted (slice_index numbers) class.body) ≡ capped (own class + submitted (caused_within plan own n) class.body) = omega arith in
+    let at : slice_index next k ≡ capped (with_jobs own_quantity numbers class) = ap (λ (xs : List ℕ). slice_index xs k) is ∙ get_or-map (λ class. capped (with_jobs own_quantity numbers class)) plan.classes k no_class 0 inside in
+    let same : capped (submitted (slice_index numbers) class.body) ≡ capped (submitted (quantity_within plan own_quantity n) class.body) = of_numbers plan (quantity_within plan own_quantity n) numbers class.body ((ordered plan formed).classes k) are in
+    let sums : capped (own_quantity class + submitted (slice_index numbers) class.body) ≡ capped (own_quantity class + submitted (quantity_within plan own_quantity n) class.body) = omega arith in
     at ∙ sums
 
 -- numbers that one more generation does not change stay the same for all further generations
-after : (plan : Plan) (own : Class → ℕ) (n d : ℕ) (numbers : List ℕ) → AreCaused plan own n numbers → ((m : ℕ) → AreCaused plan own m numbers → AreCaused plan own (suc m) numbers)
-    → AreCaused plan own (d + n) numbers
-after plan own n zero numbers are stays =
+after : (plan : Plan) (own_quantity : Class → ℕ) (n d : ℕ) (numbers : List ℕ) → AreQuantities plan own_quantity n numbers → ((m : ℕ) → AreQuantities plan own_quantity m numbers → AreQuantities plan own_quantity (suc m) numbers)
+    → AreQuantities plan own_quantity (d + n) numbers
+after plan own_quantity n zero numbers are stays =
     let same : n ≡ 0 + n = omega arith in
-    subst (λ (m : ℕ). AreCaused plan own m numbers) same are
-after plan own n (suc d) numbers are stays =
+    subst (λ (m : ℕ). AreQuantities plan own_quantity m numbers) same are
+after plan own_quantity n (suc d) numbers are stays =
     let same : suc (d + n) ≡ suc d + n = omega arith in
-    subst (λ (m : ℕ). AreCaused plan own m numbers) same (stays (d + n) (after plan own n d numbers are stays))
+    subst (λ (m : ℕ). AreQuantities plan own_quantity m numbers) same (stays (d + n) (after plan own_quantity n d numbers are stays))
 
-pub settled : (plan : Plan) (own : Class → ℕ) (n m : ℕ) (numbers : List ℕ) → AreCaused plan own n numbers → ((i : ℕ) → AreCaused plan own i numbers → AreCaused plan own (suc i) numbers)
-    → n ≤ m → AreCaused plan own m numbers
-settled plan own n m numbers are stays later =
+pub settled : (plan : Plan) (own_quantity : Class → ℕ) (n m : ℕ) (numbers : List ℕ) → AreQuantities plan own_quantity n numbers → ((i : ℕ) → AreQuantities plan own_quantity i numbers → AreQuantities plan own_quantity (suc i) numbers)
+    → n ≤ m → AreQuantities plan own_quantity m numbers
+settled plan own_quantity n m numbers are stays later =
     let same : m - n + n ≡ m = omega arith in
-    subst (λ (i : ℕ). AreCaused plan own i numbers) same (after plan own n (m - n) numbers are stays)
+    subst (λ (i : ℕ). AreQuantities plan own_quantity i numbers) same (after plan own_quantity n (m - n) numbers are stays)
 
 -- the sum over the jobs that the clients cause in all their rounds
 pub in_rounds : (plan : Plan) (rounds : ℕ) (f : ℕ → ℕ) (numbers : List ℕ) → IsWellFormed plan → AreCapped plan f numbers

@@ -13,22 +13,22 @@ use Rattle.locked_runner.specs.HeldWorld.{IsReachedBy}
 use Rattle.locked_runner.specs.Complete.{IsComplete}
 use Rattle.locked_runner.specs.Owner.{lists_of}
 use Rattle.locked_runner.specs.Receipts.{AreListsOf, places_of}
-use Rattle.locked_runner.specs.Run.{IsLegal, IsRun, Makes, Works, IsLengthOfLegal, IsLegalFront, IsLegalPart}
-use Rattle.locked_runner.proofs.Fronts.{front_is_legal}
+use Rattle.locked_runner.specs.Run.{IsLegal, IsRun, Makes, Works, IsLengthOfLegal, IsLegalPrefix, IsLegalPart}
+use Rattle.locked_runner.proofs.Prefixes.{prefix_is_legal}
 
 -- the empty history is legal
 pub nothing_is_legal : (plan : Plan) → IsLengthOfLegal plan 0
 nothing_is_legal plan = ([], (start plan, refl), refl)
 
-pub no_front : (plan : Plan) (history : List Event) → IsLegalFront plan history 0
-no_front plan history = record { within = omega arith; legal = (start plan, refl) }
+pub empty_prefix : (plan : Plan) (history : List Event) → IsLegalPrefix plan history 0
+empty_prefix plan history = record { within = omega arith; legal = (start plan, refl) }
 
-pub length_of_front : (plan : Plan) (history : List Event) (n : ℕ) → IsLegalFront plan history n → IsLengthOfLegal plan n
-length_of_front plan history n front = (take n history, front.legal, length-take-le n history front.within)
+pub length_of_prefix : (plan : Plan) (history : List Event) (n : ℕ) → IsLegalPrefix plan history n → IsLengthOfLegal plan n
+length_of_prefix plan history n front = (take n history, front.legal, length-take-le n history front.within)
 
 -- the replayed events are a legal prefix
-pub front_of : (plan : Plan) (history part : List Event) (view : View) → part ≡ take (length part) history → IsReachedBy plan part view → IsLegalFront plan history (length part)
-front_of plan history part view is led =
+pub prefix_of : (plan : Plan) (history part : List Event) (view : View) → part ≡ take (length part) history → IsReachedBy plan part view → IsLegalPrefix plan history (length part)
+prefix_of plan history part view is led =
     let within : length part ≤ length history = (let long = ap (λ (xs : List Event). length xs) is in omega (arith, length-take (length part) history)) in
     record { within = within; legal = subst (IsLegal plan) is (led.0, led.1) }
 
@@ -37,7 +37,7 @@ all_of history part is all = is ∙ take_all (length part) history all
 
 -- a history that ends before its last event is not a run
 pub cut_short : (plan : Plan) (rounds : ℕ) (history : List Event) (lists : List (List (Receipt Event))) (n : ℕ) → IsLegalPart plan history n → n < length history → ¬ IsRun plan rounds history lists
-cut_short plan rounds history lists n part more run = part.ends more (front_is_legal plan history run.last (n + 1) run.legal)
+cut_short plan rounds history lists n part more run = part.ends more (prefix_is_legal plan history run.last (n + 1) run.legal)
 
 -- the view is that of the state to which the history leads
 same_last : (plan : Plan) (history : List Event) (view : View) (s : State) → IsReachedBy plan history view → Reaches plan history s → live_view plan s ≡ view
@@ -57,8 +57,8 @@ complete_of plan rounds history view lists complete led tested run = (tested run
 run_here : (plan : Plan) (rounds jobs units : ℕ) (history : List Event) (view : View) (lists : List (List (Receipt Event))) (complete once : Bool) → IsReachedBy plan history view
     → AreListsOf plan history (lists_of plan) lists → length view.jobs ≡ jobs → Works plan history units → ((s : State) → live_view plan s ≡ view → IsTrue complete ↔ IsComplete plan rounds history s) → IsTrue complete
     → (IsTrue once ↔ ((k : ℕ) → k < length history → places_of k lists ≡ 1)) → IsTrue once ↔ (IsRun plan rounds history lists × Makes plan history jobs × Works plan history units)
-run_here plan rounds jobs units history view lists complete once led theirs jobs_made units_worked tested is counted = (
-  λ so. (record { last = led.0; legal = led.1; complete = (tested led.0 led.2).0 is; received = record { theirs = theirs; once = counted.0 so } }, made_of plan history view jobs led jobs_made, units_worked),
+run_here plan rounds jobs units history view lists complete once led owner_lists jobs_made units_worked tested is counted = (
+  λ so. (record { last = led.0; legal = led.1; complete = (tested led.0 led.2).0 is; received = record { owner_lists = owner_lists; once = counted.0 so } }, made_of plan history view jobs led jobs_made, units_worked),
   λ both. counted.1 both.0.received.once,
 )
 
@@ -66,6 +66,6 @@ run_here plan rounds jobs units history view lists complete once led theirs jobs
 pub run_of : (plan : Plan) (rounds jobs units n : ℕ) (history shown : List Event) (view : View) (lists ls : List (List (Receipt Event))) (complete once : Bool) → IsReachedBy plan history view → shown ≡ history
     → AreListsOf plan history (lists_of plan) lists → length view.jobs ≡ jobs → Works plan history units → ((s : State) → live_view plan s ≡ view → IsTrue complete ↔ IsComplete plan rounds shown s) → IsTrue complete
     → n ≡ length history → ls ≡ lists → (IsTrue once ↔ ((k : ℕ) → k < n → places_of k ls ≡ 1)) → IsTrue once ↔ (IsRun plan rounds history lists × Makes plan history jobs × Works plan history units)
-run_of plan rounds jobs units n history shown view lists ls complete once led all theirs jobs_made units_worked tested is long same counted =
+run_of plan rounds jobs units n history shown view lists ls complete once led all owner_lists jobs_made units_worked tested is long same counted =
     let here = subst (λ (xs : List (List (Receipt Event))). IsTrue once ↔ ((k : ℕ) → k < length history → places_of k xs ≡ 1)) same (subst (λ (m : ℕ). IsTrue once ↔ ((k : ℕ) → k < m → places_of k ls ≡ 1)) long counted) in
-    run_here plan rounds jobs units history view lists complete once led theirs jobs_made units_worked (λ s seen. subst (λ (h : List Event). IsTrue complete ↔ IsComplete plan rounds h s) all (tested s seen)) is here
+    run_here plan rounds jobs units history view lists complete once led owner_lists jobs_made units_worked (λ s seen. subst (λ (h : List Event). IsTrue complete ↔ IsComplete plan rounds h s) all (tested s seen)) is here

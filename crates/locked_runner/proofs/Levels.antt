@@ -9,7 +9,7 @@ use Rattle.soundness.proofs.RankLaws.{RankLaws, rank_laws}
 use Rattle.locked_runner.specs.declared.numbers.Measure.TheVariants.{Jobs, Units, Events}
 use Rattle.locked_runner.specs.Complete.{rounds_of}
 use Rattle.soundness.specs.Drain.{of_submit}
-use Rattle.locked_runner.specs.RunNumbers.{submitted, caused_within, greatest, caused, submitted_by, by_jobs, own, units_of_clients, events_of_clients, CausedIsWhole, NumbersAreOfThePlan}
+use Rattle.locked_runner.specs.RunNumbers.{submitted, quantity_within, greatest, total_quantity, submitted_by, by_jobs, own_quantity, units_of_clients, events_of_clients, TotalsAddUp, NumbersAreOfThePlan}
 
 -- two sums whose terms agree at each element
 sums_agree : {X : Type 0} (f g : X → ℕ) (xs : List X) → ((i : ℕ) (x : X) → slice_get xs i ≡ Some x → f x ≡ g x) → sum_by f xs ≡ sum_by g xs
@@ -29,18 +29,18 @@ submitted_agree f g body same = sums_agree (of_submit f) (of_submit g) body (λ 
     one i (Get t) e = refl
 
 -- two numbers of generations that are enough by their ranks give the same numbers
-generations_agree : (plan : Plan) (ranks ranks' : Ranks) (own : Class → ℕ) (n m k : ℕ) → RankLaws plan ranks → RankLaws plan ranks' → level ranks k < n → level ranks' k < m
-    → caused_within plan own n k ≡ caused_within plan own m k
-generations_agree plan ranks ranks' own zero m k laws laws' low low' = absurd (omega arith)
-generations_agree plan ranks ranks' own (suc n) zero k laws laws' low low' = absurd (omega arith)
-generations_agree plan ranks ranks' own (suc n) (suc m) k laws laws' low low' =
+generations_agree : (plan : Plan) (ranks ranks' : Ranks) (own_quantity : Class → ℕ) (n m k : ℕ) → RankLaws plan ranks → RankLaws plan ranks' → level ranks k < n → level ranks' k < m
+    → quantity_within plan own_quantity n k ≡ quantity_within plan own_quantity m k
+generations_agree plan ranks ranks' own_quantity zero m k laws laws' low low' = absurd (omega arith)
+generations_agree plan ranks ranks' own_quantity (suc n) zero k laws laws' low low' = absurd (omega arith)
+generations_agree plan ranks ranks' own_quantity (suc n) (suc m) k laws laws' low low' =
     let class = class_at plan k in
-    ap (λ (x : ℕ). own class + x)
-    (submitted_agree (caused_within plan own n) (caused_within plan own m) class.body
+    ap (λ (x : ℕ). own_quantity class + x)
+    (submitted_agree (quantity_within plan own_quantity n) (quantity_within plan own_quantity m) class.body
     (λ i k' e.
     let sinks = laws.sinks k i k' e in
     let sinks' = laws'.sinks k i k' e in
-    generations_agree plan ranks ranks' own n m k' laws laws' (omega arith) (omega arith)))
+    generations_agree plan ranks ranks' own_quantity n m k' laws laws' (omega arith) (omega arith)))
 
 -- no number of a list is above its maximum
 below_fold : (numbers : List ℕ) (start k : ℕ) → (start ≤ fold (λ a n. max a n) start numbers) × (slice_index numbers k ≤ fold (λ a n. max a n) start numbers)
@@ -51,38 +51,38 @@ below_fold (n ∷ numbers) start (suc k) = let rest = below_fold numbers (max st
 within_greatest : (ranks : Ranks) (k : ℕ) → level ranks k < greatest ranks.levels + 1
 within_greatest ranks k = let within = (below_fold ranks.levels 0 k).1 in omega arith
 
-pub caused_is_whole : CausedIsWhole
-caused_is_whole plan ranks own k hold =
+pub totals_add_up : TotalsAddUp
+totals_add_up plan ranks own_quantity k hold =
     let laws = rank_laws plan ranks hold in
     let top = greatest ranks.levels in
     let within = within_greatest ranks k in
     let next : suc top ≡ top + 1 = omega arith in
-    ap (λ (n : ℕ). caused_within plan own n k) (sym next)
-    ∙ ap (λ (x : ℕ). own (class_at plan k) + x)
-    (submitted_agree (caused_within plan own top) (caused plan ranks own) (class_at plan k).body
+    ap (λ (n : ℕ). quantity_within plan own_quantity n k) (sym next)
+    ∙ ap (λ (x : ℕ). own_quantity (class_at plan k) + x)
+    (submitted_agree (quantity_within plan own_quantity top) (total_quantity plan ranks own_quantity) (class_at plan k).body
     (λ i k' e.
     let sinks = laws.sinks k i k' e in
-    generations_agree plan ranks ranks own top (top + 1) k' laws laws (omega arith) (within_greatest ranks k')))
+    generations_agree plan ranks ranks own_quantity top (top + 1) k' laws laws (omega arith) (within_greatest ranks k')))
 
 -- for one class
-caused_agree : (plan : Plan) (ranks ranks' : Ranks) (own : Class → ℕ) (k : ℕ) → RankLaws plan ranks → RankLaws plan ranks' → caused plan ranks own k ≡ caused plan ranks' own k
-caused_agree plan ranks ranks' own k laws laws' =
-    generations_agree plan ranks ranks' own (greatest ranks.levels + 1) (greatest ranks'.levels + 1) k laws laws' (within_greatest ranks k) (within_greatest ranks' k)
+totals_agree : (plan : Plan) (ranks ranks' : Ranks) (own_quantity : Class → ℕ) (k : ℕ) → RankLaws plan ranks → RankLaws plan ranks' → total_quantity plan ranks own_quantity k ≡ total_quantity plan ranks' own_quantity k
+totals_agree plan ranks ranks' own_quantity k laws laws' =
+    generations_agree plan ranks ranks' own_quantity (greatest ranks.levels + 1) (greatest ranks'.levels + 1) k laws laws' (within_greatest ranks k) (within_greatest ranks' k)
 
 -- for all clients
-by_jobs_agree : (plan : Plan) (ranks ranks' : Ranks) (rounds : ℕ) (own : Class → ℕ) → RankLaws plan ranks → RankLaws plan ranks' → by_jobs plan ranks rounds own ≡ by_jobs plan ranks' rounds own
-by_jobs_agree plan ranks ranks' rounds own laws laws' =
-    sums_agree (submitted_by rounds (caused plan ranks own)) (submitted_by rounds (caused plan ranks' own)) plan.clients
+by_jobs_agree : (plan : Plan) (ranks ranks' : Ranks) (rounds : ℕ) (own_quantity : Class → ℕ) → RankLaws plan ranks → RankLaws plan ranks' → by_jobs plan ranks rounds own_quantity ≡ by_jobs plan ranks' rounds own_quantity
+by_jobs_agree plan ranks ranks' rounds own_quantity laws laws' =
+    sums_agree (submitted_by rounds (total_quantity plan ranks own_quantity)) (submitted_by rounds (total_quantity plan ranks' own_quantity)) plan.clients
     (λ i client e.
     ap (λ (x : ℕ). client.count * (rounds_of rounds client * x))
-    (submitted_agree (caused plan ranks own) (caused plan ranks' own) client.body (λ j k at. caused_agree plan ranks ranks' own k laws laws')))
+    (submitted_agree (total_quantity plan ranks own_quantity) (total_quantity plan ranks' own_quantity) client.body (λ j k at. totals_agree plan ranks ranks' own_quantity k laws laws')))
 
 pub numbers_are_of_the_plan : NumbersAreOfThePlan
 numbers_are_of_the_plan plan rounds ranks ranks' hold hold' =
     let laws = rank_laws plan ranks hold in
     let laws' = rank_laws plan ranks' hold' in
     record {
-      jobs = by_jobs_agree plan ranks ranks' rounds (own Jobs) laws laws';
-      units = ap (λ (x : ℕ). x + sum_by (units_of_clients rounds) plan.clients) (by_jobs_agree plan ranks ranks' rounds (own Units) laws laws');
-      most_events = ap (λ (x : ℕ). x + sum_by (events_of_clients rounds) plan.clients) (by_jobs_agree plan ranks ranks' rounds (own Events) laws laws');
+      jobs = by_jobs_agree plan ranks ranks' rounds (own_quantity Jobs) laws laws';
+      units = ap (λ (x : ℕ). x + sum_by (units_of_clients rounds) plan.clients) (by_jobs_agree plan ranks ranks' rounds (own_quantity Units) laws laws');
+      most_events = ap (λ (x : ℕ). x + sum_by (events_of_clients rounds) plan.clients) (by_jobs_agree plan ranks ranks' rounds (own_quantity Events) laws laws');
     }

@@ -1,16 +1,16 @@
 pub mod Traces
 mod Worlds
 mod Owners
-mod Fronts
+mod Prefixes
 mod Received
 mod Replays
 pub mod Histories
 mod KindsOfClients
-mod Through
+mod CompleteClients
 mod Capped
 mod Generations
 mod Levels
-mod Beyond
+mod ExceededLimits
 mod BoundedNumbers
 mod Faults
 mod Reports

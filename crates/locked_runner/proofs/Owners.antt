@@ -10,8 +10,8 @@ use Rattle.job_bodies.specs.WellFormed.{IsWellFormed}
 use Rattle.written_machine.specs.declared.event.Event.{Event}
 use Rattle.written_machine.specs.declared.event.Event.TheVariants as event
 use Rattle.written_machine.specs.declared.parent.Parent.TheVariants as parent
-use Rattle.written_machine.specs.State.{Made, State, job_at, no_job, pool_of}
-use Rattle.written_machine.specs.Step.{step, stepped}
+use Rattle.written_machine.specs.State.{CreatedJob, State, job_at, no_job, pool_of}
+use Rattle.written_machine.specs.Step.{step, step_at_point}
 use Rattle.written_machine.specs.Reach.{Reaches, IsReached}
 use Rattle.written_machine.proofs.Reached.{kept}
 use Rattle.interleaving.specs.declared.job_view.Phase.{Phase}
@@ -23,7 +23,7 @@ use Rattle.locked_runner.specs.declared.owner.Owner.{Owner}
 use Rattle.locked_runner.specs.declared.owner.Owner.TheVariants as owner
 use Rattle.locked_runner.specs.Owner.{owner_in, owner_by, client_list, ArePoolsOf}
 
-class_with : (job : Made) (phase : Option Phase) (view : JobView) → job_with job phase ≡ Some view → view.class ≡ job.class
+class_with : (job : CreatedJob) (phase : Option Phase) (view : JobView) → job_with job phase ≡ Some view → view.class ≡ job.class
 class_with job None view e = absurd (none-some view e)
 class_with job (Some phase) view e = sym (ap (λ (v : JobView). v.class) (same_Some _ view e))
 
@@ -36,7 +36,7 @@ class_seen plan s view j job same e =
 pub job_is_live : (plan : Plan) (s : State) (view : View) (j : ℕ) → live_view plan s ≡ view → step plan s (event.Job j) ≢ None → live_job view.jobs j ≢ None
 job_is_live plan s view j seen possible none =
     let nowhere : point_in plan (live_view plan s) (parent.Job j) ≡ None = ap (point_of_live_job plan) (ap (λ (v : View). live_job v.jobs j) seen ∙ none) in
-    possible (ap (stepped plan s (parent.Job j)) (sym (point_seen plan s (parent.Job j)) ∙ nowhere))
+    possible (ap (step_at_point plan s (parent.Job j)) (sym (point_seen plan s (parent.Job j)) ∙ nowhere))
 
 -- a live job has a class of the plan
 pub class_exists : (plan : Plan) (s : State) (view : View) (j : ℕ) (job : JobView) → IsWellFormed plan → IsReached plan s → live_view plan s ≡ view → live_job view.jobs j ≡ Some job → job.class < length plan.classes

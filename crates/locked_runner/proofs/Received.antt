@@ -8,25 +8,25 @@ use Rattle.locked_runner.specs.declared.owner.Owner.{Owner}
 use Rattle.locked_runner.specs.Owner.{owner_by, ArePoolsOf}
 use Rattle.locked_runner.specs.Receipts.{IsReceiptOf, AreListsOf}
 use Rattle.locked_runner.specs.Run.{IsLegal}
-use Rattle.locked_runner.proofs.Fronts.{front_is_legal}
+use Rattle.locked_runner.proofs.Prefixes.{prefix_is_legal}
 
 -- a receipt of an owner's event has the owner at its number
 owner_at : (plan : Plan) (history : List Event) (pools : List ℕ) (owner : Owner) (r : Receipt Event) (pool : ℕ) → IsLegal plan history → ArePoolsOf plan history pools → slice_get pools r.number ≡ Some pool
     → IsReceiptOf plan history owner r → owner_by r.event pool ≡ Some owner
 owner_at plan history pools owner r pool legal are at receipt =
-    let before = front_is_legal plan history legal.0 r.number legal.1 in
+    let before = prefix_is_legal plan history legal.0 r.number legal.1 in
     sym (are.each r.number before.0 r.event pool receipt.event at before.1) ∙ receipt.owned before.0 before.1
 
 -- if the history has the event of the receipt at its number, the receipt belongs to the owner of that event
 pub owned_where : (plan : Plan) (history : List Event) (pools : List ℕ) (owner : Owner) (r : Receipt Event) (event : Event) (pool : ℕ) (found : Option Owner) (same owned : Bool) → IsLegal plan history → ArePoolsOf plan history pools
     → slice_get history r.number ≡ Some event → slice_get pools r.number ≡ Some pool → found ≡ owner_by event pool → (IsTrue same ↔ (event ≡ r.event)) → IsTrue same → (IsTrue owned ↔ (found ≡ Some owner)) → IsTrue owned ↔ IsReceiptOf plan history owner r
 owned_where plan history pools owner r event pool found same owned legal are event_at pool_at is_found is_same so is_owned =
-    let told : found ≡ owner_by r.event pool = is_found ∙ ap (λ (e : Event). owner_by e pool) (is_same.0 so) in (
+    let value_holds : found ≡ owner_by r.event pool = is_found ∙ ap (λ (e : Event). owner_by e pool) (is_same.0 so) in (
       λ its. record {
         event = event_at ∙ ap Some (is_same.0 so);
-        owned = λ s reached. are.each r.number s r.event pool (event_at ∙ ap Some (is_same.0 so)) pool_at reached ∙ (sym told ∙ is_owned.0 its);
+        owned = λ s reached. are.each r.number s r.event pool (event_at ∙ ap Some (is_same.0 so)) pool_at reached ∙ (sym value_holds ∙ is_owned.0 its);
       },
-      λ receipt. is_owned.1 (told ∙ owner_at plan history pools owner r pool legal are pool_at receipt),
+      λ receipt. is_owned.1 (value_holds ∙ owner_at plan history pools owner r pool legal are pool_at receipt),
     )
 
 -- if the history has another event at its number, the receipt belongs to no owner

@@ -14,7 +14,7 @@ use Rattle.interleaving.specs.ViewAnswers.{AnswersAs}
 use Rattle.locked_runner.specs.HeldWorld.{IsReachedBy}
 use Rattle.locked_runner.proofs.Traces.{reaches_more}
 use Rattle.locked_runner.specs.Owner.{owner_in, owner_by, ArePoolsOf}
-use Rattle.locked_runner.specs.Replayed.{IsCounted, IsReplayedAs, GoesOn}
+use Rattle.locked_runner.specs.Replayed.{IsCounted, IsReplayedAs, ReplaysEvent}
 use Rattle.locked_runner.specs.Run.{IsLegal, worked, units_done}
 use Rattle.locked_runner.proofs.Owners.{pools_grow}
 
@@ -60,7 +60,7 @@ ends plan history view after event led answered legal =
     none-some legal.0 (sym (reaches_more plan history event led.0 led.1 ∙ ap state_after none) ∙ legal.1)
 
 pub stays : (plan : Plan) (history : List Event) (view after : View) (pools pools' : List ℕ) (units : Option ℕ) (event : Event) → pools' ≡ pools → IsReplayedAs plan history view pools units
-    → ((s : State) → IsReached plan s → live_view plan s ≡ view → AnswersAs plan s event None after) → GoesOn plan history event false after pools' units
+    → ((s : State) → IsReached plan s → live_view plan s ≡ view → AnswersAs plan s event None after) → ReplaysEvent plan history event false after pools' units
 stays plan history view after pools pools' units event same replayed answered =
     let led = replayed.reached in (
       ends plan history view after event led answered,
@@ -72,10 +72,10 @@ stays plan history view after pools pools' units event same replayed answered =
     )
 
 -- a replay that ended at an event has no further events
-pub ends_here : (plan : Plan) (history : List Event) (i : ℕ) (d : Event) (after : View) (pools : List ℕ) (units : Option ℕ) (made : Bool) → i < length history → made ≡ false → GoesOn plan (take i history) (get_or history i d) made after pools units
+pub ends_here : (plan : Plan) (history : List Event) (i : ℕ) (d : Event) (after : View) (pools : List ℕ) (units : Option ℕ) (made : Bool) → i < length history → made ≡ false → ReplaysEvent plan (take i history) (get_or history i d) made after pools units
     → ¬ IsLegal plan (take (length pools + 1) history)
 ends_here plan history i d after pools units made inside not_made goes legal =
-    let ended : GoesOn plan (take i history) (get_or history i d) false after pools units = subst (λ (b : Bool). GoesOn plan (take i history) (get_or history i d) b after pools units) not_made goes in
+    let ended : ReplaysEvent plan (take i history) (get_or history i d) false after pools units = subst (λ (b : Bool). ReplaysEvent plan (take i history) (get_or history i d) b after pools units) not_made goes in
     let long : length pools ≡ i = ended.1.owned.as_many ∙ length-take-le i history (omega (arith, inside)) in
     let more : take (length pools + 1) history ≡ take i history ++ get_or history i d ∷ [] = ap (λ (n : ℕ). take (n + 1) history) long ∙ take_more history i d inside in
     ended.0 (subst (IsLegal plan) more legal)

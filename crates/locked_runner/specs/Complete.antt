@@ -24,11 +24,11 @@ abbrev pub AreMadeIn : List Event → List ℕ → Type 0
 AreMadeIn history made = (c : ℕ) → c < length made → slice_index made c ≡ count_by (is_of_client c) history
 
 -- client c has performed all events of its rounds, and is at the end of its body
-pub record IsThrough (rounds : ℕ) (history : List Event) (s : State) (c : ℕ) (client : Client) : Type 0 where
+pub record IsCompleteClient (rounds : ℕ) (history : List Event) (s : State) (c : ℕ) (client : Client) : Type 0 where
   pub events : count_by (is_of_client c) history ≡ events_of_client rounds client
   pub at_end : option_map (λ client. client.position) (slice_get s.clients c) ≡ Some (length client.body)
 
 -- each client is through, and no job is unfinished
 pub record IsComplete (plan : Plan) (rounds : ℕ) (history : List Event) (s : State) : Type 0 where
-  pub clients : (c kind : ℕ) → slice_get (kinds_of plan) c ≡ Some kind → IsThrough rounds history s c (client_at plan kind)
+  pub clients : (c kind : ℕ) → slice_get (kinds_of plan) c ≡ Some kind → IsCompleteClient rounds history s c (client_at plan kind)
   pub finished : count_by (λ job. is_unfinished job.stage) s.jobs ≡ 0

@@ -2,7 +2,7 @@ pub mod Trace
 pub mod HeldWorld
 pub mod Owner
 pub mod Receipts
-pub mod KeptReceipt
+pub mod CompactReceipt
 pub mod Complete
 pub mod Run
 pub mod Replayed

@@ -10,12 +10,12 @@ abbrev pub clients : Plan → ℕ
 clients plan = sum_by (λ client. client.count) plan.clients
 
 -- the maximum number of threads of all pools together
-abbrev pub carriers : Plan → ℕ
-carriers plan = sum_by (λ pool. pool.max) plan.pools
+abbrev pub workers : Plan → ℕ
+workers plan = sum_by (λ pool. pool.max) plan.pools
 
 -- a run with at most this many events exceeds a limit
-abbrev pub is_beyond : Plan → ℕ → Bool
-is_beyond plan events = nat_lt MAX_RUN_CLIENTS (clients plan) || nat_lt MAX_RUN_CARRIERS (carriers plan) || nat_lt MAX_RUN_EVENTS events
+abbrev pub exceeds_limits : Plan → ℕ → Bool
+exceeds_limits plan events = nat_lt MAX_RUN_CLIENTS (clients plan) || nat_lt MAX_RUN_CARRIERS (workers plan) || nat_lt MAX_RUN_EVENTS events
 
 abbrev pub is_too_large : Plan → Ranks → ℕ → Bool
-is_too_large plan ranks rounds = is_beyond plan (most_events plan ranks rounds)
+is_too_large plan ranks rounds = exceeds_limits plan (most_events plan ranks rounds)

@@ -29,5 +29,5 @@ abbrev pub places_of : ℕ → List (List (Receipt Event)) → ℕ
 places_of k lists = sum_by (λ list. count_by (λ r. r.number == k) list) lists
 
 pub record AreReceipts (plan : Plan) (history : List Event) (lists : List (List (Receipt Event))) : Type 0 where
-  pub theirs : AreListsOf plan history (lists_of plan) lists
+  pub owner_lists : AreListsOf plan history (lists_of plan) lists
   pub once : (k : ℕ) → k < length history → places_of k lists ≡ 1

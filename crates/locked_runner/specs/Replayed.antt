@@ -19,6 +19,6 @@ pub record IsReplayedAs (plan : Plan) (history : List Event) (world : View) (poo
   pub counted : IsCounted (units_done plan history) units
 
 -- true: the history with the event is replayed; false: it is not legal, and the history without it is replayed
-abbrev pub GoesOn : Plan → List Event → Event → Bool → View → List ℕ → Option ℕ → Type 0
-GoesOn plan history event true world pools units = IsReplayedAs plan (history ++ event ∷ []) world pools units
-GoesOn plan history event false world pools units = (¬ IsLegal plan (history ++ event ∷ [])) × IsReplayedAs plan history world pools units
+abbrev pub ReplaysEvent : Plan → List Event → Event → Bool → View → List ℕ → Option ℕ → Type 0
+ReplaysEvent plan history event true world pools units = IsReplayedAs plan (history ++ event ∷ []) world pools units
+ReplaysEvent plan history event false world pools units = (¬ IsLegal plan (history ++ event ∷ [])) × IsReplayedAs plan history world pools units

@@ -4,7 +4,7 @@ use Rattle.written_machine.specs.declared.event.Event.{Event}
 use Rattle.held_machines.specs.declared.held.Receipt.{Receipt}
 use Rattle.locked_runner.specs.declared.report.ThreadFault.{ThreadFault}
 
-pub record Met : Type 0 where
+pub record ThreadResults : Type 0 where
   pub history : List Event
   pub receipts : List (List (Receipt Event))
   pub fault : Option ThreadFault

@@ -47,13 +47,13 @@ abbrev pub IsLengthOfLegal : Plan → ℕ → Type 0
 IsLengthOfLegal plan n = (history : List Event) × IsLegal plan history × (length history ≡ n)
 
 -- the first n events of the history are legal
-pub record IsLegalFront (plan : Plan) (history : List Event) (n : ℕ) : Type 0 where
+pub record IsLegalPrefix (plan : Plan) (history : List Event) (n : ℕ) : Type 0 where
   pub within : n ≤ length history
   pub legal : IsLegal plan (take n history)
 
 -- the same, and the next event, if there is one, is not possible
 pub record IsLegalPart (plan : Plan) (history : List Event) (n : ℕ) : Type 0 where
-  pub front : IsLegalFront plan history n
+  pub front : IsLegalPrefix plan history n
   pub ends : n < length history → ¬ IsLegal plan (take (n + 1) history)
 
 abbrev pub number_of : ThreadFault → ℕ
@@ -68,7 +68,7 @@ pub record IsStrange (plan : Plan) (history : List Event) (lists : List (List (R
 -- fault 42: the lists are those of their owners, and yet the run is not complete or has other numbers of jobs or units
 pub record IsMixed (plan : Plan) (rounds jobs units : ℕ) (history : List Event) (lists : List (List (Receipt Event))) (fault : RunFault) : Type 0 where
   pub number : fault.number ≡ MIXED
-  pub theirs : AreListsOf plan (take fault.events history) (lists_of plan) lists
+  pub owner_lists : AreListsOf plan (take fault.events history) (lists_of plan) lists
   pub mixed : ¬ (IsRun plan rounds history lists × Makes plan history jobs × Works plan history units)
 
 -- the fault if there is enough memory: the one that a thread reported, and 41 or 42 only if no thread reported one

@@ -23,22 +23,22 @@ abbrev pub submitted : (ℕ → ℕ) → List Action → ℕ
 submitted f body = sum_by (of_submit f) body
 
 -- the quantity of one job of the class, without the jobs that it causes; its events are its actions, a take and its end
-abbrev pub own : Measure → Class → ℕ
-own Jobs class = 1
-own Units class = units_in class.body
-own Events class = length class.body + 2
+abbrev pub own_quantity : Measure → Class → ℕ
+own_quantity Jobs class = 1
+own_quantity Units class = units_in class.body
+own_quantity Events class = length class.body + 2
 
 -- the quantity of one job with the jobs that it causes, in n generations including its own
-abbrev pub caused_within : Plan → (Class → ℕ) → ℕ → ℕ → ℕ
-caused_within plan own zero k = 0
-caused_within plan own (suc n) k = own (class_at plan k) + submitted (caused_within plan own n) (class_at plan k).body
+abbrev pub quantity_within : Plan → (Class → ℕ) → ℕ → ℕ → ℕ
+quantity_within plan own_quantity zero k = 0
+quantity_within plan own_quantity (suc n) k = own_quantity (class_at plan k) + submitted (quantity_within plan own_quantity n) (class_at plan k).body
 
 abbrev pub greatest : List ℕ → ℕ
 greatest = fold (λ a n. max a n) 0
 
 -- the same for all generations, since the level of a class is above the levels of the classes that it submits
-abbrev pub caused : Plan → Ranks → (Class → ℕ) → ℕ → ℕ
-caused plan ranks own k = caused_within plan own (greatest ranks.levels + 1) k
+abbrev pub total_quantity : Plan → Ranks → (Class → ℕ) → ℕ → ℕ
+total_quantity plan ranks own_quantity k = quantity_within plan own_quantity (greatest ranks.levels + 1) k
 
 -- the sum of f over the jobs that the clients of a kind submit in all their rounds
 abbrev pub submitted_by : ℕ → (ℕ → ℕ) → Client → ℕ
@@ -46,7 +46,7 @@ submitted_by rounds f client = client.count * (rounds_of rounds client * submitt
 
 -- the quantity of all jobs that the clients cause in all their rounds
 abbrev pub by_jobs : Plan → Ranks → ℕ → (Class → ℕ) → ℕ
-by_jobs plan ranks rounds own = sum_by (submitted_by rounds (caused plan ranks own)) plan.clients
+by_jobs plan ranks rounds own_quantity = sum_by (submitted_by rounds (total_quantity plan ranks own_quantity)) plan.clients
 
 -- the units of work of the clients of a kind in all their rounds
 abbrev pub units_of_clients : ℕ → Client → ℕ
@@ -57,18 +57,18 @@ events_of_clients rounds client = client.count * events_of_client rounds client
 
 -- the number of jobs, and the units of work of jobs and clients
 abbrev pub jobs : Plan → Ranks → ℕ → ℕ
-jobs plan ranks rounds = by_jobs plan ranks rounds (own Jobs)
+jobs plan ranks rounds = by_jobs plan ranks rounds (own_quantity Jobs)
 
 abbrev pub units : Plan → Ranks → ℕ → ℕ
-units plan ranks rounds = by_jobs plan ranks rounds (own Units) + sum_by (units_of_clients rounds) plan.clients
+units plan ranks rounds = by_jobs plan ranks rounds (own_quantity Units) + sum_by (units_of_clients rounds) plan.clients
 
 -- an upper bound of the number of events of jobs and clients
 abbrev pub most_events : Plan → Ranks → ℕ → ℕ
-most_events plan ranks rounds = by_jobs plan ranks rounds (own Events) + sum_by (events_of_clients rounds) plan.clients
+most_events plan ranks rounds = by_jobs plan ranks rounds (own_quantity Events) + sum_by (events_of_clients rounds) plan.clients
 
 -- if the rows of the ranks hold, the quantity of a job is its own quantity plus those of the classes that it submits
-abbrev pub CausedIsWhole : Type 0
-CausedIsWhole = (plan : Plan) (ranks : Ranks) (own : Class → ℕ) (k : ℕ) → AllHold (rank_rows plan ranks) → caused plan ranks own k ≡ own (class_at plan k) + submitted (caused plan ranks own) (class_at plan k).body
+abbrev pub TotalsAddUp : Type 0
+TotalsAddUp = (plan : Plan) (ranks : Ranks) (own_quantity : Class → ℕ) (k : ℕ) → AllHold (rank_rows plan ranks) → total_quantity plan ranks own_quantity k ≡ own_quantity (class_at plan k) + submitted (total_quantity plan ranks own_quantity) (class_at plan k).body
 
 -- both ranks give a run the same three numbers
 pub record HaveSameNumbers (plan : Plan) (rounds : ℕ) (ranks ranks' : Ranks) : Type 0 where
@@ -89,5 +89,5 @@ abbrev pub AreCapped : Plan → (ℕ → ℕ) → List ℕ → Type 0
 AreCapped plan f numbers = (k : ℕ) → k < length plan.classes → slice_index numbers k ≡ capped (f k)
 
 -- the list has the quantity of each class with n generations of jobs, its own included, capped
-abbrev pub AreCaused : Plan → (Class → ℕ) → ℕ → List ℕ → Type 0
-AreCaused plan own n numbers = AreCapped plan (caused_within plan own n) numbers
+abbrev pub AreQuantities : Plan → (Class → ℕ) → ℕ → List ℕ → Type 0
+AreQuantities plan own_quantity n numbers = AreCapped plan (quantity_within plan own_quantity n) numbers

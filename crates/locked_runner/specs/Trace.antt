@@ -8,18 +8,18 @@ use Rattle.written_machine.specs.Step.{step}
 use Rattle.written_machine.specs.Reach as reach
 
 -- a state, and the outcome of the event that led to it
-pub record Traced : Type 0 where
+pub record StateWithOutcome : Type 0 where
   pub state : State
   pub outcome : Option Outcome
 
 -- at the start there is no outcome
-abbrev pub start : Plan → Traced
+abbrev pub start : Plan → StateWithOutcome
 start plan = record { state = reach.start plan; outcome = None }
 
-abbrev pub traced : Option (State × Outcome) → Option Traced
-traced None = None
-traced (Some x) = Some (record { state = x.0; outcome = Some x.1 })
+abbrev pub with_outcome : Option (State × Outcome) → Option StateWithOutcome
+with_outcome None = None
+with_outcome (Some x) = Some (record { state = x.0; outcome = Some x.1 })
 
 -- the step of the plan's machine, if it is possible
-abbrev pub next : Plan → Traced → Event → Option Traced
-next plan t event = traced (step plan t.state event)
+abbrev pub next : Plan → StateWithOutcome → Event → Option StateWithOutcome
+next plan t event = with_outcome (step plan t.state event)

@@ -4,7 +4,7 @@ ghost use Rattle.std.specs.Prelude.{IsTrue};
 ghost use Rattle.job_bodies.specs.WellFormed.{IsWellFormed};
 ghost use Rattle.soundness.specs.Accepted.{accepted};
 
-use crate::SeenWorld;
+use crate::ViewedWorld;
 use cert_check::Certified;
 use held_machines::Machine;
 use interleaving::{Event, Outcome};
@@ -34,30 +34,30 @@ impl<'a> CertifiedWorld<'a> {
 /// started, queued or took.
 #[derive(Drop)]
 pub struct TracedWorld {
-    pub world: SeenWorld,
+    pub world: ViewedWorld,
     /// `None` before the first event.
     pub outcome: Option<Outcome>,
 }
 
 impl Machine for CertifiedWorld<'_> {
     ghost use Rattle.interleaving.specs.LiveView.{live_view};
-    ghost use Rattle.locked_runner.specs.Trace.{Traced, start, next};
+    ghost use Rattle.locked_runner.specs.Trace.{StateWithOutcome, start, next};
 
     type State = TracedWorld;
 
     type Event = Event;
 
-    ghost Ideal = { Traced };
+    ghost SpecState = { StateWithOutcome };
 
     ghost first = { λ machine. start machine.certified.now.plan };
 
     ghost next = { λ machine. next machine.certified.now.plan };
 
-    ghost content = { λ machine t. record { world = live_view machine.certified.now.plan t.state; outcome = t.outcome } };
+    ghost stored_state = { λ machine t. record { world = live_view machine.certified.now.plan t.state; outcome = t.outcome } };
 
     fn start(&self, alloc: Global) -> Result<TracedWorld, AllocError> {
         Ok(TracedWorld {
-            world: SeenWorld::start(alloc, self.certified.plan())?,
+            world: ViewedWorld::start(alloc, self.certified.plan())?,
             outcome: None,
         })
     }

@@ -37,12 +37,12 @@ pub(crate) fn is_complete(
         return Ok(false);
     }
     let made = events_made(alloc, kinds.len(), history)?;
-    Ok(clients_are_through(plan, kinds, world, rounds, &made))
+    Ok(clients_are_complete(plan, kinds, world, rounds, &made))
 }
 
 /// Returns `true` if each client is through. `kinds` has the kind of each client, and `made` its
 /// number of events.
-fn clients_are_through(
+fn clients_are_complete(
     plan: &Plan,
     kinds: &[usize],
     world: &World,
@@ -57,13 +57,13 @@ fn clients_are_through(
         → (IsTrue result
         ↔ ((c kind : ℕ)
         → slice_get kinds.now c ≡ Some kind
-        → spec.IsThrough rounds history s c (client_at plan.now kind))) }
+        → spec.IsCompleteClient rounds history s c (client_at plan.now kind))) }
 {
     for number in 0..kinds.len() {
         let Some(client) = plan.client_at(kinds[number]) else {
             return false;
         };
-        if !is_through(client, number, world, rounds, made[number]) {
+        if !is_complete_client(client, number, world, rounds, made[number]) {
             return false;
         }
     }
@@ -72,11 +72,11 @@ fn clients_are_through(
 
 /// Returns `true` if the client with this number has performed all its events and is at the end of
 /// its body. `made` is its number of events.
-fn is_through(client: &Client, number: usize, world: &World, rounds: u64, made: u64) -> bool
+fn is_complete_client(client: &Client, number: usize, world: &World, rounds: u64, made: u64) -> bool
     ensures { (plan : Plan) (history : List Event) (s : State)
         → made ≡ count_by (spec.is_of_client number) history
         → live_view plan s ≡ world.now.view
-        → (IsTrue result ↔ spec.IsThrough rounds history s number client.now) }
+        → (IsTrue result ↔ spec.IsCompleteClient rounds history s number client.now) }
 {
     let Some(position) = world.client(number) else {
         return false;

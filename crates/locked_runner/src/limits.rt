@@ -7,12 +7,12 @@ ghost use Rattle.locked_runner.specs.Limits as spec;
 use job_bodies::{MAX_RUN_CARRIERS, MAX_RUN_CLIENTS, MAX_RUN_EVENTS, Plan};
 
 /// Returns `true` if a run with at most this many events exceeds a limit.
-pub(crate) fn is_beyond(plan: &Plan, events: u64) -> bool
-    ensures value { result ≡ spec.is_beyond plan.now events }
+pub(crate) fn exceeds_limits(plan: &Plan, events: u64) -> bool
+    ensures value { result ≡ spec.exceeds_limits plan.now events }
     ensures well_formed { IsWellFormed plan.now }
 {
     clients_of(plan) > MAX_RUN_CLIENTS
-        || carriers_of(plan) > MAX_RUN_CARRIERS
+        || workers_of(plan) > MAX_RUN_CARRIERS
         || events > MAX_RUN_EVENTS
 }
 
@@ -29,8 +29,8 @@ fn clients_of(plan: &Plan) -> u64
 }
 
 /// Returns the maximum number of threads of all pools together.
-fn carriers_of(plan: &Plan) -> u64
-    ensures { result ≡ min (spec.carriers plan.now) (2 ^ 64 - 1) }
+fn workers_of(plan: &Plan) -> u64
+    ensures { result ≡ min (spec.workers plan.now) (2 ^ 64 - 1) }
 {
     let mut total = 0u64;
     for pool in plan.pools() {

@@ -62,8 +62,8 @@ enum Measure {
 
 /// Returns the quantity of one job of the class, without the jobs that it causes. Its events are
 /// its actions, a take event and its end.
-fn own(measure: Measure, class: &Class) -> u64
-    ensures { result ≡ capped (spec.own measure class.now) }
+fn own_quantity(measure: Measure, class: &Class) -> u64
+    ensures { result ≡ capped (spec.own_quantity measure class.now) }
 {
     match measure {
         Measure::Jobs => 1,
@@ -81,9 +81,9 @@ fn by_jobs(
     measure: Measure,
 ) -> Result<u64, AllocError>
     ensures { IfOk result
-        (λ total. total ≡ capped (spec.by_jobs plan.now ranks.now rounds (spec.own measure))) }
+        (λ total. total ≡ capped (spec.by_jobs plan.now ranks.now rounds (spec.own_quantity measure))) }
 {
-    let numbers = caused(alloc, plan, ranks, measure)?;
+    let numbers = total_quantity(alloc, plan, ranks, measure)?;
     Ok(submitted_by_all(plan, rounds, &numbers))
 }
 
@@ -180,18 +180,18 @@ fn submitted(body: &[Action], numbers: &[u64]) -> u64
 
 /// Returns, for each class, the quantity of one job with all jobs that it causes, of all
 /// generations.
-fn caused(
+fn total_quantity(
     alloc: Global,
     plan: &Plan,
     ranks: &Ranks,
     measure: Measure,
 ) -> Result<Vec<u64>, AllocError>
     ensures { IfOk result (λ numbers.
-        spec.AreCapped plan.now (spec.caused plan.now ranks.now (spec.own measure)) numbers.items) }
+        spec.AreCapped plan.now (spec.total_quantity plan.now ranks.now (spec.own_quantity measure)) numbers.items) }
 {
-    let mut numbers = one_more(alloc, plan, measure, &[])?;
+    let mut numbers = add_generation(alloc, plan, measure, &[])?;
     for generation in 0..greatest(&ranks.levels) {
-        let next = one_more(alloc, plan, measure, &numbers)?;
+        let next = add_generation(alloc, plan, measure, &numbers)?;
         if next == numbers {
             return Ok(numbers);
         }
@@ -213,7 +213,7 @@ fn greatest(levels: &[u64]) -> u64
 }
 
 /// Returns the numbers with one more generation of jobs, which comes before the given generations.
-fn one_more(
+fn add_generation(
     alloc: Global,
     plan: &Plan,
     measure: Measure,
@@ -221,12 +221,12 @@ fn one_more(
 ) -> Result<Vec<u64>, AllocError>
     ensures { IfOk result (λ next.
         (n : ℕ)
-        → spec.AreCaused plan.now (spec.own measure) n numbers.now
-        → spec.AreCaused plan.now (spec.own measure) (suc n) next.items) }
+        → spec.AreQuantities plan.now (spec.own_quantity measure) n numbers.now
+        → spec.AreQuantities plan.now (spec.own_quantity measure) (suc n) next.items) }
 {
     let mut next = Vec::with_capacity(alloc, plan.classes().len())?;
     for class in plan.classes() {
-        next.push(own(measure, class).saturating_add(submitted(&class.body, numbers)))?;
+        next.push(own_quantity(measure, class).saturating_add(submitted(&class.body, numbers)))?;
     }
     Ok(next)
 }

@@ -24,7 +24,7 @@ impl Progress {
     }
 
     /// Returns `true` if no client has an event left.
-    pub(crate) fn clients_are_through(&self) -> bool {
+    pub(crate) fn clients_are_complete(&self) -> bool {
         self.clients_left == 0
     }
 
@@ -34,7 +34,7 @@ impl Progress {
     }
 
     /// Records that a client has no event left.
-    pub(crate) fn count_off(&mut self) {
+    pub(crate) fn client_done(&mut self) {
         self.clients_left = self.clients_left.saturating_sub(1);
     }
 

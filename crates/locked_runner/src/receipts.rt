@@ -6,7 +6,7 @@ ghost use Rattle.locked_runner.specs.Owner.{ArePoolsOf};
 ghost use Rattle.locked_runner.specs.Run.{IsLegal};
 ghost use Rattle.locked_runner.specs.Receipts.{IsReceiptOf, AreReceiptsOf, AreListsOf, places_of};
 
-use crate::KeptReceipt;
+use crate::CompactReceipt;
 use crate::owner::{Owner, owner_by};
 use held_machines::Receipt;
 use interleaving::Event;
@@ -20,7 +20,7 @@ pub(crate) fn lists_fit(
     history: &[Event],
     pools: &[u8],
     of_lists: &[Owner],
-    lists: &[Vec<KeptReceipt>],
+    lists: &[Vec<CompactReceipt>],
 ) -> bool
     requires legal { IsLegal plan.now history.now }
     requires pools { ArePoolsOf plan.now history.now pools.now }
@@ -43,7 +43,7 @@ fn list_fits(
     history: &[Event],
     pools: &[u8],
     owner: Owner,
-    list: &[KeptReceipt],
+    list: &[CompactReceipt],
 ) -> bool
     requires legal { IsLegal plan.now history.now }
     requires pools { ArePoolsOf plan.now history.now pools.now }
@@ -114,7 +114,7 @@ fn is_owned_by(found: Option<Owner>, owner: Owner) -> bool
 pub(crate) fn each_once(
     alloc: Global,
     length: usize,
-    lists: &[Vec<KeptReceipt>],
+    lists: &[Vec<CompactReceipt>],
 ) -> Result<bool, AllocError>
     ensures { IfOk result (λ once.
         IsTrue once
@@ -128,7 +128,7 @@ pub(crate) fn each_once(
 }
 
 /// Increases the mark at each receipt's number. The marks saturate at 255.
-fn mark_all(marks: &mut [u8], list: &[KeptReceipt])
+fn mark_all(marks: &mut [u8], list: &[CompactReceipt])
     ensures len { length marks.new ≡ length marks.old }
     ensures marks { (k : ℕ)
         → k < length marks.old

@@ -2,11 +2,11 @@
 
 ghost use Rattle.std.specs.Prelude.{◌≡◌, ◌<◌, ◌+◌, ◌↔◌, [], ℕ, IfOk, OnErr, IsTrue, Some, List, length, take, false};
 ghost use Rattle.written_machine.specs.declared.event.Event.{Event};
-ghost use Rattle.interleaving.specs.OfPlan.{IsOf};
-ghost use Rattle.locked_runner.specs.Replayed.{IsReplayedAs, IsCounted, GoesOn};
+ghost use Rattle.interleaving.specs.OfPlan.{IsReachableView};
+ghost use Rattle.locked_runner.specs.Replayed.{IsReplayedAs, IsCounted, ReplaysEvent};
 ghost use Rattle.locked_runner.specs.Run.{IsLegal, IsLegalPart, worked};
 
-use crate::SeenWorld;
+use crate::ViewedWorld;
 use crate::owner::pool_of;
 use interleaving::{Event, Outcome};
 use job_bodies::Plan;
@@ -16,7 +16,7 @@ use std::alloc::{AllocError, Global};
 #[derive(Drop)]
 pub(crate) struct Replay {
     /// The world after the replayed events.
-    pub(crate) world: SeenWorld,
+    pub(crate) world: ViewedWorld,
     /// For each replayed event the pool of its job, if it is an event of a job. The pool determines
     /// the owner of the event.
     pub(crate) pools: Vec<u8>,
@@ -45,12 +45,12 @@ pub(crate) fn replay_history(
         → IsLegalPart plan.now history.now (length replay.pools.items)) }
 {
     let mut replay = Replay {
-        world: SeenWorld::start(alloc, plan)?,
+        world: ViewedWorld::start(alloc, plan)?,
         pools: Vec::with_capacity(alloc, history.len())?,
         units: Some(0),
         ended_for_memory: false,
     };
-    replay.ended_for_memory = replay.follow_all(plan, history).is_err();
+    replay.ended_for_memory = replay.replay_all(plan, history).is_err();
     Ok(replay)
 }
 
@@ -68,7 +68,7 @@ impl Replay {
     ///
     /// Returns `AllocError` if there is not enough memory for an event. The events before it are
     /// replayed.
-    fn follow_all(&mut self, plan: &Plan, history: &[Event]) -> Result<(), AllocError>
+    fn replay_all(&mut self, plan: &Plan, history: &[Event]) -> Result<(), AllocError>
         requires at_start { IsReplayedAs plan.now [] self.old.world self.old.pools.items
             self.old.units }
         ensures replayed { IsReplayedAs plan.now (take (length self.new.pools.items) history.now)
@@ -78,7 +78,7 @@ impl Replay {
             → ¬ IsLegal plan.now (take (length self.new.pools.items + 1) history.now)) }
     {
         for event in history {
-            if !self.follow(plan, *event)? {
+            if !self.replay_event(plan, *event)? {
                 return Ok(());
             }
         }
@@ -90,12 +90,12 @@ impl Replay {
     /// # Errors
     ///
     /// Returns `AllocError` if there is not enough memory for the event. It is then not replayed.
-    fn follow(&mut self, plan: &Plan, event: Event) -> Result<bool, AllocError>
-        requires { IsOf plan.now self.old.world }
+    fn replay_event(&mut self, plan: &Plan, event: Event) -> Result<bool, AllocError>
+        requires { IsReachableView plan.now self.old.world }
         ensures made { IfOk result (λ made.
             (history : List Event)
             → IsReplayedAs plan.now history self.old.world self.old.pools.items self.old.units
-            → GoesOn plan.now history event made self.new.world self.new.pools.items
+            → ReplaysEvent plan.now history event made self.new.world self.new.pools.items
             self.new.units) }
         ensures error_unmade { OnErr result
             ((self.new.world ≡ self.old.world)

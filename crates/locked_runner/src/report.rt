@@ -4,7 +4,7 @@ ghost use Rattle.std.specs.Prelude.{◌≡◌};
 ghost use Rattle.job_bodies.specs.Plan as spec;
 ghost use Rattle.locked_runner.specs.Run.{IsLengthOfLegal, number_of};
 
-use crate::KeptReceipt;
+use crate::CompactReceipt;
 use interleaving::Event;
 use std::marker::Model;
 use support::number::{GATE, MEMORY};
@@ -22,7 +22,7 @@ pub struct RunReport {
     pub history: Vec<Event>,
     /// The receipts of each thread in ascending order: one list for each client, then `max` lists
     /// for each pool.
-    pub receipts: Vec<Vec<KeptReceipt>>,
+    pub receipts: Vec<Vec<CompactReceipt>>,
 }
 
 impl Model for RunReport {
@@ -85,17 +85,17 @@ impl ThreadFault {
 /// The results of the threads of a run: the history, the receipts of each thread, and the fault
 /// that a thread reported. If several did, it is the fault with the lowest number.
 #[derive(Drop)]
-pub struct Met {
+pub struct ThreadResults {
     pub history: Vec<Event>,
-    pub receipts: Vec<Vec<KeptReceipt>>,
+    pub receipts: Vec<Vec<CompactReceipt>>,
     pub fault: Option<ThreadFault>,
 }
 
-impl Model for Met {
+impl Model for ThreadResults {
     ghost use Rattle.std.specs.Prelude.{map};
-    ghost use Rattle.locked_runner.specs.Report.{Met};
+    ghost use Rattle.locked_runner.specs.Report.{ThreadResults};
 
-    ghost Value = { Met };
+    ghost Value = { ThreadResults };
 
-    ghost view = { λ met. record { history = met.history.items; receipts = map (λ list. list.items) met.receipts.items; fault = met.fault } };
+    ghost view = { λ results. record { history = results.history.items; receipts = map (λ list. list.items) results.receipts.items; fault = results.fault } };
 }

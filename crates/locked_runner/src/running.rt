@@ -6,9 +6,9 @@ ghost use Rattle.locked_runner.specs.RunNumbers.{jobs, units};
 ghost use Rattle.locked_runner.specs.Limits.{is_too_large};
 ghost use Rattle.locked_runner.specs.Faults.{IsFaultOf};
 
-use crate::limits::is_beyond;
-use crate::starting::on_threads;
-use crate::{Gate, RunFault, RunNumbers, RunReport, judge, run_numbers};
+use crate::limits::exceeds_limits;
+use crate::starting::run_threads;
+use crate::{Gate, RunFault, RunNumbers, RunReport, check_run, run_numbers};
 use cert_check::Certified;
 use job_bodies::Plan;
 use std::alloc::Global;
@@ -54,10 +54,10 @@ pub fn run<R: Threads + Wait + Sync, G: Gate>(
     ensures events { IfErr result (λ fault. IsLengthOfLegal certified.now.plan fault.events) }
 {
     let numbers = numbers_within(alloc, certified.plan(), &certified.cert().ranks, rounds)?;
-    let Ok(met) = on_threads(rt, alloc, certified, rounds, gate) else {
+    let Ok(results) = run_threads(rt, alloc, certified, rounds, gate) else {
         return Err(RunFault::at_start(MEMORY));
     };
-    judge(alloc, certified, rounds, numbers, met)
+    check_run(alloc, certified, rounds, numbers, results)
 }
 
 /// Returns the numbers of a run that exceeds no limit.
@@ -80,7 +80,7 @@ fn numbers_within(
     let Ok(numbers) = run_numbers(alloc, plan, ranks, rounds) else {
         return Err(RunFault::at_start(MEMORY));
     };
-    if is_beyond(plan, numbers.events) {
+    if exceeds_limits(plan, numbers.events) {
         return Err(RunFault::at_start(RUN_TOO_LARGE));
     }
     Ok(numbers)

@@ -19,29 +19,29 @@ use std::sync::{Condvar, Mutex, MutexGuard, Wait};
 pub(crate) struct Shared<'a> {
     pub(crate) plan: &'a Plan,
     machine: Locked<CertifiedWorld<'a>>,
-    desks: Vec<Desk>,
+    handoffs: Vec<HandoffQueue>,
     progress: Mutex<Progress>,
 }
 
 /// The hand-off queue of one pool, with the jobs that a submit has started and that no worker
 /// thread has taken yet. The worker threads wait here for jobs.
 #[derive(Drop)]
-struct Desk {
+struct HandoffQueue {
     started: Mutex<VecDeque<usize>>,
-    called: Condvar,
+    job_ready: Condvar,
 }
 
 /// The lock guard of the machine, whose holder may change it.
-type Turn<'a, 'b> = MutexGuard<'b, Held<CertifiedWorld<'a>>>;
+type MachineGuard<'a, 'b> = MutexGuard<'b, Held<CertifiedWorld<'a>>>;
 
 /// The threads to wake after an event.
 #[derive(Drop)]
-enum Whom {
-    Nobody,
+enum Wakeup {
+    NoThread,
     /// The threads whose actors are at a get.
     AtGets,
     /// One worker thread of the pool.
-    Carrier(usize),
+    Worker(usize),
     All,
 }
 
@@ -66,17 +66,17 @@ impl<'a> Shared<'a> {
         held: Held<CertifiedWorld<'a>>,
         clients: usize,
     ) -> Result<Shared<'a>, AllocError> {
-        let mut desks = Vec::with_capacity(alloc, plan.pools().len())?;
+        let mut handoffs = Vec::with_capacity(alloc, plan.pools().len())?;
         for pool in plan.pools() {
-            desks.push(Desk {
+            handoffs.push(HandoffQueue {
                 started: Mutex::new(VecDeque::with_capacity(alloc, pool.max as usize)?),
-                called: Condvar::new(),
+                job_ready: Condvar::new(),
             })?;
         }
         Ok(Shared {
             plan,
             machine: Locked::new(held),
-            desks,
+            handoffs,
             progress: Mutex::new(Progress::new(clients)),
         })
     }
@@ -96,21 +96,21 @@ impl<'a> Shared<'a> {
 
     /// Waits until the event is possible, and performs it. Returns `None` if the run is to stop.
     pub(crate) fn act<R: Wait>(&self, rt: &R, event: Event) -> Option<Receipt<Event>> {
-        let mut turn = self.machine.lock(rt);
+        let mut guard = self.machine.lock(rt);
         for _ in rt.forever() {
             if self.is_over(rt) {
                 return None;
             }
-            match turn.act(event) {
+            match guard.act(event) {
                 Ok(Some(receipt)) => {
-                    let whom = self.let_on(rt, &turn);
-                    drop(turn);
-                    self.wake(whom);
+                    let wakeup = self.wakeups_after(rt, &guard);
+                    drop(guard);
+                    self.wake(wakeup);
                     return Some(receipt);
                 }
-                Ok(None) => turn = self.machine.wait(rt, turn),
+                Ok(None) => guard = self.machine.wait(rt, guard),
                 Err(AllocError) => {
-                    drop(turn);
+                    drop(guard);
                     self.fail(rt, ThreadFault::Memory);
                     return None;
                 }
@@ -122,28 +122,28 @@ impl<'a> Shared<'a> {
     /// Waits for the next job of the pool, and returns it. Jobs that a submit has started come
     /// before the head of the queue. Returns `None` if the run is to stop or is complete.
     pub(crate) fn next_job<R: Wait>(&self, rt: &R, pool: usize) -> Option<Work> {
-        let Some(desk) = self.desks.get(pool) else {
+        let Some(handoff) = self.handoffs.get(pool) else {
             self.end(rt);
             return None;
         };
-        let mut turn = self.machine.lock(rt);
+        let mut guard = self.machine.lock(rt);
         for _ in rt.forever() {
-            if self.is_over(rt) || self.is_at_end(rt, &turn) {
+            if self.is_over(rt) || self.is_at_end(rt, &guard) {
                 return None;
             }
-            let started = desk.started.lock(rt).pop_front();
+            let started = handoff.started.lock(rt).pop_front();
             if let Some(job) = started {
-                let work = work_on(&turn, job, None);
-                return self.found(rt, turn, work);
+                let work = work_on(&guard, job, None);
+                return self.check_work(rt, guard, work);
             }
-            match turn.act(Event::Take(pool)) {
+            match guard.act(Event::Take(pool)) {
                 Ok(Some(receipt)) => {
-                    let work = work_taken(&turn, receipt);
-                    return self.found(rt, turn, work);
+                    let work = work_taken(&guard, receipt);
+                    return self.check_work(rt, guard, work);
                 }
-                Ok(None) => turn = desk.called.wait(rt, turn),
+                Ok(None) => guard = handoff.job_ready.wait(rt, guard),
                 Err(AllocError) => {
-                    drop(turn);
+                    drop(guard);
                     self.fail(rt, ThreadFault::Memory);
                     return None;
                 }
@@ -153,8 +153,8 @@ impl<'a> Shared<'a> {
     }
 
     /// Returns the work of a worker thread. If its job was not found, stops the run.
-    fn found<R: Wait>(&self, rt: &R, turn: Turn<'a, '_>, work: Option<Work>) -> Option<Work> {
-        drop(turn);
+    fn check_work<R: Wait>(&self, rt: &R, guard: MachineGuard<'a, '_>, work: Option<Work>) -> Option<Work> {
+        drop(guard);
         if work.is_none() {
             self.end(rt);
         }
@@ -163,10 +163,10 @@ impl<'a> Shared<'a> {
 
     /// Records that a client has no event left.
     pub(crate) fn leave<R: Wait>(&self, rt: &R) {
-        let turn = self.machine.lock(rt);
-        self.progress.lock(rt).count_off();
-        let ended = self.is_at_end(rt, &turn);
-        drop(turn);
+        let guard = self.machine.lock(rt);
+        self.progress.lock(rt).client_done();
+        let ended = self.is_at_end(rt, &guard);
+        drop(guard);
         if ended {
             self.wake_all();
         }
@@ -174,18 +174,18 @@ impl<'a> Shared<'a> {
 
     /// Records a fault, and makes every thread stop.
     pub(crate) fn fail<R: Wait>(&self, rt: &R, cause: ThreadFault) {
-        let turn = self.machine.lock(rt);
+        let guard = self.machine.lock(rt);
         self.progress.lock(rt).note(cause);
-        drop(turn);
+        drop(guard);
         self.wake_all();
     }
 
     /// Makes every thread stop before the run is complete, because something that a thread needs
     /// was not found.
     pub(crate) fn end<R: Wait>(&self, rt: &R) {
-        let turn = self.machine.lock(rt);
+        let guard = self.machine.lock(rt);
         self.progress.lock(rt).end();
-        drop(turn);
+        drop(guard);
         self.wake_all();
     }
 
@@ -195,87 +195,87 @@ impl<'a> Shared<'a> {
     }
 
     /// Returns `true` if no client has an event left and no job is unfinished.
-    fn is_at_end<R: Wait>(&self, rt: &R, turn: &Turn<'a, '_>) -> bool {
-        self.progress.lock(rt).clients_are_through() && turn.state().world.world().unfinished() == 0
+    fn is_at_end<R: Wait>(&self, rt: &R, guard: &MachineGuard<'a, '_>) -> bool {
+        self.progress.lock(rt).clients_are_complete() && guard.state().world.world().unfinished() == 0
     }
 
     /// Returns the threads to wake after the last event. If the event started a job, puts the job
     /// into its pool's hand-off queue.
-    fn let_on<R: Wait>(&self, rt: &R, turn: &Turn<'a, '_>) -> Whom {
-        match turn.state().outcome {
-            Some(Outcome::Started(job)) => self.give_out(rt, turn, job),
-            Some(Outcome::Queued(job)) => match self.pool_of(turn, job) {
-                Some(pool) => Whom::Carrier(pool),
-                None => self.nobody_known(rt),
+    fn wakeups_after<R: Wait>(&self, rt: &R, guard: &MachineGuard<'a, '_>) -> Wakeup {
+        match guard.state().outcome {
+            Some(Outcome::Started(job)) => self.hand_off(rt, guard, job),
+            Some(Outcome::Queued(job)) => match self.pool_of(guard, job) {
+                Some(pool) => Wakeup::Worker(pool),
+                None => self.end_without_worker(rt),
             },
             Some(Outcome::Finished(_)) => {
-                if self.is_at_end(rt, turn) {
-                    Whom::All
+                if self.is_at_end(rt, guard) {
+                    Wakeup::All
                 } else {
-                    Whom::AtGets
+                    Wakeup::AtGets
                 }
             }
-            _ => Whom::Nobody,
+            _ => Wakeup::NoThread,
         }
     }
 
     /// Puts the started job into its pool's hand-off queue.
-    fn give_out<R: Wait>(&self, rt: &R, turn: &Turn<'a, '_>, job: usize) -> Whom {
-        let Some(pool) = self.pool_of(turn, job) else {
-            return self.nobody_known(rt);
+    fn hand_off<R: Wait>(&self, rt: &R, guard: &MachineGuard<'a, '_>, job: usize) -> Wakeup {
+        let Some(pool) = self.pool_of(guard, job) else {
+            return self.end_without_worker(rt);
         };
-        let Some(desk) = self.desks.get(pool) else {
-            return self.nobody_known(rt);
+        let Some(handoff) = self.handoffs.get(pool) else {
+            return self.end_without_worker(rt);
         };
         // A hand-off queue has room for `max` jobs of its pool, so that no job is lost.
-        if desk.started.lock(rt).push_back(job).is_err() {
+        if handoff.started.lock(rt).push_back(job).is_err() {
             self.progress.lock(rt).note(ThreadFault::Memory);
-            return Whom::All;
+            return Wakeup::All;
         }
-        Whom::Carrier(pool)
+        Wakeup::Worker(pool)
     }
 
     /// Stops the run, because no worker thread for the job was found.
-    fn nobody_known<R: Wait>(&self, rt: &R) -> Whom {
+    fn end_without_worker<R: Wait>(&self, rt: &R) -> Wakeup {
         self.progress.lock(rt).end();
-        Whom::All
+        Wakeup::All
     }
 
-    fn pool_of(&self, turn: &Turn<'a, '_>, job: usize) -> Option<usize> {
-        let class = turn.state().world.world().job(job)?.class;
+    fn pool_of(&self, guard: &MachineGuard<'a, '_>, job: usize) -> Option<usize> {
+        let class = guard.state().world.world().job(job)?.class;
         Some(self.plan.class_at(class)?.pool)
     }
 
-    fn wake(&self, whom: Whom) {
-        match whom {
-            Whom::Nobody => (),
-            Whom::AtGets => self.machine.notify_all(),
-            Whom::Carrier(pool) => {
-                if let Some(desk) = self.desks.get(pool) {
-                    desk.called.notify_one();
+    fn wake(&self, wakeup: Wakeup) {
+        match wakeup {
+            Wakeup::NoThread => (),
+            Wakeup::AtGets => self.machine.notify_all(),
+            Wakeup::Worker(pool) => {
+                if let Some(handoff) = self.handoffs.get(pool) {
+                    handoff.job_ready.notify_one();
                 }
             }
-            Whom::All => self.wake_all(),
+            Wakeup::All => self.wake_all(),
         }
     }
 
     fn wake_all(&self) {
         self.machine.notify_all();
-        for desk in &self.desks {
-            desk.called.notify_all();
+        for handoff in &self.handoffs {
+            handoff.job_ready.notify_all();
         }
     }
 }
 
 /// Returns the job that the last event took from a queue.
-fn work_taken(turn: &Turn<'_, '_>, receipt: Receipt<Event>) -> Option<Work> {
-    match turn.state().outcome {
-        Some(Outcome::Took(job)) => work_on(turn, job, Some(receipt)),
+fn work_taken(guard: &MachineGuard<'_, '_>, receipt: Receipt<Event>) -> Option<Work> {
+    match guard.state().outcome {
+        Some(Outcome::Took(job)) => work_on(guard, job, Some(receipt)),
         _ => None,
     }
 }
 
-fn work_on(turn: &Turn<'_, '_>, job: usize, taken: Option<Receipt<Event>>) -> Option<Work> {
-    let class = turn.state().world.world().job(job)?.class;
+fn work_on(guard: &MachineGuard<'_, '_>, job: usize, taken: Option<Receipt<Event>>) -> Option<Work> {
+    let class = guard.state().world.world().job(job)?.class;
     Some(Work { job, class, taken })
 }

@@ -3,7 +3,7 @@
 use crate::shared::Shared;
 use crate::threads::Runner;
 use crate::{
-    CertifiedWorld, Gate, KeptReceipt, Met, Owner, ThreadFault, kinds_of, lists_of,
+    CertifiedWorld, Gate, CompactReceipt, ThreadResults, Owner, ThreadFault, kinds_of, lists_of,
     rounds_of_client,
 };
 use cert_check::Certified;
@@ -20,13 +20,13 @@ use std::thread::Threads;
 /// # Errors
 ///
 /// Returns `AllocError` if there is not enough memory before the first thread is started.
-pub(crate) fn on_threads<R: Threads + Wait + Sync, G: Gate>(
+pub(crate) fn run_threads<R: Threads + Wait + Sync, G: Gate>(
     rt: &R,
     alloc: Global,
     certified: &Certified,
     rounds: u64,
     gate: &G,
-) -> Result<Met, AllocError> {
+) -> Result<ThreadResults, AllocError> {
     let plan = certified.plan();
     let kinds = kinds_of(alloc, plan)?;
     let owners = lists_of(alloc, plan, &kinds)?;
@@ -64,7 +64,7 @@ pub(crate) fn on_threads<R: Threads + Wait + Sync, G: Gate>(
         }
     });
     let (history, fault) = shared.into_history();
-    Ok(Met {
+    Ok(ThreadResults {
         history,
         receipts,
         fault,
@@ -80,7 +80,7 @@ fn run_one<R: Wait, G: Gate>(
     kinds: &[usize],
     owner: Owner,
     rounds: u64,
-) -> Vec<KeptReceipt> {
+) -> Vec<CompactReceipt> {
     let Ok(runner) = Runner::new(alloc, rt, shared, gate) else {
         shared.fail(rt, ThreadFault::Memory);
         return Vec::new(alloc);
@@ -93,7 +93,7 @@ fn run_one<R: Wait, G: Gate>(
                 runner.receipts
             }
         },
-        Owner::Pool(pool) => runner.run_carrier(pool),
+        Owner::Pool(pool) => runner.run_worker(pool),
     }
 }
 

@@ -1,7 +1,7 @@
 //! The work of each thread of a run.
 
 use crate::shared::Shared;
-use crate::{Actor, Gate, KeptReceipt, ThreadFault};
+use crate::{Actor, Gate, CompactReceipt, ThreadFault};
 use held_machines::Receipt;
 use interleaving::Event;
 use job_bodies::{Action, Client};
@@ -19,7 +19,7 @@ pub(crate) struct Runner<'a, 'b, R, G> {
     pub(crate) rt: &'b R,
     pub(crate) shared: &'b Shared<'a>,
     pub(crate) gate: &'b G,
-    pub(crate) receipts: Vec<KeptReceipt>,
+    pub(crate) receipts: Vec<CompactReceipt>,
 }
 
 impl<'a, 'b, R: Wait, G: Gate> Runner<'a, 'b, R, G> {
@@ -48,9 +48,9 @@ impl<'a, 'b, R: Wait, G: Gate> Runner<'a, 'b, R, G> {
         client: &Client,
         number: usize,
         rounds: u64,
-    ) -> Vec<KeptReceipt> {
+    ) -> Vec<CompactReceipt> {
         for round in 0..rounds {
-            if !self.follow(&client.body, Actor::Client(number)) {
+            if !self.perform_body(&client.body, Actor::Client(number)) {
                 return self.receipts;
             }
             if round + 1 < rounds && !self.act(Event::Client(number)) {
@@ -63,7 +63,7 @@ impl<'a, 'b, R: Wait, G: Gate> Runner<'a, 'b, R, G> {
 
     /// Runs a worker thread of a pool: performs one job of the pool after the other, until the run
     /// is complete or stops.
-    pub(crate) fn run_carrier(mut self, pool: usize) -> Vec<KeptReceipt> {
+    pub(crate) fn run_worker(mut self, pool: usize) -> Vec<CompactReceipt> {
         for _ in self.rt.forever() {
             let Some(work) = self.shared.next_job(self.rt, pool) else {
                 break;
@@ -73,7 +73,7 @@ impl<'a, 'b, R: Wait, G: Gate> Runner<'a, 'b, R, G> {
                     break;
                 }
             }
-            if !self.carry_out(work.job, work.class) {
+            if !self.run_job(work.job, work.class) {
                 break;
             }
         }
@@ -81,16 +81,16 @@ impl<'a, 'b, R: Wait, G: Gate> Runner<'a, 'b, R, G> {
     }
 
     /// Performs a job to its end. Returns `false` if the run is to stop.
-    fn carry_out(&mut self, job: usize, class: usize) -> bool {
+    fn run_job(&mut self, job: usize, class: usize) -> bool {
         let Some(class) = self.shared.plan.class_at(class) else {
             self.shared.end(self.rt);
             return false;
         };
-        self.follow(&class.body, Actor::Job(job)) && self.act(Event::Job(job))
+        self.perform_body(&class.body, Actor::Job(job)) && self.act(Event::Job(job))
     }
 
     /// Performs the actions of a body. Returns `false` if the run is to stop.
-    fn follow(&mut self, body: &[Action], actor: Actor) -> bool {
+    fn perform_body(&mut self, body: &[Action], actor: Actor) -> bool {
         for action in body {
             if let Action::Work(units) = action {
                 if self.gate.work(actor, *units).is_err() {
@@ -116,7 +116,7 @@ impl<'a, 'b, R: Wait, G: Gate> Runner<'a, 'b, R, G> {
 
     /// Records the receipt. Returns `false` if the run is to stop.
     fn note(&mut self, receipt: Receipt<Event>) -> bool {
-        let Some(kept) = KeptReceipt::new(receipt) else {
+        let Some(kept) = CompactReceipt::new(receipt) else {
             self.shared.end(self.rt);
             return false;
         };

@@ -4,7 +4,7 @@ ghost use Rattle.std.specs.Prelude.{◌≡◌, List};
 ghost use Rattle.written_machine.specs.declared.event.Event.{Event};
 ghost use Rattle.locked_runner.specs.HeldWorld.{IsReachedBy, RefusesNothing};
 
-use crate::{CertifiedWorld, SeenWorld};
+use crate::{CertifiedWorld, ViewedWorld};
 use cert_check::Certified;
 use held_machines::Held;
 
@@ -20,7 +20,7 @@ pub fn held_worlds_refuse_nothing(held: &Held<CertifiedWorld<'_>>)
 }
 
 /// Proves that a world that a history of the plan reaches has no rejected submits.
-pub fn reached_worlds_refuse_nothing(certified: &Certified, world: &SeenWorld)
+pub fn reached_worlds_refuse_nothing(certified: &Certified, world: &ViewedWorld)
     ensures { (history : List Event)
         → IsReachedBy certified.now.plan history world.now
         → world.now.refusals ≡ 0 }

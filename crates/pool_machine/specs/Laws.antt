@@ -5,7 +5,7 @@ use Rattle.pool_machine.specs.declared.offer.Offer.TheVariants.{Refused}
 use Rattle.pool_machine.specs.PoolState.{PoolView, new_pool, answer, offered, taken, finished, retired}
 
 -- the property holds after an offer, a take, the finish of a busy worker or a retirement if it held before
-pub record IsKept (holds : PoolView → Type 0) : Type 0 where
+pub record IsInvariant (holds : PoolView → Type 0) : Type 0 where
   pub by_offer : (pool : PoolView) (job : ℕ) → holds pool → holds (offered pool job)
   pub by_take : (pool after : PoolView) (job : ℕ) → taken pool ≡ Some (job, after) → holds pool → holds after
   pub by_finish : (pool : PoolView) → pool.idle < pool.threads → holds pool → holds (finished pool)
@@ -36,7 +36,7 @@ pub record LoadIsOffered : Type 0 where
 
 -- the failure conditions: the pool rejects a job exactly if its queue is full and it has max threads; no job is taken
 -- exactly if no worker is idle or the queue is empty; no worker ends exactly if none is idle or threads are at most core
-pub record SaysNo (pool : PoolView) : Type 0 where
+pub record FailureConditions (pool : PoolView) : Type 0 where
   pub refuses : answer pool ≡ Refused ↔ (length pool.queue ≡ pool.capacity) × (pool.threads ≡ pool.max)
   pub takes_none : taken pool ≡ None ↔ (pool.idle ≡ 0) ⊎ (pool.queue ≡ [])
   pub ends_none : retired pool ≡ None ↔ (pool.idle ≡ 0) ⊎ (pool.threads ≤ pool.core)

@@ -29,14 +29,14 @@ answer pool =
     else Refused))
 
 -- the pool after it gave this answer to the job
-abbrev pub after_answer : PoolView → ℕ → Offer → PoolView
-after_answer pool job Started = record pool { threads = pool.threads + 1 }
-after_answer pool job Queued = record pool { queue = pool.queue ++ job ∷ [] }
-after_answer pool job Refused = pool
+abbrev pub apply_answer : PoolView → ℕ → Offer → PoolView
+apply_answer pool job Started = record pool { threads = pool.threads + 1 }
+apply_answer pool job Queued = record pool { queue = pool.queue ++ job ∷ [] }
+apply_answer pool job Refused = pool
 
 -- the pool after the job was offered to it
 abbrev pub offered : PoolView → ℕ → PoolView
-offered pool job = after_answer pool job (answer pool)
+offered pool job = apply_answer pool job (answer pool)
 
 abbrev pub taken_from : PoolView → ℕ → List ℕ → Option (ℕ × PoolView)
 taken_from pool (suc idle) (job ∷ queue) = Some (job, record pool { idle = idle; queue = queue })

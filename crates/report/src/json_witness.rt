@@ -15,11 +15,11 @@ pub(crate) fn witness_value(
     let mut events = String::new(alloc);
     push_event_lines(&mut events, plan, witness)?;
     let events = lines_value(alloc, &events)?;
-    let story = counterexample::told(alloc, plan, witness)?;
+    let story = counterexample::describe(alloc, plan, witness)?;
     let story = lines_value(alloc, &story)?;
     let ending = match &witness.ending {
         Ending::Refused(_) => "refused",
-        Ending::StuckForEver(_, _) => "stuck for ever",
+        Ending::StuckForever(_, _) => "stuck for ever",
         Ending::StuckNow(_) => "stuck now",
     };
     json!(in alloc; {"ending": ending, "events": events, "story": story})

@@ -47,7 +47,7 @@ fn not_safe(
     ensures { IfOk result
         (λ text. spec.TellsNotSafe plan.now witness.now sizes.now (string_bytes text)) }
 {
-    let story = counterexample::told(alloc, plan, witness)?;
+    let story = counterexample::describe(alloc, plan, witness)?;
     let mut text = String::from_str(alloc, "NOT SAFE\n")?;
     text.push_str(&story)?;
     push_found(&mut text, plan, sizes)?;

@@ -34,7 +34,7 @@ reached_by_step plan s s' e outcome reached happens =
 
 -- the answer of a world to an event is the reply to its line
 pub replies_to_event : (plan : Plan) (s : State) (event : Event) (outcome : Outcome) (after : View) → IsReached plan s → AnswersAs plan s event (Some outcome) after
-    → RepliesIn plan (happened s (step plan s event)) after (reply.Happened outcome)
+    → RepliesIn plan (happened s (step plan s event)) after (reply.Performed outcome)
 replies_to_event plan s event outcome after reached answers =
     rw answers.1 (reached_by_step plan s answers.0 event outcome reached answers.1, sym answers.2, refl)
 

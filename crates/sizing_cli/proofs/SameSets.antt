@@ -6,7 +6,7 @@ use Rattle.std.proofs.lemmas.List.Sorted.{Contains-permutation, IsPermutation-sy
 use Rattle.job_bodies.specs.Plan.{Plan}
 use Rattle.written_machine.specs.State.{Stage, State, job_at}
 use Rattle.written_machine.specs.State.Stage.{Queued, At, Done}
-use Rattle.written_machine.specs.Waiting.{is_member, IsMember, WaitsAs, IsWaitingSet, is_waiting_set}
+use Rattle.written_machine.specs.Waiting.{is_member, IsMember, WaitsAtStage, IsWaitingSet, is_waiting_set}
 use Rattle.written_machine.proofs.ReachedLaws.{sets_tested}
 
 stands : (members : List ℕ) (j : ℕ) → IsMember members j → Contains members j
@@ -23,7 +23,7 @@ is_one members j found = list_any_at (λ member. member == j) members found.0 j 
 same_members : (before after : List ℕ) (j : ℕ) → IsPermutation before after → IsMember before j → IsMember after j
 same_members before after j moved is = is_one after j (Contains-permutation before after j moved (stands before j is))
 
-still_waits : (plan : Plan) (s : State) (before after : List ℕ) (j : ℕ) (stage : Stage) → IsPermutation before after → WaitsAs plan s before j stage → WaitsAs plan s after j stage
+still_waits : (plan : Plan) (s : State) (before after : List ℕ) (j : ℕ) (stage : Stage) → IsPermutation before after → WaitsAtStage plan s before j stage → WaitsAtStage plan s after j stage
 still_waits plan s before after j Queued moved waits = record { none_idle = waits.none_idle; all_at_work = λ n busy. same_members before after n moved (waits.all_at_work n busy) }
 still_waits plan s before after j (At i) moved waits =
     record {

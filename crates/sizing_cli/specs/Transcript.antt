@@ -8,7 +8,7 @@ use Rattle.written_machine.specs.Step.{step}
 use Rattle.written_machine.specs.Waiting.{is_waiting_set}
 use Rattle.event_lines.specs.declared.reply.Reply.{Reply}
 use Rattle.event_lines.specs.declared.reply.Reply.TheVariants as reply
-use Rattle.event_lines.specs.EventLine.{Line, Happens, Stuck}
+use Rattle.event_lines.specs.EventLine.{Line, Perform, Stuck}
 use Rattle.event_lines.specs.Reply.{reply_text, numbered, summary}
 use Rattle.sizing_cli.specs.declared.status.Status.TheVariants.{Done, Refused}
 use Rattle.sizing_cli.specs.Answer.{Answer, followed_by}
@@ -20,7 +20,7 @@ is_refusal _ = false
 
 -- the reply makes the whole answer a no
 abbrev pub is_no : Reply → Bool
-is_no (reply.Happened outcome) = is_refusal outcome
+is_no (reply.Performed outcome) = is_refusal outcome
 is_no reply.NotPossible = true
 is_no (reply.Stuck stuck) = stuck
 
@@ -43,11 +43,11 @@ ending s = record { text = summary s.refusals (unfinished s); status = Done }
 -- the state after an event, and the reply to it
 abbrev pub happened : State → Option (State × Outcome) → State × Reply
 happened s None = (s, reply.NotPossible)
-happened s (Some x) = (x.0, reply.Happened x.1)
+happened s (Some x) = (x.0, reply.Performed x.1)
 
 -- the state after a line, and the reply to it
 abbrev pub reply_to : Plan → State → Line → State × Reply
-reply_to plan s (Happens event) = happened s (step plan s event)
+reply_to plan s (Perform event) = happened s (step plan s event)
 reply_to plan s (Stuck members) = (s, reply.Stuck (is_waiting_set plan s members))
 
 -- a reply, and then the rest from the new state, or the ending

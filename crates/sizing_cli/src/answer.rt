@@ -76,7 +76,7 @@ fn is_no(reply: Reply) -> bool
 {
     matches!(
         reply,
-        Reply::Happened(Outcome::Refused(_)) | Reply::NotPossible | Reply::Stuck(true)
+        Reply::Performed(Outcome::Refused(_)) | Reply::NotPossible | Reply::Stuck(true)
     )
 }
 

@@ -13,7 +13,7 @@ use crate::texts::plan_in;
 use crate::witness::{Sought, witness_of};
 use crate::{ServeFault, Status};
 use command_line::Shown;
-use counterexample::{Witness, push_event_lines, told};
+use counterexample::{Witness, describe, push_event_lines};
 use job_bodies::{MAX_EVENT_BYTES, MAX_INPUT_BYTES, Plan};
 use std::alloc::{AllocError, Global};
 use std::sync::Wait;
@@ -119,7 +119,7 @@ fn show(
 fn story(alloc: Global, plan: &Plan, witness: &Witness) -> Result<Answer, AllocError>
     ensures { IfOk result (spec.TellsWitness plan.now witness.now) }
 {
-    let text = told(alloc, plan, witness)?;
+    let text = describe(alloc, plan, witness)?;
     Ok(Answer {
         text,
         status: Status::Refused,

@@ -4,7 +4,7 @@ ghost use Rattle.std.specs.Prelude.{◌≡◌, ◌<◌, ◌^◌, [], length, IfO
 ghost use Rattle.written_machine.specs.Reach.{start};
 ghost use Rattle.interleaving.specs.LiveView.{live_view};
 ghost use Rattle.event_lines.specs.EventLine.{all_from, line_seen};
-ghost use Rattle.interleaving.specs.OfPlan.{IsOf};
+ghost use Rattle.interleaving.specs.OfPlan.{IsReachableView};
 ghost use Rattle.sizing_cli.specs.Report.{replay_of_lines};
 ghost use Rattle.sizing_cli.specs.SoFar.{IsEnded, IsTranscribed, RepliesSo};
 ghost use Rattle.sizing_cli.specs.declared.status.Status.TheVariants as statuses;
@@ -71,13 +71,13 @@ fn reply_to(
     plan: &Plan,
     line: EventLine<'_>,
 ) -> Result<Reply, AllocError>
-    requires { IsOf plan.now world.old.view }
+    requires { IsReachableView plan.now world.old.view }
     ensures { IfOk result
         (λ reply. RepliesSo plan.now world.old.view world.new.view (line_seen line.entry) reply) }
 {
     match line {
-        EventLine::Happens(event) => match world.step(plan, event)? {
-            Some(outcome) => Ok(Reply::Happened(outcome)),
+        EventLine::Perform(event) => match world.step(plan, event)? {
+            Some(outcome) => Ok(Reply::Performed(outcome)),
             None => Ok(Reply::NotPossible),
         },
         EventLine::Stuck(members) => {

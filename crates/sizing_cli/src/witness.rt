@@ -3,7 +3,7 @@
 ghost use Rattle.std.specs.Prelude.{◌≤◌, IfOk, IfSome};
 ghost use Rattle.sizing_cli.specs.Refute.{IsWitnessOf};
 
-use counterexample::{SupposedWitness, Witness, confirmed, search_witness};
+use counterexample::{CandidateWitness, Witness, confirmed, search_witness};
 use job_bodies::Plan;
 use least_vectors::{Levels, pool_bound};
 use std::alloc::{AllocError, Global};
@@ -36,7 +36,7 @@ pub(crate) fn witness_of(alloc: Global, plan: &Plan, states: usize) -> Result<So
 fn confirm(
     alloc: Global,
     plan: &Plan,
-    found: SupposedWitness,
+    found: CandidateWitness,
 ) -> Result<Option<Witness>, AllocError>
     ensures { IfOk result (λ witness. IfSome witness (IsWitnessOf plan.now)) }
 {

@@ -11,7 +11,7 @@ use Rattle.written_machine.specs.declared.parent.Parent.TheVariants as parent
 use Rattle.written_machine.specs.declared.event.Event.{Event}
 use Rattle.written_machine.specs.declared.event.Outcome.{Outcome}
 use Rattle.written_machine.specs.State.{State, same_parent, pool_of, pool_part, threads}
-use Rattle.written_machine.specs.Step.{point, answered, submitted, stepped, step}
+use Rattle.written_machine.specs.Step.{point, answered, submitted, step_at_point, step}
 use Rattle.written_machine.specs.Reach.{start, state_after, replay}
 use Rattle.written_machine.proofs.Events.{event_of}
 use Rattle.written_machine.proofs.Children.{same_actor_refl}
@@ -103,7 +103,7 @@ submit_follows plan s e a i k false false below_max next is_below has_room is_be
 -- ---- an event of the machine
 
 -- the event of an actor
-step_of : (plan : Plan) (s : State) (a : Parent) → step plan s (event_of a) ≡ stepped plan s a (point plan s a)
+step_of : (plan : Plan) (s : State) (a : Parent) → step plan s (event_of a) ≡ step_at_point plan s a (point plan s a)
 step_of plan s (parent.Client c) = refl
 step_of plan s (parent.Job j) = refl
 

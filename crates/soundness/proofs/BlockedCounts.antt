@@ -6,8 +6,8 @@ use Rattle.job_bodies.specs.declared.action.Action.{Action}
 use Rattle.job_bodies.specs.declared.action.Action.TheVariants as action
 use Rattle.job_bodies.specs.Plan.{Plan, pool_at, class_at}
 use Rattle.job_bodies.proofs.Bodies.{HasValidBodies, ordered}
-use Rattle.written_machine.specs.State.{Stage, State, Made, no_job, job_at, pool_of}
-use Rattle.written_machine.proofs.Kept.{Kept}
+use Rattle.written_machine.specs.State.{Stage, State, CreatedJob, no_job, job_at, pool_of}
+use Rattle.written_machine.proofs.StateInvariant.{StateInvariant}
 use Rattle.written_machine.proofs.Reached.{kept}
 use Rattle.weights.specs.declared.get_return.GetReturn.TheVariants.{DoneWeight}
 use Rattle.weights.specs.Vector.{Vector, job_weight}
@@ -33,11 +33,11 @@ blocked_weighs plan counted p v k Stage.Done laws of_pool is_blocked = absurd cc
 blocked_weighs plan counted p v k Stage.Claimed laws of_pool is_blocked = absurd cc
 
 -- the weight of a balanced state is at most the total, which is below core
-pub blocked-below_core : (plan : Plan) (counted : ℕ → ℕ → Bool) (v : Vector) (s : State) (p : ℕ) → HasValidBodies plan → p < length plan.pools → BlockedLaws plan counted p v → Kept plan s → IsBalanced DoneWeight plan v s
+pub blocked-below_core : (plan : Plan) (counted : ℕ → ℕ → Bool) (v : Vector) (s : State) (p : ℕ) → HasValidBodies plan → p < length plan.pools → BlockedLaws plan counted p v → StateInvariant plan s → IsBalanced DoneWeight plan v s
     → blocked plan counted s p < (pool_at plan p).core
 blocked-below_core plan counted v s p ordered inside laws kept balanced =
     let enough =
-    count_by-le-sum_by (is_blocked_in plan counted p) (λ (job : Made). stage_weight DoneWeight plan v job.class job.stage) s.jobs no_job
+    count_by-le-sum_by (is_blocked_in plan counted p) (λ (job : CreatedJob). stage_weight DoneWeight plan v job.class job.stage) s.jobs no_job
     (λ j made passes.
     let job = job_at s j in
     let parts = and_parts (is_blocked_stage plan counted job.class job.stage) (eqb (pool_of plan job.class) p) passes in

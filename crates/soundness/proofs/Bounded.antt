@@ -7,10 +7,10 @@ use Rattle.written_machine.specs.declared.event.Outcome.{Outcome}
 use Rattle.written_machine.specs.State.{State, pool_of}
 use Rattle.written_machine.specs.Reach.{start}
 use Rattle.written_machine.proofs.Events.{Happens, works, starts, queues, is_refused, gets, finishes, loops, takes, retires}
-use Rattle.written_machine.proofs.Kept.{Kept}
-use Rattle.written_machine.proofs.KeptStart.{kept_start}
-use Rattle.written_machine.proofs.KeptSubmits.{class_exists}
-use Rattle.written_machine.proofs.KeptStep.{kept_step}
+use Rattle.written_machine.proofs.StateInvariant.{StateInvariant}
+use Rattle.written_machine.proofs.InvariantAtStart.{kept_start}
+use Rattle.written_machine.proofs.InvariantSubmits.{class_exists}
+use Rattle.written_machine.proofs.InvariantStep.{kept_step}
 use Rattle.written_machine.proofs.JobsMade.{HaveJobs, have_jobs_start, have_jobs_step}
 use Rattle.written_machine.proofs.Reached.{reached_keeps}
 use Rattle.weights.specs.declared.bound.Bound.{Bound}
@@ -22,7 +22,7 @@ use Rattle.soundness.specs.Headline.{KeepsSizes, BoundedPlansRefuseNothing}
 
 -- the invariants of reachable states hold, each pool's bound is balanced, and no submit was rejected
 pub record Bounded (plan : Plan) (bounds : ℕ → Bound) (s : State) : Type 0 where
-  pub kept : Kept plan s
+  pub kept : StateInvariant plan s
   pub have_jobs : HaveJobs plan s
   pub balanced : (p : ℕ) → p < length plan.pools → IsBalanced (bound_get_return (bounds p)) plan (bound_vector (bounds p)) s
   pub none_refused : s.refusals ≡ 0

@@ -10,9 +10,9 @@ use Rattle.written_machine.specs.declared.event.Event.{Event}
 use Rattle.written_machine.specs.declared.event.Outcome.{Outcome}
 use Rattle.written_machine.specs.State.{State, pool_part, pool_of, threads}
 use Rattle.written_machine.specs.JobsMade.{jobs_made}
-use Rattle.written_machine.proofs.Events.{StandsAt, event_of, Happens}
-use Rattle.written_machine.proofs.Kept.{Kept}
-use Rattle.written_machine.proofs.KeptSubmits.{class_exists}
+use Rattle.written_machine.proofs.Events.{IsAtAction, event_of, Happens}
+use Rattle.written_machine.proofs.StateInvariant.{StateInvariant}
+use Rattle.written_machine.proofs.InvariantSubmits.{class_exists}
 use Rattle.written_machine.proofs.JobsMade.{HaveJobs}
 use Rattle.weights.specs.declared.bound.Bound.{Bound}
 use Rattle.weights.specs.declared.bound.Bound.TheVariants.{Standing, Lifetime}
@@ -34,22 +34,22 @@ QueueWasFull plan (Standing v) s p = ⊥
 QueueWasFull plan (Lifetime v) s p = (pool_at plan p).queue + threads plan s p ≤ jobs_made plan s p + first_workers (pool_at plan p)
 
 -- a queue that is full now
-queue_was_full : (plan : Plan) (bound : Bound) (s : State) (a : Parent) (body : List Action) (i k : ℕ) → HasValidBodies plan → BoundLaws plan (pool_of plan k) bound → Kept plan s → HaveJobs plan s → IsBalanced (bound_get_return bound) plan (bound_vector bound) s
-    → StandsAt plan s a body i (Some (action.Submit k)) → (pool_at plan (pool_of plan k)).queue ≤ length (pool_part s (pool_of plan k)).queue → QueueWasFull plan bound s (pool_of plan k)
+queue_was_full : (plan : Plan) (bound : Bound) (s : State) (a : Parent) (body : List Action) (i k : ℕ) → HasValidBodies plan → BoundLaws plan (pool_of plan k) bound → StateInvariant plan s → HaveJobs plan s → IsBalanced (bound_get_return bound) plan (bound_vector bound) s
+    → IsAtAction plan s a body i (Some (action.Submit k)) → (pool_at plan (pool_of plan k)).queue ≤ length (pool_part s (pool_of plan k)).queue → QueueWasFull plan bound s (pool_of plan k)
 queue_was_full plan (Standing v) s a body i k ordered laws kept have balanced at no_room = standing_refuses_nothing plan v s a body i k ordered laws kept balanced at no_room
 queue_was_full plan (Lifetime v) s a body i k ordered laws kept have balanced at no_room =
     let had = have (pool_of plan k) (ordered.pools k (class_exists plan s a body i k ordered at)) in
     omega arith
 
 -- the property is preserved by an event: the number of threads grows at most with the number of jobs submitted
-stays_full : (plan : Plan) (bound : Bound) (s s' : State) (o : Outcome) (p : ℕ) {e : Event} → Kept plan s → p < length plan.pools → Happens plan s e s' o → QueueWasFull plan bound s p → QueueWasFull plan bound s' p
+stays_full : (plan : Plan) (bound : Bound) (s s' : State) (o : Outcome) (p : ℕ) {e : Event} → StateInvariant plan s → p < length plan.pools → Happens plan s e s' o → QueueWasFull plan bound s p → QueueWasFull plan bound s' p
 stays_full plan (Standing v) s s' o p kept inside happened full = full
 stays_full plan (Lifetime v) s s' o p kept inside happened full =
     let by_jobs = (threads_change plan s s' o kept happened p inside).by_jobs in
     omega arith
 
 -- a submit to the pool finds fewer than max threads
-leaves_room : (plan : Plan) (bound : Bound) (s : State) (a : Parent) (body : List Action) (i k : ℕ) → HasValidBodies plan → BoundLaws plan (pool_of plan k) bound → Kept plan s → IsBalanced (bound_get_return bound) plan (bound_vector bound) s → StandsAt plan s a body i (Some (action.Submit k))
+leaves_room : (plan : Plan) (bound : Bound) (s : State) (a : Parent) (body : List Action) (i k : ℕ) → HasValidBodies plan → BoundLaws plan (pool_of plan k) bound → StateInvariant plan s → IsBalanced (bound_get_return bound) plan (bound_vector bound) s → IsAtAction plan s a body i (Some (action.Submit k))
     → QueueWasFull plan bound s (pool_of plan k) → (pool_at plan (pool_of plan k)).max ≤ threads plan s (pool_of plan k) → ⊥
 leaves_room plan (Standing v) s a body i k ordered laws kept balanced at full all_started = full
 leaves_room plan (Lifetime v) s a body i k ordered laws kept balanced at full all_started = lifetime_leaves_room plan v s a body i k ordered laws kept balanced at (omega arith)
@@ -66,7 +66,7 @@ pub calls_none : (plan : Plan) (bounds : ℕ → Bound) (s : State) → CallsKep
 calls_none plan bounds s = record { offering = λ a p inside is_there. absurd (false≢true is_there); requesting = λ a p inside is_there. absurd (false≢true is_there) }
 
 -- no call that requests a thread is rejected
-pub refused_never : (plan : Plan) (bounds : ℕ → Bound) (s : JavaState) (a : Parent) (body : List Action) (i k : ℕ) → HasValidBodies plan → BoundsHold plan bounds → Bounded plan bounds s.machine → CallsKept plan bounds s → StandsAt plan s.machine a body i (Some (action.Submit k))
+pub refused_never : (plan : Plan) (bounds : ℕ → Bound) (s : JavaState) (a : Parent) (body : List Action) (i k : ℕ) → HasValidBodies plan → BoundsHold plan bounds → Bounded plan bounds s.machine → CallsKept plan bounds s → IsAtAction plan s.machine a body i (Some (action.Submit k))
     → is_calling s.requesting a (pool_of plan k) ≡ true → (pool_at plan (pool_of plan k)).max ≤ threads plan s.machine (pool_of plan k) → ⊥
 refused_never plan bounds s a body i k ordered laws bounded calls at requesting all_started =
     let p = pool_of plan k in

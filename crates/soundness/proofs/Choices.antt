@@ -8,7 +8,7 @@ use Rattle.job_bodies.specs.Plan.{Plan}
 use Rattle.written_machine.specs.declared.parent.Parent.{Parent}
 use Rattle.written_machine.specs.declared.event.Event.{Event}
 use Rattle.written_machine.specs.State.{pool_of}
-use Rattle.written_machine.proofs.Events.{StandsAt, event_of}
+use Rattle.written_machine.proofs.Events.{IsAtAction, event_of}
 use Rattle.soundness.specs.Execute.{JavaState, Submission, is_calling, submission}
 use Rattle.soundness.proofs.JavaEvents.{is_submission}
 use Rattle.soundness.specs.Skipping.{Choice, after_skip, has_begun, skip_submit, choice_step, choices_replay}
@@ -19,7 +19,7 @@ use Rattle.soundness.proofs.SkippedSubmits.{left}
 
 -- its actor is at it and has not begun it
 pub data IsSkipped (plan : Plan) (s : JavaState) : Event → JavaState → Type 0 where
-  leaves : (a : Parent) (body : List Action) (i k : ℕ) → StandsAt plan s.machine a body i (Some (action.Submit k)) → is_calling s.offering a (pool_of plan k) ≡ false → is_calling s.requesting a (pool_of plan k) ≡ false
+  leaves : (a : Parent) (body : List Action) (i k : ℕ) → IsAtAction plan s.machine a body i (Some (action.Submit k)) → is_calling s.offering a (pool_of plan k) ≡ false → is_calling s.requesting a (pool_of plan k) ≡ false
       → IsSkipped plan s (event_of a) (record s { machine = left s.machine a i k })
 
 not_begun_left : (plan : Plan) (s : JavaState) (e : Event) (x : Submission) (begun : Bool) (s' : JavaState) → submission plan s.machine e ≡ Some x → has_begun plan s x ≡ begun → cond begun None (Some (record s { machine = after_skip s.machine x })) ≡ Some s' → IsSkipped plan s e s'

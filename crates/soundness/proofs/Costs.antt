@@ -13,12 +13,12 @@ use Rattle.written_machine.specs.declared.parent.Parent.TheVariants as parent
 use Rattle.written_machine.specs.declared.event.Event.{Event}
 use Rattle.written_machine.specs.declared.event.Event.TheVariants as event
 use Rattle.written_machine.specs.declared.event.Outcome.{Outcome}
-use Rattle.written_machine.specs.State.{Stage, State, Made, no_job, job_at, pool_of}
+use Rattle.written_machine.specs.State.{Stage, State, CreatedJob, no_job, job_at, pool_of}
 use Rattle.written_machine.specs.Step.{moved_jobs, new_job}
 use Rattle.written_machine.specs.Safe.{is_of_job_or_pool}
-use Rattle.written_machine.proofs.Events.{StandsAt, Happens, works, starts, queues, is_refused, gets, finishes, loops, takes, retires}
-use Rattle.written_machine.proofs.Standing.{standing_made}
-use Rattle.written_machine.proofs.Kept.{Kept}
+use Rattle.written_machine.proofs.Events.{IsAtAction, Happens, works, starts, queues, is_refused, gets, finishes, loops, takes, retires}
+use Rattle.written_machine.proofs.Positions.{standing_made}
+use Rattle.written_machine.proofs.StateInvariant.{StateInvariant}
 use Rattle.written_machine.proofs.Stages.{length-staged, length-moved}
 use Rattle.soundness.specs.Drain.{stage_todo, todo}
 use Rattle.soundness.proofs.RankLaws.{RankLaws}
@@ -67,7 +67,7 @@ calls_done-more s s' n inside same here others =
     (λ i. ⊎_elim (λ (own : i ≡ n). subst (λ (x : ℕ). mark s x ≤ mark s' x) (sym own) (omega arith)) (λ other. others i other) (cases_eq i n)))
 
 -- a job calls at most one pool at a time
-pub one_pool : (plan : Plan) (job : Made) (p q : ℕ) → StandsBefore plan job p → StandsBefore plan job q → p ≡ q
+pub one_pool : (plan : Plan) (job : CreatedJob) (p q : ℕ) → StandsBefore plan job p → StandsBefore plan job q → p ≡ q
 one_pool plan job p q first second =
     let stages : Stage.At first.position ≡ Stage.At second.position = sym first.stage ∙ second.stage in
     let place : first.position ≡ second.position = cc in
@@ -76,7 +76,7 @@ one_pool plan job p q first second =
     first.to_pool ∙ ap (pool_of plan) class ∙ sym second.to_pool
 
 -- a job without a call to that pool among these has no call among them
-has_no_call : (plan : Plan) (job : Made) (n p : ℕ) (calls : List Call) → ((q : ℕ) → is_calling calls (parent.Job n) q ≡ true → StandsBefore plan job q) → StandsBefore plan job p → is_calling calls (parent.Job n) p ≡ false → has_call calls n ≡ false
+has_no_call : (plan : Plan) (job : CreatedJob) (n p : ℕ) (calls : List Call) → ((q : ℕ) → is_calling calls (parent.Job n) q ≡ true → StandsBefore plan job q) → StandsBefore plan job p → is_calling calls (parent.Job n) p ≡ false → has_call calls n ≡ false
 has_no_call plan job n p calls each here not_calling =
     false_from_ne_true (has_call calls n)
     (λ has_this_call.
@@ -85,7 +85,7 @@ has_no_call plan job n p calls each here not_calling =
     false≢true (sym not_calling ∙ ap (is_calling calls (parent.Job n)) (sym same) ∙ to.1))
 
 -- a job that finds core threads completes a step
-core_found : (plan : Plan) (s : JavaState) (n : ℕ) (body : List Action) (i k : ℕ) → JobCalls plan s → StandsAt plan s.machine (parent.Job n) body i (Some (action.Submit k)) → is_calling s.requesting (parent.Job n) (pool_of plan k) ≡ false
+core_found : (plan : Plan) (s : JavaState) (n : ℕ) (body : List Action) (i k : ℕ) → JobCalls plan s → IsAtAction plan s.machine (parent.Job n) body i (Some (action.Submit k)) → is_calling s.requesting (parent.Job n) (pool_of plan k) ≡ false
     → is_calling s.offering (parent.Job n) (pool_of plan k) ≡ false → calls_done s + 1 ≤ calls_done (record s { offering = record { actor = parent.Job n; pool = pool_of plan k } ∷ s.offering })
 core_found plan s n body i k calls at not_requesting not_offering =
     let p = pool_of plan k in
@@ -100,7 +100,7 @@ core_found plan s n body i k calls at not_requesting not_offering =
     calls_done-more s after n (standing_made plan s.machine n body i at.stands) refl (omega arith) (λ j other. mark-le s after j (λ it. it) (λ it. more_has_call call s.offering j it))
 
 -- and so does a job that finds a full queue
-full_found : (plan : Plan) (s : JavaState) (n : ℕ) (body : List Action) (i k : ℕ) → JobCalls plan s → StandsAt plan s.machine (parent.Job n) body i (Some (action.Submit k)) → is_calling s.requesting (parent.Job n) (pool_of plan k) ≡ false
+full_found : (plan : Plan) (s : JavaState) (n : ℕ) (body : List Action) (i k : ℕ) → JobCalls plan s → IsAtAction plan s.machine (parent.Job n) body i (Some (action.Submit k)) → is_calling s.requesting (parent.Job n) (pool_of plan k) ≡ false
     → calls_done s + 1 ≤ calls_done (record s { offering = without_calls_of (parent.Job n) s.offering; requesting = record { actor = parent.Job n; pool = pool_of plan k } ∷ s.requesting })
 full_found plan s n body i k calls at not_requesting =
     let p = pool_of plan k in
@@ -118,7 +118,7 @@ abbrev pub Costs : Plan → Ranks → JavaState → JavaState → Type 0
 Costs plan ranks s s' = 3 * todo plan ranks s'.machine + calls_done s + 1 ≤ 3 * todo plan ranks s.machine + calls_done s'
 
 -- every job event and every take
-pub costs : (plan : Plan) (ranks : Ranks) (s s' : JavaState) (e : Event) → RankLaws plan ranks → Kept plan s.machine → s.machine.refusals ≡ 0 → s'.machine.refusals ≡ 0 → JobCalls plan s → is_of_job_or_pool e ≡ true → JavaHappens plan s e s' → Costs plan ranks s s'
+pub costs : (plan : Plan) (ranks : Ranks) (s s' : JavaState) (e : Event) → RankLaws plan ranks → StateInvariant plan s.machine → s.machine.refusals ≡ 0 → s'.machine.refusals ≡ 0 → JobCalls plan s → is_of_job_or_pool e ≡ true → JavaHappens plan s e s' → Costs plan ranks s s'
 costs plan ranks s s' e laws kept none none' calls of_job_or_pool (is_atomic f after o no_submit happened) =
     omega (arith, lowers plan ranks s.machine after o f laws kept none none' of_job_or_pool happened, by_place-longer (mark s) 0 s.machine.jobs after.jobs (no_fewer_jobs plan s.machine after o happened))
 costs plan ranks s s' e laws kept none none' calls of_job_or_pool (ends (parent.Client c) body i k after o at happened) = absurd cc
@@ -136,7 +136,7 @@ costs plan ranks s s' e laws kept none none' calls of_job_or_pool (finds_all a b
 pub costs_nothing : (plan : Plan) (ranks : Ranks) (s s' : JavaState) (e : Event) → ends_thread e ≡ true → JavaHappens plan s e s' → 3 * todo plan ranks s'.machine + calls_done s ≤ 3 * todo plan ranks s.machine + calls_done s'
 costs_nothing plan ranks s s' e is_end (is_atomic f after o no_submit happened) =
     let todo_is = same_todo plan ranks s.machine after o is_end happened in
-    let done_is : calls_done (record s { machine = after }) ≡ calls_done s = ap (λ (jobs : List Made). by_place (mark s) 0 jobs) (same_jobs plan s.machine after o is_end happened) in
+    let done_is : calls_done (record s { machine = after }) ≡ calls_done s = ap (λ (jobs : List CreatedJob). by_place (mark s) 0 jobs) (same_jobs plan s.machine after o is_end happened) in
     omega arith
 costs_nothing plan ranks s s' e is_end (ends a body i k after o at happened) = absurd (no_actor a is_end)
 costs_nothing plan ranks s s' e is_end (finds_core a body i k at not_requesting not_offering at_core) = absurd (no_actor a is_end)
@@ -146,7 +146,7 @@ costs_nothing plan ranks s s' e is_end (finds_all a body i k at requesting all_s
 -- ---- a job in a call has remaining work
 
 -- the remaining work of a job before a submit includes that submit
-todo_before_submit : (plan : Plan) (ranks : Ranks) (job : Made) (p : ℕ) → StandsBefore plan job p → 1 ≤ stage_todo plan ranks job.class job.stage
+todo_before_submit : (plan : Plan) (ranks : Ranks) (job : CreatedJob) (p : ℕ) → StandsBefore plan job p → 1 ≤ stage_todo plan ranks job.class job.stage
 todo_before_submit plan ranks job p before =
     let inside = slice_get_within (class_at plan job.class).body before.position (action.Submit before.submitted) before.submits in
     let todo_is = ap (stage_todo plan ranks job.class) before.stage in
@@ -166,10 +166,10 @@ mark-le_todo plan ranks s n calls false false requests_thread offers_job = let n
 pub calls_done-le : (plan : Plan) (ranks : Ranks) (s : JavaState) → JobCalls plan s → calls_done s ≤ todo plan ranks s.machine + todo plan ranks s.machine
 calls_done-le plan ranks s calls =
     let jobs = s.machine.jobs in
-    let todo_of = λ (job : Made). stage_todo plan ranks job.class job.stage in
+    let todo_of = λ (job : CreatedJob). stage_todo plan ranks job.class job.stage in
     let each =
-    sum_by-le-within (λ (entry : ℕ × Made). mark s entry.0) (λ (entry : ℕ × Made). todo_of entry.1 + todo_of entry.1) 0 jobs
+    sum_by-le-within (λ (entry : ℕ × CreatedJob). mark s entry.0) (λ (entry : ℕ × CreatedJob). todo_of entry.1 + todo_of entry.1) 0 jobs
     (λ p d inside.
     subst (λ (q : ℕ). mark s q ≤ todo_of (get_or jobs p d) + todo_of (get_or jobs p d)) (sym (zero-add p))
-    (subst (λ (job : Made). mark s p ≤ todo_of job + todo_of job) (sym (get_or_default jobs p d no_job inside)) (mark-le_todo plan ranks s p calls (has_call s.requesting p) (has_call s.offering p) refl refl))) in
-    omega (arith, each, sum_by-add (λ (entry : ℕ × Made). todo_of entry.1) (λ (entry : ℕ × Made). todo_of entry.1) (enumerate_from 0 jobs), sum_of_elements todo_of 0 jobs)
+    (subst (λ (job : CreatedJob). mark s p ≤ todo_of job + todo_of job) (sym (get_or_default jobs p d no_job inside)) (mark-le_todo plan ranks s p calls (has_call s.requesting p) (has_call s.offering p) refl refl))) in
+    omega (arith, each, sum_by-add (λ (entry : ℕ × CreatedJob). todo_of entry.1) (λ (entry : ℕ × CreatedJob). todo_of entry.1) (enumerate_from 0 jobs), sum_of_elements todo_of 0 jobs)

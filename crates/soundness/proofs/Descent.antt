@@ -8,11 +8,11 @@ use Rattle.job_bodies.specs.declared.action.Action.TheVariants as action
 use Rattle.job_bodies.specs.Plan.{Plan, pool_at, class_at, submitted_class}
 use Rattle.job_bodies.proofs.Bodies.{HasValidBodies, ordered}
 use Rattle.written_machine.specs.declared.parent.Parent.TheVariants as parent
-use Rattle.written_machine.specs.State.{Stage, State, Made, no_job, job_at, pool_of, is_at, is_busy_in, child}
+use Rattle.written_machine.specs.State.{Stage, State, CreatedJob, no_job, job_at, pool_of, is_at, is_busy_in, child}
 use Rattle.written_machine.specs.Step.{point_of_job}
-use Rattle.written_machine.specs.Waiting.{IsMember, WaitsAtGet, WaitsInQueue, WaitsAs, IsWaitingSet}
-use Rattle.written_machine.proofs.Standing.{job_made}
-use Rattle.written_machine.proofs.Kept.{HasChild, Kept}
+use Rattle.written_machine.specs.Waiting.{IsMember, WaitsAtGet, WaitsInQueue, WaitsAtStage, IsWaitingSet}
+use Rattle.written_machine.proofs.Positions.{job_made}
+use Rattle.written_machine.proofs.StateInvariant.{HasChild, StateInvariant}
 use Rattle.written_machine.proofs.Queues.{Queued≢Claimed, queued_in_queue, pool_of_made}
 use Rattle.written_machine.proofs.Reached.{kept}
 use Rattle.written_machine.proofs.ReachedLaws.{child_at_get}
@@ -24,7 +24,7 @@ use Rattle.soundness.proofs.RankLaws.{RankLaws, rank_laws}
 -- ---- each chain of children ends
 
 -- the child that a job at a get waits for
-child_of : (plan : Plan) (s : State) (j i t : ℕ) → HasValidBodies plan → Kept plan s → (job_at s j).stage ≡ Stage.At i → slice_get (class_at plan (job_at s j).class).body i ≡ Some (action.Get t)
+child_of : (plan : Plan) (s : State) (j i t : ℕ) → HasValidBodies plan → StateInvariant plan s → (job_at s j).stage ≡ Stage.At i → slice_get (class_at plan (job_at s j).class).body i ≡ Some (action.Get t)
     → HasChild s.jobs (parent.Job j) t (submitted_class (class_at plan (job_at s j).class).body t)
 child_of plan s j i t ordered kept at is_next =
     child_at_get plan s (parent.Job j) (class_at plan (job_at s j).class).body i t ordered kept (record { stands = ap (point_of_job plan (job_at s j).class) at; is_there = is_next })
@@ -34,7 +34,7 @@ abbrev LaterEnd : Plan → Ranks → State → ℕ → ℕ → Type 0
 LaterEnd plan ranks s r j = (n : ℕ) → j < n → (job_at s n).stage ≢ Stage.Claimed → reach ranks (job_at s n).class < r → ChainEnds plan ranks s r n
 
 -- through the child that the job waits for
-ends_by_child : (plan : Plan) (ranks : Ranks) (s : State) (r j i t : ℕ) → HasValidBodies plan → Kept plan s → LaterEnd plan ranks s r j → (job_at s j).stage ≡ Stage.At i → slice_get (class_at plan (job_at s j).class).body i ≡ Some (action.Get t)
+ends_by_child : (plan : Plan) (ranks : Ranks) (s : State) (r j i t : ℕ) → HasValidBodies plan → StateInvariant plan s → LaterEnd plan ranks s r j → (job_at s j).stage ≡ Stage.At i → slice_get (class_at plan (job_at s j).class).body i ≡ Some (action.Get t)
     → reach ranks (submitted_class (class_at plan (job_at s j).class).body t) < r → ChainEnds plan ranks s r j
 ends_by_child plan ranks s r j i t ordered kept onward at is_next low =
     let latest = child_of plan s j i t ordered kept at is_next in
@@ -50,7 +50,7 @@ ends_at_no_get : (plan : Plan) (ranks : Ranks) (s : State) (r j i : ℕ) (next :
 ends_at_no_get plan ranks s r j i next at is_next no_get = ends_here plan ranks s r j (Stage.At i) at (λ t e. no_get t (sym is_next ∙ e))
 
 -- the chain from a job at a position ends if those from later jobs do
-one_step_at : (plan : Plan) (ranks : Ranks) (s : State) (r j i : ℕ) (next : Option Action) → HasValidBodies plan → RankLaws plan ranks → Kept plan s → LaterEnd plan ranks s r j → (job_at s j).stage ≡ Stage.At i → slice_get (class_at plan (job_at s j).class).body i ≡ next
+one_step_at : (plan : Plan) (ranks : Ranks) (s : State) (r j i : ℕ) (next : Option Action) → HasValidBodies plan → RankLaws plan ranks → StateInvariant plan s → LaterEnd plan ranks s r j → (job_at s j).stage ≡ Stage.At i → slice_get (class_at plan (job_at s j).class).body i ≡ next
     → reach ranks (job_at s j).class < r → ChainEnds plan ranks s r j
 one_step_at plan ranks s r j i None ordered laws kept onward at is_next low = ends_at_no_get plan ranks s r j i None at is_next (λ t e. cc)
 one_step_at plan ranks s r j i (Some (action.Work u)) ordered laws kept onward at is_next low = ends_at_no_get plan ranks s r j i (Some (action.Work u)) at is_next (λ t e. cc)
@@ -60,7 +60,7 @@ one_step_at plan ranks s r j i (Some (action.Get t)) ordered laws kept onward at
     ends_by_child plan ranks s r j i t ordered kept onward at is_next (omega arith)
 
 -- and so does the chain from every job that is not claimed
-one_step : (plan : Plan) (ranks : Ranks) (s : State) (r j : ℕ) (stage : Stage) → HasValidBodies plan → RankLaws plan ranks → Kept plan s → LaterEnd plan ranks s r j → (job_at s j).stage ≡ stage → stage ≢ Stage.Claimed → reach ranks (job_at s j).class < r → ChainEnds plan ranks s r j
+one_step : (plan : Plan) (ranks : Ranks) (s : State) (r j : ℕ) (stage : Stage) → HasValidBodies plan → RankLaws plan ranks → StateInvariant plan s → LaterEnd plan ranks s r j → (job_at s j).stage ≡ stage → stage ≢ Stage.Claimed → reach ranks (job_at s j).class < r → ChainEnds plan ranks s r j
 one_step plan ranks s r j Stage.Queued ordered laws kept onward is_stage unclaimed low =
     let made = job_made s j (Queued≢Claimed is_stage) in
     let reaches = laws.reaches (job_at s j).class (kept.classes j no_job made) in
@@ -70,19 +70,19 @@ one_step plan ranks s r j Stage.Done ordered laws kept onward is_stage unclaimed
 one_step plan ranks s r j Stage.Claimed ordered laws kept onward is_stage unclaimed low = absurd (unclaimed refl)
 
 -- children are later than their parents, so the length of a chain is at most the number of later jobs
-comes_within : (plan : Plan) (ranks : Ranks) (s : State) (r later j : ℕ) → HasValidBodies plan → RankLaws plan ranks → Kept plan s → length s.jobs ≤ j + later → (job_at s j).stage ≢ Stage.Claimed → reach ranks (job_at s j).class < r → ChainEnds plan ranks s r j
+comes_within : (plan : Plan) (ranks : Ranks) (s : State) (r later j : ℕ) → HasValidBodies plan → RankLaws plan ranks → StateInvariant plan s → length s.jobs ≤ j + later → (job_at s j).stage ≢ Stage.Claimed → reach ranks (job_at s j).class < r → ChainEnds plan ranks s r j
 comes_within plan ranks s r zero j ordered laws kept few unclaimed low = let made = job_made s j unclaimed in absurd (omega arith)
 comes_within plan ranks s r (suc later) j ordered laws kept few unclaimed low =
     one_step plan ranks s r j (job_at s j).stage ordered laws kept (λ n behind unclaimed' low'. comes_within plan ranks s r later n ordered laws kept (omega arith) unclaimed' low') refl unclaimed low
 
 -- the chain from a job of a class with a reach below r ends at a job that is queued in a pool of a rank below r, or waits
 -- for none
-pub comes_to_end : (plan : Plan) (ranks : Ranks) (s : State) (r j : ℕ) → HasValidBodies plan → RankLaws plan ranks → Kept plan s → (job_at s j).stage ≢ Stage.Claimed → reach ranks (job_at s j).class < r → ChainEnds plan ranks s r j
+pub comes_to_end : (plan : Plan) (ranks : Ranks) (s : State) (r j : ℕ) → HasValidBodies plan → RankLaws plan ranks → StateInvariant plan s → (job_at s j).stage ≢ Stage.Claimed → reach ranks (job_at s j).class < r → ChainEnds plan ranks s r j
 comes_to_end plan ranks s r j ordered laws kept unclaimed low = comes_within plan ranks s r (length s.jobs) j ordered laws kept (omega arith) unclaimed low
 
 -- the chain from a job at an uncounted get ends at a job that is queued in a pool of lower rank, or at a job that waits for
 -- none
-pub descends : (plan : Plan) (ranks : Ranks) (s : State) (j i t : ℕ) → HasValidBodies plan → RankLaws plan ranks → Kept plan s → (job_at s j).stage ≡ Stage.At i → slice_get (class_at plan (job_at s j).class).body i ≡ Some (action.Get t)
+pub descends : (plan : Plan) (ranks : Ranks) (s : State) (j i t : ℕ) → HasValidBodies plan → RankLaws plan ranks → StateInvariant plan s → (job_at s j).stage ≡ Stage.At i → slice_get (class_at plan (job_at s j).class).body i ≡ Some (action.Get t)
     → is_counted plan ranks (job_at s j).class i ≡ false → ChainEnds plan ranks s (rank ranks (pool_of plan (job_at s j).class)) j
 descends plan ranks s j i t ordered laws kept at is_next uncounted =
     let k = (job_at s j).class in
@@ -99,7 +99,7 @@ ranks_descend plan ranks s j i t well_formed hold reached at is_next uncounted =
 
 -- the get of a member at position i, and its child, which is a member too
 member_at : (plan : Plan) (s : State) (members : List ℕ) (j i : ℕ) → IsWaitingSet plan s members → IsMember members j → (job_at s j).stage ≡ Stage.At i → WaitsAtGet plan s members j i
-member_at plan s members j i waiting member at = subst (WaitsAs plan s members j) at (waiting.each j member)
+member_at plan s members j i waiting member at = subst (WaitsAtStage plan s members j) at (waiting.each j member)
 
 -- one get waits for one submit
 same_get : (t u : ℕ) → Some (action.Get t) ≡ Some (action.Get u) → t ≡ u
@@ -122,7 +122,7 @@ record QueuedBelow (plan : Plan) (ranks : Ranks) (s : State) (members : List ℕ
   below : rank ranks (pool_of plan (job_at s number).class) < r
 
 -- a member at the end of a chain is queued
-queued_at_end : (plan : Plan) (ranks : Ranks) (s : State) (members : List ℕ) (r n : ℕ) (stage : Stage) → IsMember members n → (job_at s n).stage ≡ stage → WaitsAs plan s members n stage → IsChainEnd plan ranks s r n stage → QueuedBelow plan ranks s members r
+queued_at_end : (plan : Plan) (ranks : Ranks) (s : State) (members : List ℕ) (r n : ℕ) (stage : Stage) → IsMember members n → (job_at s n).stage ≡ stage → WaitsAtStage plan s members n stage → IsChainEnd plan ranks s r n stage → QueuedBelow plan ranks s members r
 queued_at_end plan ranks s members r n Stage.Queued member is_stage waits ends = record { number = n; member = member; queued = is_stage; below = ends }
 queued_at_end plan ranks s members r n (Stage.At i) member is_stage waits ends = absurd (ends waits.submit waits.stands)
 queued_at_end plan ranks s members r n Stage.Done member is_stage waits ends = absurd waits
@@ -137,14 +137,14 @@ queued_below plan ranks s members r j waiting member end =
 
 -- a member is not claimed
 member_unclaimed : (plan : Plan) (s : State) (members : List ℕ) (j : ℕ) → IsWaitingSet plan s members → IsMember members j → (job_at s j).stage ≢ Stage.Claimed
-member_unclaimed plan s members j waiting member claimed = subst (WaitsAs plan s members j) claimed (waiting.each j member)
+member_unclaimed plan s members j waiting member claimed = subst (WaitsAtStage plan s members j) claimed (waiting.each j member)
 
 -- in each pool, fewer jobs than core are at counted gets
 abbrev pub FewBlocked : Plan → Ranks → State → Type 0
 FewBlocked plan ranks s = (p : ℕ) → p < length plan.pools → blocked plan (is_counted plan ranks) s p < (pool_at plan p).core
 
 -- a running job in pool p
-record AtWork (plan : Plan) (p : ℕ) (job : Made) : Type 0 where
+record AtWork (plan : Plan) (p : ℕ) (job : CreatedJob) : Type 0 where
   position : ℕ
   stands : job.stage ≡ Stage.At position
   of_pool : pool_of plan job.class ≡ p
@@ -157,14 +157,14 @@ position_of Stage.Done at = absurd cc
 position_of Stage.Claimed at = absurd cc
 
 -- a running job of a pool belongs to the pool and is at a position
-at_work : (plan : Plan) (p : ℕ) (job : Made) → is_busy_in plan p job ≡ true → AtWork plan p job
+at_work : (plan : Plan) (p : ℕ) (job : CreatedJob) → is_busy_in plan p job ≡ true → AtWork plan p job
 at_work plan p job busy =
     let parts = and_parts (is_at job.stage) (eqb (pool_of plan job.class) p) busy in
     let at = position_of job.stage parts.0 in
     record { position = at.0; stands = at.1; of_pool = eqb-true (pool_of plan job.class) p parts.1 }
 
 -- a running job at a get that is not blocked is at an uncounted get
-uncounted_at : (plan : Plan) (ranks : Ranks) (p : ℕ) (job : Made) (i t : ℕ) → job.stage ≡ Stage.At i → pool_of plan job.class ≡ p → slice_get (class_at plan job.class).body i ≡ Some (action.Get t) → is_blocked_in plan (is_counted plan ranks) p job ≡ false → is_counted plan ranks job.class i ≡ false
+uncounted_at : (plan : Plan) (ranks : Ranks) (p : ℕ) (job : CreatedJob) (i t : ℕ) → job.stage ≡ Stage.At i → pool_of plan job.class ≡ p → slice_get (class_at plan job.class).body i ≡ Some (action.Get t) → is_blocked_in plan (is_counted plan ranks) p job ≡ false → is_counted plan ranks job.class i ≡ false
 uncounted_at plan ranks p job i t at of_pool is_next free =
     let counted = is_counted plan ranks in
     false_from_ne_true (counted job.class i)
@@ -174,11 +174,11 @@ uncounted_at plan ranks p job i t at of_pool is_next free =
     cc)
 
 -- below each queued member there is another one: its pool has a running job that is not blocked
-next_below : (plan : Plan) (ranks : Ranks) (s : State) (members : List ℕ) (n : ℕ) → HasValidBodies plan → RankLaws plan ranks → Kept plan s → FewBlocked plan ranks s → IsWaitingSet plan s members → IsMember members n → (job_at s n).stage ≡ Stage.Queued
+next_below : (plan : Plan) (ranks : Ranks) (s : State) (members : List ℕ) (n : ℕ) → HasValidBodies plan → RankLaws plan ranks → StateInvariant plan s → FewBlocked plan ranks s → IsWaitingSet plan s members → IsMember members n → (job_at s n).stage ≡ Stage.Queued
     → QueuedBelow plan ranks s members (rank ranks (pool_of plan (job_at s n).class))
 next_below plan ranks s members n ordered laws kept few waiting member queued =
     let p = pool_of plan (job_at s n).class in
-    let waits : WaitsInQueue plan s members n = subst (WaitsAs plan s members n) queued (waiting.each n member) in
+    let waits : WaitsInQueue plan s members n = subst (WaitsAtStage plan s members n) queued (waiting.each n member) in
     let inside = pool_of_made plan s n ordered kept (job_made s n (Queued≢Claimed queued)) in
     let at_core = (kept.pools p inside).core (queued_in_queue plan s n ordered kept queued) in
     let none_idle = waits.none_idle in
@@ -193,13 +193,13 @@ next_below plan ranks s members n ordered laws kept few waiting member queued =
     subst (λ (q : ℕ). QueuedBelow plan ranks s members (rank ranks q)) work.of_pool (queued_below plan ranks s members (rank ranks (pool_of plan (job_at s m).class)) m waiting is_member end)
 
 -- otherwise ranks would decrease forever
-none_below : (plan : Plan) (ranks : Ranks) (s : State) (members : List ℕ) (most r : ℕ) → HasValidBodies plan → RankLaws plan ranks → Kept plan s → FewBlocked plan ranks s → IsWaitingSet plan s members → r ≤ most → QueuedBelow plan ranks s members r → ⊥
+none_below : (plan : Plan) (ranks : Ranks) (s : State) (members : List ℕ) (most r : ℕ) → HasValidBodies plan → RankLaws plan ranks → StateInvariant plan s → FewBlocked plan ranks s → IsWaitingSet plan s members → r ≤ most → QueuedBelow plan ranks s members r → ⊥
 none_below plan ranks s members zero r ordered laws kept few waiting within found = omega (arith, found.below)
 none_below plan ranks s members (suc most) r ordered laws kept few waiting within found =
     none_below plan ranks s members most (rank ranks (pool_of plan (job_at s found.number).class)) ordered laws kept few waiting (omega (arith, found.below)) (next_below plan ranks s members found.number ordered laws kept few waiting found.member found.queued)
 
 -- no set of jobs waits only for its own members
-pub none_waits : (plan : Plan) (ranks : Ranks) (s : State) (members : List ℕ) → HasValidBodies plan → RankLaws plan ranks → Kept plan s → FewBlocked plan ranks s → ¬ IsWaitingSet plan s members
+pub none_waits : (plan : Plan) (ranks : Ranks) (s : State) (members : List ℕ) → HasValidBodies plan → RankLaws plan ranks → StateInvariant plan s → FewBlocked plan ranks s → ¬ IsWaitingSet plan s members
 none_waits plan ranks s members ordered laws kept few waiting =
     let first = waiting.first in
     let r = reach ranks (job_at s first).class + 1 in

@@ -10,7 +10,7 @@ use Rattle.job_bodies.specs.declared.action.Action.TheVariants as action
 use Rattle.job_bodies.specs.Plan.{Plan, submits, class_of_submit, class_at, submitted_class}
 use Rattle.job_bodies.specs.ValidBody.{IsValidBody}
 use Rattle.job_bodies.proofs.Bodies.{HasValidBodies, ordered}
-use Rattle.written_machine.proofs.KeptActors.{no_get}
+use Rattle.written_machine.proofs.ActorInvariants.{no_get}
 use Rattle.weights.specs.declared.get_return.GetReturn.{GetReturn}
 use Rattle.weights.specs.declared.get_return.GetReturn.TheVariants.{DoneWeight, NoWeight}
 use Rattle.weights.specs.Vector.{Vector, queued_weight, job_weight, done_weight}

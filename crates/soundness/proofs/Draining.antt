@@ -10,15 +10,15 @@ use Rattle.written_machine.specs.declared.parent.Parent.TheVariants as parent
 use Rattle.written_machine.specs.declared.event.Event.{Event}
 use Rattle.written_machine.specs.declared.event.Event.TheVariants as event
 use Rattle.written_machine.specs.declared.event.Outcome.{Outcome}
-use Rattle.written_machine.specs.State.{Stage, State, Made, no_job, job_at, pool_part, pool_of}
+use Rattle.written_machine.specs.State.{Stage, State, CreatedJob, no_job, job_at, pool_part, pool_of}
 use Rattle.written_machine.specs.Step.{with_stage, with_position, new_job, finished_job}
 use Rattle.written_machine.specs.Safe.{is_of_job_or_pool}
-use Rattle.written_machine.proofs.Events.{StandsAt, event_of, with_part, Happens, works, starts, queues, is_refused, gets, finishes, loops, takes, retires}
-use Rattle.written_machine.proofs.Standing.{stage_of_standing, job_made, standing_made}
-use Rattle.written_machine.proofs.Kept.{Kept}
+use Rattle.written_machine.proofs.Events.{IsAtAction, event_of, with_part, Happens, works, starts, queues, is_refused, gets, finishes, loops, takes, retires}
+use Rattle.written_machine.proofs.Positions.{stage_of_standing, job_made, standing_made}
+use Rattle.written_machine.proofs.StateInvariant.{StateInvariant}
 use Rattle.written_machine.proofs.Stages.{staged}
 use Rattle.written_machine.proofs.Queues.{head_of_queue}
-use Rattle.written_machine.proofs.KeptStep.{done_still}
+use Rattle.written_machine.proofs.InvariantStep.{done_still}
 use Rattle.weights.specs.Ranks.{Ranks, level}
 use Rattle.soundness.specs.Drain.{of_submit, full_within, full, FullIsWhole, FullIsOfThePlan, stage_todo, todo, is_of_no_client}
 use Rattle.soundness.proofs.RankLaws.{RankLaws, rank_laws}
@@ -82,20 +82,20 @@ full_is_of_the_plan plan ranks ranks' k hold hold' = full_is_of_plan plan ranks 
 -- ---- the remaining work after a change of the jobs
 
 -- the remaining work of these jobs
-abbrev jobs_todo : Plan → Ranks → List Made → ℕ
-jobs_todo plan ranks jobs = sum_by (λ (job : Made). stage_todo plan ranks job.class job.stage) jobs
+abbrev jobs_todo : Plan → Ranks → List CreatedJob → ℕ
+jobs_todo plan ranks jobs = sum_by (λ (job : CreatedJob). stage_todo plan ranks job.class job.stage) jobs
 
 -- the remaining work changes by the difference of the two stages
-jobs_todo-staged : (plan : Plan) (ranks : Ranks) (jobs : List Made) (j : ℕ) (stage was : Stage) → j < length jobs → (get_or jobs j no_job).stage ≡ was
+jobs_todo-staged : (plan : Plan) (ranks : Ranks) (jobs : List CreatedJob) (j : ℕ) (stage was : Stage) → j < length jobs → (get_or jobs j no_job).stage ≡ was
     → jobs_todo plan ranks (staged jobs j stage) + stage_todo plan ranks (get_or jobs j no_job).class was ≡ jobs_todo plan ranks jobs + stage_todo plan ranks (get_or jobs j no_job).class stage
 jobs_todo-staged plan ranks jobs j stage was inside e =
     let job = get_or jobs j no_job in
     ap (λ (old : Stage). jobs_todo plan ranks (staged jobs j stage) + stage_todo plan ranks job.class old) (sym e)
-    ∙ sum_by-set (λ (x : Made). stage_todo plan ranks x.class x.stage) jobs j (record job { stage = stage }) no_job inside
+    ∙ sum_by-set (λ (x : CreatedJob). stage_todo plan ranks x.class x.stage) jobs j (record job { stage = stage }) no_job inside
 
 -- a new job adds its remaining work
-jobs_todo_push : (plan : Plan) (ranks : Ranks) (jobs : List Made) (job : Made) → jobs_todo plan ranks (jobs ++ job ∷ []) ≡ jobs_todo plan ranks jobs + stage_todo plan ranks job.class job.stage
-jobs_todo_push plan ranks jobs job = sum_by_push (λ (x : Made). stage_todo plan ranks x.class x.stage) jobs job
+jobs_todo_push : (plan : Plan) (ranks : Ranks) (jobs : List CreatedJob) (job : CreatedJob) → jobs_todo plan ranks (jobs ++ job ∷ []) ≡ jobs_todo plan ranks jobs + stage_todo plan ranks job.class job.stage
+jobs_todo_push plan ranks jobs job = sum_by_push (λ (x : CreatedJob). stage_todo plan ranks x.class x.stage) jobs job
 
 -- before an action, the remaining work is that action, the jobs that it submits, and the rest
 todo_before : (plan : Plan) (ranks : Ranks) (k i : ℕ) (x : Action) → slice_get (class_at plan k).body i ≡ Some x → stage_todo plan ranks k (Stage.At i) ≡ stage_todo plan ranks k (Stage.At (i + 1)) + 1 + of_submit (full plan ranks) x
@@ -106,7 +106,7 @@ todo_before plan ranks k i x e =
     omega (arith, now, sum_by-drop_more (of_submit (full plan ranks)) body i x inside)
 
 -- passing an action reduces the remaining work by that amount
-pub todo-passed : (plan : Plan) (ranks : Ranks) (s : State) (j : ℕ) (body : List Action) (i : ℕ) (x : Action) → StandsAt plan s (parent.Job j) body i (Some x)
+pub todo-passed : (plan : Plan) (ranks : Ranks) (s : State) (j : ℕ) (body : List Action) (i : ℕ) (x : Action) → IsAtAction plan s (parent.Job j) body i (Some x)
     → todo plan ranks (with_position (parent.Job j) (i + 1) s) + 1 + of_submit (full plan ranks) x ≡ todo plan ranks s
 todo-passed plan ranks s j body i x at =
     let k = (job_at s j).class in
@@ -125,7 +125,7 @@ abbrev HasLess : Plan → Ranks → State → State → Type 0
 HasLess plan ranks s s' = todo plan ranks s' + 1 ≤ todo plan ranks s
 
 -- a job at a get passes one action
-lowers_gets : (plan : Plan) (ranks : Ranks) (s : State) (n : ℕ) (body : List Action) (i t j : ℕ) → StandsAt plan s (parent.Job n) body i (Some (action.Get t)) → (job_at s j).stage ≡ Stage.Done → HasLess plan ranks s (with_stage j Stage.Claimed (with_position (parent.Job n) (i + 1) s))
+lowers_gets : (plan : Plan) (ranks : Ranks) (s : State) (n : ℕ) (body : List Action) (i t j : ℕ) → IsAtAction plan s (parent.Job n) body i (Some (action.Get t)) → (job_at s j).stage ≡ Stage.Done → HasLess plan ranks s (with_stage j Stage.Claimed (with_position (parent.Job n) (i + 1) s))
 lowers_gets plan ranks s n body i t j at done =
     let moved : State = with_position (parent.Job n) (i + 1) s in
     let still : (job_at moved j).stage ≡ Stage.Done = done_still plan s (parent.Job n) body i (i + 1) j at.stands done in
@@ -133,7 +133,7 @@ lowers_gets plan ranks s n body i t j at done =
     omega (arith, todo-passed plan ranks s n body i (action.Get t) at, jobs_todo-staged plan ranks moved.jobs j Stage.Claimed Stage.Done inside still)
 
 -- a job that finishes performs its end
-lowers_finishes : (plan : Plan) (ranks : Ranks) (s : State) (j : ℕ) (body : List Action) (i : ℕ) → Kept plan s → StandsAt plan s (parent.Job j) body i None → HasLess plan ranks s (finished_job plan s j (pool_of plan (job_at s j).class))
+lowers_finishes : (plan : Plan) (ranks : Ranks) (s : State) (j : ℕ) (body : List Action) (i : ℕ) → StateInvariant plan s → IsAtAction plan s (parent.Job j) body i None → HasLess plan ranks s (finished_job plan s j (pool_of plan (job_at s j).class))
 lowers_finishes plan ranks s j body i kept at =
     let k = (job_at s j).class in
     let was = stage_of_standing plan k (job_at s j).stage body i at.stands in
@@ -142,13 +142,13 @@ lowers_finishes plan ranks s j body i kept at =
     omega (arith, jobs_todo-staged plan ranks s.jobs j Stage.Done (Stage.At i) (standing_made plan s j body i at.stands) was.0)
 
 -- a job that is taken performs its take
-lowers_takes : (plan : Plan) (ranks : Ranks) (s : State) (p j : ℕ) (queue : List ℕ) (idle : ℕ) → RankLaws plan ranks → Kept plan s → (pool_part s p).queue ≡ j ∷ queue → HasLess plan ranks s (with_part p queue idle (with_stage j (Stage.At 0) s))
+lowers_takes : (plan : Plan) (ranks : Ranks) (s : State) (p j : ℕ) (queue : List ℕ) (idle : ℕ) → RankLaws plan ranks → StateInvariant plan s → (pool_part s p).queue ≡ j ∷ queue → HasLess plan ranks s (with_part p queue idle (with_stage j (Stage.At 0) s))
 lowers_takes plan ranks s p j queue idle laws kept is_queue =
     let head = head_of_queue plan s p j queue kept is_queue in
     omega (arith, todo_taken plan ranks (job_at s j).class laws, jobs_todo-staged plan ranks s.jobs j (Stage.At 0) Stage.Queued head.inside head.queued)
 
 -- every job event and every take
-pub lowers : (plan : Plan) (ranks : Ranks) (s s' : State) (o : Outcome) (e : Event) → RankLaws plan ranks → Kept plan s → s.refusals ≡ 0 → s'.refusals ≡ 0 → is_of_job_or_pool e ≡ true → Happens plan s e s' o → todo plan ranks s' + 1 ≤ todo plan ranks s
+pub lowers : (plan : Plan) (ranks : Ranks) (s s' : State) (o : Outcome) (e : Event) → RankLaws plan ranks → StateInvariant plan s → s.refusals ≡ 0 → s'.refusals ≡ 0 → is_of_job_or_pool e ≡ true → Happens plan s e s' o → todo plan ranks s' + 1 ≤ todo plan ranks s
 lowers plan ranks s s' o e laws kept none none' of_job_or_pool (works (parent.Client c) body i u at) = absurd cc
 lowers plan ranks s s' o e laws kept none none' of_job_or_pool (works (parent.Job j) body i u at) = omega (arith, todo-passed plan ranks s j body i (action.Work u) at)
 lowers plan ranks s s' o e laws kept none none' of_job_or_pool (starts (parent.Client c) body i k at below) = absurd cc

@@ -14,10 +14,10 @@ use Rattle.written_machine.specs.declared.event.Event.{Event}
 use Rattle.written_machine.specs.declared.event.Event.TheVariants as event
 use Rattle.written_machine.specs.declared.event.Outcome.{Outcome}
 use Rattle.written_machine.specs.State.{State, same_parent, pool_part, pool_of, threads}
-use Rattle.written_machine.specs.Step.{Point, point, acted, submitted, stepped, step}
-use Rattle.written_machine.proofs.Events.{StandsAt, event_of, Happens, starts, queues, happens}
+use Rattle.written_machine.specs.Step.{Point, point, step_action, submitted, step_at_point, step}
+use Rattle.written_machine.proofs.Events.{IsAtAction, event_of, Happens, starts, queues, happens}
 use Rattle.written_machine.proofs.Children.{same_actor_true}
-use Rattle.written_machine.proofs.KeptSubmits.{class_exists}
+use Rattle.written_machine.proofs.InvariantSubmits.{class_exists}
 use Rattle.soundness.specs.Execute.{Call, JavaState, is_calling, without_calls_of, answers, checks_core, offers_job, requests_thread, executes, Submission, submission_at, submission_of, submission, as_atomic, java_stepped, java_step}
 
 -- ---- calls
@@ -47,18 +47,18 @@ pub data JavaHappens (plan : Plan) (s : JavaState) : Event → JavaState → Typ
   -- an event that is not part of a submit
   is_atomic : (e : Event) (after : State) (o : Outcome) → submission plan s.machine e ≡ None → Happens plan s.machine e after o → JavaHappens plan s e (record s { machine = after })
   -- the end of a submit
-  ends : (a : Parent) (body : List Action) (i k : ℕ) (after : State) (o : Outcome) → StandsAt plan s.machine a body i (Some (action.Submit k)) → Happens plan s.machine (event_of a) after o
+  ends : (a : Parent) (body : List Action) (i k : ℕ) (after : State) (o : Outcome) → IsAtAction plan s.machine a body i (Some (action.Submit k)) → Happens plan s.machine (event_of a) after o
       → JavaHappens plan s (event_of a) (record { machine = after; offering = without_calls_of a s.offering; requesting = without_calls_of a s.requesting })
   -- a submit finds core threads
-  finds_core : (a : Parent) (body : List Action) (i k : ℕ) → StandsAt plan s.machine a body i (Some (action.Submit k)) → is_calling s.requesting a (pool_of plan k) ≡ false → is_calling s.offering a (pool_of plan k) ≡ false
+  finds_core : (a : Parent) (body : List Action) (i k : ℕ) → IsAtAction plan s.machine a body i (Some (action.Submit k)) → is_calling s.requesting a (pool_of plan k) ≡ false → is_calling s.offering a (pool_of plan k) ≡ false
       → (pool_at plan (pool_of plan k)).core ≤ threads plan s.machine (pool_of plan k)
       → JavaHappens plan s (event_of a) (record s { offering = record { actor = a; pool = pool_of plan k } ∷ s.offering })
   -- it then finds a full queue
-  finds_full : (a : Parent) (body : List Action) (i k : ℕ) → StandsAt plan s.machine a body i (Some (action.Submit k)) → is_calling s.requesting a (pool_of plan k) ≡ false
+  finds_full : (a : Parent) (body : List Action) (i k : ℕ) → IsAtAction plan s.machine a body i (Some (action.Submit k)) → is_calling s.requesting a (pool_of plan k) ≡ false
       → (pool_at plan (pool_of plan k)).queue ≤ length (pool_part s.machine (pool_of plan k)).queue
       → JavaHappens plan s (event_of a) (record s { offering = without_calls_of a s.offering; requesting = record { actor = a; pool = pool_of plan k } ∷ s.requesting })
   -- it then finds that all threads exist
-  finds_all : (a : Parent) (body : List Action) (i k : ℕ) → StandsAt plan s.machine a body i (Some (action.Submit k)) → is_calling s.requesting a (pool_of plan k) ≡ true
+  finds_all : (a : Parent) (body : List Action) (i k : ℕ) → IsAtAction plan s.machine a body i (Some (action.Submit k)) → is_calling s.requesting a (pool_of plan k) ≡ true
       → (pool_at plan (pool_of plan k)).max ≤ threads plan s.machine (pool_of plan k)
       → JavaHappens plan s (event_of a) (answers plan s a i k offer.Refused)
 
@@ -69,7 +69,7 @@ abbrev pub OfferAtCore : Plan → JavaState → Type 0
 OfferAtCore plan s = (a : Parent) (p : ℕ) → p < length plan.pools → is_calling s.offering a p ≡ true → (pool_at plan p).core ≤ threads plan s.machine p
 
 -- the check
-checks_core_happens : (plan : Plan) (s : JavaState) (a : Parent) (body : List Action) (i k : ℕ) → StandsAt plan s.machine a body i (Some (action.Submit k)) → is_calling s.requesting a (pool_of plan k) ≡ false → is_calling s.offering a (pool_of plan k) ≡ false
+checks_core_happens : (plan : Plan) (s : JavaState) (a : Parent) (body : List Action) (i k : ℕ) → IsAtAction plan s.machine a body i (Some (action.Submit k)) → is_calling s.requesting a (pool_of plan k) ≡ false → is_calling s.offering a (pool_of plan k) ≡ false
     → (below : Bool) → ltb (threads plan s.machine (pool_of plan k)) (pool_at plan (pool_of plan k)).core ≡ below
     → JavaHappens plan s (event_of a) (cond below (answers plan s a i k offer.Started) (record s { offering = record { actor = a; pool = pool_of plan k } ∷ s.offering }))
 checks_core_happens plan s a body i k at not_requesting not_offering true is_below =
@@ -78,7 +78,7 @@ checks_core_happens plan s a body i k at not_requesting not_offering false is_be
     finds_core a body i k at not_requesting not_offering (ltb-false (threads plan s.machine (pool_of plan k)) (pool_at plan (pool_of plan k)).core is_below)
 
 -- the offer
-offers_job_happens : (plan : Plan) (s : JavaState) (a : Parent) (body : List Action) (i k : ℕ) → StandsAt plan s.machine a body i (Some (action.Submit k)) → is_calling s.requesting a (pool_of plan k) ≡ false → (pool_at plan (pool_of plan k)).core ≤ threads plan s.machine (pool_of plan k)
+offers_job_happens : (plan : Plan) (s : JavaState) (a : Parent) (body : List Action) (i k : ℕ) → IsAtAction plan s.machine a body i (Some (action.Submit k)) → is_calling s.requesting a (pool_of plan k) ≡ false → (pool_at plan (pool_of plan k)).core ≤ threads plan s.machine (pool_of plan k)
     → (room : Bool) → ltb (length (pool_part s.machine (pool_of plan k)).queue) (pool_at plan (pool_of plan k)).queue ≡ room
     → JavaHappens plan s (event_of a) (cond room (answers plan s a i k offer.Queued) (record s { offering = without_calls_of a s.offering; requesting = record { actor = a; pool = pool_of plan k } ∷ s.requesting }))
 offers_job_happens plan s a body i k at not_requesting at_core true has_room =
@@ -87,7 +87,7 @@ offers_job_happens plan s a body i k at not_requesting at_core false has_room =
     finds_full a body i k at not_requesting (ltb-false (length (pool_part s.machine (pool_of plan k)).queue) (pool_at plan (pool_of plan k)).queue has_room)
 
 -- the request for a thread
-requests_thread_happens : (plan : Plan) (s : JavaState) (a : Parent) (body : List Action) (i k : ℕ) → StandsAt plan s.machine a body i (Some (action.Submit k)) → is_calling s.requesting a (pool_of plan k) ≡ true
+requests_thread_happens : (plan : Plan) (s : JavaState) (a : Parent) (body : List Action) (i k : ℕ) → IsAtAction plan s.machine a body i (Some (action.Submit k)) → is_calling s.requesting a (pool_of plan k) ≡ true
     → (below : Bool) → ltb (threads plan s.machine (pool_of plan k)) (pool_at plan (pool_of plan k)).max ≡ below → JavaHappens plan s (event_of a) (answers plan s a i k (cond below offer.Started offer.Refused))
 requests_thread_happens plan s a body i k at requesting true is_below =
     ends a body i k _ _ at (starts a body i k at (inl (ltb-true (threads plan s.machine (pool_of plan k)) (pool_at plan (pool_of plan k)).max is_below)))
@@ -95,7 +95,7 @@ requests_thread_happens plan s a body i k at requesting false is_below =
     finds_all a body i k at requesting (ltb-false (threads plan s.machine (pool_of plan k)) (pool_at plan (pool_of plan k)).max is_below)
 
 -- the next of these steps
-executes_happens : (plan : Plan) (s : JavaState) (a : Parent) (body : List Action) (i k : ℕ) → HasValidBodies plan → OfferAtCore plan s → StandsAt plan s.machine a body i (Some (action.Submit k))
+executes_happens : (plan : Plan) (s : JavaState) (a : Parent) (body : List Action) (i k : ℕ) → HasValidBodies plan → OfferAtCore plan s → IsAtAction plan s.machine a body i (Some (action.Submit k))
     → (requesting offering : Bool) → is_calling s.requesting a (pool_of plan k) ≡ requesting → is_calling s.offering a (pool_of plan k) ≡ offering
     → JavaHappens plan s (event_of a) (cond requesting (requests_thread plan s a i k) (cond offering (offers_job plan s a i k) (checks_core plan s a i k)))
 executes_happens plan s a body i k ordered at_core at true offering is_requesting is_offering =
@@ -111,9 +111,9 @@ executes_happens plan s a body i k ordered at_core at false false is_requesting 
 -- the actor of the event is at this submit
 pub record IsSubmission (plan : Plan) (s : State) (e : Event) (x : Submission) : Type 0 where
   pub body : List Action
-  pub at : StandsAt plan s x.actor body x.position (Some (action.Submit x.class))
+  pub at : IsAtAction plan s x.actor body x.position (Some (action.Submit x.class))
   pub same : event_of x.actor ≡ e
-  pub stepping : stepped plan s x.actor (point plan s x.actor) ≡ Some (submitted plan s x.actor x.position x.class)
+  pub stepping : step_at_point plan s x.actor (point plan s x.actor) ≡ Some (submitted plan s x.actor x.position x.class)
 
 at_action : (plan : Plan) (s : State) (a : Parent) (at : Point) (there : Option Action) (x : Submission) → point plan s a ≡ Some at → slice_get at.body at.position ≡ there → submission_at a at.position there ≡ Some x → IsSubmission plan s (event_of a) x
 at_action plan s a at None x stands is_there is_one = absurd (none-some x is_one)
@@ -124,7 +124,7 @@ at_action plan s a at (Some (action.Submit k)) x stands is_there is_one =
       body = at.body;
       at = record { stands = stands; is_there = is_there };
       same = refl;
-      stepping = ap (stepped plan s a) stands ∙ ap (acted plan s a at.position) is_there;
+      stepping = ap (step_at_point plan s a) stands ∙ ap (step_action plan s a at.position) is_there;
     })
 at_action plan s a at (Some (action.Get t)) x stands is_there is_one = absurd (none-some x is_one)
 

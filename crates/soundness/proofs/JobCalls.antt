@@ -10,11 +10,11 @@ use Rattle.written_machine.specs.declared.parent.Parent.TheVariants as parent
 use Rattle.written_machine.specs.declared.event.Event.{Event}
 use Rattle.written_machine.specs.declared.event.Event.TheVariants as event
 use Rattle.written_machine.specs.declared.event.Outcome.{Outcome}
-use Rattle.written_machine.specs.State.{Stage, State, Made, no_job, same_parent, job_at, pool_of}
+use Rattle.written_machine.specs.State.{Stage, State, CreatedJob, no_job, same_parent, job_at, pool_of}
 use Rattle.written_machine.specs.Step.{point_of_job, moved_jobs, new_job}
-use Rattle.written_machine.proofs.Events.{StandsAt, event_of, Happens, works, starts, queues, is_refused, gets, finishes, loops, takes, retires}
-use Rattle.written_machine.proofs.Standing.{stage_of_standing, job_made}
-use Rattle.written_machine.proofs.Kept.{Kept}
+use Rattle.written_machine.proofs.Events.{IsAtAction, event_of, Happens, works, starts, queues, is_refused, gets, finishes, loops, takes, retires}
+use Rattle.written_machine.proofs.Positions.{stage_of_standing, job_made}
+use Rattle.written_machine.proofs.StateInvariant.{StateInvariant}
 use Rattle.written_machine.proofs.Stages.{length-moved, get_or-staged_other}
 use Rattle.written_machine.proofs.Queues.{head_of_queue}
 use Rattle.written_machine.proofs.Children.{same_actor_refl}
@@ -24,7 +24,7 @@ use Rattle.soundness.proofs.JavaEvents.{JavaHappens, is_atomic, ends, finds_core
 -- ---- jobs at a submit
 
 -- the job is at a submit to the pool
-pub record StandsBefore (plan : Plan) (job : Made) (p : ℕ) : Type 0 where
+pub record StandsBefore (plan : Plan) (job : CreatedJob) (p : ℕ) : Type 0 where
   pub position : ℕ
   pub submitted : ℕ
   pub stage : job.stage ≡ Stage.At position
@@ -32,7 +32,7 @@ pub record StandsBefore (plan : Plan) (job : Made) (p : ℕ) : Type 0 where
   pub to_pool : p ≡ pool_of plan submitted
 
 -- a job at a submit
-pub stands_before : (plan : Plan) (s : State) (n : ℕ) (body : List Action) (i k : ℕ) → StandsAt plan s (parent.Job n) body i (Some (action.Submit k)) → StandsBefore plan (job_at s n) (pool_of plan k)
+pub stands_before : (plan : Plan) (s : State) (n : ℕ) (body : List Action) (i k : ℕ) → IsAtAction plan s (parent.Job n) body i (Some (action.Submit k)) → StandsBefore plan (job_at s n) (pool_of plan k)
 stands_before plan s n body i k at =
     let was = stage_of_standing plan (job_at s n).class (job_at s n).stage body i at.stands in
     record { position = i; submitted = k; stage = was.0; submits = ap (λ (b : List Action). slice_get b i) (sym was.1) ∙ at.is_there; to_pool = refl }
@@ -50,7 +50,7 @@ moved_leaves s (parent.Client c) i n other = refl
 moved_leaves s (parent.Job m) i n other = get_or-set_other s.jobs m n (record (job_at s m) { stage = Stage.At i }) no_job (λ (same : n ≡ m). other (ap parent.Job (sym same)))
 
 -- the submit of another actor
-pub pushed_leaves : (s : State) (a : Parent) (i n : ℕ) (job : Made) → n < length s.jobs → a ≢ parent.Job n → get_or (moved_jobs a i s ++ job ∷ []) n no_job ≡ job_at s n
+pub pushed_leaves : (s : State) (a : Parent) (i n : ℕ) (job : CreatedJob) → n < length s.jobs → a ≢ parent.Job n → get_or (moved_jobs a i s ++ job ∷ []) n no_job ≡ job_at s n
 pushed_leaves s a i n job inside other = get_or_append_left (moved_jobs a i s) (job ∷ []) no_job n (omega (arith, length-moved s a i)) ∙ moved_leaves s a i n other
 
 -- the actors of different events are different
@@ -58,7 +58,7 @@ other_actor : (a : Parent) (n : ℕ) → event_of a ≢ event.Job n → a ≢ pa
 other_actor a n other same = other (ap event_of same)
 
 -- an event of another actor leaves the job unchanged
-leaves : (plan : Plan) (s s' : State) (o : Outcome) (n i : ℕ) {e : Event} → Kept plan s → (job_at s n).stage ≡ Stage.At i → e ≢ event.Job n → Happens plan s e s' o → job_at s' n ≡ job_at s n
+leaves : (plan : Plan) (s s' : State) (o : Outcome) (n i : ℕ) {e : Event} → StateInvariant plan s → (job_at s n).stage ≡ Stage.At i → e ≢ event.Job n → Happens plan s e s' o → job_at s' n ≡ job_at s n
 leaves plan s s' o n i kept at other (works a body i' u standing) = moved_leaves s a (i' + 1) n (other_actor a n other)
 leaves plan s s' o n i kept at other (starts a body i' k standing below) = pushed_leaves s a (i' + 1) n (new_job k a i' (Stage.At 0)) (job_made s n (λ claimed. cc)) (other_actor a n other)
 leaves plan s s' o n i kept at other (queues a body i' k standing at_core room) = pushed_leaves s a (i' + 1) n (new_job k a i' Stage.Queued) (job_made s n (λ claimed. cc)) (other_actor a n other)
@@ -74,8 +74,8 @@ leaves plan s s' o n i kept at other (takes p j queue idle is_queue is_idle) =
 leaves plan s s' o n i kept at other (retires p idle is_idle above_core) = refl
 
 -- the job remains at its submit
-still_before : (plan : Plan) (s s' : State) (o : Outcome) (n p : ℕ) {e : Event} → Kept plan s → e ≢ event.Job n → Happens plan s e s' o → StandsBefore plan (job_at s n) p → StandsBefore plan (job_at s' n) p
-still_before plan s s' o n p kept other happened before = subst (λ (job : Made). StandsBefore plan job p) (sym (leaves plan s s' o n before.position kept before.stage other happened)) before
+still_before : (plan : Plan) (s s' : State) (o : Outcome) (n p : ℕ) {e : Event} → StateInvariant plan s → e ≢ event.Job n → Happens plan s e s' o → StandsBefore plan (job_at s n) p → StandsBefore plan (job_at s' n) p
+still_before plan s s' o n p kept other happened before = subst (λ (job : CreatedJob). StandsBefore plan job p) (sym (leaves plan s s' o n before.position kept before.stage other happened)) before
 
 -- ---- the calls of jobs
 
@@ -92,7 +92,7 @@ pub job_calls_start : (plan : Plan) (s : State) → JobCalls plan (record { mach
 job_calls_start plan s = record { offering = λ n p is_there. absurd (false≢true is_there); requesting = λ n p is_there. absurd (false≢true is_there) }
 
 -- after an event that is not part of a submit
-before_atomic : (plan : Plan) (s s' : State) (o : Outcome) (e : Event) (calls : List Call) → Kept plan s → submission plan s e ≡ None → Happens plan s e s' o → AreBefore plan s calls → AreBefore plan s' calls
+before_atomic : (plan : Plan) (s s' : State) (o : Outcome) (e : Event) (calls : List Call) → StateInvariant plan s → submission plan s e ≡ None → Happens plan s e s' o → AreBefore plan s calls → AreBefore plan s' calls
 before_atomic plan s s' o e calls kept none happened before n p is_there =
     let standing = before n p is_there in
     still_before plan s s' o n p kept
@@ -100,7 +100,7 @@ before_atomic plan s s' o e calls kept none happened before n p is_there =
     happened standing
 
 -- the calls of the others, after the end of a submit
-before_end : (plan : Plan) (s s' : State) (o : Outcome) (a : Parent) (calls : List Call) → Kept plan s → Happens plan s (event_of a) s' o → AreBefore plan s calls → AreBefore plan s' (without_calls_of a calls)
+before_end : (plan : Plan) (s s' : State) (o : Outcome) (a : Parent) (calls : List Call) → StateInvariant plan s → Happens plan s (event_of a) s' o → AreBefore plan s calls → AreBefore plan s' (without_calls_of a calls)
 before_end plan s s' o a calls kept happened before n p is_there =
     let call = call_of_others a (parent.Job n) p calls is_there in
     still_before plan s s' o n p kept (own_event a n call.1) happened (before n p call.0)
@@ -112,17 +112,17 @@ before_end plan s s' o a calls kept happened before n p is_there =
         absurd (false≢true (sym other ∙ ap (λ (x : ℕ). same_parent (parent.Job x) (parent.Job n)) one ∙ same_actor_refl (parent.Job n)))
 
 -- the calls of the others, and one more of an actor at a submit
-before_more : (plan : Plan) (s : State) (a : Parent) (body : List Action) (i k : ℕ) (calls : List Call) → StandsAt plan s a body i (Some (action.Submit k)) → AreBefore plan s calls → AreBefore plan s (record { actor = a; pool = pool_of plan k } ∷ calls)
+before_more : (plan : Plan) (s : State) (a : Parent) (body : List Action) (i k : ℕ) (calls : List Call) → IsAtAction plan s a body i (Some (action.Submit k)) → AreBefore plan s calls → AreBefore plan s (record { actor = a; pool = pool_of plan k } ∷ calls)
 before_more plan s a body i k calls at before n p is_there =
     ⊎_elim
     (λ here.
-    let standing = stands_before plan s n body i k (subst (λ (b : Parent). StandsAt plan s b body i (Some (action.Submit k))) (sym here.0) at) in
+    let standing = stands_before plan s n body i k (subst (λ (b : Parent). IsAtAction plan s b body i (Some (action.Submit k))) (sym here.0) at) in
     subst (StandsBefore plan (job_at s n)) (sym here.1) standing)
     (λ earlier. before n p earlier)
     (one_more (record { actor = a; pool = pool_of plan k }) calls (parent.Job n) p is_there)
 
 -- every event preserves this
-pub job_calls_step : (plan : Plan) (s s' : JavaState) {e : Event} → Kept plan s.machine → s'.machine.refusals ≡ s.machine.refusals → JobCalls plan s → JavaHappens plan s e s' → JobCalls plan s'
+pub job_calls_step : (plan : Plan) (s s' : JavaState) {e : Event} → StateInvariant plan s.machine → s'.machine.refusals ≡ s.machine.refusals → JobCalls plan s → JavaHappens plan s e s' → JobCalls plan s'
 job_calls_step plan s s' kept as_many calls (is_atomic e after o none happened) = record {
   offering = before_atomic plan s.machine after o e s.offering kept none happened calls.offering;
   requesting = before_atomic plan s.machine after o e s.requesting kept none happened calls.requesting;

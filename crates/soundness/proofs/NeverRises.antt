@@ -14,15 +14,15 @@ use Rattle.written_machine.specs.declared.parent.Parent.{Parent}
 use Rattle.written_machine.specs.declared.parent.Parent.TheVariants as parent
 use Rattle.written_machine.specs.declared.event.Event.{Event}
 use Rattle.written_machine.specs.declared.event.Outcome.{Outcome}
-use Rattle.written_machine.specs.State.{Stage, State, Made, no_job, no_client_state, job_at, client_state, pool_part, pool_of, is_at, child}
+use Rattle.written_machine.specs.State.{Stage, State, CreatedJob, no_job, no_client_state, job_at, client_state, pool_part, pool_of, is_at, child}
 use Rattle.written_machine.specs.Step.{point, with_stage, with_position, with_job, new_job, finished_job}
 use Rattle.written_machine.specs.Reach.{new_clients, start}
-use Rattle.written_machine.proofs.Events.{StandsAt, with_part, queued_state, Happens, works, starts, queues, is_refused, gets, finishes, loops, takes, retires}
-use Rattle.written_machine.proofs.Standing.{stage_of_standing, job_made, standing_made, client_standing, job_at-with_position}
-use Rattle.written_machine.proofs.Kept.{Kept}
+use Rattle.written_machine.proofs.Events.{IsAtAction, with_part, queued_state, Happens, works, starts, queues, is_refused, gets, finishes, loops, takes, retires}
+use Rattle.written_machine.proofs.Positions.{stage_of_standing, job_made, standing_made, client_standing, job_at-with_position}
+use Rattle.written_machine.proofs.StateInvariant.{StateInvariant}
 use Rattle.written_machine.proofs.Stages.{staged}
 use Rattle.written_machine.proofs.Queues.{head_of_queue}
-use Rattle.written_machine.proofs.KeptSubmits.{class_exists}
+use Rattle.written_machine.proofs.InvariantSubmits.{class_exists}
 use Rattle.written_machine.proofs.ReachedLaws.{child_at_get}
 use Rattle.weights.specs.declared.get_return.GetReturn.{GetReturn}
 use Rattle.weights.specs.declared.get_return.GetReturn.TheVariants.{DoneWeight, NoWeight}
@@ -34,8 +34,8 @@ use Rattle.soundness.proofs.VectorLaws.{BodyLaws, VectorLaws}
 -- ---- the parts of the weight
 
 -- the weight of jobs
-abbrev pub jobs_weight : GetReturn → Plan → Vector → List Made → ℕ
-jobs_weight get_return plan v jobs = sum_by (λ (job : Made). stage_weight get_return plan v job.class job.stage) jobs
+abbrev pub jobs_weight : GetReturn → Plan → Vector → List CreatedJob → ℕ
+jobs_weight get_return plan v jobs = sum_by (λ (job : CreatedJob). stage_weight get_return plan v job.class job.stage) jobs
 
 -- the weight of the clients and jobs
 abbrev pub actors_weight : GetReturn → Plan → Vector → State → ℕ
@@ -46,8 +46,8 @@ abbrev pub worker_weight : Plan → Vector → ℕ → Stage → ℕ
 worker_weight plan v k stage = cond (is_at stage) (workers_weight v (pool_of plan k)) 0
 
 -- the weight of the workers of those of these jobs that are at a position
-abbrev pub workers_weight_of_jobs : Plan → Vector → List Made → ℕ
-workers_weight_of_jobs plan v jobs = sum_by (λ (job : Made). worker_weight plan v job.class job.stage) jobs
+abbrev pub workers_weight_of_jobs : Plan → Vector → List CreatedJob → ℕ
+workers_weight_of_jobs plan v jobs = sum_by (λ (job : CreatedJob). worker_weight plan v job.class job.stage) jobs
 
 -- the weight of the workers of all jobs that are at a position
 abbrev pub busy_workers_weight : Plan → Vector → State → ℕ
@@ -81,20 +81,20 @@ balanced_start get_return plan v =
 -- ---- a job changes its stage
 
 -- the weight of the jobs changes by the difference of the two stages
-pub jobs_weight-staged : (get_return : GetReturn) (plan : Plan) (v : Vector) (jobs : List Made) (j : ℕ) (stage was : Stage) → j < length jobs → (get_or jobs j no_job).stage ≡ was
+pub jobs_weight-staged : (get_return : GetReturn) (plan : Plan) (v : Vector) (jobs : List CreatedJob) (j : ℕ) (stage was : Stage) → j < length jobs → (get_or jobs j no_job).stage ≡ was
     → jobs_weight get_return plan v (staged jobs j stage) + stage_weight get_return plan v (get_or jobs j no_job).class was ≡ jobs_weight get_return plan v jobs + stage_weight get_return plan v (get_or jobs j no_job).class stage
 jobs_weight-staged get_return plan v jobs j stage was inside e =
     let job = get_or jobs j no_job in
     ap (λ (old : Stage). jobs_weight get_return plan v (staged jobs j stage) + stage_weight get_return plan v job.class old) (sym e)
-    ∙ sum_by-set (λ (x : Made). stage_weight get_return plan v x.class x.stage) jobs j (record job { stage = stage }) no_job inside
+    ∙ sum_by-set (λ (x : CreatedJob). stage_weight get_return plan v x.class x.stage) jobs j (record job { stage = stage }) no_job inside
 
 -- and so does the weight of their workers
-pub workers_weight_of_jobs-staged : (plan : Plan) (v : Vector) (jobs : List Made) (j : ℕ) (stage was : Stage) → j < length jobs → (get_or jobs j no_job).stage ≡ was
+pub workers_weight_of_jobs-staged : (plan : Plan) (v : Vector) (jobs : List CreatedJob) (j : ℕ) (stage was : Stage) → j < length jobs → (get_or jobs j no_job).stage ≡ was
     → workers_weight_of_jobs plan v (staged jobs j stage) + worker_weight plan v (get_or jobs j no_job).class was ≡ workers_weight_of_jobs plan v jobs + worker_weight plan v (get_or jobs j no_job).class stage
 workers_weight_of_jobs-staged plan v jobs j stage was inside e =
     let job = get_or jobs j no_job in
     ap (λ (old : Stage). workers_weight_of_jobs plan v (staged jobs j stage) + worker_weight plan v job.class old) (sym e)
-    ∙ sum_by-set (λ (x : Made). worker_weight plan v x.class x.stage) jobs j (record job { stage = stage }) no_job inside
+    ∙ sum_by-set (λ (x : CreatedJob). worker_weight plan v x.class x.stage) jobs j (record job { stage = stage }) no_job inside
 
 -- ---- an actor changes its position
 
@@ -139,23 +139,23 @@ actor_laws get_return plan v s (parent.Job j) body i laws stands =
 -- ---- a job is created
 
 -- the weight increases by that of the new job's stage
-pub actors_weight-with_job : (get_return : GetReturn) (plan : Plan) (v : Vector) (s : State) (job : Made) → actors_weight get_return plan v (with_job job s) ≡ actors_weight get_return plan v s + stage_weight get_return plan v job.class job.stage
-actors_weight-with_job get_return plan v s job = omega (arith, sum_by_push (λ (x : Made). stage_weight get_return plan v x.class x.stage) s.jobs job)
+pub actors_weight-with_job : (get_return : GetReturn) (plan : Plan) (v : Vector) (s : State) (job : CreatedJob) → actors_weight get_return plan v (with_job job s) ≡ actors_weight get_return plan v s + stage_weight get_return plan v job.class job.stage
+actors_weight-with_job get_return plan v s job = omega (arith, sum_by_push (λ (x : CreatedJob). stage_weight get_return plan v x.class x.stage) s.jobs job)
 
 -- and so does the weight of its worker
-pub busy_workers_weight-with_job : (plan : Plan) (v : Vector) (s : State) (job : Made) → busy_workers_weight plan v (with_job job s) ≡ busy_workers_weight plan v s + worker_weight plan v job.class job.stage
-busy_workers_weight-with_job plan v s job = sum_by_push (λ (x : Made). worker_weight plan v x.class x.stage) s.jobs job
+pub busy_workers_weight-with_job : (plan : Plan) (v : Vector) (s : State) (job : CreatedJob) → busy_workers_weight plan v (with_job job s) ≡ busy_workers_weight plan v s + worker_weight plan v job.class job.stage
+busy_workers_weight-with_job plan v s job = sum_by_push (λ (x : CreatedJob). worker_weight plan v x.class x.stage) s.jobs job
 
 -- ---- each event
 
 -- V2: work does not increase the weight of its actor
-never_rises_works : (get_return : GetReturn) (plan : Plan) (v : Vector) (s : State) (a : Parent) (body : List Action) (i u : ℕ) → VectorLaws get_return plan v → StandsAt plan s a body i (Some (action.Work u)) → DoesNotIncrease get_return plan v s (with_position a (i + 1) s)
+never_rises_works : (get_return : GetReturn) (plan : Plan) (v : Vector) (s : State) (a : Parent) (body : List Action) (i u : ℕ) → VectorLaws get_return plan v → IsAtAction plan s a body i (Some (action.Work u)) → DoesNotIncrease get_return plan v s (with_position a (i + 1) s)
 never_rises_works get_return plan v s a body i u laws at =
     let falls = (actor_laws get_return plan v s a body i laws at.stands).work i u at.is_there in
     omega (arith, falls, actors_weight-with_position get_return plan v s a body i (i + 1) at.stands, busy_workers_weight-with_position plan v s a body i (i + 1) at.stands)
 
 -- V3 and V4: the actor's weight covers a queued job and, with a worker's weight, a running job
-never_rises_starts : (get_return : GetReturn) (plan : Plan) (v : Vector) (s : State) (a : Parent) (body : List Action) (i k : ℕ) → k < length plan.classes → VectorLaws get_return plan v → StandsAt plan s a body i (Some (action.Submit k))
+never_rises_starts : (get_return : GetReturn) (plan : Plan) (v : Vector) (s : State) (a : Parent) (body : List Action) (i k : ℕ) → k < length plan.classes → VectorLaws get_return plan v → IsAtAction plan s a body i (Some (action.Submit k))
     → DoesNotIncrease get_return plan v s (with_job (new_job k a i (Stage.At 0)) (with_position a (i + 1) s))
 never_rises_starts get_return plan v s a body i k inside laws at =
     let job = new_job k a i (Stage.At 0) in
@@ -164,7 +164,7 @@ never_rises_starts get_return plan v s a body i k inside laws at =
     omega (arith, pays, begins, actors_weight-with_position get_return plan v s a body i (i + 1) at.stands, busy_workers_weight-with_position plan v s a body i (i + 1) at.stands, actors_weight-with_job get_return plan v (with_position a (i + 1) s) job, busy_workers_weight-with_job plan v (with_position a (i + 1) s) job)
 
 -- a queued submit, whether or not the queue has room
-pub never_rises_queued : (get_return : GetReturn) (plan : Plan) (v : Vector) (s : State) (a : Parent) (body : List Action) (i k : ℕ) → VectorLaws get_return plan v → StandsAt plan s a body i (Some (action.Submit k))
+pub never_rises_queued : (get_return : GetReturn) (plan : Plan) (v : Vector) (s : State) (a : Parent) (body : List Action) (i k : ℕ) → VectorLaws get_return plan v → IsAtAction plan s a body i (Some (action.Submit k))
     → DoesNotIncrease get_return plan v s (queued_state plan s a i k)
 never_rises_queued get_return plan v s a body i k laws at =
     let job = new_job k a i Stage.Queued in
@@ -185,15 +185,15 @@ done_unclaimed : {stage : Stage} → stage ≡ Stage.Done → stage ≢ Stage.Cl
 done_unclaimed done e = cc
 
 -- V5 or L5: the weight of the actor increases by at most what the done job returns
-never_rises_gets : (get_return : GetReturn) (plan : Plan) (v : Vector) (s : State) (a : Parent) (body : List Action) (i t j : ℕ) → HasValidBodies plan → VectorLaws get_return plan v → Kept plan s → StandsAt plan s a body i (Some (action.Get t))
+never_rises_gets : (get_return : GetReturn) (plan : Plan) (v : Vector) (s : State) (a : Parent) (body : List Action) (i t j : ℕ) → HasValidBodies plan → VectorLaws get_return plan v → StateInvariant plan s → IsAtAction plan s a body i (Some (action.Get t))
     → child s a t ≡ Some j → (job_at s j).stage ≡ Stage.Done → DoesNotIncrease get_return plan v s (with_stage j Stage.Claimed (with_position a (i + 1) s))
 never_rises_gets get_return plan v s a body i t j ordered laws kept at is_child done =
     let moved : State = with_position a (i + 1) s in
     let got = child_at_get plan s a body i t ordered kept at in
     let same : got.number ≡ j = same_Some got.number j (sym got.is_child ∙ is_child) in
     let still : job_at moved j ≡ job_at s j = job_at-with_position plan s a body i (i + 1) j at.stands (done_nowhere done) in
-    let still_done : (job_at moved j).stage ≡ Stage.Done = ap (λ (job : Made). job.stage) still ∙ done in
-    let of_class : (job_at moved j).class ≡ submitted_class body t = ap (λ (job : Made). job.class) still ∙ ap (λ (n : ℕ). (job_at s n).class) (sym same) ∙ got.of_class in
+    let still_done : (job_at moved j).stage ≡ Stage.Done = ap (λ (job : CreatedJob). job.stage) still ∙ done in
+    let of_class : (job_at moved j).class ≡ submitted_class body t = ap (λ (job : CreatedJob). job.class) still ∙ ap (λ (n : ℕ). (job_at s n).class) (sym same) ∙ got.of_class in
     let inside : j < length moved.jobs = job_made moved j (done_unclaimed still_done) in
     let gives = (actor_laws get_return plan v s a body i laws at.stands).get i t at.is_there in
     let was = ap (λ (k : ℕ). done_weight plan v k) of_class in
@@ -217,13 +217,13 @@ at_end (x ∷ xs) zero e = absurd cc
 at_end (x ∷ xs) (suc i) e = let later = at_end xs i e in omega arith
 
 -- an actor without a next action is at the end of its body
-stands_at_end : (plan : Plan) (s : State) (a : Parent) (body : List Action) (i : ℕ) → Kept plan s → StandsAt plan s a body i None → i ≡ length body
+stands_at_end : (plan : Plan) (s : State) (a : Parent) (body : List Action) (i : ℕ) → StateInvariant plan s → IsAtAction plan s a body i None → i ≡ length body
 stands_at_end plan s a body i kept at =
     let inside = (kept.actors a body i at.stands).inside in
     omega (arith, at_end body i at.is_there)
 
 -- V6: the weight of a job at its end covers the done job and its worker
-never_rises_finishes : (get_return : GetReturn) (plan : Plan) (v : Vector) (s : State) (j : ℕ) (body : List Action) (i : ℕ) → VectorLaws get_return plan v → Kept plan s → StandsAt plan s (parent.Job j) body i None
+never_rises_finishes : (get_return : GetReturn) (plan : Plan) (v : Vector) (s : State) (j : ℕ) (body : List Action) (i : ℕ) → VectorLaws get_return plan v → StateInvariant plan s → IsAtAction plan s (parent.Job j) body i None
     → DoesNotIncrease get_return plan v s (finished_job plan s j (pool_of plan (job_at s j).class))
 never_rises_finishes get_return plan v s j body i laws kept at =
     let k = (job_at s j).class in
@@ -235,7 +235,7 @@ never_rises_finishes get_return plan v s j body i laws kept at =
     omega (arith, ends, weighs, jobs_weight-staged get_return plan v s.jobs j Stage.Done (Stage.At i) inside was.0, workers_weight_of_jobs-staged plan v s.jobs j Stage.Done (Stage.At i) inside was.0)
 
 -- V7: the weight of a client at its end covers its weight at its start
-never_rises_loops : (get_return : GetReturn) (plan : Plan) (v : Vector) (s : State) (c : ℕ) (client : ClientState) (body : List Action) (i : ℕ) → VectorLaws get_return plan v → Kept plan s → StandsAt plan s (parent.Client c) body i None
+never_rises_loops : (get_return : GetReturn) (plan : Plan) (v : Vector) (s : State) (c : ℕ) (client : ClientState) (body : List Action) (i : ℕ) → VectorLaws get_return plan v → StateInvariant plan s → IsAtAction plan s (parent.Client c) body i None
     → slice_get s.clients c ≡ Some client → (client_at plan client.kind).repeat ≡ true → DoesNotIncrease get_return plan v s (with_position (parent.Client c) 0 s)
 never_rises_loops get_return plan v s c client body i laws kept at is_client repeats =
     let kind = (client_state s c).kind in
@@ -247,14 +247,14 @@ never_rises_loops get_return plan v s c client body i laws kept at is_client rep
     omega (arith, pays, weighs, actors_weight-with_position get_return plan v s (parent.Client c) body i 0 at.stands)
 
 -- V4: the weights of a queued job and of a worker cover a running job
-never_rises_takes : (get_return : GetReturn) (plan : Plan) (v : Vector) (s : State) (p j : ℕ) (queue : List ℕ) (idle : ℕ) → VectorLaws get_return plan v → Kept plan s → (pool_part s p).queue ≡ j ∷ queue → DoesNotIncrease get_return plan v s (with_part p queue idle (with_stage j (Stage.At 0) s))
+never_rises_takes : (get_return : GetReturn) (plan : Plan) (v : Vector) (s : State) (p j : ℕ) (queue : List ℕ) (idle : ℕ) → VectorLaws get_return plan v → StateInvariant plan s → (pool_part s p).queue ≡ j ∷ queue → DoesNotIncrease get_return plan v s (with_part p queue idle (with_stage j (Stage.At 0) s))
 never_rises_takes get_return plan v s p j queue idle laws kept is_queue =
     let head = head_of_queue plan s p j queue kept is_queue in
     let begins = laws.begins (job_at s j).class (kept.classes j no_job head.inside) in
     omega (arith, begins, jobs_weight-staged get_return plan v s.jobs j (Stage.At 0) Stage.Queued head.inside head.queued, workers_weight_of_jobs-staged plan v s.jobs j (Stage.At 0) Stage.Queued head.inside head.queued)
 
 -- every event
-pub never_rises : (get_return : GetReturn) (plan : Plan) (v : Vector) (s s' : State) (o : Outcome) {e : Event} → HasValidBodies plan → VectorLaws get_return plan v → Kept plan s → Happens plan s e s' o → DoesNotIncrease get_return plan v s s'
+pub never_rises : (get_return : GetReturn) (plan : Plan) (v : Vector) (s s' : State) (o : Outcome) {e : Event} → HasValidBodies plan → VectorLaws get_return plan v → StateInvariant plan s → Happens plan s e s' o → DoesNotIncrease get_return plan v s s'
 never_rises get_return plan v s s' o ordered laws kept (works a body i u at) = never_rises_works get_return plan v s a body i u laws at
 never_rises get_return plan v s s' o ordered laws kept (starts a body i k at below) = never_rises_starts get_return plan v s a body i k (class_exists plan s a body i k ordered at) laws at
 never_rises get_return plan v s s' o ordered laws kept (queues a body i k at at_core room) = never_rises_queued get_return plan v s a body i k laws at

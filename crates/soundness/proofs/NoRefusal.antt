@@ -13,15 +13,15 @@ use Rattle.written_machine.specs.declared.parent.Parent.{Parent}
 use Rattle.written_machine.specs.declared.parent.Parent.TheVariants as parent
 use Rattle.written_machine.specs.declared.event.Event.{Event}
 use Rattle.written_machine.specs.declared.event.Outcome.TheVariants as outcome
-use Rattle.written_machine.specs.State.{Stage, State, Made, no_job, job_at, pool_part, pool_of, is_queued, is_queued_in, threads}
+use Rattle.written_machine.specs.State.{Stage, State, CreatedJob, no_job, job_at, pool_part, pool_of, is_queued, is_queued_in, threads}
 use Rattle.written_machine.specs.Step.{point_of_job, with_position, new_job, moved_jobs}
 use Rattle.written_machine.specs.JobsMade.{is_of_pool, jobs_made}
-use Rattle.written_machine.proofs.Events.{StandsAt, Happens, is_refused}
-use Rattle.written_machine.proofs.Kept.{Kept}
+use Rattle.written_machine.proofs.Events.{IsAtAction, Happens, is_refused}
+use Rattle.written_machine.proofs.StateInvariant.{StateInvariant}
 use Rattle.written_machine.proofs.Stages.{HaveClasses, classes_moved}
 use Rattle.written_machine.proofs.Queues.{queued_stage, places-moved}
 use Rattle.written_machine.proofs.Actors.{standing-moved}
-use Rattle.written_machine.proofs.KeptSubmits.{class_exists}
+use Rattle.written_machine.proofs.InvariantSubmits.{class_exists}
 use Rattle.written_machine.proofs.JobsMade.{made_jobs, made_jobs-moved, HaveJobs}
 use Rattle.weights.specs.declared.get_return.GetReturn.{GetReturn}
 use Rattle.weights.specs.declared.get_return.GetReturn.TheVariants.{DoneWeight, NoWeight}
@@ -36,7 +36,7 @@ use Rattle.soundness.proofs.NeverRises.{jobs_weight, IsBalanced, busy_workers_we
 use Rattle.soundness.proofs.WithinTotal.{busy_workers_weight-le, actors_weight-le-total}
 
 -- the weight of the jobs, with the job of a submit as if it were queued, is at most the total
-submit_within_total : (get_return : GetReturn) (plan : Plan) (v : Vector) (s : State) (a : Parent) (body : List Action) (i k : ℕ) → HasValidBodies plan → VectorLaws get_return plan v → Kept plan s → IsBalanced get_return plan v s → StandsAt plan s a body i (Some (action.Submit k))
+submit_within_total : (get_return : GetReturn) (plan : Plan) (v : Vector) (s : State) (a : Parent) (body : List Action) (i k : ℕ) → HasValidBodies plan → VectorLaws get_return plan v → StateInvariant plan s → IsBalanced get_return plan v s → IsAtAction plan s a body i (Some (action.Submit k))
     → jobs_weight get_return plan v (moved_jobs a (i + 1) s) + queued_weight v k ≤ total plan v
 submit_within_total get_return plan v s a body i k ordered laws kept balanced at =
     let moved : State = with_position a (i + 1) s in
@@ -47,16 +47,16 @@ submit_within_total get_return plan v s a body i k ordered laws kept balanced at
 -- ---- a standing vector
 
 -- each of the pool's queued jobs has at least weight 1
-queued-le-actors_weight : (plan : Plan) (v : Vector) (p : ℕ) (jobs : List Made) → StandingLaws plan p v → HaveClasses (length plan.classes) jobs → count_by (is_queued_in plan p) jobs ≤ jobs_weight DoneWeight plan v jobs
+queued-le-actors_weight : (plan : Plan) (v : Vector) (p : ℕ) (jobs : List CreatedJob) → StandingLaws plan p v → HaveClasses (length plan.classes) jobs → count_by (is_queued_in plan p) jobs ≤ jobs_weight DoneWeight plan v jobs
 queued-le-actors_weight plan v p jobs laws classes =
-    count_by-le-sum_by (is_queued_in plan p) (λ (job : Made). stage_weight DoneWeight plan v job.class job.stage) jobs no_job
+    count_by-le-sum_by (is_queued_in plan p) (λ (job : CreatedJob). stage_weight DoneWeight plan v job.class job.stage) jobs no_job
     (λ j inside passes.
     let job = get_or jobs j no_job in
     let parts = and_parts (is_queued job.stage) (eqb (pool_of plan job.class) p) passes in
     subst (λ (stage : Stage). 1 ≤ stage_weight DoneWeight plan v job.class stage) (sym (queued_stage job.stage parts.0)) (laws.queued job.class (classes j no_job inside) (eqb-true (pool_of plan job.class) p parts.1)))
 
 -- a full queue and one more job would exceed the total
-pub standing_refuses_nothing : (plan : Plan) (v : Vector) (s : State) (a : Parent) (body : List Action) (i k : ℕ) → HasValidBodies plan → StandingLaws plan (pool_of plan k) v → Kept plan s → IsBalanced DoneWeight plan v s → StandsAt plan s a body i (Some (action.Submit k))
+pub standing_refuses_nothing : (plan : Plan) (v : Vector) (s : State) (a : Parent) (body : List Action) (i k : ℕ) → HasValidBodies plan → StandingLaws plan (pool_of plan k) v → StateInvariant plan s → IsBalanced DoneWeight plan v s → IsAtAction plan s a body i (Some (action.Submit k))
     → (pool_at plan (pool_of plan k)).queue ≤ length (pool_part s (pool_of plan k)).queue → ⊥
 standing_refuses_nothing plan v s a body i k ordered laws kept balanced at no_room =
     let p = pool_of plan k in
@@ -73,15 +73,15 @@ standing_refuses_nothing plan v s a body i k ordered laws kept balanced at no_ro
 -- ---- a lifetime vector
 
 -- each job at a position is within its body
-abbrev AreInside : Plan → List Made → Type 0
+abbrev AreInside : Plan → List CreatedJob → Type 0
 AreInside plan jobs = (j n : ℕ) → (get_or jobs j no_job).stage ≡ Stage.At n → n ≤ length (class_at plan (get_or jobs j no_job).class).body
 
 -- this holds in a state with the invariants of reachable states
-are_inside : (plan : Plan) (s : State) → Kept plan s → AreInside plan s.jobs
+are_inside : (plan : Plan) (s : State) → StateInvariant plan s → AreInside plan s.jobs
 are_inside plan s kept j n e = (kept.actors (parent.Job j) (class_at plan (job_at s j).class).body n (ap (point_of_job plan (job_at s j).class) e)).inside
 
 -- it still holds after an actor passed an action
-are_inside_moved : (plan : Plan) (s : State) (a : Parent) (body : List Action) (i : ℕ) (x : Action) → Kept plan s → StandsAt plan s a body i (Some x) → AreInside plan (moved_jobs a (i + 1) s)
+are_inside_moved : (plan : Plan) (s : State) (a : Parent) (body : List Action) (i : ℕ) (x : Action) → StateInvariant plan s → IsAtAction plan s a body i (Some x) → AreInside plan (moved_jobs a (i + 1) s)
 are_inside_moved plan s a body i x kept at j n e =
     let job = get_or (moved_jobs a (i + 1) s) j no_job in
     elim (standing-moved plan s a body i (i + 1) at.stands (parent.Job j) (class_at plan job.class).body n (ap (point_of_job plan job.class) e)) [
@@ -101,15 +101,15 @@ job_weighs_one plan v p k Stage.Done laws exists of_pool inside = laws.done k ex
 job_weighs_one plan v p k Stage.Claimed laws exists of_pool inside = laws.done k exists of_pool
 
 -- each job submitted to the pool has at least weight 1
-made-le-actors_weight : (plan : Plan) (v : Vector) (p : ℕ) (jobs : List Made) → LifetimeLaws plan p v → HaveClasses (length plan.classes) jobs → AreInside plan jobs → made_jobs plan jobs p ≤ jobs_weight NoWeight plan v jobs
+made-le-actors_weight : (plan : Plan) (v : Vector) (p : ℕ) (jobs : List CreatedJob) → LifetimeLaws plan p v → HaveClasses (length plan.classes) jobs → AreInside plan jobs → made_jobs plan jobs p ≤ jobs_weight NoWeight plan v jobs
 made-le-actors_weight plan v p jobs laws classes inside =
-    count_by-le-sum_by (is_of_pool plan p) (λ (job : Made). stage_weight NoWeight plan v job.class job.stage) jobs no_job
+    count_by-le-sum_by (is_of_pool plan p) (λ (job : CreatedJob). stage_weight NoWeight plan v job.class job.stage) jobs no_job
     (λ j made passes.
     let job = get_or jobs j no_job in
     job_weighs_one plan v p job.class job.stage laws (classes j no_job made) (eqb-true (pool_of plan job.class) p passes) (inside j))
 
 -- one job more than the queue and the threads have room for would exceed the total
-pub lifetime_leaves_room : (plan : Plan) (v : Vector) (s : State) (a : Parent) (body : List Action) (i k : ℕ) → HasValidBodies plan → LifetimeLaws plan (pool_of plan k) v → Kept plan s → IsBalanced NoWeight plan v s → StandsAt plan s a body i (Some (action.Submit k))
+pub lifetime_leaves_room : (plan : Plan) (v : Vector) (s : State) (a : Parent) (body : List Action) (i k : ℕ) → HasValidBodies plan → LifetimeLaws plan (pool_of plan k) v → StateInvariant plan s → IsBalanced NoWeight plan v s → IsAtAction plan s a body i (Some (action.Submit k))
     → (pool_at plan (pool_of plan k)).queue + (pool_at plan (pool_of plan k)).max ≤ jobs_made plan s (pool_of plan k) + first_workers (pool_at plan (pool_of plan k)) → ⊥
 lifetime_leaves_room plan v s a body i k ordered laws kept balanced at as_many =
     let p = pool_of plan k in
@@ -121,26 +121,26 @@ lifetime_leaves_room plan v s a body i k ordered laws kept balanced at as_many =
     omega (arith, made_jobs-moved plan s a (i + 1) p)
 
 -- a full queue and all threads have that number of jobs
-lifetime_refuses_nothing : (plan : Plan) (v : Vector) (s : State) (a : Parent) (body : List Action) (i k : ℕ) → HasValidBodies plan → LifetimeLaws plan (pool_of plan k) v → Kept plan s → HaveJobs plan s → IsBalanced NoWeight plan v s → StandsAt plan s a body i (Some (action.Submit k))
+lifetime_refuses_nothing : (plan : Plan) (v : Vector) (s : State) (a : Parent) (body : List Action) (i k : ℕ) → HasValidBodies plan → LifetimeLaws plan (pool_of plan k) v → StateInvariant plan s → HaveJobs plan s → IsBalanced NoWeight plan v s → IsAtAction plan s a body i (Some (action.Submit k))
     → (pool_at plan (pool_of plan k)).queue ≤ length (pool_part s (pool_of plan k)).queue → (pool_at plan (pool_of plan k)).max ≤ threads plan s (pool_of plan k) → ⊥
 lifetime_refuses_nothing plan v s a body i k ordered laws kept have balanced at no_room all_started =
     let made = have (pool_of plan k) (ordered.pools k (class_exists plan s a body i k ordered at)) in
     lifetime_leaves_room plan v s a body i k ordered laws kept balanced at (omega arith)
 
 -- the number of jobs submitted to the pool is at most the total
-pub jobs-le-total : (plan : Plan) (v : Vector) (s : State) (p : ℕ) → HasValidBodies plan → LifetimeLaws plan p v → Kept plan s → IsBalanced NoWeight plan v s → jobs_made plan s p ≤ total plan v
+pub jobs-le-total : (plan : Plan) (v : Vector) (s : State) (p : ℕ) → HasValidBodies plan → LifetimeLaws plan p v → StateInvariant plan s → IsBalanced NoWeight plan v s → jobs_made plan s p ≤ total plan v
 jobs-le-total plan v s p ordered laws kept balanced =
     omega (arith, made-le-actors_weight plan v p s.jobs laws kept.classes (are_inside plan s kept), actors_weight-le-total NoWeight plan v s ordered kept balanced)
 
 -- ---- either
 
 -- no job is submitted to a full pool
-pub not_refused : (plan : Plan) (bound : Bound) (s : State) (a : Parent) (body : List Action) (i k : ℕ) → HasValidBodies plan → BoundLaws plan (pool_of plan k) bound → Kept plan s → HaveJobs plan s
-    → IsBalanced (bound_get_return bound) plan (bound_vector bound) s → StandsAt plan s a body i (Some (action.Submit k))
+pub not_refused : (plan : Plan) (bound : Bound) (s : State) (a : Parent) (body : List Action) (i k : ℕ) → HasValidBodies plan → BoundLaws plan (pool_of plan k) bound → StateInvariant plan s → HaveJobs plan s
+    → IsBalanced (bound_get_return bound) plan (bound_vector bound) s → IsAtAction plan s a body i (Some (action.Submit k))
     → (pool_at plan (pool_of plan k)).queue ≤ length (pool_part s (pool_of plan k)).queue → (pool_at plan (pool_of plan k)).max ≤ threads plan s (pool_of plan k) → ⊥
 not_refused plan (Standing v) s a body i k ordered laws kept have balanced at no_room all_started = standing_refuses_nothing plan v s a body i k ordered laws kept balanced at no_room
 not_refused plan (Lifetime v) s a body i k ordered laws kept have balanced at no_room all_started = lifetime_refuses_nothing plan v s a body i k ordered laws kept have balanced at no_room all_started
 
 -- no event is a rejection
-pub never_refused : (plan : Plan) (bound : Bound) (s s' : State) (p : ℕ) {e : Event} → HasValidBodies plan → BoundLaws plan p bound → Kept plan s → HaveJobs plan s → IsBalanced (bound_get_return bound) plan (bound_vector bound) s → Happens plan s e s' (outcome.Refused p) → ⊥
+pub never_refused : (plan : Plan) (bound : Bound) (s s' : State) (p : ℕ) {e : Event} → HasValidBodies plan → BoundLaws plan p bound → StateInvariant plan s → HaveJobs plan s → IsBalanced (bound_get_return bound) plan (bound_vector bound) s → Happens plan s e s' (outcome.Refused p) → ⊥
 never_refused plan bound s s' p ordered laws kept have balanced (is_refused a body i k at no_room all_started) = not_refused plan bound s a body i k ordered laws kept have balanced at no_room all_started

@@ -6,9 +6,9 @@ use Rattle.written_machine.specs.declared.event.Outcome.TheVariants as outcome
 use Rattle.written_machine.specs.State.{State}
 use Rattle.written_machine.specs.Reach.{IsReached}
 use Rattle.written_machine.proofs.Events.{happens}
-use Rattle.written_machine.proofs.Kept.{Kept}
-use Rattle.written_machine.proofs.KeptStart.{kept_start}
-use Rattle.written_machine.proofs.KeptStep.{kept_step}
+use Rattle.written_machine.proofs.StateInvariant.{StateInvariant}
+use Rattle.written_machine.proofs.InvariantAtStart.{kept_start}
+use Rattle.written_machine.proofs.InvariantStep.{kept_step}
 use Rattle.written_machine.proofs.Reached.{reached_keeps, kept}
 use Rattle.written_machine.proofs.ReachedLaws.{threads_have_made}
 use Rattle.weights.specs.declared.get_return.GetReturn.{GetReturn}
@@ -26,7 +26,7 @@ use Rattle.soundness.proofs.NoRefusal.{never_refused, jobs-le-total}
 pub balanced : (get_return : GetReturn) (plan : Plan) (v : Vector) (s : State) → IsWellFormed plan → VectorLaws get_return plan v → IsReached plan s → IsBalanced get_return plan v s
 balanced get_return plan v s well_formed laws reached =
     let is_ordered = ordered plan well_formed in
-    (reached_keeps plan (λ s₁. Kept plan s₁ × IsBalanced get_return plan v s₁) (kept_start plan is_ordered, balanced_start get_return plan v)
+    (reached_keeps plan (λ s₁. StateInvariant plan s₁ × IsBalanced get_return plan v s₁) (kept_start plan is_ordered, balanced_start get_return plan v)
     (λ s₁ e s₂ o held happened. (kept_step plan s₁ s₂ o is_ordered held.0 happened, balanced_step get_return plan v s₁ s₂ (never_rises get_return plan v s₁ s₂ o is_ordered laws held.0 happened) held.1)) s reached).1
 
 -- no event increases the weight of a reachable state

@@ -10,11 +10,11 @@ use Rattle.weights.specs.Ranks.{Ranks}
 use Rattle.written_machine.specs.declared.parent.Parent.{Parent}
 use Rattle.written_machine.specs.declared.parent.Parent.TheVariants as parent
 use Rattle.written_machine.specs.declared.event.Event.{Event}
-use Rattle.written_machine.specs.State.{Stage, State, Made, job_at, pool_of}
+use Rattle.written_machine.specs.State.{Stage, State, CreatedJob, job_at, pool_of}
 use Rattle.written_machine.specs.Step.{new_job, moved_jobs}
 use Rattle.written_machine.specs.Safe.{is_of_job_or_pool}
-use Rattle.written_machine.proofs.Events.{StandsAt, event_of}
-use Rattle.written_machine.proofs.Standing.{job_made}
+use Rattle.written_machine.proofs.Events.{IsAtAction, event_of}
+use Rattle.written_machine.proofs.Positions.{job_made}
 use Rattle.written_machine.proofs.Stages.{length-moved}
 use Rattle.soundness.specs.Drain.{stage_todo, todo}
 use Rattle.soundness.proofs.Draining.{todo-passed, ends_thread}
@@ -28,13 +28,13 @@ use Rattle.soundness.proofs.Choices.{IsSkipped, leaves}
 -- ---- the calls of jobs
 
 -- an actor that skips a submit has no call in progress, and the calls of others are unchanged
-before_left : (plan : Plan) (s : State) (a : Parent) (body : List Action) (i k : ℕ) (calls : List Call) → StandsAt plan s a body i (Some (action.Submit k)) → is_calling calls a (pool_of plan k) ≡ false
+before_left : (plan : Plan) (s : State) (a : Parent) (body : List Action) (i k : ℕ) (calls : List Call) → IsAtAction plan s a body i (Some (action.Submit k)) → is_calling calls a (pool_of plan k) ≡ false
     → ((n p : ℕ) → is_calling calls (parent.Job n) p ≡ true → StandsBefore plan (job_at s n) p) → (n p : ℕ) → is_calling calls (parent.Job n) p ≡ true → StandsBefore plan (job_at (left s a i k) n) p
 before_left plan s a body i k calls at none before n p is_there =
     let standing = before n p is_there in
     let at_position = standing.stage in
     let other : a ≢ parent.Job n = λ own.
-    let here = stands_before plan s n body i k (subst (λ (b : Parent). StandsAt plan s b body i (Some (action.Submit k))) own at) in
+    let here = stands_before plan s n body i k (subst (λ (b : Parent). IsAtAction plan s b body i (Some (action.Submit k))) own at) in
     let to_pool = one_pool plan (job_at s n) p (pool_of plan k) standing here in
     let calling : is_calling calls a (pool_of plan k) ≡ true = ap (λ (b : Parent). is_calling calls b (pool_of plan k)) own ∙ ap (is_calling calls (parent.Job n)) (sym to_pool) ∙ is_there in
     false≢true (sym none ∙ calling) in
@@ -43,9 +43,9 @@ before_left plan s a body i k calls at none before n p is_there =
 -- ---- the remaining work
 
 -- a skip reduces the remaining work of the job by at least one
-todo_left : (plan : Plan) (ranks : Ranks) (s : State) (n : ℕ) (body : List Action) (i k : ℕ) → StandsAt plan s (parent.Job n) body i (Some (action.Submit k)) → todo plan ranks (left s (parent.Job n) i k) + 1 ≤ todo plan ranks s
+todo_left : (plan : Plan) (ranks : Ranks) (s : State) (n : ℕ) (body : List Action) (i k : ℕ) → IsAtAction plan s (parent.Job n) body i (Some (action.Submit k)) → todo plan ranks (left s (parent.Job n) i k) + 1 ≤ todo plan ranks s
 todo_left plan ranks s n body i k at =
-    omega (arith, todo-passed plan ranks s n body i (action.Submit k) at, sum_by_push (λ (x : Made). stage_todo plan ranks x.class x.stage) (moved_jobs (parent.Job n) (i + 1) s) (new_job k (parent.Job n) i Stage.Done))
+    omega (arith, todo-passed plan ranks s n body i (action.Submit k) at, sum_by_push (λ (x : CreatedJob). stage_todo plan ranks x.class x.stage) (moved_jobs (parent.Job n) (i + 1) s) (new_job k (parent.Job n) i Stage.Done))
 
 -- the number of completed steps of the calls in progress does not fall
 calls_done_left : (s : JavaState) (a : Parent) (i k : ℕ) → calls_done s ≤ calls_done (record s { machine = left s.machine a i k })
@@ -60,7 +60,7 @@ pub record SkipCost (plan : Plan) (ranks : Ranks) (s : JavaState) (e : Event) (s
   pub costs : is_of_job_or_pool e ≡ true → 3 * todo plan ranks s'.machine + calls_done s + 1 ≤ 3 * todo plan ranks s.machine + calls_done s'
   pub by_actor : ends_thread e ≡ false
 
-costs_left : (plan : Plan) (ranks : Ranks) (s : JavaState) (a : Parent) (body : List Action) (i k : ℕ) → StandsAt plan s.machine a body i (Some (action.Submit k)) → is_of_job_or_pool (event_of a) ≡ true
+costs_left : (plan : Plan) (ranks : Ranks) (s : JavaState) (a : Parent) (body : List Action) (i k : ℕ) → IsAtAction plan s.machine a body i (Some (action.Submit k)) → is_of_job_or_pool (event_of a) ≡ true
     → 3 * todo plan ranks (left s.machine a i k) + calls_done s + 1 ≤ 3 * todo plan ranks s.machine + calls_done (record s { machine = left s.machine a i k })
 costs_left plan ranks s (parent.Client c) body i k at of_job = absurd cc
 costs_left plan ranks s (parent.Job n) body i k at of_job = omega (arith, todo_left plan ranks s.machine n body i k at, calls_done_left s (parent.Job n) i k)

@@ -7,14 +7,14 @@ use Rattle.job_bodies.proofs.Bodies.{HasValidBodies}
 use Rattle.written_machine.specs.declared.parent.Parent.{Parent}
 use Rattle.written_machine.specs.State.{Stage, State, pool_part}
 use Rattle.written_machine.specs.Step.{with_position, with_job, new_job, moved_jobs}
-use Rattle.written_machine.proofs.Events.{StandsAt}
-use Rattle.written_machine.proofs.Kept.{Kept, places, busy_jobs}
+use Rattle.written_machine.proofs.Events.{IsAtAction}
+use Rattle.written_machine.proofs.StateInvariant.{StateInvariant, places, busy_jobs}
 use Rattle.written_machine.proofs.Stages.{classes_moved, classes_pushed, parents_moved, parents_pushed}
 use Rattle.written_machine.proofs.Queues.{places-moved, places_push_same}
 use Rattle.written_machine.proofs.Busy.{busy-moved, busy_push_same}
-use Rattle.written_machine.proofs.KeptPools.{same_pool}
-use Rattle.written_machine.proofs.KeptActors.{is_after}
-use Rattle.written_machine.proofs.KeptSubmits.{class_exists, made_actors}
+use Rattle.written_machine.proofs.PoolInvariants.{same_pool}
+use Rattle.written_machine.proofs.ActorInvariants.{is_after}
+use Rattle.written_machine.proofs.InvariantSubmits.{class_exists, made_actors}
 use Rattle.written_machine.proofs.JobsMade.{made_jobs-moved, made_jobs_push, HaveJobs}
 use Rattle.weights.specs.declared.get_return.GetReturn.{GetReturn}
 use Rattle.weights.specs.Vector.{Vector, queued_weight, done_weight}
@@ -36,7 +36,7 @@ done_nowhere : (n : ℕ) → Stage.Done ≡ Stage.At n → n ≡ 0
 done_nowhere n e = absurd cc
 
 -- the new job is neither queued nor running
-pub kept_left : (plan : Plan) (s : State) (a : Parent) (body : List Action) (i k : ℕ) → HasValidBodies plan → Kept plan s → StandsAt plan s a body i (Some (action.Submit k)) → Kept plan (left s a i k)
+pub kept_left : (plan : Plan) (s : State) (a : Parent) (body : List Action) (i k : ℕ) → HasValidBodies plan → StateInvariant plan s → IsAtAction plan s a body i (Some (action.Submit k)) → StateInvariant plan (left s a i k)
 kept_left plan s a body i k ordered kept at =
     let jobs = moved_jobs a (i + 1) s in
     let job = new_job k a i Stage.Done in
@@ -54,7 +54,7 @@ kept_left plan s a body i k ordered kept at =
 -- ---- threads
 
 -- the number of threads of each pool is unchanged
-pub change_skipped : (plan : Plan) (s : State) (a : Parent) (body : List Action) (i k p : ℕ) → StandsAt plan s a body i (Some (action.Submit k)) → ThreadsChange plan s (moved_jobs a (i + 1) s ++ new_job k a i Stage.Done ∷ []) p (pool_part s p)
+pub change_skipped : (plan : Plan) (s : State) (a : Parent) (body : List Action) (i k p : ℕ) → IsAtAction plan s a body i (Some (action.Submit k)) → ThreadsChange plan s (moved_jobs a (i + 1) s ++ new_job k a i Stage.Done ∷ []) p (pool_part s p)
 change_skipped plan s a body i k p at =
     let jobs = moved_jobs a (i + 1) s in
     let job = new_job k a i Stage.Done in
@@ -63,7 +63,7 @@ change_skipped plan s a body i k p at =
     record { by_jobs = omega (arith, made_jobs_push plan jobs job p, made_jobs-moved plan s a (i + 1) p); at_core = λ at_core. omega arith }
 
 -- the number of submitted jobs does not fall
-pub have_jobs_left : (plan : Plan) (s : State) (a : Parent) (body : List Action) (i k : ℕ) → HaveJobs plan s → StandsAt plan s a body i (Some (action.Submit k)) → HaveJobs plan (left s a i k)
+pub have_jobs_left : (plan : Plan) (s : State) (a : Parent) (body : List Action) (i k : ℕ) → HaveJobs plan s → IsAtAction plan s a body i (Some (action.Submit k)) → HaveJobs plan (left s a i k)
 have_jobs_left plan s a body i k have at p inside =
     let had = have p inside in
     let goes = (change_skipped plan s a body i k p at).by_jobs in
@@ -72,7 +72,7 @@ have_jobs_left plan s a body i k have at p inside =
 -- ---- weights
 
 -- it costs at most the weight of the queued job
-pub no_heavier_left : (get_return : GetReturn) (plan : Plan) (v : Vector) (s : State) (a : Parent) (body : List Action) (i k : ℕ) → VectorLaws get_return plan v → done_weight plan v k ≤ queued_weight v k → StandsAt plan s a body i (Some (action.Submit k))
+pub no_heavier_left : (get_return : GetReturn) (plan : Plan) (v : Vector) (s : State) (a : Parent) (body : List Action) (i k : ℕ) → VectorLaws get_return plan v → done_weight plan v k ≤ queued_weight v k → IsAtAction plan s a body i (Some (action.Submit k))
     → DoesNotIncrease get_return plan v s (left s a i k)
 no_heavier_left get_return plan v s a body i k laws no_more at =
     let moved : State = with_position a (i + 1) s in

@@ -10,8 +10,8 @@ use Rattle.written_machine.specs.declared.parent.Parent.{Parent}
 use Rattle.written_machine.specs.declared.event.Event.{Event}
 use Rattle.written_machine.specs.State.{State}
 use Rattle.written_machine.specs.Reach.{start}
-use Rattle.written_machine.proofs.Events.{StandsAt}
-use Rattle.written_machine.proofs.KeptSubmits.{class_exists}
+use Rattle.written_machine.proofs.Events.{IsAtAction}
+use Rattle.written_machine.proofs.InvariantSubmits.{class_exists}
 use Rattle.weights.specs.declared.get_return.GetReturn.{GetReturn}
 use Rattle.weights.specs.declared.get_return.GetReturn.TheVariants.{DoneWeight}
 use Rattle.weights.specs.declared.bound.Bound.{Bound}
@@ -38,14 +38,14 @@ use Rattle.soundness.proofs.JavaTheorem.{JavaSound, java_sound_start, java_sound
 -- ---- a skipped submit
 
 -- each vector stays balanced, since the weight of a done job is at most that of a queued job
-balanced_left : (get_return : GetReturn) (plan : Plan) (v : Vector) (ranks : Ranks) (s : State) (a : Parent) (body : List Action) (i k : ℕ) → HasValidBodies plan → RankLaws plan ranks → VectorLaws get_return plan v → StandsAt plan s a body i (Some (action.Submit k))
+balanced_left : (get_return : GetReturn) (plan : Plan) (v : Vector) (ranks : Ranks) (s : State) (a : Parent) (body : List Action) (i k : ℕ) → HasValidBodies plan → RankLaws plan ranks → VectorLaws get_return plan v → IsAtAction plan s a body i (Some (action.Submit k))
     → IsBalanced get_return plan v s → IsBalanced get_return plan v (left s a i k)
 balanced_left get_return plan v ranks s a body i k ordered ranked laws at balanced =
     let no_more = done-le-queued get_return plan v ranks k ordered ranked laws (class_exists plan s a body i k ordered at) in
     balanced_step get_return plan v s (left s a i k) (no_heavier_left get_return plan v s a body i k laws no_more at) balanced
 
 -- the state stays sound
-sound_left : (plan : Plan) (cert : Cert) (s : State) (a : Parent) (body : List Action) (i k : ℕ) → HasValidBodies plan → CertLaws plan cert → StandsAt plan s a body i (Some (action.Submit k)) → Sound plan cert s → Sound plan cert (left s a i k)
+sound_left : (plan : Plan) (cert : Cert) (s : State) (a : Parent) (body : List Action) (i k : ℕ) → HasValidBodies plan → CertLaws plan cert → IsAtAction plan s a body i (Some (action.Submit k)) → Sound plan cert s → Sound plan cert (left s a i k)
 sound_left plan cert s a body i k ordered laws at held = record {
   bounded = record {
     kept = kept_left plan s a body i k ordered held.bounded.kept at;
@@ -59,14 +59,14 @@ sound_left plan cert s a body i k ordered laws at held = record {
 }
 
 -- a queue that was full at some time still counts as such
-full_left : (plan : Plan) (bound : Bound) (s : State) (a : Parent) (body : List Action) (i k p : ℕ) → StandsAt plan s a body i (Some (action.Submit k)) → QueueWasFull plan bound s p → QueueWasFull plan bound (left s a i k) p
+full_left : (plan : Plan) (bound : Bound) (s : State) (a : Parent) (body : List Action) (i k p : ℕ) → IsAtAction plan s a body i (Some (action.Submit k)) → QueueWasFull plan bound s p → QueueWasFull plan bound (left s a i k) p
 full_left plan (Standing v) s a body i k p at full = full
 full_left plan (Lifetime v) s a body i k p at full =
     let by_jobs = (change_skipped plan s a body i k p at).by_jobs in
     omega arith
 
 -- the invariants of the calls still hold
-calls_left : (plan : Plan) (bounds : ℕ → Bound) (s : JavaState) (a : Parent) (body : List Action) (i k : ℕ) → StandsAt plan s.machine a body i (Some (action.Submit k)) → CallsKept plan bounds s → CallsKept plan bounds (record s { machine = left s.machine a i k })
+calls_left : (plan : Plan) (bounds : ℕ → Bound) (s : JavaState) (a : Parent) (body : List Action) (i k : ℕ) → IsAtAction plan s.machine a body i (Some (action.Submit k)) → CallsKept plan bounds s → CallsKept plan bounds (record s { machine = left s.machine a i k })
 calls_left plan bounds s a body i k at calls = record {
   offering = λ b p inside is_there. (change_skipped plan s.machine a body i k p at).at_core (calls.offering b p inside is_there);
   requesting = λ b p inside is_there. full_left plan (bounds p) s.machine a body i k p at (calls.requesting b p inside is_there);

@@ -6,26 +6,26 @@ use Rattle.written_machine.specs.declared.parent.Parent.{Parent}
 use Rattle.written_machine.specs.declared.parent.Parent.TheVariants as parent
 use Rattle.written_machine.specs.declared.event.Event.{Event}
 use Rattle.written_machine.specs.declared.event.Outcome.{Outcome}
-use Rattle.written_machine.specs.State.{Stage, State, Made, PoolPart, job_at, pool_part, pool_of, is_at, threads}
+use Rattle.written_machine.specs.State.{Stage, State, CreatedJob, PoolPart, job_at, pool_part, pool_of, is_at, threads}
 use Rattle.written_machine.specs.Step.{point, with_position, new_job, moved_jobs}
 use Rattle.written_machine.proofs.Events.{with_part, Happens, works, starts, queues, is_refused, gets, finishes, loops, takes, retires}
-use Rattle.written_machine.proofs.Standing.{stage_of_standing, standing_made}
-use Rattle.written_machine.proofs.Kept.{Kept, busy_jobs}
+use Rattle.written_machine.proofs.Positions.{stage_of_standing, standing_made}
+use Rattle.written_machine.proofs.StateInvariant.{StateInvariant, busy_jobs}
 use Rattle.written_machine.proofs.Stages.{staged}
 use Rattle.written_machine.proofs.Queues.{head_of_queue}
 use Rattle.written_machine.proofs.Busy.{one_if, busy_in-as, busy-staged_same, busy-staged_elsewhere, busy-staged_here, busy-moved, busy_push, busy_push_same}
-use Rattle.written_machine.proofs.KeptPools.{pools_with_part}
-use Rattle.written_machine.proofs.KeptStep.{done_still}
+use Rattle.written_machine.proofs.PoolInvariants.{pools_with_part}
+use Rattle.written_machine.proofs.InvariantStep.{done_still}
 use Rattle.written_machine.proofs.JobsMade.{made_jobs, made_jobs-staged, made_jobs-moved, made_jobs_push}
 
 -- the threads of pool p after a change of its part and the jobs: their number grows at most with the number of jobs
 -- submitted, and does not fall below core
-pub record ThreadsChange (plan : Plan) (s : State) (jobs : List Made) (p : ℕ) (part : PoolPart) : Type 0 where
+pub record ThreadsChange (plan : Plan) (s : State) (jobs : List CreatedJob) (p : ℕ) (part : PoolPart) : Type 0 where
   pub by_jobs : part.idle + busy_jobs plan jobs p + made_jobs plan s.jobs p ≤ threads plan s p + made_jobs plan jobs p
   pub at_core : (pool_at plan p).core ≤ threads plan s p → (pool_at plan p).core ≤ part.idle + busy_jobs plan jobs p
 
 -- the number of threads is unchanged
-change_same : (plan : Plan) (s : State) (jobs : List Made) (p : ℕ) (part : PoolPart) → part.idle + busy_jobs plan jobs p ≡ threads plan s p → made_jobs plan s.jobs p ≤ made_jobs plan jobs p → ThreadsChange plan s jobs p part
+change_same : (plan : Plan) (s : State) (jobs : List CreatedJob) (p : ℕ) (part : PoolPart) → part.idle + busy_jobs plan jobs p ≡ threads plan s p → made_jobs plan s.jobs p ≤ made_jobs plan jobs p → ThreadsChange plan s jobs p part
 change_same plan s jobs p part same no_fewer = record { by_jobs = omega arith; at_core = λ enough. omega arith }
 
 -- an actor changes its position
@@ -77,7 +77,7 @@ change_worker plan s j stage q queue idle as_many of_pool same =
     change_same plan s jobs p (pool_part s p) (omega (arith, busy-staged_elsewhere plan s.jobs j stage p (λ same_pool. other (sym same_pool ∙ of_pool)))) (omega (arith, made_jobs-staged plan s.jobs j stage p)))
 
 -- every event
-pub threads_change : (plan : Plan) (s s' : State) (o : Outcome) {e : Event} → Kept plan s → Happens plan s e s' o → (p : ℕ) → p < length plan.pools → ThreadsChange plan s s'.jobs p (pool_part s' p)
+pub threads_change : (plan : Plan) (s s' : State) (o : Outcome) {e : Event} → StateInvariant plan s → Happens plan s e s' o → (p : ℕ) → p < length plan.pools → ThreadsChange plan s s'.jobs p (pool_part s' p)
 threads_change plan s s' o kept (works a body i u at) p inside = change_moved plan s a body i (i + 1) p at.stands
 threads_change plan s s' o kept (starts a body i k at below) p inside = change_starts plan s a body i k p at.stands
 threads_change plan s s' o kept (queues a body i k at at_core room) p inside =

@@ -12,11 +12,11 @@ use Rattle.job_bodies.specs.Plan.{Pool, Plan, no_pool, pool_at}
 use Rattle.job_bodies.proofs.Bodies.{HasValidBodies}
 use Rattle.written_machine.specs.declared.event.Event.{Event}
 use Rattle.written_machine.specs.declared.event.Outcome.{Outcome}
-use Rattle.written_machine.specs.State.{State, Made, pool_of, is_at, is_busy_in, busy}
+use Rattle.written_machine.specs.State.{State, CreatedJob, pool_of, is_at, is_busy_in, busy}
 use Rattle.written_machine.proofs.Events.{Happens}
-use Rattle.written_machine.proofs.Kept.{Kept, busy_jobs}
+use Rattle.written_machine.proofs.StateInvariant.{StateInvariant, busy_jobs}
 use Rattle.written_machine.proofs.Busy.{one_if}
-use Rattle.written_machine.proofs.KeptStep.{kept_step}
+use Rattle.written_machine.proofs.InvariantStep.{kept_step}
 use Rattle.weights.specs.declared.get_return.GetReturn.{GetReturn}
 use Rattle.weights.specs.Vector.{Vector, workers_weight, total}
 use Rattle.soundness.specs.WeightedSum.{sum_of}
@@ -53,7 +53,7 @@ sum_at_one f n (x ∷ xs) q w low high at others =
 -- ---- the busy workers, summed by pool and by job
 
 -- the weight of the busy workers, pool by pool
-abbrev workers_weight_of_pools : Plan → Vector → List Made → ℕ
+abbrev workers_weight_of_pools : Plan → Vector → List CreatedJob → ℕ
 workers_weight_of_pools plan v jobs = sum_by (λ (entry : ℕ × Pool). workers_weight v entry.0 * busy_jobs plan jobs entry.0) (enumerate_from 0 plan.pools)
 
 -- a busy worker of pool q counts only in that pool
@@ -66,7 +66,7 @@ worker_of_one v pools q true inside =
 worker_of_one v pools q false inside = sum_by_zero (λ (entry : ℕ × Pool). workers_weight v entry.0 * 0) (enumerate_from 0 pools) (λ entry. omega arith)
 
 -- the sum by pool is the sum by job
-workers_weight_by_pool : (plan : Plan) (v : Vector) (jobs : List Made) → ((job : Made) → In job jobs → pool_of plan job.class < length plan.pools) → workers_weight_of_pools plan v jobs ≡ workers_weight_of_jobs plan v jobs
+workers_weight_by_pool : (plan : Plan) (v : Vector) (jobs : List CreatedJob) → ((job : CreatedJob) → In job jobs → pool_of plan job.class < length plan.pools) → workers_weight_of_pools plan v jobs ≡ workers_weight_of_jobs plan v jobs
 workers_weight_by_pool plan v [] inside = sum_by_zero (λ (entry : ℕ × Pool). workers_weight v entry.0 * 0) (enumerate_from 0 plan.pools) (λ entry. omega arith)
 workers_weight_by_pool plan v (job ∷ jobs) inside =
     let numbered = enumerate_from 0 plan.pools in
@@ -74,10 +74,10 @@ workers_weight_by_pool plan v (job ∷ jobs) inside =
     let of_jobs = λ (entry : ℕ × Pool). workers_weight v entry.0 * busy_jobs plan jobs entry.0 in
     let split : workers_weight_of_pools plan v (job ∷ jobs) ≡ sum_by (λ (entry : ℕ × Pool). of_job entry + of_jobs entry) numbered =
     sum_by-agree (λ (entry : ℕ × Pool). workers_weight v entry.0 * busy_jobs plan (job ∷ jobs) entry.0) (λ (entry : ℕ × Pool). of_job entry + of_jobs entry) numbered
-    (λ entry. ap (λ (n : ℕ). workers_weight v entry.0 * n) (sum_by-cons (λ (x : Made). one_if (is_busy_in plan entry.0 x)) job jobs) ∙ mul-add (workers_weight v entry.0) (one_if (is_busy_in plan entry.0 job)) (busy_jobs plan jobs entry.0)) in
+    (λ entry. ap (λ (n : ℕ). workers_weight v entry.0 * n) (sum_by-cons (λ (x : CreatedJob). one_if (is_busy_in plan entry.0 x)) job jobs) ∙ mul-add (workers_weight v entry.0) (one_if (is_busy_in plan entry.0 job)) (busy_jobs plan jobs entry.0)) in
     let first = worker_of_one v plan.pools (pool_of plan job.class) (is_at job.stage) (inside job here) in
     let rest = workers_weight_by_pool plan v jobs (λ x i. inside x (there i)) in
-    omega (arith, split, sum_by-add of_job of_jobs numbered, first, rest, sum_by-cons (λ (x : Made). worker_weight plan v x.class x.stage) job jobs)
+    omega (arith, split, sum_by-add of_job of_jobs numbered, first, rest, sum_by-cons (λ (x : CreatedJob). worker_weight plan v x.class x.stage) job jobs)
 
 -- ---- the workers that are not busy
 
@@ -106,7 +106,7 @@ parts_of w max busy within =
     sym (mul-add w (max - busy) busy) ∙ ap (λ (n : ℕ). w * n) both
 
 -- the sum of both is the weight of all workers
-idle_and_busy_weight : (plan : Plan) (v : Vector) (s : State) → HasValidBodies plan → Kept plan s → free_workers plan v s + busy_workers_weight plan v s ≡ all_workers plan v
+idle_and_busy_weight : (plan : Plan) (v : Vector) (s : State) → HasValidBodies plan → StateInvariant plan s → free_workers plan v s + busy_workers_weight plan v s ≡ all_workers plan v
 idle_and_busy_weight plan v s ordered kept =
     let numbered = enumerate_from 0 plan.pools in
     let free = λ (entry : ℕ × Pool). workers_weight v entry.0 * (entry.1.max - busy plan s entry.0) in
@@ -117,29 +117,29 @@ idle_and_busy_weight plan v s ordered kept =
     let sizes = (kept.pools p inside).within_max in
     let same : (get_or plan.pools p d).max ≡ (pool_at plan p).max = ap (λ (pool : Pool). pool.max) (get_or_default plan.pools p d no_pool inside) in
     parts_of (workers_weight v p) (get_or plan.pools p d).max (busy plan s p) (omega arith)) in
-    let by_pool = workers_weight_by_pool plan v s.jobs (λ job i. ordered.pools job.class (All-at_In (λ (x : Made). x.class < length plan.classes) kept.classes i)) in
+    let by_pool = workers_weight_by_pool plan v s.jobs (λ job i. ordered.pools job.class (All-at_In (λ (x : CreatedJob). x.class < length plan.classes) kept.classes i)) in
     omega (arith, joined, by_pool, sum_by-add free at_work numbered)
 
 -- the weighted sum without a subtraction
-pub sum_of_is : (get_return : GetReturn) (plan : Plan) (v : Vector) (s : State) → HasValidBodies plan → Kept plan s → sum_of get_return plan v s + busy_workers_weight plan v s ≡ actors_weight get_return plan v s + all_workers plan v
+pub sum_of_is : (get_return : GetReturn) (plan : Plan) (v : Vector) (s : State) → HasValidBodies plan → StateInvariant plan s → sum_of get_return plan v s + busy_workers_weight plan v s ≡ actors_weight get_return plan v s + all_workers plan v
 sum_of_is get_return plan v s ordered kept = omega (arith, idle_and_busy_weight plan v s ordered kept)
 
 -- the weight of the busy workers is at most that of all workers
-pub busy_workers_weight-le : (plan : Plan) (v : Vector) (s : State) → HasValidBodies plan → Kept plan s → busy_workers_weight plan v s ≤ all_workers plan v
+pub busy_workers_weight-le : (plan : Plan) (v : Vector) (s : State) → HasValidBodies plan → StateInvariant plan s → busy_workers_weight plan v s ≤ all_workers plan v
 busy_workers_weight-le plan v s ordered kept = omega (arith, idle_and_busy_weight plan v s ordered kept)
 
 -- ---- the invariant
 
 -- the initial weight of the clients and the weight of all workers add up to the total
-pub actors_weight-le-total : (get_return : GetReturn) (plan : Plan) (v : Vector) (s : State) → HasValidBodies plan → Kept plan s → IsBalanced get_return plan v s → actors_weight get_return plan v s ≤ total plan v
+pub actors_weight-le-total : (get_return : GetReturn) (plan : Plan) (v : Vector) (s : State) → HasValidBodies plan → StateInvariant plan s → IsBalanced get_return plan v s → actors_weight get_return plan v s ≤ total plan v
 actors_weight-le-total get_return plan v s ordered kept balanced = omega (arith, busy_workers_weight-le plan v s ordered kept)
 
 -- the weight of a state is at most the total
-pub sum_of-le-total : (get_return : GetReturn) (plan : Plan) (v : Vector) (s : State) → HasValidBodies plan → Kept plan s → IsBalanced get_return plan v s → sum_of get_return plan v s ≤ total plan v
+pub sum_of-le-total : (get_return : GetReturn) (plan : Plan) (v : Vector) (s : State) → HasValidBodies plan → StateInvariant plan s → IsBalanced get_return plan v s → sum_of get_return plan v s ≤ total plan v
 sum_of-le-total get_return plan v s ordered kept balanced = omega (arith, sum_of_is get_return plan v s ordered kept)
 
 -- no event increases the weight
-pub sum_never_rises : (get_return : GetReturn) (plan : Plan) (v : Vector) (s s' : State) (o : Outcome) {e : Event} → HasValidBodies plan → VectorLaws get_return plan v → Kept plan s → Happens plan s e s' o → sum_of get_return plan v s' ≤ sum_of get_return plan v s
+pub sum_never_rises : (get_return : GetReturn) (plan : Plan) (v : Vector) (s s' : State) (o : Outcome) {e : Event} → HasValidBodies plan → VectorLaws get_return plan v → StateInvariant plan s → Happens plan s e s' o → sum_of get_return plan v s' ≤ sum_of get_return plan v s
 sum_never_rises get_return plan v s s' o ordered laws kept happened =
     let before = sum_of_is get_return plan v s ordered kept in
     let after = sum_of_is get_return plan v s' ordered (kept_step plan s s' o ordered kept happened) in

@@ -7,7 +7,7 @@ use Rattle.job_bodies.specs.WellFormed.{IsWellFormed}
 use Rattle.weights.specs.Row.{AllHold}
 use Rattle.weights.specs.Vector.{Vector}
 use Rattle.weights.specs.Blocked.{blocked_rows}
-use Rattle.written_machine.specs.State.{Stage, Made, State, pool_of}
+use Rattle.written_machine.specs.State.{Stage, CreatedJob, State, pool_of}
 use Rattle.written_machine.specs.State.Stage.{At}
 use Rattle.written_machine.specs.Reach.{IsReached}
 
@@ -22,7 +22,7 @@ is_blocked_stage plan counted k (At i) = is_counted_get counted k i (slice_get (
 is_blocked_stage plan counted k _ = false
 
 -- a job of pool p that is at a counted get
-abbrev pub is_blocked_in : Plan → (ℕ → ℕ → Bool) → ℕ → Made → Bool
+abbrev pub is_blocked_in : Plan → (ℕ → ℕ → Bool) → ℕ → CreatedJob → Bool
 is_blocked_in plan counted p job = is_blocked_stage plan counted job.class job.stage && pool_of plan job.class == p
 
 -- the number of such jobs

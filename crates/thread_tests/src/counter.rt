@@ -25,13 +25,13 @@ impl Machine for Tally {
 
     type Event = Change;
 
-    ghost Ideal = { ℕ };
+    ghost SpecState = { ℕ };
 
     ghost first = { λ _. 0 };
 
     ghost next = { λ counter n change. next_count counter.most n change };
 
-    ghost content = { λ _ n. n };
+    ghost stored_state = { λ _ n. n };
 
     fn start(&self, _alloc: Global) -> Result<u64, AllocError> {
         Ok(0)

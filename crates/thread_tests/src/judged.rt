@@ -3,7 +3,7 @@
 use crate::plans::certified;
 use held_machines::Receipt;
 use interleaving::Event;
-use locked_runner::{KeptReceipt, Met, RunFault, RunNumbers, RunReport, ThreadFault, judge};
+use locked_runner::{CompactReceipt, ThreadResults, RunFault, RunNumbers, RunReport, ThreadFault, check_run};
 use std::alloc::{AllocError, Global};
 use std::process::Abort;
 use std::sync::Wait;
@@ -32,14 +32,14 @@ const NUMBERS: RunNumbers = RunNumbers {
 };
 
 // Returns the receipts of these events at these numbers, which are below 2 to the 32.
-fn receipts(alloc: Global, list: &[(u64, Event)]) -> Result<Vec<KeptReceipt>, AllocError> {
+fn receipts(alloc: Global, list: &[(u64, Event)]) -> Result<Vec<CompactReceipt>, AllocError> {
     let mut receipts = Vec::new(alloc);
     for (number, event) in list {
         let receipt = Receipt {
             number: *number,
             event: *event,
         };
-        if let Some(kept) = KeptReceipt::new(receipt) {
+        if let Some(kept) = CompactReceipt::new(receipt) {
             receipts.push(kept)?;
         }
     }
@@ -53,13 +53,13 @@ fn thread_results(
     client: &[(u64, Event)],
     carrier: &[(u64, Event)],
     fault: Option<ThreadFault>,
-) -> Result<Met, AllocError> {
+) -> Result<ThreadResults, AllocError> {
     let mut events = Vec::new(alloc);
     events.extend_from_slice(history)?;
     let mut lists = Vec::new(alloc);
     lists.push(receipts(alloc, client)?)?;
     lists.push(receipts(alloc, carrier)?)?;
-    Ok(Met {
+    Ok(ThreadResults {
         history: events,
         receipts: lists,
         fault,
@@ -77,17 +77,17 @@ const CARRIER: Handed = &[(1, Event::Job(0)), (2, Event::Job(0))];
 fn judged<R: Abort + Threads + Wait + Sync>(
     rt: &R,
     alloc: Global,
-    met: Met,
+    results: ThreadResults,
 ) -> Result<RunReport, RunFault> {
     let certified = certified(rt, alloc, ONE_CLIENT).expect(rt, "a certificate is found");
-    judge(alloc, &certified, 1, NUMBERS, met)
+    check_run(alloc, &certified, 1, NUMBERS, results)
 }
 
 #[test]
 fn a_whole_run_is_reported(rt: HostRuntime) -> Result<(), Fail> {
     let alloc = rt.alloc();
-    let met = thread_results(alloc, WHOLE, CLIENT, CARRIER, None)?;
-    match judged(&rt, alloc, met) {
+    let results = thread_results(alloc, WHOLE, CLIENT, CARRIER, None)?;
+    match judged(&rt, alloc, results) {
         Ok(report) => {
             assert_eq!(rt; (report.jobs, report.units, report.refused), (1, 1, 0));
             assert_eq!(rt; report.history.as_slice(), WHOLE);
@@ -188,8 +188,8 @@ const NO_RUNS: &[Case] = &[
 fn what_is_no_run_has_its_fault(rt: HostRuntime) -> Result<(), Fail> {
     let alloc = rt.alloc();
     for (name, history, client, carrier, fault, number, events) in NO_RUNS.iter().copied() {
-        let met = thread_results(alloc, history, client, carrier, fault)?;
-        let answered = judged(&rt, alloc, met).err();
+        let results = thread_results(alloc, history, client, carrier, fault)?;
+        let answered = judged(&rt, alloc, results).err();
         assert_eq!(rt; answered, Some(RunFault { number, events }), "{name}");
     }
     Ok(())

@@ -10,9 +10,9 @@ use Rattle.job_bodies.specs.Plan.{Plan, class_at, client_at}
 use Rattle.written_machine.specs.declared.client_state.ClientState.{ClientState}
 use Rattle.written_machine.specs.declared.parent.Parent.{Parent}
 use Rattle.written_machine.specs.declared.parent.Parent.TheVariants as parent
-use Rattle.written_machine.specs.State.{Stage, State, Made, no_job, no_client_state, job_at, client_state}
+use Rattle.written_machine.specs.State.{Stage, State, CreatedJob, no_job, no_client_state, job_at, client_state}
 use Rattle.written_machine.specs.Step.{point, point_of_client, point_of_job, with_stage, with_position, with_job}
-use Rattle.written_machine.proofs.Standing.{stage_of_standing, standing_made, client_standing}
+use Rattle.written_machine.proofs.Positions.{stage_of_standing, standing_made, client_standing}
 use Rattle.written_machine.proofs.Stages.{staged, length-staged, get_or-staged_other}
 
 pub same_client : (c d : ℕ) → parent.Client c ≡ parent.Client d → c ≡ d
@@ -31,26 +31,26 @@ pub same_position : (i i' : ℕ) → Stage.At i ≡ Stage.At i' → i ≡ i'
 same_position i i' e = cc
 
 -- the actor is at position i of the body
-abbrev pub Stands : Plan → State → Parent → List Action → ℕ → Type 0
-Stands plan s a body i = point plan s a ≡ Some (record { body = body; position = i })
+abbrev pub IsAtPosition : Plan → State → Parent → List Action → ℕ → Type 0
+IsAtPosition plan s a body i = point plan s a ≡ Some (record { body = body; position = i })
 
 -- the position of an actor depends only on the jobs and the clients
 pub point_same : (plan : Plan) (s s' : State) (a : Parent) → s'.jobs ≡ s.jobs → s'.clients ≡ s.clients → point plan s' a ≡ point plan s a
 point_same plan s s' (parent.Client c) jobs clients = ap (λ (xs : List ClientState). option_map (point_of_client plan) (slice_get xs c)) clients
-point_same plan s s' (parent.Job j) jobs clients = ap (λ (xs : List Made). point_of_job plan (get_or xs j no_job).class (get_or xs j no_job).stage) jobs
+point_same plan s s' (parent.Job j) jobs clients = ap (λ (xs : List CreatedJob). point_of_job plan (get_or xs j no_job).class (get_or xs j no_job).stage) jobs
 
 -- an unchanged job has an unchanged position
-same_standing : (plan : Plan) (job job' : Made) (body : List Action) (i : ℕ) → job' ≡ job → point_of_job plan job'.class job'.stage ≡ Some (record { body = body; position = i }) → point_of_job plan job.class job.stage ≡ Some (record { body = body; position = i })
-same_standing plan job job' body i same stands = ap (λ (x : Made). point_of_job plan x.class x.stage) (sym same) ∙ stands
+same_standing : (plan : Plan) (job job' : CreatedJob) (body : List Action) (i : ℕ) → job' ≡ job → point_of_job plan job'.class job'.stage ≡ Some (record { body = body; position = i }) → point_of_job plan job.class job.stage ≡ Some (record { body = body; position = i })
+same_standing plan job job' body i same stands = ap (λ (x : CreatedJob). point_of_job plan x.class x.stage) (sym same) ∙ stands
 
 -- the stage and the body of an unchanged job that is at position i of a body afterwards
-stands_as : (plan : Plan) (job job' : Made) (body : List Action) (i : ℕ) → job' ≡ job → point_of_job plan job'.class job'.stage ≡ Some (record { body = body; position = i }) → (job.stage ≡ Stage.At i) × (body ≡ (class_at plan job.class).body)
+stands_as : (plan : Plan) (job job' : CreatedJob) (body : List Action) (i : ℕ) → job' ≡ job → point_of_job plan job'.class job'.stage ≡ Some (record { body = body; position = i }) → (job.stage ≡ Stage.At i) × (body ≡ (class_at plan job.class).body)
 stands_as plan job job' body i same stands = stage_of_standing plan job.class job.stage body i (same_standing plan job job' body i same stands)
 
 -- ---- after an actor moved
 
-client_moved : (plan : Plan) (s : State) (c : ℕ) (body₀ : List Action) (i₀ i' : ℕ) → Stands plan s (parent.Client c) body₀ i₀ → (d : ℕ) (body : List Action) (i : ℕ) → Stands plan (with_position (parent.Client c) i' s) (parent.Client d) body i
-    → ((parent.Client d ≡ parent.Client c) × (body ≡ body₀) × (i ≡ i')) ⊎ ((parent.Client d ≢ parent.Client c) × Stands plan s (parent.Client d) body i)
+client_moved : (plan : Plan) (s : State) (c : ℕ) (body₀ : List Action) (i₀ i' : ℕ) → IsAtPosition plan s (parent.Client c) body₀ i₀ → (d : ℕ) (body : List Action) (i : ℕ) → IsAtPosition plan (with_position (parent.Client c) i' s) (parent.Client d) body i
+    → ((parent.Client d ≡ parent.Client c) × (body ≡ body₀) × (i ≡ i')) ⊎ ((parent.Client d ≢ parent.Client c) × IsAtPosition plan s (parent.Client d) body i)
 client_moved plan s c body₀ i₀ i' was d body i stands =
     let moved : ClientState = record (client_state s c) { position = i' } in
     let before = client_standing plan (slice_get s.clients c) body₀ i₀ was in
@@ -62,11 +62,11 @@ client_moved plan s c body₀ i₀ i' was d body i stands =
       | inr there ↦ inr (λ same. there.0 (same_client d c same), ap (option_map (point_of_client plan)) (there.1 ∙ sym now.1) ∙ stands)
     ]
 
-job_moved : (plan : Plan) (s : State) (j : ℕ) (body₀ : List Action) (i₀ i' : ℕ) → Stands plan s (parent.Job j) body₀ i₀ → (n : ℕ) (body : List Action) (i : ℕ) → Stands plan (with_position (parent.Job j) i' s) (parent.Job n) body i
-    → ((parent.Job n ≡ parent.Job j) × (body ≡ body₀) × (i ≡ i')) ⊎ ((parent.Job n ≢ parent.Job j) × Stands plan s (parent.Job n) body i)
+job_moved : (plan : Plan) (s : State) (j : ℕ) (body₀ : List Action) (i₀ i' : ℕ) → IsAtPosition plan s (parent.Job j) body₀ i₀ → (n : ℕ) (body : List Action) (i : ℕ) → IsAtPosition plan (with_position (parent.Job j) i' s) (parent.Job n) body i
+    → ((parent.Job n ≡ parent.Job j) × (body ≡ body₀) × (i ≡ i')) ⊎ ((parent.Job n ≢ parent.Job j) × IsAtPosition plan s (parent.Job n) body i)
 job_moved plan s j body₀ i₀ i' was n body i stands =
-    let moved : Made = record (job_at s j) { stage = Stage.At i' } in
-    let jobs : List Made = set s.jobs j moved in
+    let moved : CreatedJob = record (job_at s j) { stage = Stage.At i' } in
+    let jobs : List CreatedJob = set s.jobs j moved in
     elim (cases_eq n j) [
       | inl same ↦
           let inside = standing_made plan s j body₀ i₀ was in
@@ -87,11 +87,11 @@ standing-moved plan s (parent.Job j) body₀ i₀ i' was (parent.Job n) body i s
 
 -- ---- after a job changed its stage
 
-job_staged : (plan : Plan) (s : State) (j : ℕ) (stage : Stage) (n : ℕ) (body : List Action) (i : ℕ) → Stands plan (with_stage j stage s) (parent.Job n) body i
-    → ((parent.Job n ≡ parent.Job j) × (stage ≡ Stage.At i) × (body ≡ (class_at plan (job_at s j).class).body)) ⊎ ((parent.Job n ≢ parent.Job j) × Stands plan s (parent.Job n) body i)
+job_staged : (plan : Plan) (s : State) (j : ℕ) (stage : Stage) (n : ℕ) (body : List Action) (i : ℕ) → IsAtPosition plan (with_stage j stage s) (parent.Job n) body i
+    → ((parent.Job n ≡ parent.Job j) × (stage ≡ Stage.At i) × (body ≡ (class_at plan (job_at s j).class).body)) ⊎ ((parent.Job n ≢ parent.Job j) × IsAtPosition plan s (parent.Job n) body i)
 job_staged plan s j stage n body i stands =
-    let changed : Made = record (job_at s j) { stage = stage } in
-    let jobs : List Made = staged s.jobs j stage in
+    let changed : CreatedJob = record (job_at s j) { stage = stage } in
+    let jobs : List CreatedJob = staged s.jobs j stage in
     elim (cases_eq n j) [
       | inl same ↦
           let found : n < length jobs = standing_made plan (with_stage j stage s) n body i stands in
@@ -103,17 +103,17 @@ job_staged plan s j stage n body i stands =
     ]
 
 -- the job is at the position of its new stage, and all other actors are where they were
-pub standing-staged : (plan : Plan) (s : State) (j : ℕ) (stage : Stage) (a : Parent) (body : List Action) (i : ℕ) → Stands plan (with_stage j stage s) a body i
-    → ((a ≡ parent.Job j) × (stage ≡ Stage.At i) × (body ≡ (class_at plan (job_at s j).class).body)) ⊎ ((a ≢ parent.Job j) × Stands plan s a body i)
+pub standing-staged : (plan : Plan) (s : State) (j : ℕ) (stage : Stage) (a : Parent) (body : List Action) (i : ℕ) → IsAtPosition plan (with_stage j stage s) a body i
+    → ((a ≡ parent.Job j) × (stage ≡ Stage.At i) × (body ≡ (class_at plan (job_at s j).class).body)) ⊎ ((a ≢ parent.Job j) × IsAtPosition plan s a body i)
 standing-staged plan s j stage (parent.Client c) body i stands = inr (Client≢Job c j, stands)
 standing-staged plan s j stage (parent.Job n) body i stands = job_staged plan s j stage n body i stands
 
 -- ---- after a job was created
 
-job_pushed : (plan : Plan) (s : State) (job : Made) (n : ℕ) (body : List Action) (i : ℕ) → Stands plan (with_job job s) (parent.Job n) body i
-    → ((parent.Job n ≡ parent.Job (length s.jobs)) × (job.stage ≡ Stage.At i) × (body ≡ (class_at plan job.class).body)) ⊎ Stands plan s (parent.Job n) body i
+job_pushed : (plan : Plan) (s : State) (job : CreatedJob) (n : ℕ) (body : List Action) (i : ℕ) → IsAtPosition plan (with_job job s) (parent.Job n) body i
+    → ((parent.Job n ≡ parent.Job (length s.jobs)) × (job.stage ≡ Stage.At i) × (body ≡ (class_at plan job.class).body)) ⊎ IsAtPosition plan s (parent.Job n) body i
 job_pushed plan s job n body i stands =
-    let jobs : List Made = s.jobs ++ job ∷ [] in
+    let jobs : List CreatedJob = s.jobs ++ job ∷ [] in
     elim (cases_lt n (length s.jobs)) [
       | inl earlier ↦ inr (same_standing plan (job_at s n) (get_or jobs n no_job) body i (get_or_append_left s.jobs (job ∷ []) no_job n earlier) stands)
       | inr past ↦
@@ -124,7 +124,7 @@ job_pushed plan s job n body i stands =
     ]
 
 -- the new job is at the position of its stage, and all other actors are where they were
-pub standing-pushed : (plan : Plan) (s : State) (job : Made) (a : Parent) (body : List Action) (i : ℕ) → Stands plan (with_job job s) a body i
-    → ((a ≡ parent.Job (length s.jobs)) × (job.stage ≡ Stage.At i) × (body ≡ (class_at plan job.class).body)) ⊎ Stands plan s a body i
+pub standing-pushed : (plan : Plan) (s : State) (job : CreatedJob) (a : Parent) (body : List Action) (i : ℕ) → IsAtPosition plan (with_job job s) a body i
+    → ((a ≡ parent.Job (length s.jobs)) × (job.stage ≡ Stage.At i) × (body ≡ (class_at plan job.class).body)) ⊎ IsAtPosition plan s a body i
 standing-pushed plan s job (parent.Client c) body i stands = inr stands
 standing-pushed plan s job (parent.Job n) body i stands = job_pushed plan s job n body i stands

@@ -7,10 +7,10 @@ use Rattle.job_bodies.specs.declared.action.Action.{Action}
 use Rattle.job_bodies.specs.Plan.{Plan}
 use Rattle.written_machine.specs.declared.parent.Parent.{Parent}
 use Rattle.written_machine.specs.declared.parent.Parent.TheVariants as parent
-use Rattle.written_machine.specs.State.{Stage, State, Made, no_job, job_at, pool_of, is_at, is_busy_in}
+use Rattle.written_machine.specs.State.{Stage, State, CreatedJob, no_job, job_at, pool_of, is_at, is_busy_in}
 use Rattle.written_machine.specs.Step.{point, moved_jobs}
-use Rattle.written_machine.proofs.Standing.{stage_of_standing}
-use Rattle.written_machine.proofs.Kept.{busy_jobs}
+use Rattle.written_machine.proofs.Positions.{stage_of_standing}
+use Rattle.written_machine.proofs.StateInvariant.{busy_jobs}
 use Rattle.written_machine.proofs.Stages.{staged, count-staged}
 
 abbrev pub one_if : Bool → ℕ
@@ -19,15 +19,15 @@ one_if b = cond b 1 0
 -- ---- one job
 
 -- a new stage that is a position exactly if the old one was does not change whether the job runs in the pool
-pub busy_in-as : (plan : Plan) (p : ℕ) (job : Made) (stage : Stage) → is_at stage ≡ is_at job.stage → is_busy_in plan p (record job { stage = stage }) ≡ is_busy_in plan p job
+pub busy_in-as : (plan : Plan) (p : ℕ) (job : CreatedJob) (stage : Stage) → is_at stage ≡ is_at job.stage → is_busy_in plan p (record job { stage = stage }) ≡ is_busy_in plan p job
 busy_in-as plan p job stage same = ap (λ (b : Bool). b && eqb (pool_of plan job.class) p) same
 
 -- a job of another pool does not run in this pool
-pub busy_in_other : (plan : Plan) (p : ℕ) (job : Made) → pool_of plan job.class ≢ p → is_busy_in plan p job ≡ false
+pub busy_in_other : (plan : Plan) (p : ℕ) (job : CreatedJob) → pool_of plan job.class ≢ p → is_busy_in plan p job ≡ false
 busy_in_other plan p job other = and_right (is_at job.stage) (eqb (pool_of plan job.class) p) (ne_eqb (pool_of plan job.class) p other)
 
 -- a job of the pool runs in it exactly if its stage is a position
-pub busy_in_own : (plan : Plan) (p : ℕ) (job : Made) → pool_of plan job.class ≡ p → is_busy_in plan p job ≡ is_at job.stage
+pub busy_in_own : (plan : Plan) (p : ℕ) (job : CreatedJob) → pool_of plan job.class ≡ p → is_busy_in plan p job ≡ is_at job.stage
 busy_in_own plan p job of_pool = ap (λ (b : Bool). is_at job.stage && b) (eq-eqb (pool_of plan job.class) p of_pool) ∙ and_true (is_at job.stage)
   where
     and_true : (b : Bool) → (b && true) ≡ b
@@ -37,21 +37,21 @@ busy_in_own plan p job of_pool = ap (λ (b : Bool). is_at job.stage && b) (eq-eq
 -- ---- a job changes its stage
 
 -- the number of running jobs stays if the change does not start or stop the job in this pool
-pub busy-staged_same : (plan : Plan) (jobs : List Made) (j : ℕ) (stage : Stage) (p : ℕ) → is_busy_in plan p (record (get_or jobs j no_job) { stage = stage }) ≡ is_busy_in plan p (get_or jobs j no_job) → busy_jobs plan (staged jobs j stage) p ≡ busy_jobs plan jobs p
+pub busy-staged_same : (plan : Plan) (jobs : List CreatedJob) (j : ℕ) (stage : Stage) (p : ℕ) → is_busy_in plan p (record (get_or jobs j no_job) { stage = stage }) ≡ is_busy_in plan p (get_or jobs j no_job) → busy_jobs plan (staged jobs j stage) p ≡ busy_jobs plan jobs p
 busy-staged_same plan jobs j stage p same = count-staged (is_busy_in plan p) jobs j stage same
 
 -- the number of running jobs stays in each pool that is not the job's
-pub busy-staged_elsewhere : (plan : Plan) (jobs : List Made) (j : ℕ) (stage : Stage) (p : ℕ) → pool_of plan (get_or jobs j no_job).class ≢ p → busy_jobs plan (staged jobs j stage) p ≡ busy_jobs plan jobs p
+pub busy-staged_elsewhere : (plan : Plan) (jobs : List CreatedJob) (j : ℕ) (stage : Stage) (p : ℕ) → pool_of plan (get_or jobs j no_job).class ≢ p → busy_jobs plan (staged jobs j stage) p ≡ busy_jobs plan jobs p
 busy-staged_elsewhere plan jobs j stage p other =
     let job = get_or jobs j no_job in
     busy-staged_same plan jobs j stage p (busy_in_other plan p (record job { stage = stage }) other ∙ sym (busy_in_other plan p job other))
 
 -- in the job's own pool the number counts the job if it runs after the change, and no longer counts it if it ran before
-pub busy-staged_here : (plan : Plan) (jobs : List Made) (j : ℕ) (stage : Stage) (p : ℕ) → pool_of plan (get_or jobs j no_job).class ≡ p → j < length jobs
+pub busy-staged_here : (plan : Plan) (jobs : List CreatedJob) (j : ℕ) (stage : Stage) (p : ℕ) → pool_of plan (get_or jobs j no_job).class ≡ p → j < length jobs
     → busy_jobs plan (staged jobs j stage) p + one_if (is_at (get_or jobs j no_job).stage) ≡ busy_jobs plan jobs p + one_if (is_at stage)
 busy-staged_here plan jobs j stage p of_pool inside =
     let job = get_or jobs j no_job in
-    let changed : Made = record job { stage = stage } in
+    let changed : CreatedJob = record job { stage = stage } in
     ap (λ (b : Bool). busy_jobs plan (staged jobs j stage) p + one_if b) (sym (busy_in_own plan p job of_pool))
     ∙ count_by-set (is_busy_in plan p) jobs j changed no_job inside
     ∙ ap (λ (b : Bool). busy_jobs plan jobs p + one_if b) (busy_in_own plan p changed of_pool)
@@ -64,17 +64,17 @@ busy-moved plan s (parent.Job j) body i i' p stands =
 
 -- ---- a job is created
 
-pub busy_push : (plan : Plan) (jobs : List Made) (job : Made) (p : ℕ) → busy_jobs plan (jobs ++ job ∷ []) p ≡ busy_jobs plan jobs p + one_if (is_busy_in plan p job)
-busy_push plan jobs job p = sum_by_push (λ (x : Made). one_if (is_busy_in plan p x)) jobs job
+pub busy_push : (plan : Plan) (jobs : List CreatedJob) (job : CreatedJob) (p : ℕ) → busy_jobs plan (jobs ++ job ∷ []) p ≡ busy_jobs plan jobs p + one_if (is_busy_in plan p job)
+busy_push plan jobs job p = sum_by_push (λ (x : CreatedJob). one_if (is_busy_in plan p x)) jobs job
 
 -- a new job that does not run in the pool leaves the number of running jobs
-pub busy_push_same : (plan : Plan) (jobs : List Made) (job : Made) (p : ℕ) → is_busy_in plan p job ≡ false → busy_jobs plan (jobs ++ job ∷ []) p ≡ busy_jobs plan jobs p
+pub busy_push_same : (plan : Plan) (jobs : List CreatedJob) (job : CreatedJob) (p : ℕ) → is_busy_in plan p job ≡ false → busy_jobs plan (jobs ++ job ∷ []) p ≡ busy_jobs plan jobs p
 busy_push_same plan jobs job p not_busy =
     let none : one_if (is_busy_in plan p job) ≡ 0 = ap one_if not_busy in
     omega (arith, busy_push plan jobs job p, none)
 
 -- in its own pool a new job adds one if it runs at once
-pub busy_push_here : (plan : Plan) (jobs : List Made) (job : Made) → busy_jobs plan (jobs ++ job ∷ []) (pool_of plan job.class) ≡ busy_jobs plan jobs (pool_of plan job.class) + one_if (is_at job.stage)
+pub busy_push_here : (plan : Plan) (jobs : List CreatedJob) (job : CreatedJob) → busy_jobs plan (jobs ++ job ∷ []) (pool_of plan job.class) ≡ busy_jobs plan jobs (pool_of plan job.class) + one_if (is_at job.stage)
 busy_push_here plan jobs job =
     let p = pool_of plan job.class in
     busy_push plan jobs job p ∙ ap (λ (b : Bool). busy_jobs plan jobs p + one_if b) (busy_in_own plan p job refl)

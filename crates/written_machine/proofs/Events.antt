@@ -17,10 +17,10 @@ use Rattle.written_machine.specs.declared.event.Event.TheVariants as event
 use Rattle.written_machine.specs.declared.event.Outcome.{Outcome}
 use Rattle.written_machine.specs.declared.event.Outcome.TheVariants as outcome
 use Rattle.written_machine.specs.State.{Stage, State, job_at, pool_part, pool_of, pool_seen, threads, child}
-use Rattle.written_machine.specs.Step.{Point, point, with_stage, with_position, with_job, new_job, finished_job, answered, got, got_child, looped, acted, stepped, took, let_go, step}
+use Rattle.written_machine.specs.Step.{Point, point, with_stage, with_position, with_job, new_job, finished_job, answered, got, got_child, looped, step_action, step_at_point, take_head, retire_worker, step}
 
 -- the actor is at position i of the body, and this is the action there (None at the end)
-pub record StandsAt (plan : Plan) (s : State) (a : Parent) (body : List Action) (i : ℕ) (there : Option Action) : Type 0 where
+pub record IsAtAction (plan : Plan) (s : State) (a : Parent) (body : List Action) (i : ℕ) (there : Option Action) : Type 0 where
   pub stands : point plan s a ≡ Some (record { body = body; position = i })
   pub is_there : slice_get body i ≡ there
 
@@ -40,24 +40,24 @@ event_of (parent.Client c) = event.Client c
 event_of (parent.Job j) = event.Job j
 
 pub data Happens (plan : Plan) (s : State) : Event → State → Outcome → Type 0 where
-  works : (a : Parent) (body : List Action) (i u : ℕ) → StandsAt plan s a body i (Some (action.Work u))
+  works : (a : Parent) (body : List Action) (i u : ℕ) → IsAtAction plan s a body i (Some (action.Work u))
       → Happens plan s (event_of a) (with_position a (i + 1) s) (outcome.Worked u)
-  starts : (a : Parent) (body : List Action) (i k : ℕ) → StandsAt plan s a body i (Some (action.Submit k))
+  starts : (a : Parent) (body : List Action) (i k : ℕ) → IsAtAction plan s a body i (Some (action.Submit k))
       → (threads plan s (pool_of plan k) < (pool_at plan (pool_of plan k)).max) ⊎ (threads plan s (pool_of plan k) < (pool_at plan (pool_of plan k)).core)
       → Happens plan s (event_of a) (with_job (new_job k a i (Stage.At 0)) (with_position a (i + 1) s)) (outcome.Started (length s.jobs))
-  queues : (a : Parent) (body : List Action) (i k : ℕ) → StandsAt plan s a body i (Some (action.Submit k))
+  queues : (a : Parent) (body : List Action) (i k : ℕ) → IsAtAction plan s a body i (Some (action.Submit k))
       → (pool_at plan (pool_of plan k)).core ≤ threads plan s (pool_of plan k)
       → length (pool_part s (pool_of plan k)).queue < (pool_at plan (pool_of plan k)).queue
       → Happens plan s (event_of a) (queued_state plan s a i k) (outcome.Queued (length s.jobs))
-  is_refused : (a : Parent) (body : List Action) (i k : ℕ) → StandsAt plan s a body i (Some (action.Submit k))
+  is_refused : (a : Parent) (body : List Action) (i k : ℕ) → IsAtAction plan s a body i (Some (action.Submit k))
       → (pool_at plan (pool_of plan k)).queue ≤ length (pool_part s (pool_of plan k)).queue
       → (pool_at plan (pool_of plan k)).max ≤ threads plan s (pool_of plan k)
       → Happens plan s (event_of a) (record s { refusals = s.refusals + 1 }) (outcome.Refused (pool_of plan k))
-  gets : (a : Parent) (body : List Action) (i t j : ℕ) → StandsAt plan s a body i (Some (action.Get t)) → child s a t ≡ Some j → (job_at s j).stage ≡ Stage.Done
+  gets : (a : Parent) (body : List Action) (i t j : ℕ) → IsAtAction plan s a body i (Some (action.Get t)) → child s a t ≡ Some j → (job_at s j).stage ≡ Stage.Done
       → Happens plan s (event_of a) (with_stage j Stage.Claimed (with_position a (i + 1) s)) (outcome.Got j)
-  finishes : (j : ℕ) (body : List Action) (i : ℕ) → StandsAt plan s (parent.Job j) body i None
+  finishes : (j : ℕ) (body : List Action) (i : ℕ) → IsAtAction plan s (parent.Job j) body i None
       → Happens plan s (event.Job j) (finished_job plan s j (pool_of plan (job_at s j).class)) (outcome.Finished j)
-  loops : (c : ℕ) (client : ClientState) (body : List Action) (i : ℕ) → StandsAt plan s (parent.Client c) body i None
+  loops : (c : ℕ) (client : ClientState) (body : List Action) (i : ℕ) → IsAtAction plan s (parent.Client c) body i None
       → slice_get s.clients c ≡ Some client → (client_at plan client.kind).repeat ≡ true
       → Happens plan s (event.Client c) (with_position (parent.Client c) 0 s) outcome.Looped
   takes : (p j : ℕ) (queue : List ℕ) (idle : ℕ) → (pool_part s p).queue ≡ j ∷ queue → (pool_part s p).idle ≡ suc idle
@@ -71,7 +71,7 @@ same_outcome : (plan : Plan) (s : State) (e : Event) (x : State × Outcome) (s' 
 same_outcome plan s e x s' o same happened = subst (λ (y : State × Outcome). Happens plan s e y.0 y.1) (same_Some x (s', o) same) happened
 
 -- a submit, for each answer of the pool
-answered_happens : (plan : Plan) (s : State) (a : Parent) (body : List Action) (i k : ℕ) → StandsAt plan s a body i (Some (action.Submit k)) → (given : Offer) → answer (pool_seen plan s (pool_of plan k)) ≡ given
+answered_happens : (plan : Plan) (s : State) (a : Parent) (body : List Action) (i k : ℕ) → IsAtAction plan s a body i (Some (action.Submit k)) → (given : Offer) → answer (pool_seen plan s (pool_of plan k)) ≡ given
     → Happens plan s (event_of a) (answered plan s a i k given).0 (answered plan s a i k given).1
 answered_happens plan s a body i k at offer.Started e = starts a body i k at (⊎_elim inr inl (started_below (pool_seen plan s (pool_of plan k)) e))
 answered_happens plan s a body i k at offer.Queued e =
@@ -81,27 +81,27 @@ answered_happens plan s a body i k at offer.Refused e =
     let full = refused_when_full (pool_seen plan s (pool_of plan k)) e in
     is_refused a body i k at full.0 full.1
 
-got_happens : (plan : Plan) (s : State) (a : Parent) (body : List Action) (i t j : ℕ) → StandsAt plan s a body i (Some (action.Get t)) → child s a t ≡ Some j → (stage : Stage) → (job_at s j).stage ≡ stage
+got_happens : (plan : Plan) (s : State) (a : Parent) (body : List Action) (i t j : ℕ) → IsAtAction plan s a body i (Some (action.Get t)) → child s a t ≡ Some j → (stage : Stage) → (job_at s j).stage ≡ stage
     → (s' : State) (o : Outcome) → got s a i j stage ≡ Some (s', o) → Happens plan s (event_of a) s' o
 got_happens plan s a body i t j at is_child Stage.Done done s' o e = same_outcome plan s (event_of a) _ s' o e (gets a body i t j at is_child done)
 got_happens plan s a body i t j at is_child Stage.Queued done s' o e = absurd (none-some (s', o) e)
 got_happens plan s a body i t j at is_child (Stage.At n) done s' o e = absurd (none-some (s', o) e)
 got_happens plan s a body i t j at is_child Stage.Claimed done s' o e = absurd (none-some (s', o) e)
 
-got_child_happens : (plan : Plan) (s : State) (a : Parent) (body : List Action) (i t : ℕ) → StandsAt plan s a body i (Some (action.Get t)) → (found : Option ℕ) → child s a t ≡ found
+got_child_happens : (plan : Plan) (s : State) (a : Parent) (body : List Action) (i t : ℕ) → IsAtAction plan s a body i (Some (action.Get t)) → (found : Option ℕ) → child s a t ≡ found
     → (s' : State) (o : Outcome) → got_child s a i found ≡ Some (s', o) → Happens plan s (event_of a) s' o
 got_child_happens plan s a body i t at None is_child s' o e = absurd (none-some (s', o) e)
 got_child_happens plan s a body i t at (Some j) is_child s' o e = got_happens plan s a body i t j at is_child (job_at s j).stage refl s' o e
 
-looped_happens : (plan : Plan) (s : State) (c : ℕ) (body : List Action) (i : ℕ) → StandsAt plan s (parent.Client c) body i None → (found : Option ClientState) → slice_get s.clients c ≡ found
+looped_happens : (plan : Plan) (s : State) (c : ℕ) (body : List Action) (i : ℕ) → IsAtAction plan s (parent.Client c) body i None → (found : Option ClientState) → slice_get s.clients c ≡ found
     → (s' : State) (o : Outcome) → looped plan s c found ≡ Some (s', o) → Happens plan s (event.Client c) s' o
 looped_happens plan s c body i at None is_client s' o e = absurd (none-some (s', o) e)
 looped_happens plan s c body i at (Some client) is_client s' o e =
     let looped = cond_some (client_at plan client.kind).repeat (with_position (parent.Client c) 0 s, outcome.Looped) (s', o) e in
     subst (λ (y : State × Outcome). Happens plan s (event.Client c) y.0 y.1) looped.1 (loops c client body i at is_client looped.0)
 
-acted_happens : (plan : Plan) (s : State) (a : Parent) (body : List Action) (i : ℕ) (there : Option Action) → StandsAt plan s a body i there
-    → (s' : State) (o : Outcome) → acted plan s a i there ≡ Some (s', o) → Happens plan s (event_of a) s' o
+acted_happens : (plan : Plan) (s : State) (a : Parent) (body : List Action) (i : ℕ) (there : Option Action) → IsAtAction plan s a body i there
+    → (s' : State) (o : Outcome) → step_action plan s a i there ≡ Some (s', o) → Happens plan s (event_of a) s' o
 acted_happens plan s (parent.Client c) body i None at s' o e = looped_happens plan s c body i at (slice_get s.clients c) refl s' o e
 acted_happens plan s (parent.Job j) body i None at s' o e = same_outcome plan s (event.Job j) _ s' o e (finishes j body i at)
 acted_happens plan s a body i (Some (action.Work u)) at s' o e = same_outcome plan s (event_of a) _ s' o e (works a body i u at)
@@ -109,17 +109,17 @@ acted_happens plan s a body i (Some (action.Submit k)) at s' o e =
     same_outcome plan s (event_of a) _ s' o e (answered_happens plan s a body i k at (answer (pool_seen plan s (pool_of plan k))) refl)
 acted_happens plan s a body i (Some (action.Get t)) at s' o e = got_child_happens plan s a body i t at (child s a t) refl s' o e
 
-stepped_happens : (plan : Plan) (s : State) (a : Parent) (found : Option Point) → point plan s a ≡ found → (s' : State) (o : Outcome) → stepped plan s a found ≡ Some (s', o) → Happens plan s (event_of a) s' o
+stepped_happens : (plan : Plan) (s : State) (a : Parent) (found : Option Point) → point plan s a ≡ found → (s' : State) (o : Outcome) → step_at_point plan s a found ≡ Some (s', o) → Happens plan s (event_of a) s' o
 stepped_happens plan s a None stands s' o e = absurd (none-some (s', o) e)
 stepped_happens plan s a (Some at) stands s' o e = acted_happens plan s a at.body at.position (slice_get at.body at.position) (record { stands = stands; is_there = refl }) s' o e
 
-took_happens : (plan : Plan) (s : State) (p : ℕ) (found : Option (ℕ × PoolView)) → taken (pool_seen plan s p) ≡ found → (s' : State) (o : Outcome) → took s p found ≡ Some (s', o) → Happens plan s (event.Take p) s' o
+took_happens : (plan : Plan) (s : State) (p : ℕ) (found : Option (ℕ × PoolView)) → taken (pool_seen plan s p) ≡ found → (s' : State) (o : Outcome) → take_head s p found ≡ Some (s', o) → Happens plan s (event.Take p) s' o
 took_happens plan s p None is_taken s' o e = absurd (none-some (s', o) e)
 took_happens plan s p (Some (j, after)) is_taken s' o e =
     let taking = taken_takes (pool_seen plan s p) after j is_taken in
     same_outcome plan s (event.Take p) _ s' o e (takes p j after.queue after.idle taking.queue taking.idle)
 
-let_go_happens : (plan : Plan) (s : State) (p : ℕ) (found : Option PoolView) → retired (pool_seen plan s p) ≡ found → (s' : State) (o : Outcome) → let_go s p found ≡ Some (s', o) → Happens plan s (event.Retire p) s' o
+let_go_happens : (plan : Plan) (s : State) (p : ℕ) (found : Option PoolView) → retired (pool_seen plan s p) ≡ found → (s' : State) (o : Outcome) → retire_worker s p found ≡ Some (s', o) → Happens plan s (event.Retire p) s' o
 let_go_happens plan s p None is_retired s' o e = absurd (none-some (s', o) e)
 let_go_happens plan s p (Some after) is_retired s' o e =
     let ending = retired_retires (pool_seen plan s p) after is_retired in

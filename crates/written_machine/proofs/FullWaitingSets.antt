@@ -10,23 +10,23 @@ use Rattle.written_machine.specs.declared.parent.Parent.{Parent}
 use Rattle.written_machine.specs.declared.parent.Parent.TheVariants as parent
 use Rattle.written_machine.specs.declared.event.Event.{Event}
 use Rattle.written_machine.specs.declared.event.Outcome.{Outcome}
-use Rattle.written_machine.specs.State.{Stage, State, Made, job_at, pool_part, pool_of, is_at, is_queued, is_queued_in, is_busy_in, threads, child}
+use Rattle.written_machine.specs.State.{Stage, State, CreatedJob, job_at, pool_part, pool_of, is_at, is_queued, is_queued_in, is_busy_in, threads, child}
 use Rattle.written_machine.specs.Step.{with_stage, with_position, with_job, new_job, finished_job}
-use Rattle.written_machine.specs.Waiting.{IsMember, WaitsAtGet, WaitsAs, IsWaitingSet}
-use Rattle.written_machine.specs.FullWaitingSets.{WhereMembersQueue, IsFull, IsFixed, IsFullWaitingSet, HasStayed}
-use Rattle.written_machine.proofs.Events.{StandsAt, with_part, Happens, works, starts, queues, is_refused, gets, finishes, loops, takes, retires}
-use Rattle.written_machine.proofs.Standing.{stage_of_standing, standing_made, job_made}
-use Rattle.written_machine.proofs.Kept.{Kept}
+use Rattle.written_machine.specs.Waiting.{IsMember, WaitsAtGet, WaitsAtStage, IsWaitingSet}
+use Rattle.written_machine.specs.FullWaitingSets.{WhereMembersQueue, IsFull, IsFixed, IsFullWaitingSet, StaysFull}
+use Rattle.written_machine.proofs.Events.{IsAtAction, with_part, Happens, works, starts, queues, is_refused, gets, finishes, loops, takes, retires}
+use Rattle.written_machine.proofs.Positions.{stage_of_standing, standing_made, job_made}
+use Rattle.written_machine.proofs.StateInvariant.{StateInvariant}
 use Rattle.written_machine.proofs.Stages.{length-moved}
 use Rattle.written_machine.proofs.Children.{not_by_other}
 use Rattle.written_machine.proofs.Queues.{queued_stage, head_of_queue, pool_of_made, queued_in_queue}
 use Rattle.written_machine.proofs.Busy.{busy_in-as, busy_in_other, busy_in_own}
-use Rattle.written_machine.proofs.KeptSubmits.{class_exists, room_for_thread}
-use Rattle.written_machine.proofs.KeptStep.{done_still, kept_step}
-use Rattle.written_machine.proofs.Leaves.{SamePool, Leaves, IsOutside, leaves_twice, leaves-clients, leaves-staged, leaves-moved, leaves-pushed, leaves-part, idle_elsewhere, idle_as_before}
+use Rattle.written_machine.proofs.InvariantSubmits.{class_exists, room_for_thread}
+use Rattle.written_machine.proofs.InvariantStep.{done_still, kept_step}
+use Rattle.written_machine.proofs.Preserves.{SamePool, Preserves, IsOutside, leaves_twice, leaves-clients, leaves-staged, leaves-moved, leaves-pushed, leaves-part, idle_elsewhere, idle_as_before}
 
 -- a queued job is queued in the pool of its class
-queued_in_own : (plan : Plan) (job : Made) → is_queued job.stage ≡ true → is_queued_in plan (pool_of plan job.class) job ≡ true
+queued_in_own : (plan : Plan) (job : CreatedJob) → is_queued job.stage ≡ true → is_queued_in plan (pool_of plan job.class) job ≡ true
 queued_in_own plan job queued = and_from (is_queued job.stage) (eqb (pool_of plan job.class) (pool_of plan job.class)) queued (eq-eqb (pool_of plan job.class) (pool_of plan job.class) refl)
 
 -- equal gets name the same submit
@@ -37,8 +37,8 @@ same_get t u e = cc
 
 module _ (plan : Plan) (s : State) (members : List ℕ) (waiting : IsWaitingSet plan s members) where
   -- a member waits in the way that belongs to its stage
-  member_waits : (j : ℕ) (stage : Stage) → IsMember members j → (job_at s j).stage ≡ stage → WaitsAs plan s members j stage
-  member_waits j stage member is_stage = subst (WaitsAs plan s members j) is_stage (waiting.each j member)
+  member_waits : (j : ℕ) (stage : Stage) → IsMember members j → (job_at s j).stage ≡ stage → WaitsAtStage plan s members j stage
+  member_waits j stage member is_stage = subst (WaitsAtStage plan s members j) is_stage (waiting.each j member)
 
   -- no member is done, and each member exists
   not_done : (j : ℕ) → (job_at s j).stage ≡ Stage.Done → ¬ IsMember members j
@@ -48,7 +48,7 @@ module _ (plan : Plan) (s : State) (members : List ℕ) (waiting : IsWaitingSet 
   member_made j member = job_made s j (λ claimed. member_waits j Stage.Claimed member claimed)
 
   -- a member at a position is at a get, and the job that the get waits for is a member
-  member_at_get : (j : ℕ) (body : List Action) (i : ℕ) (there : Option Action) → IsMember members j → StandsAt plan s (parent.Job j) body i there
+  member_at_get : (j : ℕ) (body : List Action) (i : ℕ) (there : Option Action) → IsMember members j → IsAtAction plan s (parent.Job j) body i there
       → (t : ℕ) × (there ≡ Some (action.Get t)) × (n : ℕ) × (child s (parent.Job j) t ≡ Some n) × IsMember members n
   member_at_get j body i there member at =
       let was = stage_of_standing plan (job_at s j).class (job_at s j).stage body i at.stands in
@@ -56,15 +56,15 @@ module _ (plan : Plan) (s : State) (members : List ℕ) (waiting : IsWaitingSet 
       (waits.submit, sym at.is_there ∙ ap (λ (b : List Action). slice_get b i) was.1 ∙ waits.stands, waits.child_number, waits.is_child, waits.member)
 
   -- an actor whose next action is not a get is not a member
-  acts_outside : (a : Parent) (body : List Action) (i : ℕ) (there : Option Action) → StandsAt plan s a body i there → ((t : ℕ) → there ≢ Some (action.Get t)) → IsOutside members a
+  acts_outside : (a : Parent) (body : List Action) (i : ℕ) (there : Option Action) → IsAtAction plan s a body i there → ((t : ℕ) → there ≢ Some (action.Get t)) → IsOutside members a
   acts_outside a body i there at no_get j member same =
-      let found = member_at_get j body i there member (subst (λ (b : Parent). StandsAt plan s b body i there) same at) in
+      let found = member_at_get j body i there member (subst (λ (b : Parent). IsAtAction plan s b body i there) same at) in
       no_get found.0 found.1
 
   -- an actor whose get finds a finished job is not a member
-  gets_outside : (a : Parent) (body : List Action) (i t n : ℕ) → StandsAt plan s a body i (Some (action.Get t)) → child s a t ≡ Some n → (job_at s n).stage ≡ Stage.Done → IsOutside members a
+  gets_outside : (a : Parent) (body : List Action) (i t n : ℕ) → IsAtAction plan s a body i (Some (action.Get t)) → child s a t ≡ Some n → (job_at s n).stage ≡ Stage.Done → IsOutside members a
   gets_outside a body i t n at is_child done j member same =
-      let found = member_at_get j body i (Some (action.Get t)) member (subst (λ (b : Parent). StandsAt plan s b body i (Some (action.Get t))) same at) in
+      let found = member_at_get j body i (Some (action.Get t)) member (subst (λ (b : Parent). IsAtAction plan s b body i (Some (action.Get t))) same at) in
       let of_member : child s (parent.Job j) t ≡ Some n = subst (λ (b : Parent). child s b t ≡ Some n) same is_child in
       let submit : t ≡ found.0 = same_get t found.0 found.1 in
       let same_child : found.2 ≡ n = same_Some found.2 n (sym found.3 ∙ ap (child s (parent.Job j)) (sym submit) ∙ of_member) in
@@ -77,28 +77,28 @@ abbrev QueuesMember : Plan → State → List ℕ → ℕ → Type 0
 QueuesMember plan s members p = (j : ℕ) × IsMember members j × (is_queued_in plan p (job_at s j) ≡ true)
 
 -- the pool has max threads, no worker is idle, and all jobs that run in it are members
-record IsClosed (plan : Plan) (s : State) (members : List ℕ) (p : ℕ) : Type 0 where
+record IsFullOfMembers (plan : Plan) (s : State) (members : List ℕ) (p : ℕ) : Type 0 where
   full : IsFull plan s p
   none_idle : (pool_part s p).idle ≡ 0
   all_at_work : (n : ℕ) → is_busy_in plan p (job_at s n) ≡ true → IsMember members n
 
 -- the change leaves the members, and the pools with queued members, as they were
-abbrev LeavesSet : Plan → List ℕ → State → State → Type 0
-LeavesSet plan members s s' = Leaves plan members (QueuesMember plan s members) s s'
+abbrev PreservesSet : Plan → List ℕ → State → State → Type 0
+PreservesSet plan members s s' = Preserves plan members (QueuesMember plan s members) s s'
 
 -- ---- every event leaves the set
 
-module _ (plan : Plan) (s : State) (members : List ℕ) (ordered : HasValidBodies plan) (kept : Kept plan s) (set : IsFullWaitingSet plan s members) where
+module _ (plan : Plan) (s : State) (members : List ℕ) (ordered : HasValidBodies plan) (kept : StateInvariant plan s) (set : IsFullWaitingSet plan s members) where
   abbrev among : ℕ → Type 0
   among = QueuesMember plan s members
 
   -- a pool with a queued member is closed in this sense
-  closed : (p : ℕ) → among p → IsClosed plan s members p
+  closed : (p : ℕ) → among p → IsFullOfMembers plan s members p
   closed p queuing =
       let job = job_at s queuing.0 in
       let parts = and_parts (is_queued job.stage) (eqb (pool_of plan job.class) p) queuing.2 in
       let waits = member_waits plan s members set.waits queuing.0 Stage.Queued queuing.1 (queued_stage job.stage parts.0) in
-      subst (IsClosed plan s members) (eqb-true (pool_of plan job.class) p parts.1)
+      subst (IsFullOfMembers plan s members) (eqb-true (pool_of plan job.class) p parts.1)
       (record { full = set.full (pool_of plan job.class) queuing.0 queuing.1 (queued_in_own plan job parts.0); none_idle = waits.none_idle; all_at_work = waits.all_at_work })
 
   -- a pool with an idle worker has no queued member
@@ -115,12 +115,12 @@ module _ (plan : Plan) (s : State) (members : List ℕ) (ordered : HasValidBodie
       omega arith
 
   -- a move by an action that is not a get leaves the set
-  leaves_acts : (a : Parent) (body : List Action) (i i' : ℕ) (there : Option Action) → StandsAt plan s a body i there → ((t : ℕ) → there ≢ Some (action.Get t)) → LeavesSet plan members s (with_position a i' s)
+  leaves_acts : (a : Parent) (body : List Action) (i i' : ℕ) (there : Option Action) → IsAtAction plan s a body i there → ((t : ℕ) → there ≢ Some (action.Get t)) → PreservesSet plan members s (with_position a i' s)
   leaves_acts a body i i' there at no_get = leaves-moved plan members among s a body i i' at.stands (acts_outside plan s members set.waits a body i there at no_get)
 
   -- a new job leaves the set if it does not run in a pool with queued members
-  leaves_submit : (a : Parent) (body : List Action) (i k : ℕ) (stage : Stage) → StandsAt plan s a body i (Some (action.Submit k)) → ((p : ℕ) → among p → is_busy_in plan p (new_job k a i stage) ≡ false)
-      → LeavesSet plan members s (with_job (new_job k a i stage) (with_position a (i + 1) s))
+  leaves_submit : (a : Parent) (body : List Action) (i k : ℕ) (stage : Stage) → IsAtAction plan s a body i (Some (action.Submit k)) → ((p : ℕ) → among p → is_busy_in plan p (new_job k a i stage) ≡ false)
+      → PreservesSet plan members s (with_job (new_job k a i stage) (with_position a (i + 1) s))
   leaves_submit a body i k stage at elsewhere =
       let job = new_job k a i stage in
       let moved : State = with_position a (i + 1) s in
@@ -130,7 +130,7 @@ module _ (plan : Plan) (s : State) (members : List ℕ) (ordered : HasValidBodie
       (λ j t member. not_by_other k a i stage (parent.Job j) t (λ same. acts_outside plan s members set.waits a body i (Some (action.Submit k)) at (λ t same. cc) j member (sym same))) elsewhere)
 
   -- a get that claims a finished job leaves the set
-  leaves_gets : (a : Parent) (body : List Action) (i t n : ℕ) → StandsAt plan s a body i (Some (action.Get t)) → child s a t ≡ Some n → (job_at s n).stage ≡ Stage.Done → LeavesSet plan members s (with_stage n Stage.Claimed (with_position a (i + 1) s))
+  leaves_gets : (a : Parent) (body : List Action) (i t n : ℕ) → IsAtAction plan s a body i (Some (action.Get t)) → child s a t ≡ Some n → (job_at s n).stage ≡ Stage.Done → PreservesSet plan members s (with_stage n Stage.Claimed (with_position a (i + 1) s))
   leaves_gets a body i t n at is_child done =
       let moved : State = with_position a (i + 1) s in
       let still = done_still plan s a body i (i + 1) n at.stands done in
@@ -140,7 +140,7 @@ module _ (plan : Plan) (s : State) (members : List ℕ) (ordered : HasValidBodie
       (λ p is_among. busy_in-as plan p (job_at moved n) Stage.Claimed (sym (ap is_at still))))
 
   -- a job outside the set changes its stage, and its pool, which has no queued member, gets this queue and idle count
-  leaves_worker : (j : ℕ) (stage : Stage) (q : ℕ) (queue : List ℕ) (idle : ℕ) → j < length s.jobs → pool_of plan (job_at s j).class ≡ q → ¬ IsMember members j → ((p : ℕ) → among p → p ≢ q) → LeavesSet plan members s (with_part q queue idle (with_stage j stage s))
+  leaves_worker : (j : ℕ) (stage : Stage) (q : ℕ) (queue : List ℕ) (idle : ℕ) → j < length s.jobs → pool_of plan (job_at s j).class ≡ q → ¬ IsMember members j → ((p : ℕ) → among p → p ≢ q) → PreservesSet plan members s (with_part q queue idle (with_stage j stage s))
   leaves_worker j stage q queue idle inside of_pool outside elsewhere =
       let changed : State = with_stage j stage s in
       leaves_twice plan members among s changed (with_part q queue idle changed)
@@ -151,7 +151,7 @@ module _ (plan : Plan) (s : State) (members : List ℕ) (ordered : HasValidBodie
       not_own p is_among same = elsewhere p is_among (sym same ∙ of_pool)
 
   -- the end of a running job leaves the set
-  leaves_finishes : (j : ℕ) (body : List Action) (i : ℕ) → StandsAt plan s (parent.Job j) body i None → LeavesSet plan members s (finished_job plan s j (pool_of plan (job_at s j).class))
+  leaves_finishes : (j : ℕ) (body : List Action) (i : ℕ) → IsAtAction plan s (parent.Job j) body i None → PreservesSet plan members s (finished_job plan s j (pool_of plan (job_at s j).class))
   leaves_finishes j body i at =
       let q = pool_of plan (job_at s j).class in
       let was = stage_of_standing plan (job_at s j).class (job_at s j).stage body i at.stands in
@@ -160,14 +160,14 @@ module _ (plan : Plan) (s : State) (members : List ℕ) (ordered : HasValidBodie
       (λ p is_among same. outside ((closed p is_among).all_at_work j (busy_in_own plan p (job_at s j) (sym same) ∙ ap is_at was.0)))
 
   -- a take of the head of a queue by an idle worker leaves the set
-  leaves_takes : (p j : ℕ) (queue : List ℕ) (idle : ℕ) → (pool_part s p).queue ≡ j ∷ queue → (pool_part s p).idle ≡ suc idle → LeavesSet plan members s (with_part p queue idle (with_stage j (Stage.At 0) s))
+  leaves_takes : (p j : ℕ) (queue : List ℕ) (idle : ℕ) → (pool_part s p).queue ≡ j ∷ queue → (pool_part s p).idle ≡ suc idle → PreservesSet plan members s (with_part p queue idle (with_stage j (Stage.At 0) s))
   leaves_takes p j queue idle is_queue is_idle =
       let head = head_of_queue plan s p j queue kept is_queue in
       let queued : is_queued_in plan p (job_at s j) ≡ true = subst (λ (q : ℕ). is_queued_in plan q (job_at s j) ≡ true) head.of_pool (queued_in_own plan (job_at s j) (ap is_queued head.queued)) in
       leaves_worker j (Stage.At 0) p queue idle head.inside head.of_pool (λ member. idle_not_among p p idle is_idle (j, member, queued) refl) (λ q is_among. idle_not_among q p idle is_idle is_among)
 
   -- every event leaves the set
-  leaves : (s' : State) (o : Outcome) {e : Event} → Happens plan s e s' o → LeavesSet plan members s s'
+  leaves : (s' : State) (o : Outcome) {e : Event} → Happens plan s e s' o → PreservesSet plan members s s'
   leaves s' o (works a body i u at) = leaves_acts a body i (i + 1) (Some (action.Work u)) at (λ t same. cc)
   leaves s' o (starts a body i k at below) =
       leaves_submit a body i k (Stage.At 0) at (λ p is_among. ne_eqb (pool_of plan k) p (started_elsewhere (pool_of plan k) p (ordered.pools k (class_exists plan s a body i k ordered at)) below is_among))
@@ -187,12 +187,12 @@ module _ (plan : Plan) (s : State) (members : List ℕ) (ordered : HasValidBodie
 
 -- ---- the set stays
 
-module _ (plan : Plan) (s s' : State) (members : List ℕ) (left : LeavesSet plan members s s') where
+module _ (plan : Plan) (s s' : State) (members : List ℕ) (left : PreservesSet plan members s s') where
   -- a member waits after the change as it did before
-  still_waits : (j : ℕ) (stage : Stage) → IsMember members j → (job_at s j).stage ≡ stage → WaitsAs plan s members j stage → WaitsAs plan s' members j stage
+  still_waits : (j : ℕ) (stage : Stage) → IsMember members j → (job_at s j).stage ≡ stage → WaitsAtStage plan s members j stage → WaitsAtStage plan s' members j stage
   still_waits j Stage.Queued member is_stage waits =
       let q = pool_of plan (job_at s j).class in
-      let same_class : q ≡ pool_of plan (job_at s' j).class = ap (λ (job : Made). pool_of plan job.class) (sym (left.jobs j member)) in
+      let same_class : q ≡ pool_of plan (job_at s' j).class = ap (λ (job : CreatedJob). pool_of plan job.class) (sym (left.jobs j member)) in
       let same : SamePool plan s s' q = left.pools q (j, member, queued_in_own plan (job_at s j) (ap is_queued is_stage)) in
       record {
         none_idle = subst (λ (x : ℕ). (pool_part s' x).idle ≡ 0) same_class (same.idle ∙ waits.none_idle);
@@ -200,7 +200,7 @@ module _ (plan : Plan) (s s' : State) (members : List ℕ) (left : LeavesSet pla
       }
   still_waits j (Stage.At i) member is_stage waits = record {
     submit = waits.submit;
-    stands = ap (λ (job : Made). slice_get (class_at plan job.class).body i) (left.jobs j member) ∙ waits.stands;
+    stands = ap (λ (job : CreatedJob). slice_get (class_at plan job.class).body i) (left.jobs j member) ∙ waits.stands;
     child_number = waits.child_number;
     is_child = left.children j waits.submit member ∙ waits.is_child;
     member = waits.member;
@@ -214,7 +214,7 @@ module _ (plan : Plan) (s s' : State) (members : List ℕ) (left : LeavesSet pla
     waits = record {
       first = set.waits.first;
       not_empty = set.waits.not_empty;
-      each = λ j member. subst (WaitsAs plan s' members j) (sym (ap (λ (job : Made). job.stage) (left.jobs j member))) (still_waits j (job_at s j).stage member refl (set.waits.each j member));
+      each = λ j member. subst (WaitsAtStage plan s' members j) (sym (ap (λ (job : CreatedJob). job.stage) (left.jobs j member))) (still_waits j (job_at s j).stage member refl (set.waits.each j member));
     };
     full = λ p j member queued.
         let was_queued : is_queued_in plan p (job_at s j) ≡ true = ap (is_queued_in plan p) (sym (left.jobs j member)) ∙ queued in
@@ -225,8 +225,8 @@ module _ (plan : Plan) (s s' : State) (members : List ℕ) (left : LeavesSet pla
 
 -- the induction hypothesis for a list of events
 pub record Stayed (plan : Plan) (members : List ℕ) (first s : State) : Type 0 where
-  pub is_kept : Kept plan s
-  pub has_stayed : HasStayed plan first s members
+  pub is_kept : StateInvariant plan s
+  pub has_stayed : StaysFull plan first s members
 
 -- one event keeps it
 pub stays_through : (plan : Plan) (members : List ℕ) (first s s' : State) (o : Outcome) {e : Event} → HasValidBodies plan → Stayed plan members first s → Happens plan s e s' o → Stayed plan members first s'
@@ -241,7 +241,7 @@ stays_through plan members first s s' o ordered stayed happened =
 -- ---- pools of fixed size
 
 -- a pool of fixed size with a queued job has core threads, and therefore all its threads
-pub fixed_are_full : (plan : Plan) (s : State) (members : List ℕ) → HasValidBodies plan → Kept plan s → IsWaitingSet plan s members → WhereMembersQueue plan s members (IsFixed plan) → IsFullWaitingSet plan s members
+pub fixed_are_full : (plan : Plan) (s : State) (members : List ℕ) → HasValidBodies plan → StateInvariant plan s → IsWaitingSet plan s members → WhereMembersQueue plan s members (IsFixed plan) → IsFullWaitingSet plan s members
 fixed_are_full plan s members ordered kept waiting fixed = record {
   waits = waiting;
   full = λ p j member queued.

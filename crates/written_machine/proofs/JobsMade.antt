@@ -12,29 +12,29 @@ use Rattle.written_machine.specs.declared.parent.Parent.TheVariants as parent
 use Rattle.written_machine.specs.declared.event.Event.{Event}
 use Rattle.written_machine.specs.declared.event.Outcome.{Outcome}
 use Rattle.written_machine.specs.declared.event.Outcome.TheVariants as outcome
-use Rattle.written_machine.specs.State.{Stage, State, Made, PoolPart, job_at, pool_part, pool_of, is_at, is_busy_in, threads}
+use Rattle.written_machine.specs.State.{Stage, State, CreatedJob, PoolPart, job_at, pool_part, pool_of, is_at, is_busy_in, threads}
 use Rattle.written_machine.specs.Step.{point, with_stage, with_position, with_job, new_job, moved_jobs, finished_job}
 use Rattle.written_machine.specs.Reach.{start}
 use Rattle.written_machine.specs.JobsMade.{is_of_pool, HasJobs}
-use Rattle.written_machine.proofs.Events.{StandsAt, with_part, Happens, works, starts, queues, is_refused, gets, finishes, loops, takes, retires}
-use Rattle.written_machine.proofs.Standing.{stage_of_standing, standing_made}
-use Rattle.written_machine.proofs.Kept.{Kept, busy_jobs}
+use Rattle.written_machine.proofs.Events.{IsAtAction, with_part, Happens, works, starts, queues, is_refused, gets, finishes, loops, takes, retires}
+use Rattle.written_machine.proofs.Positions.{stage_of_standing, standing_made}
+use Rattle.written_machine.proofs.StateInvariant.{StateInvariant, busy_jobs}
 use Rattle.written_machine.proofs.Stages.{staged, count-staged}
 use Rattle.written_machine.proofs.Queues.{head_of_queue}
 use Rattle.written_machine.proofs.Busy.{one_if, busy_in-as, busy-staged_same, busy-staged_elsewhere, busy-staged_here, busy-moved, busy_push, busy_push_same}
-use Rattle.written_machine.proofs.KeptPools.{pools_with_part}
-use Rattle.written_machine.proofs.KeptStep.{done_still}
-use Rattle.written_machine.proofs.KeptStart.{pool_part_at_start}
-use Rattle.written_machine.proofs.KeptSubmits.{class_exists}
+use Rattle.written_machine.proofs.PoolInvariants.{pools_with_part}
+use Rattle.written_machine.proofs.InvariantStep.{done_still}
+use Rattle.written_machine.proofs.InvariantAtStart.{pool_part_at_start}
+use Rattle.written_machine.proofs.InvariantSubmits.{class_exists}
 
 -- ---- the jobs of a pool after a change of the jobs
 
 -- the number of these jobs whose class belongs to the pool
-abbrev pub made_jobs : Plan → List Made → ℕ → ℕ
+abbrev pub made_jobs : Plan → List CreatedJob → ℕ → ℕ
 made_jobs plan jobs p = count_by (is_of_pool plan p) jobs
 
 -- neither a change of a stage nor a move of an actor changes the number
-pub made_jobs-staged : (plan : Plan) (jobs : List Made) (j : ℕ) (stage : Stage) (p : ℕ) → made_jobs plan (staged jobs j stage) p ≡ made_jobs plan jobs p
+pub made_jobs-staged : (plan : Plan) (jobs : List CreatedJob) (j : ℕ) (stage : Stage) (p : ℕ) → made_jobs plan (staged jobs j stage) p ≡ made_jobs plan jobs p
 made_jobs-staged plan jobs j stage p = count-staged (is_of_pool plan p) jobs j stage refl
 
 pub made_jobs-moved : (plan : Plan) (s : State) (a : Parent) (i p : ℕ) → made_jobs plan (moved_jobs a i s) p ≡ made_jobs plan s.jobs p
@@ -42,13 +42,13 @@ made_jobs-moved plan s (parent.Client c) i p = refl
 made_jobs-moved plan s (parent.Job j) i p = made_jobs-staged plan s.jobs j (Stage.At i) p
 
 -- a new job of the pool adds one
-pub made_jobs_push : (plan : Plan) (jobs : List Made) (job : Made) (p : ℕ) → made_jobs plan (jobs ++ job ∷ []) p ≡ made_jobs plan jobs p + one_if (is_of_pool plan p job)
-made_jobs_push plan jobs job p = sum_by_push (λ (x : Made). one_if (is_of_pool plan p x)) jobs job
+pub made_jobs_push : (plan : Plan) (jobs : List CreatedJob) (job : CreatedJob) (p : ℕ) → made_jobs plan (jobs ++ job ∷ []) p ≡ made_jobs plan jobs p + one_if (is_of_pool plan p job)
+made_jobs_push plan jobs job p = sum_by_push (λ (x : CreatedJob). one_if (is_of_pool plan p x)) jobs job
 
 -- ---- the bound
 
 -- the bound for a pool with this queue and idle count, given the list of jobs
-abbrev PartHasJobs : Plan → List Made → ℕ → PoolPart → Type 0
+abbrev PartHasJobs : Plan → List CreatedJob → ℕ → PoolPart → Type 0
 PartHasJobs plan jobs p part = part.idle + busy_jobs plan jobs p + length part.queue ≤ made_jobs plan jobs p + first_workers (pool_at plan p)
 
 -- the bound for each pool of the plan
@@ -70,14 +70,14 @@ have_jobs_moved plan s a body i i' have stands p inside =
     omega (arith, made_jobs-moved plan s a i' p, busy-moved plan s a body i i' p stands)
 
 -- a new job that starts to run at once keeps the bound
-have_jobs_starts : (plan : Plan) (s : State) (job : Made) → is_at job.stage ≡ true → HaveJobs plan s → HaveJobs plan (with_job job s)
+have_jobs_starts : (plan : Plan) (s : State) (job : CreatedJob) → is_at job.stage ≡ true → HaveJobs plan s → HaveJobs plan (with_job job s)
 have_jobs_starts plan s job begins have p inside =
     let had = have p inside in
     let both : one_if (is_at job.stage && eqb (pool_of plan job.class) p) ≡ one_if (is_of_pool plan p job) = ap (λ (b : Bool). one_if (b && eqb (pool_of plan job.class) p)) begins in
     omega (arith, busy_push plan s.jobs job p, made_jobs_push plan s.jobs job p, both)
 
 -- a new job that waits in its pool's queue keeps the bound
-have_jobs_queues : (plan : Plan) (s : State) (job : Made) (n : ℕ) → length s.pools ≡ length plan.pools → is_at job.stage ≡ false → HaveJobs plan s
+have_jobs_queues : (plan : Plan) (s : State) (job : CreatedJob) (n : ℕ) → length s.pools ≡ length plan.pools → is_at job.stage ≡ false → HaveJobs plan s
     → HaveJobs plan (with_part (pool_of plan job.class) ((pool_part s (pool_of plan job.class)).queue ++ n ∷ []) (pool_part s (pool_of plan job.class)).idle (with_job job s))
 have_jobs_queues plan s job n as_many waits have =
     let q = pool_of plan job.class in
@@ -107,7 +107,7 @@ have_jobs_worker plan s j stage q queue idle as_many made of_pool no_more have =
     omega (arith, made_jobs-staged plan s.jobs j stage p, busy-staged_elsewhere plan s.jobs j stage p (λ same. other (sym same ∙ of_pool))))
 
 -- the end of a running job keeps the bound
-have_jobs_finishes : (plan : Plan) (s : State) (j : ℕ) (body : List Action) (i : ℕ) → Kept plan s → HaveJobs plan s → StandsAt plan s (parent.Job j) body i None → HaveJobs plan (finished_job plan s j (pool_of plan (job_at s j).class))
+have_jobs_finishes : (plan : Plan) (s : State) (j : ℕ) (body : List Action) (i : ℕ) → StateInvariant plan s → HaveJobs plan s → IsAtAction plan s (parent.Job j) body i None → HaveJobs plan (finished_job plan s j (pool_of plan (job_at s j).class))
 have_jobs_finishes plan s j body i kept have at =
     let q = pool_of plan (job_at s j).class in
     let made = standing_made plan s j body i at.stands in
@@ -116,7 +116,7 @@ have_jobs_finishes plan s j body i kept have at =
     (omega (arith, busy-staged_here plan s.jobs j Stage.Done q refl made, ap (λ (stage : Stage). one_if (is_at stage)) was.0)) have
 
 -- a take of the head of a queue keeps the bound
-have_jobs_takes : (plan : Plan) (s : State) (p j : ℕ) (queue : List ℕ) (idle : ℕ) → Kept plan s → HaveJobs plan s → (pool_part s p).queue ≡ j ∷ queue → (pool_part s p).idle ≡ suc idle → HaveJobs plan (with_part p queue idle (with_stage j (Stage.At 0) s))
+have_jobs_takes : (plan : Plan) (s : State) (p j : ℕ) (queue : List ℕ) (idle : ℕ) → StateInvariant plan s → HaveJobs plan s → (pool_part s p).queue ≡ j ∷ queue → (pool_part s p).idle ≡ suc idle → HaveJobs plan (with_part p queue idle (with_stage j (Stage.At 0) s))
 have_jobs_takes plan s p j queue idle kept have is_queue is_idle =
     let head = head_of_queue plan s p j queue kept is_queue in
     let long : length (pool_part s p).queue ≡ suc (length queue) = ap length is_queue in
@@ -132,7 +132,7 @@ have_jobs_gets plan s a body i j have stands done p inside =
     omega (arith, made_jobs-staged plan moved.jobs j Stage.Claimed p, busy-staged_same plan moved.jobs j Stage.Claimed p (busy_in-as plan p (job_at moved j) Stage.Claimed (sym (ap is_at still))))
 
 -- every event keeps the bound
-pub have_jobs_step : (plan : Plan) (s s' : State) (o : Outcome) {e : Event} → Kept plan s → HaveJobs plan s → Happens plan s e s' o → HaveJobs plan s'
+pub have_jobs_step : (plan : Plan) (s s' : State) (o : Outcome) {e : Event} → StateInvariant plan s → HaveJobs plan s → Happens plan s e s' o → HaveJobs plan s'
 have_jobs_step plan s s' o kept have (works a body i u at) = have_jobs_moved plan s a body i (i + 1) have at.stands
 have_jobs_step plan s s' o kept have (starts a body i k at below) =
     have_jobs_starts plan (with_position a (i + 1) s) (new_job k a i (Stage.At 0)) refl (have_jobs_moved plan s a body i (i + 1) have at.stands)

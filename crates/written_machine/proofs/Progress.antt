@@ -12,12 +12,12 @@ use Rattle.job_bodies.proofs.Bodies.{HasValidBodies}
 use Rattle.pool_machine.specs.PoolState.{taken_from}
 use Rattle.written_machine.specs.declared.parent.Parent.TheVariants as parent
 use Rattle.written_machine.specs.declared.event.Event.TheVariants as event
-use Rattle.written_machine.specs.State.{Stage, State, Made, no_job, job_at, pool_part, pool_of, pool_seen, is_at, is_busy_in, is_unfinished, child}
-use Rattle.written_machine.specs.Step.{point_of_job, got, got_child, acted, stepped, took}
-use Rattle.written_machine.specs.Waiting.{is_member, is_some_member, waits_at, waits_as, waits, is_none, is_waiting_set, IsWaitingSet}
-use Rattle.written_machine.specs.Safe.{CanGoOn}
-use Rattle.written_machine.proofs.Standing.{job_made}
-use Rattle.written_machine.proofs.Kept.{Kept}
+use Rattle.written_machine.specs.State.{Stage, State, CreatedJob, no_job, job_at, pool_part, pool_of, pool_seen, is_at, is_busy_in, is_unfinished, child}
+use Rattle.written_machine.specs.Step.{point_of_job, got, got_child, step_action, step_at_point, take_head}
+use Rattle.written_machine.specs.Waiting.{is_member, is_some_member, waits_at, waits_at_stage, waits, is_none, is_waiting_set, IsWaitingSet}
+use Rattle.written_machine.specs.Safe.{CanProgress}
+use Rattle.written_machine.proofs.Positions.{job_made}
+use Rattle.written_machine.proofs.StateInvariant.{StateInvariant}
 use Rattle.written_machine.proofs.Queues.{queued_in_queue}
 use Rattle.written_machine.proofs.WaitingSets.{member_of_In, waiting_set_test}
 use Rattle.written_machine.proofs.ReachedLaws.{child_at_get}
@@ -34,7 +34,7 @@ fails_somewhere test (x ∷ xs) none =
 
 -- the numbers of the unfinished jobs
 abbrev unfinished : State → List ℕ
-unfinished s = places_where (λ (job : Made). is_unfinished job.stage) s.jobs
+unfinished s = places_where (λ (job : CreatedJob). is_unfinished job.stage) s.jobs
 
 -- no unfinished job is claimed
 unfinished_unclaimed : (stage : Stage) → is_unfinished stage ≡ true → stage ≢ Stage.Claimed
@@ -42,7 +42,7 @@ unfinished_unclaimed stage still claimed = let over : is_unfinished stage ≡ fa
 
 -- the list contains each unfinished job
 In-unfinished : (s : State) (j : ℕ) → is_unfinished (job_at s j).stage ≡ true → In j (unfinished s)
-In-unfinished s j still = In-places_where (λ (job : Made). is_unfinished job.stage) s.jobs j no_job (job_made s j (unfinished_unclaimed (job_at s j).stage still)) still
+In-unfinished s j still = In-places_where (λ (job : CreatedJob). is_unfinished job.stage) s.jobs j no_job (job_made s j (unfinished_unclaimed (job_at s j).stage still)) still
 
 -- a job at a position is unfinished
 at_unfinished : (stage : Stage) → is_at stage ≡ true → is_unfinished stage ≡ true
@@ -60,21 +60,21 @@ busy_unfinished plan s p =
 -- ---- possible events
 
 -- an idle worker can take the head of a queue
-can_take : (plan : Plan) (s : State) (p idle : ℕ) (queue : List ℕ) → (pool_part s p).idle ≡ idle → (pool_part s p).queue ≡ queue → idle ≢ 0 → 1 ≤ length queue → CanGoOn plan s
+can_take : (plan : Plan) (s : State) (p idle : ℕ) (queue : List ℕ) → (pool_part s p).idle ≡ idle → (pool_part s p).queue ≡ queue → idle ≢ 0 → 1 ≤ length queue → CanProgress plan s
 can_take plan s p zero queue is_idle is_queue some_idle some_queued = absurd (some_idle refl)
 can_take plan s p (suc idle) [] is_idle is_queue some_idle some_queued = absurd (omega arith)
 can_take plan s p (suc idle) (j ∷ queue) is_idle is_queue some_idle some_queued = record {
   event = event.Take p;
   of_job_or_pool = refl;
-  possible = ap₂ (λ (n : ℕ) (jobs : List ℕ). is_some (took s p (taken_from (pool_seen plan s p) n jobs))) is_idle is_queue;
+  possible = ap₂ (λ (n : ℕ) (jobs : List ℕ). is_some (take_head s p (taken_from (pool_seen plan s p) n jobs))) is_idle is_queue;
 }
 
 -- a job can act if its step is defined
-can_act : (plan : Plan) (s : State) (n i : ℕ) (next : Option Action) → (job_at s n).stage ≡ Stage.At i → slice_get (class_at plan (job_at s n).class).body i ≡ next → is_some (acted plan s (parent.Job n) i next) ≡ true → CanGoOn plan s
+can_act : (plan : Plan) (s : State) (n i : ℕ) (next : Option Action) → (job_at s n).stage ≡ Stage.At i → slice_get (class_at plan (job_at s n).class).body i ≡ next → is_some (step_action plan s (parent.Job n) i next) ≡ true → CanProgress plan s
 can_act plan s n i next at is_there acts = record {
   event = event.Job n;
   of_job_or_pool = refl;
-  possible = ap (λ (stage : Stage). is_some (stepped plan s (parent.Job n) (point_of_job plan (job_at s n).class stage))) at ∙ ap (λ (x : Option Action). is_some (acted plan s (parent.Job n) i x)) is_there ∙ acts;
+  possible = ap (λ (stage : Stage). is_some (step_at_point plan s (parent.Job n) (point_of_job plan (job_at s n).class stage))) at ∙ ap (λ (x : Option Action). is_some (step_action plan s (parent.Job n) i x)) is_there ∙ acts;
 }
 
 -- a job that is neither unfinished nor claimed is done
@@ -85,8 +85,8 @@ done_of Stage.Done over unclaimed = refl
 done_of Stage.Claimed over unclaimed = absurd (unclaimed refl)
 
 -- a job can pass its get if the child that it waits for is finished
-can_get : (plan : Plan) (s : State) (n i t : ℕ) → HasValidBodies plan → Kept plan s → (job_at s n).stage ≡ Stage.At i → slice_get (class_at plan (job_at s n).class).body i ≡ Some (action.Get t)
-    → is_some_member (unfinished s) (child s (parent.Job n) t) ≡ false → CanGoOn plan s
+can_get : (plan : Plan) (s : State) (n i t : ℕ) → HasValidBodies plan → StateInvariant plan s → (job_at s n).stage ≡ Stage.At i → slice_get (class_at plan (job_at s n).class).body i ≡ Some (action.Get t)
+    → is_some_member (unfinished s) (child s (parent.Job n) t) ≡ false → CanProgress plan s
 can_get plan s n i t ordered kept at is_there free =
     let body = (class_at plan (job_at s n).class).body in
     let latest = child_at_get plan s (parent.Job n) body i t ordered kept (record { stands = ap (point_of_job plan (job_at s n).class) at; is_there = is_there }) in
@@ -98,14 +98,14 @@ can_get plan s n i t ordered kept at is_there free =
     (ap (λ (found : Option ℕ). is_some (got_child s (parent.Job n) i found)) latest.is_child ∙ ap (λ (stage : Stage). is_some (got s (parent.Job n) i latest.number stage)) done)
 
 -- a job at any action can act if it does not wait for an unfinished job
-can_go_at : (plan : Plan) (s : State) (n i : ℕ) (next : Option Action) → HasValidBodies plan → Kept plan s → (job_at s n).stage ≡ Stage.At i → slice_get (class_at plan (job_at s n).class).body i ≡ next → waits_at s (unfinished s) (parent.Job n) next ≡ false → CanGoOn plan s
+can_go_at : (plan : Plan) (s : State) (n i : ℕ) (next : Option Action) → HasValidBodies plan → StateInvariant plan s → (job_at s n).stage ≡ Stage.At i → slice_get (class_at plan (job_at s n).class).body i ≡ next → waits_at s (unfinished s) (parent.Job n) next ≡ false → CanProgress plan s
 can_go_at plan s n i None ordered kept at is_there free = can_act plan s n i None at is_there refl
 can_go_at plan s n i (Some (action.Work u)) ordered kept at is_there free = can_act plan s n i (Some (action.Work u)) at is_there refl
 can_go_at plan s n i (Some (action.Submit k)) ordered kept at is_there free = can_act plan s n i (Some (action.Submit k)) at is_there refl
 can_go_at plan s n i (Some (action.Get t)) ordered kept at is_there free = can_get plan s n i t ordered kept at is_there free
 
 -- a queued job that does not wait has an idle worker in its pool, which can take the head of the queue
-can_go_queued : (plan : Plan) (s : State) (n : ℕ) → HasValidBodies plan → Kept plan s → (job_at s n).stage ≡ Stage.Queued → waits_as plan s (unfinished s) n (job_at s n).class Stage.Queued ≡ false → CanGoOn plan s
+can_go_queued : (plan : Plan) (s : State) (n : ℕ) → HasValidBodies plan → StateInvariant plan s → (job_at s n).stage ≡ Stage.Queued → waits_at_stage plan s (unfinished s) n (job_at s n).class Stage.Queued ≡ false → CanProgress plan s
 can_go_queued plan s n ordered kept queued free =
     let p = pool_of plan (job_at s n).class in
     let busy = busy_unfinished plan s p in
@@ -115,7 +115,7 @@ can_go_queued plan s n ordered kept queued free =
     (and_cases (eqb (pool_part s p).idle 0) (list_all (is_member (unfinished s)) (places_where (is_busy_in plan p) s.jobs)) free)
 
 -- an unfinished job that does not wait only for unfinished jobs leads to a possible event
-can_go : (plan : Plan) (s : State) (n : ℕ) (stage : Stage) → HasValidBodies plan → Kept plan s → (job_at s n).stage ≡ stage → is_unfinished stage ≡ true → waits_as plan s (unfinished s) n (job_at s n).class stage ≡ false → CanGoOn plan s
+can_go : (plan : Plan) (s : State) (n : ℕ) (stage : Stage) → HasValidBodies plan → StateInvariant plan s → (job_at s n).stage ≡ stage → is_unfinished stage ≡ true → waits_at_stage plan s (unfinished s) n (job_at s n).class stage ≡ false → CanProgress plan s
 can_go plan s n Stage.Queued ordered kept is_stage still free = can_go_queued plan s n ordered kept is_stage free
 can_go plan s n (Stage.At i) ordered kept is_stage still free = can_go_at plan s n i (slice_get (class_at plan (job_at s n).class).body i) ordered kept is_stage refl free
 can_go plan s n Stage.Done ordered kept is_stage still free = absurd cc
@@ -127,7 +127,7 @@ not_none (m ∷ ns) n i = refl
 not_none [] n i = absurd (elim i [ ])
 
 -- the unfinished jobs are not a waiting set, so one of them does not wait only for the others
-pub makes_progress : (plan : Plan) (s : State) (j : ℕ) → HasValidBodies plan → Kept plan s → ((members : List ℕ) → ¬ IsWaitingSet plan s members) → is_unfinished (job_at s j).stage ≡ true → CanGoOn plan s
+pub makes_progress : (plan : Plan) (s : State) (j : ℕ) → HasValidBodies plan → StateInvariant plan s → ((members : List ℕ) → ¬ IsWaitingSet plan s members) → is_unfinished (job_at s j).stage ≡ true → CanProgress plan s
 makes_progress plan s j ordered kept none still =
     let members = unfinished s in
     let not_empty = not_none members j (In-unfinished s j still) in
@@ -136,6 +136,6 @@ makes_progress plan s j ordered kept none still =
     (λ (empty : not (is_none members) ≡ false). absurd cc)
     (λ (some : list_all (waits plan s members) members ≡ false).
     let found = fails_somewhere (waits plan s members) members some in
-    let passes = (passes_at_In (λ (job : Made). is_unfinished job.stage) s.jobs found.0 found.1).1 no_job in
+    let passes = (passes_at_In (λ (job : CreatedJob). is_unfinished job.stage) s.jobs found.0 found.1).1 no_job in
     can_go plan s found.0 (job_at s found.0).stage ordered kept refl passes found.2)
     (and_cases (not (is_none members)) (list_all (waits plan s members) members) no_set)

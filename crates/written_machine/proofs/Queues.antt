@@ -10,10 +10,10 @@ use Rattle.job_bodies.specs.Plan.{Plan}
 use Rattle.job_bodies.proofs.Bodies.{HasValidBodies}
 use Rattle.written_machine.specs.declared.parent.Parent.{Parent}
 use Rattle.written_machine.specs.declared.parent.Parent.TheVariants as parent
-use Rattle.written_machine.specs.State.{Stage, State, Made, PoolPart, no_job, no_pool_part, job_at, pool_part, pool_of, is_queued, is_queued_in}
+use Rattle.written_machine.specs.State.{Stage, State, CreatedJob, PoolPart, no_job, no_pool_part, job_at, pool_part, pool_of, is_queued, is_queued_in}
 use Rattle.written_machine.specs.Step.{point, moved_jobs}
-use Rattle.written_machine.proofs.Standing.{stage_of_standing, job_made}
-use Rattle.written_machine.proofs.Kept.{Kept, places}
+use Rattle.written_machine.proofs.Positions.{stage_of_standing, job_made}
+use Rattle.written_machine.proofs.StateInvariant.{StateInvariant, places}
 use Rattle.written_machine.proofs.Stages.{staged}
 
 -- ---- the members of a queue
@@ -43,7 +43,7 @@ pool_exists s p j rest e = elim (cases_lt p (length s.pools)) [
       absurd cc
 ]
 
-pub head_of_queue : (plan : Plan) (s : State) (p j : ℕ) (rest : List ℕ) → Kept plan s → (pool_part s p).queue ≡ j ∷ rest → IsHead plan s p j rest
+pub head_of_queue : (plan : Plan) (s : State) (p j : ℕ) (rest : List ℕ) → StateInvariant plan s → (pool_part s p).queue ≡ j ∷ rest → IsHead plan s p j rest
 head_of_queue plan s p j rest kept e =
     let found : p < length s.pools = pool_exists s p j rest e in
     let exists : p < length plan.pools = omega (arith, kept.as_many) in
@@ -58,11 +58,11 @@ head_of_queue plan s p j rest kept e =
     }
 
 -- the pool of an existing job exists
-pub pool_of_made : (plan : Plan) (s : State) (j : ℕ) → HasValidBodies plan → Kept plan s → j < length s.jobs → pool_of plan (job_at s j).class < length plan.pools
+pub pool_of_made : (plan : Plan) (s : State) (j : ℕ) → HasValidBodies plan → StateInvariant plan s → j < length s.jobs → pool_of plan (job_at s j).class < length plan.pools
 pool_of_made plan s j ordered kept inside = ordered.pools (job_at s j).class (kept.classes j no_job inside)
 
 -- a queued job is in the queue of its pool
-pub In-queue : (plan : Plan) (s : State) (j : ℕ) → HasValidBodies plan → Kept plan s → (job_at s j).stage ≡ Stage.Queued → In j (pool_part s (pool_of plan (job_at s j).class)).queue
+pub In-queue : (plan : Plan) (s : State) (j : ℕ) → HasValidBodies plan → StateInvariant plan s → (job_at s j).stage ≡ Stage.Queued → In j (pool_part s (pool_of plan (job_at s j).class)).queue
 In-queue plan s j ordered kept queued =
     let p = pool_of plan (job_at s j).class in
     let inside = job_made s j (Queued≢Claimed queued) in
@@ -73,13 +73,13 @@ length-In : (ns : List ℕ) (n : ℕ) → In n ns → 1 ≤ length ns
 length-In [] n i = elim i [ ]
 length-In (m ∷ ns) n i = omega arith
 
-pub queued_in_queue : (plan : Plan) (s : State) (j : ℕ) → HasValidBodies plan → Kept plan s → (job_at s j).stage ≡ Stage.Queued → 1 ≤ length (pool_part s (pool_of plan (job_at s j).class)).queue
+pub queued_in_queue : (plan : Plan) (s : State) (j : ℕ) → HasValidBodies plan → StateInvariant plan s → (job_at s j).stage ≡ Stage.Queued → 1 ≤ length (pool_part s (pool_of plan (job_at s j).class)).queue
 queued_in_queue plan s j ordered kept queued = length-In (pool_part s (pool_of plan (job_at s j).class)).queue j (In-queue plan s j ordered kept queued)
 
 -- ---- queues after a change of the jobs
 
 -- a change between stages that are both queued, or both not queued, leaves each queue
-pub places-staged : (plan : Plan) (jobs : List Made) (j : ℕ) (stage : Stage) (p : ℕ) → is_queued stage ≡ is_queued (get_or jobs j no_job).stage → places plan (staged jobs j stage) p ≡ places plan jobs p
+pub places-staged : (plan : Plan) (jobs : List CreatedJob) (j : ℕ) (stage : Stage) (p : ℕ) → is_queued stage ≡ is_queued (get_or jobs j no_job).stage → places plan (staged jobs j stage) p ≡ places plan jobs p
 places-staged plan jobs j stage p same =
     places_where-set_same (is_queued_in plan p) jobs j (record (get_or jobs j no_job) { stage = stage }) no_job (ap (λ (b : Bool). b && eqb (pool_of plan (get_or jobs j no_job).class) p) same)
 
@@ -88,15 +88,15 @@ places-moved plan s (parent.Client c) body i i' p stands = refl
 places-moved plan s (parent.Job j) body i i' p stands =
     places-staged plan s.jobs j (Stage.At i') p (sym (ap is_queued (stage_of_standing plan (job_at s j).class (job_at s j).stage body i stands).0))
 
-pub places_push : (plan : Plan) (jobs : List Made) (job : Made) (p : ℕ) → places plan (jobs ++ job ∷ []) p ≡ places plan jobs p ++ cons_if (is_queued_in plan p job) (length jobs) []
+pub places_push : (plan : Plan) (jobs : List CreatedJob) (job : CreatedJob) (p : ℕ) → places plan (jobs ++ job ∷ []) p ≡ places plan jobs p ++ cons_if (is_queued_in plan p job) (length jobs) []
 places_push plan jobs job p = places_where_push (is_queued_in plan p) jobs job
 
-pub places_push_same : (plan : Plan) (jobs : List Made) (job : Made) (p : ℕ) → is_queued_in plan p job ≡ false → places plan (jobs ++ job ∷ []) p ≡ places plan jobs p
+pub places_push_same : (plan : Plan) (jobs : List CreatedJob) (job : CreatedJob) (p : ℕ) → is_queued_in plan p job ≡ false → places plan (jobs ++ job ∷ []) p ≡ places plan jobs p
 places_push_same plan jobs job p elsewhere =
     places_push plan jobs job p ∙ ap (λ (b : Bool). places plan jobs p ++ cons_if b (length jobs) []) elsewhere ∙ append-nil (places plan jobs p)
 
 -- a change of a job's stage leaves the queues of all other pools
-pub places-staged_elsewhere : (plan : Plan) (jobs : List Made) (j : ℕ) (stage : Stage) (p : ℕ) → pool_of plan (get_or jobs j no_job).class ≢ p → places plan (staged jobs j stage) p ≡ places plan jobs p
+pub places-staged_elsewhere : (plan : Plan) (jobs : List CreatedJob) (j : ℕ) (stage : Stage) (p : ℕ) → pool_of plan (get_or jobs j no_job).class ≢ p → places plan (staged jobs j stage) p ≡ places plan jobs p
 places-staged_elsewhere plan jobs j stage p other =
     let elsewhere = ne_eqb (pool_of plan (get_or jobs j no_job).class) p other in
     places_where-set_same (is_queued_in plan p) jobs j (record (get_or jobs j no_job) { stage = stage }) no_job

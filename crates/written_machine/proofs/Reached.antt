@@ -10,9 +10,9 @@ use Rattle.written_machine.specs.State.{State}
 use Rattle.written_machine.specs.Step.{step}
 use Rattle.written_machine.specs.Reach.{start, state_after, replay, IsReached}
 use Rattle.written_machine.proofs.Events.{Happens, happens}
-use Rattle.written_machine.proofs.Kept.{Kept}
-use Rattle.written_machine.proofs.KeptStart.{kept_start}
-use Rattle.written_machine.proofs.KeptStep.{kept_step}
+use Rattle.written_machine.proofs.StateInvariant.{StateInvariant}
+use Rattle.written_machine.proofs.InvariantAtStart.{kept_start}
+use Rattle.written_machine.proofs.InvariantStep.{kept_step}
 
 -- every event keeps the property
 abbrev pub StaysThrough : Plan → (State → Type 0) → Type 0
@@ -38,6 +38,6 @@ replay_keeps plan holds stays (e ∷ events) s s' held replayed =
 pub reached_keeps : (plan : Plan) (holds : State → Type 0) → holds (start plan) → StaysThrough plan holds → (s : State) → IsReached plan s → holds s
 reached_keeps plan holds at_start stays s reached = replay_keeps plan holds stays reached.0 (start plan) s at_start reached.1
 
-pub kept : (plan : Plan) (s : State) → IsWellFormed plan → IsReached plan s → Kept plan s
+pub kept : (plan : Plan) (s : State) → IsWellFormed plan → IsReached plan s → StateInvariant plan s
 kept plan s well_formed reached =
-    reached_keeps plan (Kept plan) (kept_start plan (ordered plan well_formed)) (λ s₁ e s₂ o held happened. kept_step plan s₁ s₂ o (ordered plan well_formed) held happened) s reached
+    reached_keeps plan (StateInvariant plan) (kept_start plan (ordered plan well_formed)) (λ s₁ e s₂ o held happened. kept_step plan s₁ s₂ o (ordered plan well_formed) held happened) s reached

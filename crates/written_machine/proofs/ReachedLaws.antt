@@ -13,12 +13,12 @@ use Rattle.written_machine.specs.Laws.{PoolsKeepTheirSizes, QueuesOnlyAtCore, Ge
 use Rattle.written_machine.specs.Reach.{IsReached}
 use Rattle.written_machine.specs.JobsMade.{ThreadsHaveJobs, RefusalsNeedJobs}
 use Rattle.written_machine.specs.FullWaitingSets.{FullWaitingSetsStay, FixedPoolsAreFull}
-use Rattle.written_machine.proofs.Events.{StandsAt, happens}
-use Rattle.written_machine.proofs.Standing.{lawful_point}
-use Rattle.written_machine.proofs.Kept.{HasChild, Kept}
+use Rattle.written_machine.proofs.Events.{IsAtAction, happens}
+use Rattle.written_machine.proofs.Positions.{valid_point}
+use Rattle.written_machine.proofs.StateInvariant.{HasChild, StateInvariant}
 use Rattle.written_machine.proofs.Reached.{replay_keeps, reached_keeps, kept}
-use Rattle.written_machine.proofs.KeptStart.{kept_start}
-use Rattle.written_machine.proofs.KeptStep.{kept_step}
+use Rattle.written_machine.proofs.InvariantAtStart.{kept_start}
+use Rattle.written_machine.proofs.InvariantStep.{kept_step}
 use Rattle.written_machine.proofs.JobsMade.{HaveJobs, have_jobs_start, have_jobs_step, refused_when}
 use Rattle.written_machine.proofs.WaitingSets.{waiting_set_test}
 use Rattle.written_machine.proofs.FullWaitingSets.{Stayed, stays_through, fixed_are_full}
@@ -32,9 +32,9 @@ pub queued_at_core : QueuesOnlyAtCore
 queued_at_core plan s well_formed reached p inside some = ((kept plan s well_formed reached).pools p inside).core some
 
 -- an actor at a get finds its job
-pub child_at_get : (plan : Plan) (s : State) (a : Parent) (body : List Action) (i t : ℕ) → HasValidBodies plan → Kept plan s → StandsAt plan s a body i (Some (action.Get t)) → HasChild s.jobs a t (submitted_class body t)
+pub child_at_get : (plan : Plan) (s : State) (a : Parent) (body : List Action) (i t : ℕ) → HasValidBodies plan → StateInvariant plan s → IsAtAction plan s a body i (Some (action.Get t)) → HasChild s.jobs a t (submitted_class body t)
 child_at_get plan s a body i t ordered kept at =
-    let valid : IsValidBody plan body = lawful_point plan s a body i ordered at.stands in
+    let valid : IsValidBody plan body = valid_point plan s a body i ordered at.stands in
     (kept.actors a body i at.stands).ready i t (omega arith) (valid.behind i t at.is_there) at.is_there
 
 pub children_at_gets : GetsHaveChildren
@@ -56,7 +56,7 @@ fixed_pools_full plan s members well_formed reached waiting fixed = fixed_are_fu
 -- the invariant and the bound on the number of threads and queued jobs hold together
 have_jobs : (plan : Plan) (s : State) → IsWellFormed plan → IsReached plan s → HaveJobs plan s
 have_jobs plan s well_formed reached =
-    let both = reached_keeps plan (λ s₁. Kept plan s₁ × HaveJobs plan s₁) (kept_start plan (ordered plan well_formed), have_jobs_start plan)
+    let both = reached_keeps plan (λ s₁. StateInvariant plan s₁ × HaveJobs plan s₁) (kept_start plan (ordered plan well_formed), have_jobs_start plan)
     (λ s₁ e s₂ o held happened. (kept_step plan s₁ s₂ o (ordered plan well_formed) held.0 happened, have_jobs_step plan s₁ s₂ o held.0 held.1 happened)) s reached in
     both.1
 

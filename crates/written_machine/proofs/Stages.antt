@@ -8,48 +8,48 @@ use Rattle.support.specs.Places.{places_where, last_of}
 use Rattle.support.proofs.PassingPlaces.{length-places, places_where-set_same}
 use Rattle.written_machine.specs.declared.parent.Parent.{Parent}
 use Rattle.written_machine.specs.declared.parent.Parent.TheVariants as parent
-use Rattle.written_machine.specs.State.{Stage, State, Made, no_job, is_made_by}
+use Rattle.written_machine.specs.State.{Stage, State, CreatedJob, no_job, is_made_by}
 use Rattle.written_machine.specs.Step.{moved_jobs}
-use Rattle.written_machine.specs.Laws.{IsLater}
+use Rattle.written_machine.specs.Laws.{HasGreaterNumber}
 
 -- the list in which job j has this stage
-abbrev pub staged : List Made → ℕ → Stage → List Made
+abbrev pub staged : List CreatedJob → ℕ → Stage → List CreatedJob
 staged jobs j stage = set jobs j (record (get_or jobs j no_job) { stage = stage })
 
-pub length-staged : (jobs : List Made) (j : ℕ) (stage : Stage) → length (staged jobs j stage) ≡ length jobs
+pub length-staged : (jobs : List CreatedJob) (j : ℕ) (stage : Stage) → length (staged jobs j stage) ≡ length jobs
 length-staged jobs j stage = length-set jobs j (record (get_or jobs j no_job) { stage = stage })
 
 -- the job itself keeps everything except its stage
-pub get_or-staged_same : (jobs : List Made) (j : ℕ) (stage : Stage) → j < length jobs → get_or (staged jobs j stage) j no_job ≡ record (get_or jobs j no_job) { stage = stage }
+pub get_or-staged_same : (jobs : List CreatedJob) (j : ℕ) (stage : Stage) → j < length jobs → get_or (staged jobs j stage) j no_job ≡ record (get_or jobs j no_job) { stage = stage }
 get_or-staged_same jobs j stage inside = get_or-set_same jobs j (record (get_or jobs j no_job) { stage = stage }) no_job inside
 
-pub stage-staged : (jobs : List Made) (j : ℕ) (stage : Stage) → j < length jobs → (get_or (staged jobs j stage) j no_job).stage ≡ stage
-stage-staged jobs j stage inside = ap (λ (job : Made). job.stage) (get_or-staged_same jobs j stage inside)
+pub stage-staged : (jobs : List CreatedJob) (j : ℕ) (stage : Stage) → j < length jobs → (get_or (staged jobs j stage) j no_job).stage ≡ stage
+stage-staged jobs j stage inside = ap (λ (job : CreatedJob). job.stage) (get_or-staged_same jobs j stage inside)
 
 -- the other jobs are unchanged
-pub get_or-staged_other : (jobs : List Made) (j : ℕ) (stage : Stage) (n : ℕ) (d : Made) → n ≢ j → get_or (staged jobs j stage) n d ≡ get_or jobs n d
+pub get_or-staged_other : (jobs : List CreatedJob) (j : ℕ) (stage : Stage) (n : ℕ) (d : CreatedJob) → n ≢ j → get_or (staged jobs j stage) n d ≡ get_or jobs n d
 get_or-staged_other jobs j stage n d other = get_or-set_other jobs j n (record (get_or jobs j no_job) { stage = stage }) d other
 
 -- only the stage changes
-job-staged : (jobs : List Made) (j : ℕ) (stage : Stage) (n : ℕ) (d : Made) → get_or (staged jobs j stage) n d ≡ record (get_or jobs n d) { stage = (get_or (staged jobs j stage) n d).stage }
+job-staged : (jobs : List CreatedJob) (j : ℕ) (stage : Stage) (n : ℕ) (d : CreatedJob) → get_or (staged jobs j stage) n d ≡ record (get_or jobs n d) { stage = (get_or (staged jobs j stage) n d).stage }
 job-staged [] j stage n d = refl
 job-staged (x ∷ xs) zero stage zero d = refl
 job-staged (x ∷ xs) zero stage (suc n) d = refl
 job-staged (x ∷ xs) (suc j) stage zero d = refl
 job-staged (x ∷ xs) (suc j) stage (suc n) d = job-staged xs j stage n d
 
-pub class-staged : (jobs : List Made) (j : ℕ) (stage : Stage) (n : ℕ) (d : Made) → (get_or (staged jobs j stage) n d).class ≡ (get_or jobs n d).class
-class-staged jobs j stage n d = ap (λ (job : Made). job.class) (job-staged jobs j stage n d)
+pub class-staged : (jobs : List CreatedJob) (j : ℕ) (stage : Stage) (n : ℕ) (d : CreatedJob) → (get_or (staged jobs j stage) n d).class ≡ (get_or jobs n d).class
+class-staged jobs j stage n d = ap (λ (job : CreatedJob). job.class) (job-staged jobs j stage n d)
 
-pub parent-staged : (jobs : List Made) (j : ℕ) (stage : Stage) (n : ℕ) (d : Made) → (get_or (staged jobs j stage) n d).parent ≡ (get_or jobs n d).parent
-parent-staged jobs j stage n d = ap (λ (job : Made). job.parent) (job-staged jobs j stage n d)
+pub parent-staged : (jobs : List CreatedJob) (j : ℕ) (stage : Stage) (n : ℕ) (d : CreatedJob) → (get_or (staged jobs j stage) n d).parent ≡ (get_or jobs n d).parent
+parent-staged jobs j stage n d = ap (λ (job : CreatedJob). job.parent) (job-staged jobs j stage n d)
 
 -- the latest job of an actor at a position stays the same
-pub child-stage : (jobs : List Made) (a : Parent) (t j : ℕ) (stage : Stage) → last_of (places_where (is_made_by a t) (staged jobs j stage)) ≡ last_of (places_where (is_made_by a t) jobs)
+pub child-stage : (jobs : List CreatedJob) (a : Parent) (t j : ℕ) (stage : Stage) → last_of (places_where (is_made_by a t) (staged jobs j stage)) ≡ last_of (places_where (is_made_by a t) jobs)
 child-stage jobs a t j stage = ap last_of (places_where-set_same (is_made_by a t) jobs j (record (get_or jobs j no_job) { stage = stage }) no_job refl)
 
 -- the number of jobs that satisfy a test stays if the change does not affect the test
-pub count-staged : (test : Made → Bool) (jobs : List Made) (j : ℕ) (stage : Stage) → test (record (get_or jobs j no_job) { stage = stage }) ≡ test (get_or jobs j no_job) → count_by test (staged jobs j stage) ≡ count_by test jobs
+pub count-staged : (test : CreatedJob → Bool) (jobs : List CreatedJob) (j : ℕ) (stage : Stage) → test (record (get_or jobs j no_job) { stage = stage }) ≡ test (get_or jobs j no_job) → count_by test (staged jobs j stage) ≡ count_by test jobs
 count-staged test jobs j stage same =
     sym (length-places test (staged jobs j stage)) ∙ ap length (places_where-set_same test jobs j (record (get_or jobs j no_job) { stage = stage }) no_job same) ∙ length-places test jobs
 
@@ -65,10 +65,10 @@ child-moved s (parent.Job j) i a t = child-stage s.jobs a t j (Stage.At i)
 
 -- ---- the classes of the jobs
 
-abbrev pub HaveClasses : ℕ → List Made → Type 0
+abbrev pub HaveClasses : ℕ → List CreatedJob → Type 0
 HaveClasses classes jobs = All (λ job. job.class < classes) jobs
 
-pub classes_staged : (classes : ℕ) (jobs : List Made) (j : ℕ) (stage : Stage) → HaveClasses classes jobs → HaveClasses classes (staged jobs j stage)
+pub classes_staged : (classes : ℕ) (jobs : List CreatedJob) (j : ℕ) (stage : Stage) → HaveClasses classes jobs → HaveClasses classes (staged jobs j stage)
 classes_staged classes jobs j stage each n d inside =
     subst (λ (k : ℕ). k < classes) (sym (class-staged jobs j stage n d)) (each n d (omega (arith, length-staged jobs j stage)))
 
@@ -76,27 +76,27 @@ pub classes_moved : (classes : ℕ) (s : State) (a : Parent) (i : ℕ) → HaveC
 classes_moved classes s (parent.Client c) i each = each
 classes_moved classes s (parent.Job j) i each = classes_staged classes s.jobs j (Stage.At i) each
 
-pub classes_pushed : (classes : ℕ) (jobs : List Made) (job : Made) → HaveClasses classes jobs → job.class < classes → HaveClasses classes (jobs ++ job ∷ [])
-classes_pushed classes jobs job each inside = All-push (λ (x : Made). x.class < classes) jobs job each inside
+pub classes_pushed : (classes : ℕ) (jobs : List CreatedJob) (job : CreatedJob) → HaveClasses classes jobs → job.class < classes → HaveClasses classes (jobs ++ job ∷ [])
+classes_pushed classes jobs job each inside = All-push (λ (x : CreatedJob). x.class < classes) jobs job each inside
 
 -- ---- the creators of the jobs
 
 -- each job has a greater number than the job that created it
-abbrev pub HaveParents : List Made → Type 0
-HaveParents jobs = (j : ℕ) → j < length jobs → IsLater (get_or jobs j no_job).parent j
+abbrev pub HaveParents : List CreatedJob → Type 0
+HaveParents jobs = (j : ℕ) → j < length jobs → HasGreaterNumber (get_or jobs j no_job).parent j
 
-pub parents_staged : (jobs : List Made) (j : ℕ) (stage : Stage) → HaveParents jobs → HaveParents (staged jobs j stage)
+pub parents_staged : (jobs : List CreatedJob) (j : ℕ) (stage : Stage) → HaveParents jobs → HaveParents (staged jobs j stage)
 parents_staged jobs j stage each n inside =
-    subst (λ (a : Parent). IsLater a n) (sym (parent-staged jobs j stage n no_job)) (each n (omega (arith, length-staged jobs j stage)))
+    subst (λ (a : Parent). HasGreaterNumber a n) (sym (parent-staged jobs j stage n no_job)) (each n (omega (arith, length-staged jobs j stage)))
 
 pub parents_moved : (s : State) (a : Parent) (i : ℕ) → HaveParents s.jobs → HaveParents (moved_jobs a i s)
 parents_moved s (parent.Client c) i each = each
 parents_moved s (parent.Job j) i each = parents_staged s.jobs j (Stage.At i) each
 
-pub parents_pushed : (jobs : List Made) (job : Made) → HaveParents jobs → IsLater job.parent (length jobs) → HaveParents (jobs ++ job ∷ [])
+pub parents_pushed : (jobs : List CreatedJob) (job : CreatedJob) → HaveParents jobs → HasGreaterNumber job.parent (length jobs) → HaveParents (jobs ++ job ∷ [])
 parents_pushed jobs job each after n inside = elim (cases_lt n (length jobs)) [
-  | inl earlier ↦ subst (λ (x : Made). IsLater x.parent n) (sym (get_or_append_left jobs (job ∷ []) no_job n earlier)) (each n earlier)
+  | inl earlier ↦ subst (λ (x : CreatedJob). HasGreaterNumber x.parent n) (sym (get_or_append_left jobs (job ∷ []) no_job n earlier)) (each n earlier)
   | inr past ↦
       let last : length jobs ≡ n = omega (arith, length_push jobs job) in
-      subst (λ (x : Made). IsLater x.parent n) (sym (get_or_push jobs job no_job n last)) (subst (IsLater job.parent) last after)
+      subst (λ (x : CreatedJob). HasGreaterNumber x.parent n) (sym (get_or_push jobs job no_job n last)) (subst (HasGreaterNumber job.parent) last after)
 ]

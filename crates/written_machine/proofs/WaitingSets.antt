@@ -12,7 +12,7 @@ use Rattle.job_bodies.specs.declared.action.Action.TheVariants.{Work, Submit, Ge
 use Rattle.job_bodies.specs.Plan.{Plan, class_at}
 use Rattle.written_machine.specs.declared.parent.Parent.TheVariants as parent
 use Rattle.written_machine.specs.State.{Stage, State, no_job, job_at, pool_part, pool_of, is_busy_in, child}
-use Rattle.written_machine.specs.Waiting.{is_member, IsMember, WaitsAtGet, WaitsAs, IsWaitingSet, is_some_member, waits_at, waits_as, waits, is_none, is_waiting_set}
+use Rattle.written_machine.specs.Waiting.{is_member, IsMember, WaitsAtGet, WaitsAtStage, IsWaitingSet, is_some_member, waits_at, waits_at_stage, waits, is_none, is_waiting_set}
 
 -- ---- members
 
@@ -57,7 +57,7 @@ busy_made plan s p n busy = elim (cases_lt n (length s.jobs)) [
   | inr past ↦ absurd (false≢true (sym (ap (is_busy_in plan p) (get_or_past s.jobs n no_job past)) ∙ busy))
 ]
 
-pub waits_from_test : (plan : Plan) (s : State) (members : List ℕ) (j : ℕ) (stage : Stage) → waits_as plan s members j (job_at s j).class stage ≡ true → WaitsAs plan s members j stage
+pub waits_from_test : (plan : Plan) (s : State) (members : List ℕ) (j : ℕ) (stage : Stage) → waits_at_stage plan s members j (job_at s j).class stage ≡ true → WaitsAtStage plan s members j stage
 waits_from_test plan s members j Stage.Queued passes =
     let p = pool_of plan (job_at s j).class in
     let parts = and_parts (eqb (pool_part s p).idle 0) (list_all (is_member members) (places_where (is_busy_in plan p) s.jobs)) passes in
@@ -69,7 +69,7 @@ waits_from_test plan s members j (Stage.At i) passes = waits_at_get plan s membe
 waits_from_test plan s members j Stage.Done passes = absurd (false≢true passes)
 waits_from_test plan s members j Stage.Claimed passes = absurd (false≢true passes)
 
-pub test_of_waits : (plan : Plan) (s : State) (members : List ℕ) (j : ℕ) (stage : Stage) → WaitsAs plan s members j stage → waits_as plan s members j (job_at s j).class stage ≡ true
+pub test_of_waits : (plan : Plan) (s : State) (members : List ℕ) (j : ℕ) (stage : Stage) → WaitsAtStage plan s members j stage → waits_at_stage plan s members j (job_at s j).class stage ≡ true
 test_of_waits plan s members j Stage.Queued waiting =
     let p = pool_of plan (job_at s j).class in
     and_from (eqb (pool_part s p).idle 0) (list_all (is_member members) (places_where (is_busy_in plan p) s.jobs)) (eq-eqb (pool_part s p).idle 0 waiting.none_idle)
@@ -81,7 +81,7 @@ test_of_waits plan s members j Stage.Claimed waiting = absurd waiting
 
 -- ---- the set
 
-first_member : (plan : Plan) (s : State) (members : List ℕ) → not (is_none members) ≡ true → ((j : ℕ) → IsMember members j → WaitsAs plan s members j (job_at s j).stage) → IsWaitingSet plan s members
+first_member : (plan : Plan) (s : State) (members : List ℕ) → not (is_none members) ≡ true → ((j : ℕ) → IsMember members j → WaitsAtStage plan s members j (job_at s j).stage) → IsWaitingSet plan s members
 first_member plan s [] some each = absurd (false≢true some)
 first_member plan s (j ∷ js) some each = record { first = j; not_empty = member_of_In (j ∷ js) j here; each = each }
 

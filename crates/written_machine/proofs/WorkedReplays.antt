@@ -26,15 +26,15 @@ abbrev class_in : ℕ → List Action → Class
 class_in pool body = record { name = 97 ∷ []; pool = pool; body = body }
 
 -- a kind of `count` clients, each of which submits a job of this class, gets it, and starts again
-abbrev asking : ℕ → ℕ → Client
-asking count class = record { name = 99 ∷ []; count = count; repeat = true; body = Submit class ∷ Get 0 ∷ [] }
+abbrev repeating_client : ℕ → ℕ → Client
+repeating_client count class = record { name = 99 ∷ []; count = count; repeat = true; body = Submit class ∷ Get 0 ∷ [] }
 
 -- one pool, with clients that each submit one job and wait for it
 abbrev one_pool : ℕ → ℕ → ℕ → ℕ → Plan
 one_pool core max queue clients = record {
   pools = pool_of_sizes 112 core max queue ∷ [];
   classes = class_in 0 (Work 1 ∷ []) ∷ [];
-  clients = asking clients 0 ∷ [];
+  clients = repeating_client clients 0 ∷ [];
 }
 
 -- the same, except that each client does not repeat
@@ -48,24 +48,24 @@ abbrev nested : ℕ → ℕ → ℕ → Plan
 nested core max queue = record {
   pools = pool_of_sizes 112 core max queue ∷ [];
   classes = class_in 0 (Submit 1 ∷ Get 0 ∷ []) ∷ class_in 0 (Work 1 ∷ []) ∷ [];
-  clients = asking 1 0 ∷ [];
+  clients = repeating_client 1 0 ∷ [];
 }
 
 -- the same with room for a second thread, and a client that submits one inner job
-abbrev helped : Plan
-helped = record (nested 1 2 1) { clients = asking 1 0 ∷ record { name = 104 ∷ []; count = 1; repeat = false; body = Submit 1 ∷ [] } ∷ [] }
+abbrev nested_with_spare_thread : Plan
+nested_with_spare_thread = record (nested 1 2 1) { clients = repeating_client 1 0 ∷ record { name = 104 ∷ []; count = 1; repeat = false; body = Submit 1 ∷ [] } ∷ [] }
 
 -- two pools whose jobs wait for jobs of the other pool, and a third independent pool
 abbrev crossed : ℕ → Plan
 crossed threads = record {
   pools = pool_of_sizes 112 1 1 2 ∷ pool_of_sizes 113 threads threads 2 ∷ pool_of_sizes 114 1 1 1 ∷ [];
   classes = class_in 0 (Submit 1 ∷ Get 0 ∷ []) ∷ class_in 1 (Work 1 ∷ []) ∷ class_in 1 (Submit 3 ∷ Get 0 ∷ []) ∷ class_in 0 (Work 1 ∷ []) ∷ class_in 2 (Work 1 ∷ []) ∷ [];
-  clients = asking 1 0 ∷ asking 1 2 ∷ asking 1 4 ∷ [];
+  clients = repeating_client 1 0 ∷ repeating_client 1 2 ∷ repeating_client 1 4 ∷ [];
 }
 
 -- the outcome of each event, from the start
-abbrev told : Plan → List Event → List (Option Outcome)
-told plan events = outcomes plan (Some (start plan)) events
+abbrev outcomes_from_start : Plan → List Event → List (Option Outcome)
+outcomes_from_start plan events = outcomes plan (Some (start plan)) events
 
 -- the value of a function on the state that the events reach
 abbrev after : {X : Type 0} → Plan → List Event → (State → X) → Option X
@@ -109,49 +109,49 @@ stuck_for_now-events = nested_one_worker-events ++ event.Client 1 ∷ event.Job 
 -- ---- the outcomes of the events
 
 -- with one worker and a queue of one, the seventh event is rejected, although a worker is idle and only two jobs are open
-pub two_clients_refused : told (one_pool 1 1 1 2) two_clients_refused-events
+pub two_clients_refused : outcomes_from_start (one_pool 1 1 1 2) two_clients_refused-events
     ≡ Some (Started 0) ∷ Some (Worked 1) ∷ Some (Finished 0) ∷ Some (Got 0) ∷ Some Looped ∷ Some (Queued 1) ∷ Some (Refused 0) ∷ []
 two_clients_refused = refl
 
 -- the only worker waits for a job that waits for the worker
-pub nested_one_worker : told (nested 1 1 5) (nested_one_worker-events ++ event.Take 0 ∷ []) ≡ Some (Started 0) ∷ Some (Queued 1) ∷ None ∷ []
+pub nested_one_worker : outcomes_from_start (nested 1 1 5) (nested_one_worker-events ++ event.Take 0 ∷ []) ≡ Some (Started 0) ∷ Some (Queued 1) ∷ None ∷ []
 nested_one_worker = refl
 
 -- two pools wait for each other, while a third pool works
-pub cross_pools_stuck : told (crossed 1) cross_pools_stuck-events
+pub cross_pools_stuck : outcomes_from_start (crossed 1) cross_pools_stuck-events
     ≡ Some (Started 0) ∷ Some (Started 1) ∷ Some (Queued 2) ∷ Some (Queued 3) ∷ Some (Started 4) ∷ Some (Worked 1) ∷ []
 cross_pools_stuck = refl
 
 -- a worker above core may end, a core worker may not
-pub retire : told (one_pool 1 2 1 3) (retire-events ++ event.Retire 0 ∷ [])
+pub retire : outcomes_from_start (one_pool 1 2 1 3) (retire-events ++ event.Retire 0 ∷ [])
     ≡ Some (Started 0) ∷ Some (Queued 1) ∷ Some (Started 2) ∷ Some (Worked 1) ∷ Some (Finished 2) ∷ Some Retired ∷ Some (Worked 1) ∷ Some (Finished 0) ∷ None ∷ []
 retire = refl
 
 -- below core a new thread starts the job, although a worker is idle
-pub start_before_queue : told (one_pool 2 2 2 2) start_before_queue-events
+pub start_before_queue : outcomes_from_start (one_pool 2 2 2 2) start_before_queue-events
     ≡ Some (Started 0) ∷ Some (Worked 1) ∷ Some (Finished 0) ∷ Some (Started 1) ∷ Some (Got 0) ∷ Some Looped ∷ Some (Queued 2) ∷ Some (Took 2) ∷ Some (Worked 1) ∷ []
 start_before_queue = refl
 
 -- the queue is full, so a second thread starts, and then takes the inner job for which the outer one waits
-pub stuck_for_now : told helped stuck_for_now-events
+pub stuck_for_now : outcomes_from_start nested_with_spare_thread stuck_for_now-events
     ≡ Some (Started 0) ∷ Some (Queued 1) ∷ Some (Started 2) ∷ Some (Worked 1) ∷ Some (Finished 2) ∷ Some (Took 1) ∷ Some (Worked 1) ∷ Some (Finished 1) ∷ Some (Got 1) ∷ Some (Finished 0) ∷ []
 stuck_for_now = refl
 
 -- a prestarted pool queues its first job, and an idle worker takes it
-pub prestarted_queues : told (prestarted (one_pool 2 2 2 2)) prestarted_queues-events ≡ Some (Queued 0) ∷ Some (Took 0) ∷ Some (Worked 1) ∷ []
+pub prestarted_queues : outcomes_from_start (prestarted (one_pool 2 2 2 2)) prestarted_queues-events ≡ Some (Queued 0) ∷ Some (Took 0) ∷ Some (Worked 1) ∷ []
 prestarted_queues = refl
 
 -- a prestarted pool can reject a job although its workers are idle
-pub lifetime_first : told (prestarted (one_pool_once 2 2 1 3)) lifetime_first-events ≡ Some (Queued 0) ∷ Some (Refused 0) ∷ []
+pub lifetime_first : outcomes_from_start (prestarted (one_pool_once 2 2 1 3)) lifetime_first-events ≡ Some (Queued 0) ∷ Some (Refused 0) ∷ []
 lifetime_first = refl
 
 -- five steps drain the pool of an outer job and its inner job
-pub drain_met_exactly : told (nested 2 2 5) (drain_met_exactly-events ++ event.Take 0 ∷ [])
+pub drain_met_exactly : outcomes_from_start (nested 2 2 5) (drain_met_exactly-events ++ event.Take 0 ∷ [])
     ≡ Some (Started 0) ∷ Some (Started 1) ∷ Some (Worked 1) ∷ Some (Finished 1) ∷ Some (Got 1) ∷ Some (Finished 0) ∷ None ∷ []
 drain_met_exactly = refl
 
 -- in a prestarted pool both jobs are taken from the queue, and seven steps drain the pool
-pub drain_met_exactly_prestarted : told (prestarted (nested 2 2 5)) drain_met_exactly_prestarted-events
+pub drain_met_exactly_prestarted : outcomes_from_start (prestarted (nested 2 2 5)) drain_met_exactly_prestarted-events
     ≡ Some (Queued 0) ∷ Some (Took 0) ∷ Some (Queued 1) ∷ Some (Took 1) ∷ Some (Worked 1) ∷ Some (Finished 1) ∷ Some (Got 1) ∷ Some (Finished 0) ∷ []
 drain_met_exactly_prestarted = refl
 
@@ -172,7 +172,7 @@ retire-ends = refl
 pub start_before_queue-ends : after (one_pool 2 2 2 2) start_before_queue-events ends ≡ Some (0, 2)
 start_before_queue-ends = refl
 
-pub stuck_for_now-ends : after helped stuck_for_now-events ends ≡ Some (0, 0)
+pub stuck_for_now-ends : after nested_with_spare_thread stuck_for_now-events ends ≡ Some (0, 0)
 stuck_for_now-ends = refl
 
 pub prestarted_queues-ends : after (prestarted (one_pool 2 2 2 2)) prestarted_queues-events ends ≡ Some (0, 1)
@@ -202,5 +202,5 @@ pub cross_pools_stuck-two : after (crossed 1) cross_pools_stuck-events (λ s. is
 cross_pools_stuck-two = refl
 
 -- a waiting set can end if its pool does not have all its threads
-pub stuck_for_now-two : after helped nested_one_worker-events (λ s. is_waiting_set helped s (0 ∷ 1 ∷ [])) ≡ Some true
+pub stuck_for_now-two : after nested_with_spare_thread nested_one_worker-events (λ s. is_waiting_set nested_with_spare_thread s (0 ∷ 1 ∷ [])) ≡ Some true
 stuck_for_now-two = refl

@@ -25,14 +25,14 @@ pub record IsFullWaitingSet (plan : Plan) (s : State) (members : List ℕ) : Typ
   pub full : WhereMembersQueue plan s members (IsFull plan s)
 
 -- in the second state the members are still such a set, and none of them has moved
-pub record HasStayed (plan : Plan) (s s' : State) (members : List ℕ) : Type 0 where
+pub record StaysFull (plan : Plan) (s s' : State) (members : List ℕ) : Type 0 where
   pub still : IsFullWaitingSet plan s' members
   pub unmoved : (j : ℕ) → IsMember members j → job_at s' j ≡ job_at s j
 
 -- a full waiting set stays full and a waiting set after any list of events
 abbrev pub FullWaitingSetsStay : Type 0
 FullWaitingSetsStay = (plan : Plan) (s s' : State) (events : List Event) (members : List ℕ) → IsWellFormed plan → IsReached plan s → IsFullWaitingSet plan s members
-    → replay plan (Some s) events ≡ Some s' → HasStayed plan s s' members
+    → replay plan (Some s) events ≡ Some s' → StaysFull plan s s' members
 
 -- a waiting set whose queued members wait in pools of fixed size is full
 abbrev pub FixedPoolsAreFull : Type 0

@@ -4,13 +4,13 @@ use Rattle.job_bodies.specs.Plan.{Plan, pool_at, first_workers}
 use Rattle.job_bodies.specs.WellFormed.{IsWellFormed}
 use Rattle.written_machine.specs.declared.event.Event.{Event}
 use Rattle.written_machine.specs.declared.event.Outcome.TheVariants.{Refused}
-use Rattle.written_machine.specs.State.{Made, State, pool_of, pool_part, threads}
+use Rattle.written_machine.specs.State.{CreatedJob, State, pool_of, pool_part, threads}
 use Rattle.written_machine.specs.Step.{step}
 use Rattle.written_machine.specs.Reach.{IsReached}
 use Rattle.written_machine.specs.Laws.{HoldsWhereReached}
 
 -- the job has a class of the pool, at any stage
-abbrev pub is_of_pool : Plan → ℕ → Made → Bool
+abbrev pub is_of_pool : Plan → ℕ → CreatedJob → Bool
 is_of_pool plan p job = pool_of plan job.class == p
 
 abbrev pub jobs_made : Plan → State → ℕ → ℕ

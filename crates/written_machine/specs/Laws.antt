@@ -28,9 +28,9 @@ abbrev pub QueuesOnlyAtCore : Type 0
 QueuesOnlyAtCore = HoldsWhereReached (λ plan s. (p : ℕ) → p < length plan.pools → 1 ≤ length (pool_part s p).queue → (pool_at plan p).core ≤ threads plan s p)
 
 -- the job's number is greater than the number of its creator, if the creator is a job
-abbrev pub IsLater : Parent → ℕ → Type 0
-IsLater (Client c) n = ⊤
-IsLater (Job j) n = j < n
+abbrev pub HasGreaterNumber : Parent → ℕ → Type 0
+HasGreaterNumber (Client c) n = ⊤
+HasGreaterNumber (Job j) n = j < n
 
 -- the latest job that the actor created at position t is of class k, unclaimed, and later than the actor
 pub record HasLatest (s : State) (a : Parent) (t k : ℕ) : Type 0 where
@@ -38,7 +38,7 @@ pub record HasLatest (s : State) (a : Parent) (t k : ℕ) : Type 0 where
   pub is_child : child s a t ≡ Some number
   pub of_class : (job_at s number).class ≡ k
   pub unclaimed : (job_at s number).stage ≢ Stage.Claimed
-  pub later : IsLater a number
+  pub later : HasGreaterNumber a number
 
 -- an actor at a get has such a latest job, of the class that the submit names
 abbrev pub GetsHaveChildren : Type 0

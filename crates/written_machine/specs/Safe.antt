@@ -25,11 +25,11 @@ is_of_job_or_pool (Take p) = true
 is_of_job_or_pool _ = false
 
 -- an event of a job, or a take event of a pool, is possible
-pub record CanGoOn (plan : Plan) (s : State) : Type 0 where
+pub record CanProgress (plan : Plan) (s : State) : Type 0 where
   pub event : Event
   pub of_job_or_pool : IsTrue (is_of_job_or_pool event)
   pub possible : IsTrue (is_some (step plan s event))
 
 -- in every reachable state with an unfinished job, such an event is possible
 abbrev pub MakesProgress : Plan → Type 0
-MakesProgress plan = (events : List Event) (s : State) → Reaches plan events s → (j : ℕ) → IsTrue (is_unfinished (job_at s j).stage) → CanGoOn plan s
+MakesProgress plan = (events : List Event) (s : State) → Reaches plan events s → (j : ℕ) → IsTrue (is_unfinished (job_at s j).stage) → CanProgress plan s

@@ -20,7 +20,7 @@ pub data Stage : Type 0 where
   Claimed : Stage
 
 -- a job that was created: its class, its creator, the position of the submit, and its stage
-pub record Made : Type 0 where
+pub record CreatedJob : Type 0 where
   pub class : ℕ
   pub parent : Parent
   pub slot : ℕ
@@ -32,7 +32,7 @@ pub record PoolPart : Type 0 where
   pub idle : ℕ
 
 pub record State : Type 0 where
-  pub jobs : List Made
+  pub jobs : List CreatedJob
   pub pools : List PoolPart
   pub clients : List ClientState
   pub refusals : ℕ
@@ -41,13 +41,13 @@ pub record State : Type 0 where
 abbrev pub no_pool_part : PoolPart
 no_pool_part = record { queue = []; idle = 0 }
 
-abbrev pub no_job : Made
+abbrev pub no_job : CreatedJob
 no_job = record { class = 0; parent = Client 0; slot = 0; stage = Claimed }
 
 abbrev pub no_client_state : ClientState
 no_client_state = record { kind = 0; position = 0 }
 
-abbrev pub job_at : State → ℕ → Made
+abbrev pub job_at : State → ℕ → CreatedJob
 job_at s j = slice_index_or s.jobs j no_job
 
 abbrev pub pool_part : State → ℕ → PoolPart
@@ -74,10 +74,10 @@ is_unfinished _ = false
 abbrev pub pool_of : Plan → ℕ → ℕ
 pool_of plan k = (class_at plan k).pool
 
-abbrev pub is_busy_in : Plan → ℕ → Made → Bool
+abbrev pub is_busy_in : Plan → ℕ → CreatedJob → Bool
 is_busy_in plan p job = is_at job.stage && pool_of plan job.class == p
 
-abbrev pub is_queued_in : Plan → ℕ → Made → Bool
+abbrev pub is_queued_in : Plan → ℕ → CreatedJob → Bool
 is_queued_in plan p job = is_queued job.stage && pool_of plan job.class == p
 
 -- the number of jobs that run in the pool
@@ -98,7 +98,7 @@ pool_view pool part threads = record { core = pool.core; max = pool.max; capacit
 abbrev pub pool_seen : Plan → State → ℕ → PoolView
 pool_seen plan s p = pool_view (pool_at plan p) (pool_part s p) (threads plan s p)
 
-abbrev pub is_made_by : Parent → ℕ → Made → Bool
+abbrev pub is_made_by : Parent → ℕ → CreatedJob → Bool
 is_made_by a t job = same_parent a job.parent && t == job.slot
 
 -- the latest job that the actor created at position t, or None if there is no such job

@@ -6,7 +6,7 @@ use Rattle.job_bodies.specs.declared.action.Action.TheVariants.{Work, Submit, Ge
 use Rattle.job_bodies.specs.Plan.{Plan, class_at, client_at}
 use Rattle.pool_machine.specs.declared.offer.Offer.{Offer}
 use Rattle.pool_machine.specs.declared.offer.Offer.TheVariants as offer
-use Rattle.pool_machine.specs.PoolState.{PoolView, answer, after_answer, taken, finished, retired}
+use Rattle.pool_machine.specs.PoolState.{PoolView, answer, apply_answer, taken, finished, retired}
 use Rattle.written_machine.specs.declared.client_state.ClientState.{ClientState}
 use Rattle.written_machine.specs.declared.parent.Parent.{Parent}
 use Rattle.written_machine.specs.declared.parent.Parent.TheVariants as parent
@@ -15,7 +15,7 @@ use Rattle.written_machine.specs.declared.event.Event.TheVariants.{Client, Job, 
 use Rattle.written_machine.specs.declared.event.Outcome.{Outcome}
 use Rattle.written_machine.specs.declared.event.Outcome.TheVariants.{Started, Queued, Refused, Worked, Got, Looped, Finished, Took, Retired}
 use Rattle.written_machine.specs.State as state
-use Rattle.written_machine.specs.State.{Stage, Made, State, job_at, client_state, pool_of, part_of, pool_seen, child}
+use Rattle.written_machine.specs.State.{Stage, CreatedJob, State, job_at, client_state, pool_of, part_of, pool_seen, child}
 
 -- ---- the position of an actor
 
@@ -42,7 +42,7 @@ abbrev pub with_stage : ℕ → Stage → State → State
 with_stage j stage s = record s { jobs = slice_set s.jobs j (record (job_at s j) { stage = stage }) }
 
 -- the jobs and the clients after the actor moved to position i
-abbrev pub moved_jobs : Parent → ℕ → State → List Made
+abbrev pub moved_jobs : Parent → ℕ → State → List CreatedJob
 moved_jobs (parent.Client c) i s = s.jobs
 moved_jobs (parent.Job j) i s = slice_set s.jobs j (record (job_at s j) { stage = state.Stage.At i })
 
@@ -53,7 +53,7 @@ moved_clients (parent.Job j) i s = s.clients
 abbrev pub with_position : Parent → ℕ → State → State
 with_position a i s = record s { jobs = moved_jobs a i s; clients = moved_clients a i s }
 
-abbrev pub with_job : Made → State → State
+abbrev pub with_job : CreatedJob → State → State
 with_job job s = record s { jobs = s.jobs ++ job ∷ [] }
 
 -- the state with the queue and idle workers of this pool view; the number of threads follows from the running jobs
@@ -62,7 +62,7 @@ with_pool p pool s = record s { pools = slice_set s.pools p (part_of pool) }
 
 -- ---- the events of an actor
 
-abbrev pub new_job : ℕ → Parent → ℕ → Stage → Made
+abbrev pub new_job : ℕ → Parent → ℕ → Stage → CreatedJob
 new_job k a i stage = record { class = k; parent = a; slot = i; stage = stage }
 
 -- the state and outcome after an actor at position i submitted a job of class k and the pool gave this answer
@@ -70,7 +70,7 @@ abbrev pub answered : Plan → State → Parent → ℕ → ℕ → Offer → St
 answered plan s a i k offer.Started =
     (with_job (new_job k a i (state.Stage.At 0)) (with_position a (i + 1) s), Started (length s.jobs))
 answered plan s a i k offer.Queued = (
-  with_pool (pool_of plan k) (after_answer (pool_seen plan s (pool_of plan k)) (length s.jobs) offer.Queued)
+  with_pool (pool_of plan k) (apply_answer (pool_seen plan s (pool_of plan k)) (length s.jobs) offer.Queued)
       (with_job (new_job k a i state.Stage.Queued) (with_position a (i + 1) s)),
   Queued (length s.jobs),
 )
@@ -97,35 +97,35 @@ looped plan s c None = None
 looped plan s c (Some client) = if (client_at plan client.kind).repeat then Some (with_position (parent.Client c) 0 s, Looped) else None
 
 -- at the end of its body a job finishes, and a client starts again if its kind repeats
-abbrev pub ended : Plan → State → Parent → Option (State × Outcome)
-ended plan s (parent.Client c) = looped plan s c (slice_get s.clients c)
-ended plan s (parent.Job j) = Some (finished_job plan s j (pool_of plan (job_at s j).class), Finished j)
+abbrev pub step_at_end : Plan → State → Parent → Option (State × Outcome)
+step_at_end plan s (parent.Client c) = looped plan s c (slice_get s.clients c)
+step_at_end plan s (parent.Job j) = Some (finished_job plan s j (pool_of plan (job_at s j).class), Finished j)
 
 -- the step of an actor at position i with this next action; None stands for the end of the body
-abbrev pub acted : Plan → State → Parent → ℕ → Option Action → Option (State × Outcome)
-acted plan s a i None = ended plan s a
-acted plan s a i (Some (Work u)) = Some (with_position a (i + 1) s, Worked u)
-acted plan s a i (Some (Submit k)) = Some (submitted plan s a i k)
-acted plan s a i (Some (Get t)) = got_child s a i (child s a t)
+abbrev pub step_action : Plan → State → Parent → ℕ → Option Action → Option (State × Outcome)
+step_action plan s a i None = step_at_end plan s a
+step_action plan s a i (Some (Work u)) = Some (with_position a (i + 1) s, Worked u)
+step_action plan s a i (Some (Submit k)) = Some (submitted plan s a i k)
+step_action plan s a i (Some (Get t)) = got_child s a i (child s a t)
 
-abbrev pub stepped : Plan → State → Parent → Option Point → Option (State × Outcome)
-stepped plan s a None = None
-stepped plan s a (Some at) = acted plan s a at.position (slice_get at.body at.position)
+abbrev pub step_at_point : Plan → State → Parent → Option Point → Option (State × Outcome)
+step_at_point plan s a None = None
+step_at_point plan s a (Some at) = step_action plan s a at.position (slice_get at.body at.position)
 
 -- ---- the events of a pool
 
 -- the head of the queue starts to run
-abbrev pub took : State → ℕ → Option (ℕ × PoolView) → Option (State × Outcome)
-took s p None = None
-took s p (Some x) = Some (with_pool p x.1 (with_stage x.0 (state.Stage.At 0) s), Took x.0)
+abbrev pub take_head : State → ℕ → Option (ℕ × PoolView) → Option (State × Outcome)
+take_head s p None = None
+take_head s p (Some x) = Some (with_pool p x.1 (with_stage x.0 (state.Stage.At 0) s), Took x.0)
 
-abbrev pub let_go : State → ℕ → Option PoolView → Option (State × Outcome)
-let_go s p None = None
-let_go s p (Some pool) = Some (with_pool p pool s, Retired)
+abbrev pub retire_worker : State → ℕ → Option PoolView → Option (State × Outcome)
+retire_worker s p None = None
+retire_worker s p (Some pool) = Some (with_pool p pool s, Retired)
 
 -- the state and the outcome after the event, or None if the event is not possible
 abbrev pub step : Plan → State → Event → Option (State × Outcome)
-step plan s (Client c) = stepped plan s (parent.Client c) (point plan s (parent.Client c))
-step plan s (Job j) = stepped plan s (parent.Job j) (point plan s (parent.Job j))
-step plan s (Take p) = took s p (taken (pool_seen plan s p))
-step plan s (Retire p) = let_go s p (retired (pool_seen plan s p))
+step plan s (Client c) = step_at_point plan s (parent.Client c) (point plan s (parent.Client c))
+step plan s (Job j) = step_at_point plan s (parent.Job j) (point plan s (parent.Job j))
+step plan s (Take p) = take_head s p (taken (pool_seen plan s p))
+step plan s (Retire p) = retire_worker s p (retired (pool_seen plan s p))

@@ -32,16 +32,16 @@ pub record WaitsInQueue (plan : Plan) (s : State) (members : List ℕ) (j : ℕ)
   pub all_at_work : (n : ℕ) → IsTrue (is_busy_in plan (pool_of plan (job_at s j).class) (job_at s n)) → IsMember members n
 
 -- an unfinished job that waits only for members; a finished job waits for nothing
-abbrev pub WaitsAs : Plan → State → List ℕ → ℕ → Stage → Type 0
-WaitsAs plan s members j Queued = WaitsInQueue plan s members j
-WaitsAs plan s members j (At i) = WaitsAtGet plan s members j i
-WaitsAs plan s members j _ = ⊥
+abbrev pub WaitsAtStage : Plan → State → List ℕ → ℕ → Stage → Type 0
+WaitsAtStage plan s members j Queued = WaitsInQueue plan s members j
+WaitsAtStage plan s members j (At i) = WaitsAtGet plan s members j i
+WaitsAtStage plan s members j _ = ⊥
 
 -- there is at least one member, all members are unfinished, and each waits only for members
 pub record IsWaitingSet (plan : Plan) (s : State) (members : List ℕ) : Type 0 where
   pub first : ℕ
   pub not_empty : IsMember members first
-  pub each : (j : ℕ) → IsMember members j → WaitsAs plan s members j (job_at s j).stage
+  pub each : (j : ℕ) → IsMember members j → WaitsAtStage plan s members j (job_at s j).stage
 
 -- ---- as a test
 
@@ -54,14 +54,14 @@ abbrev pub waits_at : State → List ℕ → Parent → Option Action → Bool
 waits_at s members a (Some (Get t)) = is_some_member members (child s a t)
 waits_at s members a _ = false
 
-abbrev pub waits_as : Plan → State → List ℕ → ℕ → ℕ → Stage → Bool
-waits_as plan s members j k Queued =
+abbrev pub waits_at_stage : Plan → State → List ℕ → ℕ → ℕ → Stage → Bool
+waits_at_stage plan s members j k Queued =
     (pool_part s (pool_of plan k)).idle == 0 && list_all (is_member members) (places_where (is_busy_in plan (pool_of plan k)) s.jobs)
-waits_as plan s members j k (At i) = waits_at s members (parent.Job j) (slice_get (class_at plan k).body i)
-waits_as plan s members j k _ = false
+waits_at_stage plan s members j k (At i) = waits_at s members (parent.Job j) (slice_get (class_at plan k).body i)
+waits_at_stage plan s members j k _ = false
 
 abbrev pub waits : Plan → State → List ℕ → ℕ → Bool
-waits plan s members j = waits_as plan s members j (job_at s j).class (job_at s j).stage
+waits plan s members j = waits_at_stage plan s members j (job_at s j).class (job_at s j).stage
 
 abbrev pub is_none : List ℕ → Bool
 is_none [] = true

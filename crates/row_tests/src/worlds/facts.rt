@@ -1,6 +1,6 @@
 //! The look-ups of a world.
 
-ghost use Rattle.interleaving.specs.OfPlan.{IsOf};
+ghost use Rattle.interleaving.specs.OfPlan.{IsReachableView};
 
 use interleaving::{JobView, Parent, Phase, World};
 use job_bodies::Plan;
@@ -13,7 +13,7 @@ const CLIENTS_SHOWN: usize = 4;
 /// Returns all look-ups of the world: the counts, the pools, the clients, and the jobs with two
 /// numbers after the last, which do not exist.
 pub fn facts(alloc: Global, plan: &Plan, world: &World) -> Result<Vec<String>, AllocError>
-    requires { IsOf plan.now world.now.view }
+    requires { IsReachableView plan.now world.now.view }
 {
     let mut facts = counts(alloc, world)?;
     for number in 0..plan.pools().len() {

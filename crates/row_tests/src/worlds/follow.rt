@@ -1,6 +1,6 @@
 //! Lines, and the answers of a world.
 
-ghost use Rattle.interleaving.specs.OfPlan.{IsOf};
+ghost use Rattle.interleaving.specs.OfPlan.{IsReachableView};
 
 use crate::worlds::facts::{counts, facts, push_changed, push_fact, push_job, push_number};
 use crate::worlds::sets::push_stuck_sets;
@@ -16,7 +16,7 @@ pub fn followed(
     world: &mut World,
     lines: &str,
 ) -> Result<String, AllocError>
-    requires { IsOf plan.now world.old.view }
+    requires { IsReachableView plan.now world.old.view }
 {
     let mut answer = String::new(alloc);
     let mut known = facts(alloc, plan, world)?;
@@ -37,7 +37,7 @@ pub fn counted(
     world: &mut World,
     lines: &str,
 ) -> Result<String, AllocError>
-    requires { IsOf plan.now world.old.view }
+    requires { IsReachableView plan.now world.old.view }
 {
     let mut events = 0_u64;
     for line in lines.lines() {
@@ -54,8 +54,8 @@ pub fn counted(
 
 // Applies the event of the line if it is possible, and returns whether it is.
 fn happens(plan: &Plan, world: &mut World, line: &str) -> Result<bool, AllocError>
-    requires { IsOf plan.now world.old.view }
-    ensures { IsOf plan.now world.new.view }
+    requires { IsReachableView plan.now world.old.view }
+    ensures { IsReachableView plan.now world.new.view }
 {
     match event(line) {
         Some(event) => Ok(world.step(plan, event)?.is_some()),
@@ -65,8 +65,8 @@ fn happens(plan: &Plan, world: &mut World, line: &str) -> Result<bool, AllocErro
 
 // Returns the outcome of the line's event, or the look-up if it is not an event.
 fn said_to(alloc: Global, plan: &Plan, world: &mut World, line: &str) -> Result<String, AllocError>
-    requires { IsOf plan.now world.old.view }
-    ensures { IsOf plan.now world.new.view }
+    requires { IsReachableView plan.now world.old.view }
+    ensures { IsReachableView plan.now world.new.view }
 {
     if let Some(event) = event(line) {
         let outcome = world.step(plan, event)?;
@@ -84,7 +84,7 @@ fn push_view(
     world: &World,
     known: &mut Vec<String>,
 ) -> Result<(), AllocError>
-    requires { IsOf plan.now world.now.view }
+    requires { IsReachableView plan.now world.now.view }
 {
     if kind == "facts" {
         let now = facts(alloc, plan, world)?;
@@ -127,7 +127,7 @@ fn outcome_text(alloc: Global, outcome: Option<Outcome>) -> Result<String, Alloc
 
 // Returns the look-up of a line that is not an event.
 fn looked_up(alloc: Global, plan: &Plan, world: &World, line: &str) -> Result<String, AllocError>
-    requires { IsOf plan.now world.now.view }
+    requires { IsReachableView plan.now world.now.view }
 {
     let mut said = String::new(alloc);
     if let Some(members) = line.strip_prefix("stuck") {

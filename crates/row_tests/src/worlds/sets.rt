@@ -1,6 +1,6 @@
 //! Sets of jobs that wait only for their own members.
 
-ghost use Rattle.interleaving.specs.OfPlan.{IsOf};
+ghost use Rattle.interleaving.specs.OfPlan.{IsReachableView};
 
 use crate::worlds::facts::push_fact;
 use interleaving::World;
@@ -17,7 +17,7 @@ pub fn push_stuck_sets(
     plan: &Plan,
     world: &World,
 ) -> Result<(), AllocError>
-    requires { IsOf plan.now world.now.view }
+    requires { IsReachableView plan.now world.now.view }
 {
     for set in 0..1_u32 << JOBS_SHOWN {
         let members = members_of(alloc, set)?;

@@ -1,5 +1,5 @@
 use Rattle.std.proofs.Common.{take}
-use Rattle.counterexample.specs.Replayed.{ComesTo}
+use Rattle.counterexample.specs.ReplayResult.{ComesTo}
 use Rattle.counterexample.proofs.replaying.replay.Given as goal
 
 abbrev pub invariant-loop-index : goal.invariant-loop-index

@@ -18,12 +18,12 @@ returns-in-Some c =
 
 pub returns-in_err-client : goal.returns-in_err-client
 returns-in_err-client c =
-    let is = c.in-Some-behind_client.ensures in
-    let none = rw c.in_err-client.was at c.split_number_line-in-Some-behind_client.ensures in
-    rw (c.from_residual-in_err-client.ensures, client_first c.args.plan.now c.args.text.now c.in-Some-behind_client.client.now is, ← none) refl
+    let is = c.in-Some-strip_client.ensures in
+    let none = rw c.in_err-client.was at c.split_number_line-in-Some-strip_client.ensures in
+    rw (c.from_residual-in_err-client.ensures, client_first c.args.plan.now c.args.text.now c.in-Some-strip_client.client.now is, ← none) refl
 
-pub returns-in-Some-behind_client : goal.returns-in-Some-behind_client
-returns-in-Some-behind_client c =
-    let is = c.in-Some-behind_client.ensures in
-    let some = rw c.in_ok-client.was at c.split_number_line-in-Some-behind_client.ensures in
-    rw (client_first c.args.plan.now c.args.text.now c.in-Some-behind_client.client.now is, ← some) refl
+pub returns-in-Some-strip_client : goal.returns-in-Some-strip_client
+returns-in-Some-strip_client c =
+    let is = c.in-Some-strip_client.ensures in
+    let some = rw c.in_ok-client.was at c.split_number_line-in-Some-strip_client.ensures in
+    rw (client_first c.args.plan.now c.args.text.now c.in-Some-strip_client.client.now is, ← some) refl

@@ -1,9 +1,9 @@
 use Rattle.std.proofs.Common.{◌≡◌, IsSome, IfSome, Option, Some, None, refl, sym, ap, set, subst, ◌∙◌}
 use Rattle.interleaving.specs.declared.job_view.JobView.{JobView}
 use Rattle.interleaving.specs.ViewStep.{live_job, in_phase}
-use Rattle.interleaving.specs.LiveJobs.{jobs_in, ReachesStay}
+use Rattle.interleaving.specs.LiveJobs.{jobs_in, SubmitBoundsStay}
 use Rattle.interleaving.proofs.JobsInPlaces.{jobs_set, jobs_phased, has_place}
-use Rattle.interleaving.proofs.ReachesStay.{stays_phased}
+use Rattle.interleaving.proofs.SubmitBoundsStay.{stays_phased}
 use Rattle.interleaving.proofs.live_jobs.finish_in.Goals as goal
 
 pub set_phase-requires : goal.set_phase-requires
@@ -18,7 +18,7 @@ returns-in-Some-clause-jobs c =
 
 pub returns-in-Some-clause-reaches : goal.returns-in-Some-clause-reaches
 returns-in-Some-clause-reaches c =
-    subst (ReachesStay c.args.kept.now.items) (sym c.set_phase.ensures.items) (stays_phased c.args.kept.now.items c.args.number c.in-Some.job.phase c.requires.live)
+    subst (SubmitBoundsStay c.args.kept.now.items) (sym c.set_phase.ensures.items) (stays_phased c.args.kept.now.items c.args.number c.in-Some.job.phase c.requires.live)
 
 pub returns-in-None-clause-jobs : goal.returns-in-None-clause-jobs
 returns-in-None-clause-jobs c =

@@ -7,13 +7,13 @@ use Rattle.sizing_cli.proofs.transcript.reply_to.Goals as goal
 
 pub returns-in-Some : goal.returns-in-Some
 returns-in-Some c = λ s reached live.
-    rw c.in-Happens.is
-    (replies_to_event c.args.plan.now s _ c.in-Some.outcome c.step.new.self.view reached ((rw c.in-Some.is at c.in_ok-outcome-in-Happens.ensures.answered) s reached live))
+    rw c.in-Perform.is
+    (replies_to_event c.args.plan.now s _ c.in-Some.outcome c.step.new.self.view reached ((rw c.in-Some.is at c.in_ok-outcome-in-Perform.ensures.answered) s reached live))
 
 pub returns-in-None : goal.returns-in-None
 returns-in-None c = λ s reached live.
-    rw c.in-Happens.is
-    (replies_not_possible c.args.plan.now s _ c.step.new.self.view reached ((rw c.in-None.is at c.in_ok-outcome-in-Happens.ensures.answered) s reached live))
+    rw c.in-Perform.is
+    (replies_not_possible c.args.plan.now s _ c.step.new.self.view reached ((rw c.in-None.is at c.in_ok-outcome-in-Perform.ensures.answered) s reached live))
 
 pub returns-in_ok-members-in-Stuck : goal.returns-in_ok-members-in-Stuck
 returns-in_ok-members-in-Stuck c = λ s reached live.

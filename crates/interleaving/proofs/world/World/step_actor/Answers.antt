@@ -35,10 +35,10 @@ submit-requires-clause-pool c =
     let submits : c.in-Some.next.action ≡ Some (Submit c.in-Some-Submit.class) = search rules in
     pool_of_submit c.args.plan.now c.args.self.now.view c.args.actor c.in-Some.next c.in-Some-Submit.class c.requires next.well_formed (sym next.value) submits
 
-pub submit-requires-clause-asked : goal.submit-requires-clause-asked
-submit-requires-clause-asked c = λ asked.
+pub submit-requires-clause-has_get : goal.submit-requires-clause-has_get
+submit-requires-clause-has_get c = λ has_get.
     let next = c.in-Some.ensures in
-    none_left c.args.plan.now c.args.self.now.view c.args.actor c.in-Some.next c.requires next.well_formed (sym next.value) asked
+    none_left c.args.plan.now c.args.self.now.view c.args.actor c.in-Some.next c.requires next.well_formed (sym next.value) has_get
 
 pub submit-requires-clause-done : goal.submit-requires-clause-done
 submit-requires-clause-done c = done_are_latest c.args.plan.now c.args.self.now.view c.requires

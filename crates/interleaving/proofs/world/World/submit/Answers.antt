@@ -7,8 +7,8 @@ use Rattle.interleaving.proofs.PlacesUsedAgain.{used_again}
 use Rattle.interleaving.proofs.StaleJobs.{none_but_latest}
 use Rattle.interleaving.proofs.world.World.submit.Goals as goal
 
-pub make-requires-clause-stale : goal.make-requires-clause-stale
-make-requires-clause-stale c =
+pub create-requires-clause-stale : goal.create-requires-clause-stale
+create-requires-clause-stale c =
     let view = c.args.self.now.view in
     let a = c.args.actor in
     let t = c.args.next.position in
@@ -16,8 +16,8 @@ make-requires-clause-stale c =
     let moved : c.move_actor.new.jobs.jobs ≡ moved_live_jobs a (t + 1) view = c.move_actor.ensures.jobs view (sym (c.in_ok-reserve_for.ensures.jobs ∙ ap (λ (w : WorldValue). w.view.jobs) c.self.view_is)) in
     subst (λ js. NoOtherIsStale js latest a t) (sym moved) (stale_moved a a t (t + 1) latest view (none_but_latest view.jobs latest a t c.requires.done c.latest_before-latest.ensures))
 
-pub make-requires-clause-parent : goal.make-requires-clause-parent
-make-requires-clause-parent c =
+pub create-requires-clause-parent : goal.create-requires-clause-parent
+create-requires-clause-parent c =
     let view = c.args.self.now.view in
     let a = c.args.actor in
     let t = c.args.next.position in
@@ -34,4 +34,4 @@ returns-clause-places c =
     let room = c.in_ok-reserve_for.ensures.places ∙ ap (λ (w : WorldValue). w.places) c.self.view_is in
     let all = ap (count_by is_some) reserved in
     let enough : live_jobs old.view ≤ old.places = omega (arith, c.in_ok-reserve_for.ensures.enough, all, room) in
-    used_again a a t (t + 1) _ old _ c.move_actor.new.jobs moved (c.move_actor.ensures.places ∙ room) enough c.make.ensures.jobs c.make.ensures.places
+    used_again a a t (t + 1) _ old _ c.move_actor.new.jobs moved (c.move_actor.ensures.places ∙ room) enough c.create.ensures.jobs c.create.ensures.places

@@ -1,5 +1,5 @@
-use Rattle.interleaving.specs.OfPlan.{IsOf}
+use Rattle.interleaving.specs.OfPlan.{IsReachableView}
 use Rattle.row_tests.proofs.worlds.follow.counted.Given as goal
 
 abbrev pub invariant-loop-line : goal.invariant-loop-line
-invariant-loop-line l = IsOf l.plan l.world.view
+invariant-loop-line l = IsReachableView l.plan l.world.view

@@ -1,0 +1,10 @@
+-- The clients so far, followed by those of the remaining events, are all clients that act.
+use Rattle.std.proofs.Common.{◌≡◌, ◌++◌, length}
+use Rattle.counterexample.specs.Description.{active_clients}
+use Rattle.counterexample.proofs.active_clients.active_clients.Given as goal
+
+abbrev pub invariant-loop-event : goal.invariant-loop-event
+invariant-loop-event l = l.clients.items ++ active_clients l.events ≡ active_clients l.fn.events
+
+abbrev pub decreases-loop-event : goal.decreases-loop-event
+decreases-loop-event l = length l.events

@@ -1,5 +1,0 @@
-use Rattle.counterexample.proofs.Shown.{pool_in_view}
-use Rattle.counterexample.proofs.starting_none.pool_starts_none.Goals as goal
-
-pub is_full-requires : goal.is_full-requires
-is_full-requires c = pool_in_view c.args.plan.now c.args.world.now.view c.args.pool c.requires (rw c.pools.ensures.value at c.if-pool-pools.true)

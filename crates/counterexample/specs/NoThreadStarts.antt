@@ -1,0 +1,41 @@
+-- The test that the pools with queued members start no further thread, on the live view of a state.
+use Rattle.std.specs.Prelude.{ℕ, ◌==◌, ◌&&◌, ◌||◌, not, nat_lt, Bool, true, false, List, length, Option, Some, None, is_some, slice_get}
+use Rattle.std.specs.List.{list_all}
+use Rattle.job_bodies.specs.Plan.{Plan, Class}
+use Rattle.interleaving.specs.declared.job_view.Phase.{Phase}
+use Rattle.interleaving.specs.declared.job_view.Phase.TheVariants as phase
+use Rattle.interleaving.specs.declared.job_view.JobView.{JobView}
+use Rattle.interleaving.specs.LiveView.{View}
+use Rattle.interleaving.specs.ViewStep.{live_job, pool_in}
+use Rattle.weights.specs.Row.{first_failing}
+use Rattle.weights.specs.Vector.{Vector, vector_fits}
+use Rattle.weights.specs.Standing.{standing_rows}
+
+-- the pool has all its threads
+abbrev pub is_full : View → ℕ → Bool
+is_full view p = (pool_in view p).threads == (pool_in view p).max
+
+-- this is a standing vector of the pool whose conditions all hold
+abbrev pub has_standing : Plan → ℕ → Option Vector → Bool
+has_standing plan p None = false
+has_standing plan p (Some v) = vector_fits plan v && not (is_some (first_failing (standing_rows plan p v)))
+
+abbrev pub pool_starts_no_thread : Plan → View → List Vector → ℕ → Bool
+pool_starts_no_thread plan view standing p = nat_lt p (length plan.pools) && (is_full view p || has_standing plan p (slice_get standing p))
+
+abbrev pub class_starts_no_thread : Plan → View → List Vector → Option Class → Bool
+class_starts_no_thread plan view standing None = false
+class_starts_no_thread plan view standing (Some class) = pool_starts_no_thread plan view standing class.pool
+
+abbrev pub phase_starts_no_thread : Plan → View → List Vector → ℕ → Phase → Bool
+phase_starts_no_thread plan view standing k phase.Queued = class_starts_no_thread plan view standing (slice_get plan.classes k)
+phase_starts_no_thread plan view standing k _ = true
+
+-- the job is not queued, or its pool starts no further thread
+abbrev pub job_starts_no_thread : Plan → View → List Vector → Option JobView → Bool
+job_starts_no_thread plan view standing None = true
+job_starts_no_thread plan view standing (Some job) = phase_starts_no_thread plan view standing job.class job.phase
+
+-- this holds for each of the jobs
+abbrev pub all_start_no_thread : Plan → View → List Vector → List ℕ → Bool
+all_start_no_thread plan view standing members = list_all (λ j. job_starts_no_thread plan view standing (live_job view.jobs j)) members

@@ -1,0 +1,114 @@
+//! The check that a list of events is a witness.
+
+ghost use Rattle.std.specs.Prelude.{◌≡◌, IfOk, IfSome, take};
+ghost use Rattle.written_machine.specs.State.{State};
+ghost use Rattle.written_machine.specs.Reach.{IsReached};
+ghost use Rattle.interleaving.specs.LiveView.{live_view};
+ghost use Rattle.interleaving.specs.OfPlan.{IsReachableView};
+ghost use Rattle.counterexample.specs.declared.ending.Ending.TheVariants.{Refused};
+ghost use Rattle.counterexample.specs.Witness.{IsWitness};
+ghost use Rattle.counterexample.specs.ReplayResult.{ComesTo};
+ghost use Rattle.counterexample.specs.Confirmed.{IsAnswer, IsReason};
+
+use crate::replaying::{ReplayResult, replay};
+use crate::rising::are_rising;
+use crate::no_thread_starts::all_start_no_thread;
+use crate::{Ending, Reason, Witness};
+use interleaving::{Event, World};
+use job_bodies::Plan;
+use std::alloc::{AllocError, Global};
+use weights::Vector;
+
+/// Checks whether a list of events is a witness, and returns the witness if it is. `members` are
+/// the jobs that wait only for each other after the events. `standing` has one vector for each
+/// pool, which may prove that the pool never has more than `core` threads.
+///
+/// The numbers in `members` must be in ascending order, without duplicates; otherwise they are not
+/// a witness.
+///
+/// The arguments are not trusted. A vector that is not a standing vector of its pool, or that fails
+/// one of the conditions, proves nothing, and `standing` may be empty. A witness ends at the first
+/// rejected submit, and later events are removed. Returns `None` if no submit is rejected and the
+/// members do not wait only for each other after the last event. An event that is not possible also
+/// gives `None`.
+///
+/// # Errors
+///
+/// Returns `AllocError` if there is not enough memory for the replay.
+pub fn confirmed(
+    alloc: Global,
+    plan: &Plan,
+    events: Vec<Event>,
+    members: Vec<usize>,
+    standing: &[Vector],
+) -> Result<Option<Witness>, AllocError>
+    ensures witness { IfOk result (λ found.
+        IfSome found (λ witness. IsWitness plan.now witness.events.items witness.ending)) }
+    ensures answer { IfOk result (IsAnswer plan.now events.items members.items standing.now) }
+{
+    let mut world = World::start(alloc, plan)?;
+    match replay(plan, &mut world, &events)? {
+        ReplayResult::Refused(length, pool) => Ok(Some(refused(events, length, pool))),
+        ReplayResult::NotPossible => Ok(None),
+        ReplayResult::Whole => Ok(stuck(plan, &world, events, members, standing)),
+    }
+}
+
+/// Returns the witness of the first `length` events, the last of which the pool rejects.
+fn refused(mut events: Vec<Event>, length: usize, pool: usize) -> Witness
+    ensures events { result.events.items ≡ take length events.items }
+    ensures ending { result.ending ≡ Refused pool }
+{
+    events.truncate(length);
+    Witness {
+        events,
+        ending: Ending::Refused(pool),
+    }
+}
+
+/// Returns the witness of the events that lead to this world, if the members wait only for each
+/// other in it.
+fn stuck(
+    plan: &Plan,
+    world: &World,
+    events: Vec<Event>,
+    members: Vec<usize>,
+    standing: &[Vector],
+) -> Option<Witness>
+    requires { ComesTo plan.now events.items world.now.view }
+    ensures witness { IfSome result
+        (λ witness. IsWitness plan.now witness.events.items witness.ending) }
+    ensures answer { IsAnswer plan.now events.items members.items standing.now result }
+{
+    if !are_rising(&members) {
+        return None;
+    }
+    if !world.stuck(plan, &members) {
+        return None;
+    }
+    let ending = match reason(plan, world, &members, standing) {
+        Some(reason) => Ending::StuckForever(members, reason),
+        None => Ending::StuckNow(members),
+    };
+    Some(Witness { events, ending })
+}
+
+/// Returns the reason why members that wait only for each other do so permanently, or `None` if no
+/// reason is proved.
+fn reason(plan: &Plan, world: &World, members: &[usize], standing: &[Vector]) -> Option<Reason>
+    requires { IsReachableView plan.now world.now.view }
+    ensures { (s : State)
+        → IsReached plan.now s
+        → live_view plan.now s ≡ world.now.view
+        → IsReason plan.now members.now standing.now s result }
+{
+    // The contract of this call states that a plan is well-formed.
+    let _pools = plan.pools();
+    if all_start_no_thread(plan, world, members, &[]) {
+        Some(Reason::PoolsAreFull)
+    } else if all_start_no_thread(plan, world, members, standing) {
+        Some(Reason::PoolsStayAtCore)
+    } else {
+        None
+    }
+}

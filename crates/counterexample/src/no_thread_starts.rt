@@ -1,0 +1,81 @@
+//! The check that the pools with queued jobs start no further thread.
+
+ghost use Rattle.std.specs.Prelude.{◌≡◌, ◌<◌, length, slice_get};
+ghost use Rattle.interleaving.specs.ViewStep.{live_job};
+ghost use Rattle.interleaving.specs.OfPlan.{IsReachableView};
+ghost use Rattle.counterexample.specs.NoThreadStarts as spec;
+
+use interleaving::{Phase, World};
+use job_bodies::Plan;
+use weights::Vector;
+
+/// Returns `true` if each queued member is in a pool that starts no thread while a job is queued.
+/// Such a pool has all its threads, or it never has more than `core` threads, as its vector in
+/// `standing` proves. Allocates no memory.
+pub(crate) fn all_start_no_thread(
+    plan: &Plan,
+    world: &World,
+    members: &[usize],
+    standing: &[Vector],
+) -> bool
+    requires { IsReachableView plan.now world.now.view }
+    ensures { result ≡ spec.all_start_no_thread plan.now world.now.view standing.now members.now }
+{
+    members
+        .iter()
+        .all(|&member| job_starts_no_thread(plan, world, member, standing))
+}
+
+fn job_starts_no_thread(plan: &Plan, world: &World, member: usize, standing: &[Vector]) -> bool
+    requires { IsReachableView plan.now world.now.view }
+    ensures { result
+        ≡ spec.job_starts_no_thread plan.now world.now.view standing.now
+        (live_job world.now.view.jobs member) }
+{
+    let Some(job) = world.job(member) else {
+        return true;
+    };
+    match job.phase {
+        Phase::Queued => class_starts_no_thread(plan, world, job.class, standing),
+        _ => true,
+    }
+}
+
+fn class_starts_no_thread(plan: &Plan, world: &World, class: usize, standing: &[Vector]) -> bool
+    requires { IsReachableView plan.now world.now.view }
+    ensures { result
+        ≡ spec.class_starts_no_thread plan.now world.now.view standing.now
+        (slice_get plan.now.classes class) }
+{
+    match plan.classes().get(class) {
+        Some(class) => pool_starts_no_thread(plan, world, class.pool, standing),
+        None => false,
+    }
+}
+
+fn pool_starts_no_thread(plan: &Plan, world: &World, pool: usize, standing: &[Vector]) -> bool
+    requires { IsReachableView plan.now world.now.view }
+    ensures { result ≡ spec.pool_starts_no_thread plan.now world.now.view standing.now pool }
+{
+    pool < plan.pools().len() && (is_full(world, pool) || has_standing(plan, pool, standing))
+}
+
+/// Returns `true` if the pool has all its threads.
+fn is_full(world: &World, pool: usize) -> bool
+    requires { pool < length world.now.view.pools }
+    ensures { result ≡ spec.is_full world.now.view pool }
+{
+    let state = world.pool(pool);
+    state.threads() == state.max()
+}
+
+/// Returns `true` if the pool's vector is a standing vector whose conditions all hold.
+fn has_standing(plan: &Plan, pool: usize, standing: &[Vector]) -> bool
+    requires { pool < length plan.now.pools }
+    ensures { result ≡ spec.has_standing plan.now pool (slice_get standing.now pool) }
+{
+    match standing.get(pool) {
+        Some(vector) => vector.fits(plan) && vector.standing_fault(plan, pool).is_none(),
+        None => false,
+    }
+}

@@ -1,0 +1,145 @@
+//! The description of one event: the actor, and its action.
+
+ghost use Rattle.interleaving.specs.OfPlan.{IsReachableView};
+
+use interleaving::{Event, Outcome, Phase, World};
+use job_bodies::{Action, Client, Plan};
+use std::alloc::{AllocError, Global};
+
+/// Performs the event, and returns its description in two parts, such as `client web` and
+/// `submits page (queued)`. Returns `None` if the event is not possible.
+pub(crate) fn describe_step(
+    alloc: Global,
+    world: &mut World,
+    plan: &Plan,
+    event: Event,
+) -> Result<Option<(String, String)>, AllocError>
+    requires { IsReachableView plan.now world.old.view }
+    ensures { IsReachableView plan.now world.new.view }
+{
+    let who = actor(alloc, world, plan, event)?;
+    let next = next_action(world, plan, event);
+    let took = match event {
+        Event::Take(_) => true,
+        _ => false,
+    };
+    let Some(outcome) = world.step(plan, event)? else {
+        return Ok(None);
+    };
+    let act = if took {
+        taken(alloc, world, plan, outcome)?
+    } else {
+        act(alloc, plan, next, outcome)?
+    };
+    Ok(Some((who, act)))
+}
+
+/// Returns the actor, such as `client web`, `job page` or `pool db`. A job is named by its class.
+fn actor(alloc: Global, world: &World, plan: &Plan, event: Event) -> Result<String, AllocError> {
+    let mut text = String::new(alloc);
+    match event {
+        Event::Client(client) => {
+            text.push_str("client ")?;
+            text.push_str(kind_of(plan, client).map_or("", |kind| kind.name.as_str()))?;
+        }
+        Event::Job(job) => {
+            text.push_str("job ")?;
+            text.push_str(plan.class_name(class_of(world, job)))?;
+        }
+        Event::Take(pool) | Event::Retire(pool) => {
+            text.push_str("pool ")?;
+            text.push_str(plan.pool_name(pool))?;
+        }
+    }
+    Ok(text)
+}
+
+/// Returns the kind of the client with this number. Clients are numbered kind by kind in plan
+/// order, and a kind has as many clients as its count.
+pub(crate) fn kind_of(plan: &Plan, client: usize) -> Option<&Client> {
+    let mut before = 0u64;
+    for kind in plan.clients() {
+        before = before.saturating_add(kind.count);
+        if (client as u64) < before {
+            return Some(kind);
+        }
+    }
+    None
+}
+
+/// Returns the class of a live job, or a number without a class if the job is not live.
+pub(crate) fn class_of(world: &World, job: usize) -> usize {
+    world.job(job).map_or(usize::MAX, |job| job.class)
+}
+
+/// Returns the next action of the actor.
+fn next_action(world: &World, plan: &Plan, event: Event) -> Option<Action> {
+    match event {
+        Event::Client(client) => {
+            let position = world.client(client)?;
+            kind_of(plan, client)?.body.get(position).copied()
+        }
+        Event::Job(job) => {
+            let job = world.job(job)?;
+            match job.phase {
+                Phase::At(position) => plan.class_at(job.class)?.body.get(position).copied(),
+                _ => None,
+            }
+        }
+        Event::Take(_) | Event::Retire(_) => None,
+    }
+}
+
+/// Returns the description of a step whose next action was `action`.
+fn act(
+    alloc: Global,
+    plan: &Plan,
+    action: Option<Action>,
+    outcome: Outcome,
+) -> Result<String, AllocError> {
+    let mut text = String::new(alloc);
+    match action {
+        Some(Action::Work(_)) => text.push_str("works")?,
+        Some(Action::Submit(class)) => {
+            text.push_str("submits ")?;
+            text.push_str(plan.class_name(class))?;
+            push_answer(&mut text, plan, outcome)?;
+        }
+        Some(Action::Get(_)) => text.push_str("gets its result")?,
+        None => text.push_str(match outcome {
+            Outcome::Looped => "begins again",
+            Outcome::Finished(_) => "is done",
+            _ => "a thread ends",
+        })?,
+    }
+    Ok(text)
+}
+
+/// Appends the answer of the pool to a submit.
+fn push_answer(text: &mut String, plan: &Plan, outcome: Outcome) -> Result<(), AllocError> {
+    match outcome {
+        Outcome::Started(_) => text.push_str(" (a new thread starts it)"),
+        Outcome::Queued(_) => text.push_str(" (queued)"),
+        Outcome::Refused(pool) => {
+            text.push_str(" (refused by ")?;
+            text.push_str(plan.pool_name(pool))?;
+            text.push_str(")")
+        }
+        _ => Ok(()),
+    }
+}
+
+/// Returns the description of a take by a thread of a pool.
+fn taken(
+    alloc: Global,
+    world: &World,
+    plan: &Plan,
+    outcome: Outcome,
+) -> Result<String, AllocError> {
+    let mut text = String::new(alloc);
+    text.push_str("a thread takes ")?;
+    if let Outcome::Took(job) = outcome {
+        text.push_str(plan.class_name(class_of(world, job)))?;
+    }
+    Ok(text)
+}

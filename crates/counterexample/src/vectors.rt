@@ -1,0 +1,118 @@
+//! The vectors of a plan that miss their bounds.
+
+use job_bodies::Plan;
+use least_vectors::{Growing, Kind, Levels, reach};
+use std::alloc::{AllocError, Global};
+use weights::Vector;
+
+/// The weights of a vector.
+#[derive(Drop)]
+pub(crate) struct Potential {
+    pub(crate) workers: Vec<u64>,
+    pub(crate) classes: Vec<Vec<u64>>,
+    pub(crate) clients: Vec<Vec<u64>>,
+}
+
+/// Returns the lightest vectors of the plan that are heavier than its sizes allow.
+pub(crate) fn missed_vectors(alloc: Global, plan: &Plan) -> Result<Vec<Potential>, AllocError> {
+    let mut vectors = MissedVectors {
+        alloc,
+        potentials: Vec::new(alloc),
+    };
+    let Some(levels) = Levels::of(alloc, plan)? else {
+        return Ok(vectors.potentials);
+    };
+    let maxes: Vec<u64> = plan.pools().iter().map(|pool| pool.max).collect(alloc)?;
+    let growing = Growing {
+        plan,
+        levels: &levels,
+        maxes: &maxes,
+    };
+    for (number, pool) in plan.pools().iter().enumerate() {
+        vectors.holds(&growing, number, Kind::Standing, pool.queue)?;
+    }
+    let mut ranks = vec![in alloc; None; plan.pools().len()]?;
+    for rank in 0..plan.pools().len() as u64 {
+        if !vectors.rank_pools(&growing, &mut ranks, rank)? {
+            break;
+        }
+    }
+    Ok(vectors.potentials)
+}
+
+/// The vectors found so far.
+#[derive(Drop)]
+struct MissedVectors {
+    alloc: Global,
+    potentials: Vec<Potential>,
+}
+
+impl MissedVectors {
+    /// Returns `true` if the pool's vector of this kind weighs at most `limit`. Otherwise records
+    /// the vector.
+    fn holds(
+        &mut self,
+        growing: &Growing,
+        pool: usize,
+        kind: Kind,
+        limit: u64,
+    ) -> Result<bool, AllocError> {
+        let Some(weighed) = growing.lightest(self.alloc, pool, kind, limit)? else {
+            return Ok(false);
+        };
+        if weighed.total <= limit {
+            return Ok(true);
+        }
+        if let Some(vector) = growing.vector(self.alloc, pool, kind, &weighed.workers)? {
+            let Vector {
+                workers,
+                classes,
+                clients,
+            } = vector;
+            self.potentials.push(Potential {
+                workers,
+                classes,
+                clients,
+            })?;
+        }
+        Ok(false)
+    }
+
+    /// Assigns this rank to each pool whose blocked vector holds, and returns whether a pool got
+    /// it. If no pool got it, keeps the vectors of the other pools.
+    fn rank_pools(
+        &mut self,
+        growing: &Growing,
+        ranks: &mut Vec<Option<u64>>,
+        rank: u64,
+    ) -> Result<bool, AllocError> {
+        let known: Vec<u64> = ranks
+            .iter()
+            .map(|known| known.unwrap_or(rank))
+            .collect(self.alloc)?;
+        let reach = reach(self.alloc, growing.plan, growing.levels, &known)?;
+        let kept = self.potentials.len();
+        let mut moved = false;
+        for (number, pool) in growing.plan.pools().iter().enumerate() {
+            let Some(place) = ranks.get_mut(number) else {
+                continue;
+            };
+            if place.is_some() {
+                continue;
+            }
+            let kind = Kind::Blocked {
+                reach: &reach,
+                rank,
+                lending: true,
+            };
+            if self.holds(growing, number, kind, pool.core.saturating_sub(1))? {
+                *place = Some(rank);
+                moved = true;
+            }
+        }
+        if moved {
+            self.potentials.truncate(kept);
+        }
+        Ok(moved)
+    }
+}

@@ -1,0 +1,55 @@
+use Rattle.std.proofs.Common.{◌≡◌, ◌+◌, ◌==◌, is_some, if◌then◌else◌, ap₂, Some, [], ◌∷◌, ◌++◌, length, map, count_by, sym, ap, subst, ◌∙◌, arith}
+use Rattle.std.proofs.lemmas.List.Sums.{count_by-le-length}
+use Rattle.interleaving.specs.ViewStep.{is_unfinished_job, drop_if_stale}
+use Rattle.std.specs.Option.{option_map}
+use Rattle.std.proofs.lemmas.List.{map-append}
+use Rattle.interleaving.specs.declared.job_table.JobEntry.{JobEntry}
+use Rattle.interleaving.specs.LatestJobs.{found, is_call}
+use Rattle.interleaving.specs.LiveJobs.{JobList, WasMade, NoOtherIsStale, AreIndexed, jobs_in}
+use Rattle.interleaving.proofs.SubmitBoundsStay.{stays_then}
+use Rattle.interleaving.proofs.IndexOnceChanged.{indexed_made}
+use Rattle.interleaving.proofs.JobsInPlaces.{count-jobs, length-jobs}
+use Rattle.interleaving.proofs.live_jobs.LiveJobs.create.Goals as goal
+
+pub free_stale-requires : goal.free_stale-requires
+free_stale-requires c = subst (λ (x : JobList). NoOtherIsStale x.jobs c.args.latest c.args.job.parent c.args.job.slot) (sym c.self.view_is) c.requires.stale
+
+pub overflow_add-self : goal.overflow_add-self
+overflow_add-self c =
+    let items = c.self.inside.kept.items in
+    let few = count_by-le-length is_unfinished_job (jobs_in items) in
+    let counted = c.self.invariant.counted in
+    let long = length-jobs items in
+    let same : length c.raise_submit_bound.new.kept.items ≡ length items = c.raise_submit_bound.ensures.reaches.long ∙ c.free_stale.ensures.reaches.long in
+    omega (arith, few, counted, long, same, c.push.ensures.fits)
+
+pub invariant_of-self : goal.invariant_of-self
+invariant_of-self c =
+    let l = c.self.inside in
+    let items = l.kept.items in
+    let job = c.args.job in
+    let middle = c.free_stale.new.kept.items in
+    let after = c.raise_submit_bound.new.kept.items in
+    let place : JobEntry = record { job = job; submit_bound = 0 } in
+    let parent_made = subst (λ (x : JobList). WasMade x.jobs job.parent) (sym c.self.view_is) c.requires.parent in
+    let number : c.made-number.result ≡ length after = c.made-number.ensures ∙ sym c.raise_submit_bound.ensures.reaches.long in
+    subst (λ is. AreIndexed is c.set.new.self (l.unfinished + 1)) (sym c.push.ensures.items)
+    (indexed_made items after l.latest c.set.new.self l.unfinished place c.self.invariant (stays_then items middle after c.free_stale.ensures.reaches c.raise_submit_bound.ensures.reaches)
+    (c.raise_submit_bound.ensures.jobs ∙ c.free_stale.ensures.jobs) c.raise_submit_bound.ensures.reached parent_made c.requires.begins
+    (λ a t. c.set.ensures a t ∙ ap (λ n. if is_call job.parent job.slot a t then Some n else found l.latest a t) number))
+
+pub returns-clause-jobs : goal.returns-clause-jobs
+returns-clause-jobs c =
+    let job = c.args.job in
+    let after = c.raise_submit_bound.new.kept.items in
+    ap jobs_in c.push.ensures.items ∙ map-append (option_map (λ (p : JobEntry). p.job)) after (Some (record { job = job; submit_bound = 0 }) ∷ [])
+    ∙ ap (λ js. js ++ Some job ∷ []) (c.raise_submit_bound.ensures.jobs ∙ c.free_stale.ensures.jobs ∙ ap (λ (x : JobList). map (drop_if_stale job.parent job.slot) x.jobs) c.self.view_is)
+
+pub returns-clause-places : goal.returns-clause-places
+returns-clause-places c =
+    let job = c.args.job in
+    let after = c.raise_submit_bound.new.kept.items in
+    let jobs : jobs_in after ≡ map (drop_if_stale job.parent job.slot) c.args.self.now.jobs = c.raise_submit_bound.ensures.jobs ∙ c.free_stale.ensures.jobs ∙ ap (λ (x : JobList). map (drop_if_stale job.parent job.slot) x.jobs) c.self.view_is in
+    let count : count_by is_some after ≡ count_by is_some (map (drop_if_stale job.parent job.slot) c.args.self.now.jobs) = sym (count-jobs after) ∙ ap (count_by is_some) jobs in
+    let places : c.raise_submit_bound.new.kept.places ≡ c.args.self.now.places = c.raise_submit_bound.ensures.places ∙ c.free_stale.ensures.places ∙ ap (λ (x : JobList). x.places) c.self.view_is in
+    c.push.ensures.places ∙ ap₂ (λ n p. if n == p then p + 1 else p) count places

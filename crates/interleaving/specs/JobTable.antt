@@ -1,0 +1,21 @@
+-- The abstract view of the places of a world's live jobs, and the invariant of their number.
+use Rattle.std.specs.Prelude.{◌≡◌, ℕ, ◌+◌, ◌≤◌, List, Option, count_by, is_some, ◌==◌, if◌then◌else◌}
+use Rattle.interleaving.specs.declared.job_table.JobEntry.{JobEntry}
+use Rattle.interleaving.specs.JobRing.{Row, longest}
+
+-- for each job number the stored data, or None if the job is not live; the number of places, free ones included; and the
+-- number of further jobs for which there is room
+pub record JobTableView : Type 0 where
+  pub items : List (Option JobEntry)
+  pub places : ℕ
+  pub room : ℕ
+
+-- the number of places after a new job: one more if every place holds a live job
+abbrev pub places_after : JobTableView → ℕ
+places_after list = if count_by is_some list.items == list.places then list.places + 1 else list.places
+
+-- the counts are right, each live job has a place, and the ring is not longer than its limit for this number of places
+pub record AreCounted (row : Row) (live count : ℕ) : Type 0 where
+  pub each : live ≡ count_by is_some row.items
+  pub within : live ≤ count
+  pub short : row.span ≤ longest count

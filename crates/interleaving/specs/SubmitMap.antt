@@ -1,0 +1,35 @@
+-- The abstract view of the map from submit calls to job numbers.
+use Rattle.std.specs.Prelude.{ℕ, ◌==◌, ◌&&◌, ◌%◌, Bool, true, List, Option, Some, None, slice_index_or, if◌then◌else◌}
+use Rattle.std.specs.Map.{lookup}
+use Rattle.interleaving.specs.declared.submit_map.TheConstants.{TABLE_LEN}
+
+-- a table with one entry for each index, the calls whose entry another call occupied, and the number of calls for which
+-- there is room in the second list
+pub record SubmitMapView : Type 0 where
+  pub table : List (Option ((ℕ × ℕ) × ℕ))
+  pub others : List ((ℕ × ℕ) × ℕ)
+  pub room : ℕ
+
+abbrev pub same_pair : ℕ × ℕ → ℕ × ℕ → Bool
+same_pair x y = x.0 == y.0 && x.1 == y.1
+
+abbrev pub place_of : ℕ × ℕ → ℕ
+place_of call = call.0 % TABLE_LEN
+
+-- the entry at index p of the table
+abbrev pub entry_at : List (Option ((ℕ × ℕ) × ℕ)) → ℕ → Option ((ℕ × ℕ) × ℕ)
+entry_at table p = slice_index_or table p None
+
+-- the entry is free or belongs to the call
+abbrev pub is_for : ℕ × ℕ → Option ((ℕ × ℕ) × ℕ) → Bool
+is_for call None = true
+is_for call (Some entry) = same_pair entry.0 call
+
+-- the number in the entry if it belongs to the call, otherwise the other value
+abbrev pub number_or : ℕ × ℕ → Option ((ℕ × ℕ) × ℕ) → Option ℕ → Option ℕ
+number_or call None other = other
+number_or call (Some entry) other = if same_pair entry.0 call then Some entry.1 else other
+
+-- the number of the job that the call created
+abbrev pub number_at : SubmitMapView → ℕ × ℕ → Option ℕ
+number_at list call = number_or call (entry_at list.table (place_of call)) (lookup (same_pair call) list.others)

@@ -1,0 +1,90 @@
+//! The latest jobs that actors created.
+
+ghost use Rattle.std.specs.Prelude.{◌≡◌, ◌≤◌, ◌<◌, None, Some, OnOk, if◌then◌else◌, ℕ};
+ghost use Rattle.written_machine.specs.declared.parent.Parent.{Parent};
+ghost use Rattle.interleaving.specs.LatestJobs.{found, is_call, latest_room};
+
+use crate::submit_map::SubmitMap;
+use std::alloc::{AllocError, Global};
+use std::marker::Model;
+use written_machine::Parent;
+
+/// A map from actors and the positions of submits in their bodies to the number of the latest job
+/// that the actor created there.
+#[derive(Drop)]
+pub(crate) struct LatestJobs {
+    of_clients: SubmitMap,
+    of_jobs: SubmitMap,
+}
+
+impl Model for LatestJobs {
+    ghost use Rattle.interleaving.specs.LatestJobs.{LatestJobsView};
+
+    ghost Value = { LatestJobsView };
+
+    ghost view = { λ l. record { of_clients = l.of_clients; of_jobs = l.of_jobs } };
+}
+
+impl LatestJobs {
+    /// Creates an empty map.
+    pub(crate) fn new(alloc: Global) -> LatestJobs
+        ensures { (a : Parent) (t : ℕ) → found result a t ≡ None }
+    {
+        LatestJobs {
+            of_clients: SubmitMap::new(alloc),
+            of_jobs: SubmitMap::new(alloc),
+        }
+    }
+
+    /// Returns the number of the latest job that the actor created by the submit at this position.
+    #[inline(always)]
+    pub(crate) fn get(&self, actor: Parent, submit: usize) -> Option<usize>
+        ensures { result ≡ found self.now actor submit }
+    {
+        match actor {
+            Parent::Client(client) => self.of_clients.get((client, submit)),
+            Parent::Job(job) => self.of_jobs.get((job, submit)),
+        }
+    }
+
+    /// Reserves room for one job of the actor.
+    #[inline(always)]
+    pub(crate) fn reserve_for(&mut self, actor: Parent) -> Result<(), AllocError>
+        ensures found { (a : Parent) (t : ℕ) → found self.new a t ≡ found self.old a t }
+        ensures room { OnOk result (0 < latest_room self.new actor) }
+    {
+        match actor {
+            Parent::Client(_) => self.of_clients.reserve(),
+            Parent::Job(_) => self.of_jobs.reserve(),
+        }
+    }
+
+    /// Records the job with this number as the latest one that the actor created by the submit at
+    /// this position. Room must have been reserved.
+    #[inline(always)]
+    pub(crate) fn set(&mut self, actor: Parent, submit: usize, number: usize)
+        requires { 0 < latest_room self.old actor }
+        ensures { (a : Parent) (t : ℕ)
+            → found self.new a t
+            ≡ (if is_call actor submit a t then Some number else found self.old a t) }
+    {
+        match actor {
+            Parent::Client(client) => self.of_clients.set((client, submit), number),
+            Parent::Job(job) => self.of_jobs.set((job, submit), number),
+        }
+    }
+
+    /// Removes the latest job that the actor created by the submit at this position, since the
+    /// actor cannot request it any more.
+    #[inline(always)]
+    pub(crate) fn remove(&mut self, actor: Parent, submit: usize)
+        ensures found { (a : Parent) (t : ℕ)
+            → found self.new a t ≡ (if is_call actor submit a t then None else found self.old a t) }
+        ensures room { (a : Parent) → latest_room self.old a ≤ latest_room self.new a }
+    {
+        match actor {
+            Parent::Client(client) => self.of_clients.remove((client, submit)),
+            Parent::Job(job) => self.of_jobs.remove((job, submit)),
+        }
+    }
+}

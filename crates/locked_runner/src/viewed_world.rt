@@ -1,0 +1,74 @@
+//! A world, represented by its live view.
+
+ghost use Rattle.std.specs.Prelude.{◌≡◌, IfOk, OnErr};
+ghost use Rattle.job_bodies.specs.WellFormed.{IsWellFormed};
+ghost use Rattle.written_machine.specs.State.{State};
+ghost use Rattle.written_machine.specs.Reach.{start, IsReached};
+ghost use Rattle.interleaving.specs.LiveView.{live_view};
+ghost use Rattle.interleaving.specs.ViewAnswers.{AnswersAs};
+
+use interleaving::{Event, Outcome, World};
+use job_bodies::Plan;
+use std::alloc::{AllocError, Global};
+use std::marker::Model;
+
+/// A world whose contracts mention only its live view. The number of its places is left out, since
+/// no state of the reference machine determines it.
+#[derive(Drop)]
+pub struct ViewedWorld {
+    world: World,
+}
+
+impl Model for ViewedWorld {
+    ghost use Rattle.interleaving.specs.LiveView.{View};
+
+    ghost Value = { View };
+
+    ghost view = { λ seen. seen.world.view };
+}
+
+impl ViewedWorld {
+    ghost use Rattle.interleaving.specs.OfPlan.{IsReachableView};
+    ghost use Rattle.interleaving.specs.Answers.{AnswersIn};
+
+    /// Creates the plan's world before its first event.
+    ///
+    /// # Errors
+    ///
+    /// Returns `AllocError` if there is not enough memory.
+    pub fn start(alloc: Global, plan: &Plan) -> Result<ViewedWorld, AllocError>
+        ensures { IfOk result (λ world. world ≡ live_view plan.now (start plan.now)) }
+    {
+        Ok(ViewedWorld {
+            world: World::start(alloc, plan)?,
+        })
+    }
+
+    /// Returns the world itself.
+    pub fn world(&self) -> &World
+        ensures { result.now.view ≡ self.now }
+    {
+        &self.world
+    }
+
+    /// Performs the event, like [`World::step`].
+    ///
+    /// # Errors
+    ///
+    /// Returns `AllocError` if [`World::step`] does. The world is then unchanged.
+    pub fn step(&mut self, plan: &Plan, event: Event) -> Result<Option<Outcome>, AllocError>
+        requires { IsReachableView plan.now self.old }
+        ensures answered { IfOk result (λ answer.
+            (s : State)
+            → IsReached plan.now s
+            → live_view plan.now s ≡ self.old
+            → AnswersAs plan.now s event answer self.new) }
+        ensures in_view { IfOk result
+            (λ answer. AnswersIn plan.now self.old event answer self.new) }
+        ensures of_plan { IsReachableView plan.now self.new }
+        ensures well_formed { IsWellFormed plan.now }
+        ensures error_unchanged { OnErr result (self.new ≡ self.old) }
+    {
+        self.world.step(plan, event)
+    }
+}
