@@ -10,9 +10,9 @@ use Rattle.recordings.proofs.Appended.{submits_more, begins_more}
 use Rattle.recordings.specs.PathsOfLines.{KeepsRules}
 use Rattle.recordings.proofs.Tests.{filter_map_more}
 use Rattle.recordings.proofs.ByLast.{by_kept}
-use Rattle.recordings.proofs.Fresh.{next_number}
+use Rattle.recordings.proofs.LaterNumbers.{next_number}
 use Rattle.conformance.specs.Label.{label_in, label_of, kind_in, kind_of}
-use Rattle.conformance.proofs.Onward.{onward}
+use Rattle.conformance.proofs.LaterLines.{onward}
 use Rattle.conformance.proofs.Words.{if_false}
 
 first_stays : {X : Type 0} (xs ys : List X) (x : X) → slice_get xs 0 ≡ Some x → slice_get (xs ++ ys) 0 ≡ Some x

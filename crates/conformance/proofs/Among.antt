@@ -96,11 +96,11 @@ map_none f [] h = refl
 map_none f (x ∷ xs) h = absurd (grind (arith, h))
 
 -- ---- one more element
-any_behind : {X : Type 0} (test : X → Bool) (xs : List X) (x : X) → list_any test xs ≡ false → test x ≡ false → list_any test (xs ++ x ∷ []) ≡ false
-any_behind test [] x none fails = ap (λ (b : Bool). b || false) fails
-any_behind test (y ∷ xs) x none fails =
+any_after : {X : Type 0} (test : X → Bool) (xs : List X) (x : X) → list_any test xs ≡ false → test x ≡ false → list_any test (xs ++ x ∷ []) ≡ false
+any_after test [] x none fails = ap (λ (b : Bool). b || false) fails
+any_after test (y ∷ xs) x none fails =
     let both = none_of_both (test y) (list_any test xs) none in
-    ap (λ (b : Bool). b || list_any test (xs ++ x ∷ [])) both.0 ∙ any_behind test xs x both.1 fails
+    ap (λ (b : Bool). b || list_any test (xs ++ x ∷ [])) both.0 ∙ any_after test xs x both.1 fails
 
 pub any_more : {X : Type 0} (test : X → Bool) (xs rest : List X) (n : ℕ) (x : X) → drop n xs ≡ x ∷ rest → list_any test (take n xs) ≡ false → test x ≡ false → list_any test (take (n + 1) xs) ≡ false
-any_more test xs rest n x next none fails = ap (list_any test) (front_next xs rest n x next) ∙ any_behind test (take n xs) x none fails
+any_more test xs rest n x next none fails = ap (list_any test) (front_next xs rest n x next) ∙ any_after test (take n xs) x none fails

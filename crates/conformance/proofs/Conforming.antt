@@ -14,33 +14,33 @@ use Rattle.recordings.specs.declared.recording_line.RecordedActor.TheVariants.{J
 use Rattle.recordings.specs.RecordingLine.{RecordedLine}
 use Rattle.recordings.specs.Before.{is_begun}
 use Rattle.recordings.specs.LineParts.{is_same_actor}
-use Rattle.recordings.specs.LineDeeds.{is_submitted}
-use Rattle.conformance.specs.declared.pool_watch.PoolDeviation.{PoolDeviation}
-use Rattle.conformance.specs.declared.round_watch.RoundExcess.{RoundExcess}
+use Rattle.recordings.specs.LineSteps.{is_submitted}
+use Rattle.conformance.specs.declared.pool_comparison.PoolDeviation.{PoolDeviation}
+use Rattle.conformance.specs.declared.round_comparison.RoundExcess.{RoundExcess}
 use Rattle.conformance.specs.PoolDeviations.{deviation_seen, deviations_by_lines, deviations_at_end}
 use Rattle.conformance.specs.RoundExcesses.{excesses_by_lines}
-use Rattle.conformance.specs.WatchLaws.{PoolsAreAsPlanned, PoolsAreRecorded, RoundsAreWithinPlan}
+use Rattle.conformance.specs.ComparisonLaws.{PoolsAreAsPlanned, PoolsAreRecorded, RoundsAreWithinPlan}
 use Rattle.recordings.specs.declared.foreign_get.ForeignGet.{ForeignGet}
-use Rattle.recordings.specs.declared.voiding.Void.{Void}
-use Rattle.recordings.specs.Voids.{voids_of}
-use Rattle.conformance.specs.declared.settled.Settled.{Settled}
-use Rattle.conformance.specs.Settled.{IsTold, AreAllTold, CanBe, is_told}
+use Rattle.recordings.specs.declared.invalidation.Invalidation.{Invalidation}
+use Rattle.recordings.specs.Invalidations.{invalidations_of}
+use Rattle.conformance.specs.declared.classified_actor.ClassifiedActor.{ClassifiedActor}
+use Rattle.conformance.specs.ClassifiedActor.{IsCorrectResult, AreAllResultsOf, CanBe, is_reported}
 use Rattle.conformance.specs.declared.finding.Finding.{Finding}
 use Rattle.conformance.specs.declared.finding.Finding.TheVariants as finding
 use Rattle.conformance.specs.declared.survey.Survey.{Survey}
 use Rattle.conformance.specs.declared.unplanned.NotPlanned.{NotPlanned}
-use Rattle.conformance.specs.Conforms.{Conforms, DoAsPlanned, IsNotVoid, IsOfAClass, IsOfAKind, HasItsKind}
+use Rattle.conformance.specs.Conforms.{Conforms, DoAsPlanned, HasNoInvalidation, IsOfAClass, IsOfAKind, HasItsKind}
 use Rattle.conformance.specs.Findings.{is_of_actors}
-use Rattle.conformance.specs.FirstKinds.{AreFirstKinds, has_kind, round_told}
-use Rattle.conformance.specs.Gathered.{AreGathered, AreStrays, AreForeign, not_decided, is_lasting}
-use Rattle.conformance.specs.Gathered as made
+use Rattle.conformance.specs.FirstKinds.{AreFirstKinds, has_kind, round_and_kind}
+use Rattle.conformance.specs.CollectedFindings.{AreCollected, AreMismatchesOf, AreForeign, not_decided, is_path_independent}
+use Rattle.conformance.specs.CollectedFindings as made
 use Rattle.conformance.specs.JobSet.{has_job}
 use Rattle.conformance.specs.Survey.{IsSurveyOf}
 use Rattle.conformance.specs.Verdicts.{is_empty}
 use Rattle.conformance.proofs.Among.{here, passing, both_none, map_none}
-use Rattle.conformance.proofs.NotVoid.{not_void}
+use Rattle.conformance.proofs.NoInvalidation.{not_invalidation}
 use Rattle.conformance.proofs.Times.{none_of_both}
-use Rattle.conformance.proofs.Yes.{IsGood, all_good}
+use Rattle.conformance.proofs.ConformingActors.{IsWellFormed, all_good}
 
 -- ---- one actor
 same_job : (actor : RecordedActor) (job : ℕ) → is_same_actor actor (Job job) ≡ true → actor ≡ Job job
@@ -60,48 +60,48 @@ some_kind plan lines round [] can_be some = absurd (grind (arith, some))
 some_kind plan lines round (n ∷ more) can_be some = record { kinds = n ∷ more; exact = can_be; some = omega arith }
 
 -- The round counts as the first kind that it can belong to.
-counted_so : (plan : Plan) (lines : List RecordedLine) (told : List Settled) (kinds : List (Option ℕ)) (one : Settled) (round : ℕ) (members : List ℕ) → AreFirstKinds plan lines told kinds → Contains told one
+counted_so : (plan : Plan) (lines : List RecordedLine) (reported : List ClassifiedActor) (kinds : List (Option ℕ)) (one : ClassifiedActor) (round : ℕ) (members : List ℕ) → AreFirstKinds plan lines reported kinds → Contains reported one
     → one.actor ≡ Round round → one.family.members.items ≡ members → CanBe plan lines (Round round) members → is_empty members ≡ false → HasItsKind plan lines kinds round
-counted_so plan lines told kinds one round [] are among actor_is members_are can_be some = absurd (grind (arith, some))
-counted_so plan lines told kinds one round (kind ∷ more) are among actor_is members_are can_be some =
-    let told_is : round_told one ≡ Some (round, kind) = ap (λ (m : List ℕ). has_kind m one.actor) members_are ∙ ap (λ (a : RecordedActor). has_kind (kind ∷ more) a) actor_is in
+counted_so plan lines reported kinds one round [] are among actor_is members_are can_be some = absurd (grind (arith, some))
+counted_so plan lines reported kinds one round (kind ∷ more) are among actor_is members_are can_be some =
+    let reported_is : round_and_kind one ≡ Some (round, kind) = ap (λ (m : List ℕ). has_kind m one.actor) members_are ∙ ap (λ (a : RecordedActor). has_kind (kind ∷ more) a) actor_is in
     record {
       kind = kind;
       can_be = kind ∷ more;
       exact = can_be;
       among = here kind more;
-      is = ap (λ (o : Option (Option ℕ)). option_and_then (λ (k : Option ℕ). k) o) (are.told_of one round kind among told_is);
+      is = ap (λ (o : Option (Option ℕ)). option_and_then (λ (k : Option ℕ). k) o) (are.reports_of one round kind among reported_is);
     }
 
 -- ---- all actors
-pub record AreGood (plan : Plan) (budget : ℕ) (lines : List RecordedLine) (told : List Settled) : Type 0 where
-  pub all : AreAllTold plan budget lines told
-  pub good : (one : Settled) → Contains told one → IsGood one
+pub record AreWellFormed (plan : Plan) (budget : ℕ) (lines : List RecordedLine) (reported : List ClassifiedActor) : Type 0 where
+  pub all : AreAllResultsOf plan budget lines reported
+  pub good : (one : ClassifiedActor) → Contains reported one → IsWellFormed one
 
-job_so : (plan : Plan) (budget : ℕ) (lines : List RecordedLine) (told : List Settled) (job : ℕ) → AreGood plan budget lines told → is_submitted lines job ≡ true → IsOfAClass plan lines job
-job_so plan budget lines told job are come =
-    let one = passing (is_told (Job job)) told (are.all.each (Job job) ∙ come) in
+job_so : (plan : Plan) (budget : ℕ) (lines : List RecordedLine) (reported : List ClassifiedActor) (job : ℕ) → AreWellFormed plan budget lines reported → is_submitted lines job ≡ true → IsOfAClass plan lines job
+job_so plan budget lines reported job are come =
+    let one = passing (is_reported (Job job)) reported (are.all.each (Job job) ∙ come) in
     let good = are.good one.one one.among in
-    let so = All-contains (IsTold plan budget lines) told one.one are.all.told one.among in
+    let so = All-contains (IsCorrectResult plan budget lines) reported one.one are.all.reported one.among in
     let is = same_job one.one.actor job one.passes in
     some_class plan lines job one.one.family.members.items (subst (λ (a : RecordedActor). CanBe plan lines a one.one.family.members.items) is (so.members good.decided)) good.some
 
-round_so : (plan : Plan) (budget : ℕ) (lines : List RecordedLine) (told : List Settled) (round : ℕ) → AreGood plan budget lines told → is_begun lines round ≡ true → IsOfAKind plan lines round
-round_so plan budget lines told round are come =
-    let one = passing (is_told (Round round)) told (are.all.each (Round round) ∙ come) in
+round_so : (plan : Plan) (budget : ℕ) (lines : List RecordedLine) (reported : List ClassifiedActor) (round : ℕ) → AreWellFormed plan budget lines reported → is_begun lines round ≡ true → IsOfAKind plan lines round
+round_so plan budget lines reported round are come =
+    let one = passing (is_reported (Round round)) reported (are.all.each (Round round) ∙ come) in
     let good = are.good one.one one.among in
-    let so = All-contains (IsTold plan budget lines) told one.one are.all.told one.among in
+    let so = All-contains (IsCorrectResult plan budget lines) reported one.one are.all.reported one.among in
     let is = same_round one.one.actor round one.passes in
     some_kind plan lines round one.one.family.members.items (subst (λ (a : RecordedActor). CanBe plan lines a one.one.family.members.items) is (so.members good.decided)) good.some
 
-kind_so : (plan : Plan) (budget : ℕ) (lines : List RecordedLine) (told : List Settled) (kinds : List (Option ℕ)) (round : ℕ) → AreGood plan budget lines told → AreFirstKinds plan lines told kinds
+kind_so : (plan : Plan) (budget : ℕ) (lines : List RecordedLine) (reported : List ClassifiedActor) (kinds : List (Option ℕ)) (round : ℕ) → AreWellFormed plan budget lines reported → AreFirstKinds plan lines reported kinds
     → is_begun lines round ≡ true → HasItsKind plan lines kinds round
-kind_so plan budget lines told kinds round are first come =
-    let one = passing (is_told (Round round)) told (are.all.each (Round round) ∙ come) in
+kind_so plan budget lines reported kinds round are first come =
+    let one = passing (is_reported (Round round)) reported (are.all.each (Round round) ∙ come) in
     let good = are.good one.one one.among in
-    let so = All-contains (IsTold plan budget lines) told one.one are.all.told one.among in
+    let so = All-contains (IsCorrectResult plan budget lines) reported one.one are.all.reported one.among in
     let is = same_round one.one.actor round one.passes in
-    counted_so plan lines told kinds one.one round one.one.family.members.items first one.among is refl (subst (λ (a : RecordedActor). CanBe plan lines a one.one.family.members.items) is (so.members good.decided)) good.some
+    counted_so plan lines reported kinds one.one round one.one.family.members.items first one.among is refl (subst (λ (a : RecordedActor). CanBe plan lines a one.one.family.members.items) is (so.members good.decided)) good.some
 
 -- ---- the notes
 no_foreign : (lines : List RecordedLine) (get : Option ForeignGet) (found : List Finding) → AreForeign lines get found → found ≡ [] → get ≡ None
@@ -119,39 +119,39 @@ none_mapped : {X : Type 0} (f : X → Finding) (xs : List X) → ((x : X) → is
 none_mapped f [] each h = refl
 none_mapped f (x ∷ xs) each h = absurd (contra (sym (each x) ∙ (none_of_both (is_of_actors (f x)) (list_any is_of_actors (map f xs)) h).0))
 
-record NoActors (labels : List NotPlanned) (astray : List Finding) (undecided : List Settled) (excesses : List RoundExcess) : Type 0 where
+record NoActors (labels : List NotPlanned) (mismatched : List Finding) (undecided : List ClassifiedActor) (excesses : List RoundExcess) : Type 0 where
   labels_none : labels ≡ []
-  astray_none : list_any is_of_actors astray ≡ false
+  astray_none : list_any is_of_actors mismatched ≡ false
   undecided_none : undecided ≡ []
   excesses_none : excesses ≡ []
 
-none_in_parts : (deviations : List PoolDeviation) (labels : List NotPlanned) (astray : List Finding) (undecided : List Settled) (excesses : List RoundExcess) (gets : List Finding) (voids : List Void)
-    → list_any is_of_actors (made.one_behind_another deviations labels astray undecided excesses gets voids) ≡ false → NoActors labels astray undecided excesses
-none_in_parts deviations labels astray undecided excesses gets voids none =
+none_in_parts : (deviations : List PoolDeviation) (labels : List NotPlanned) (mismatched : List Finding) (undecided : List ClassifiedActor) (excesses : List RoundExcess) (gets : List Finding) (invalidations : List Invalidation)
+    → list_any is_of_actors (made.all_findings deviations labels mismatched undecided excesses gets invalidations) ≡ false → NoActors labels mismatched undecided excesses
+none_in_parts deviations labels mismatched undecided excesses gets invalidations none =
     let pools = map finding.Pool deviations in
     let named = map finding.NotPlanned labels in
     let not_yet = map not_decided undecided in
     let many = map finding.TooMany excesses in
-    let p6 = none_in_both (pools ++ named ++ astray ++ not_yet ++ many ++ gets) (map finding.Void voids) none in
-    let p5 = none_in_both (pools ++ named ++ astray ++ not_yet ++ many) gets p6.0 in
-    let p4 = none_in_both (pools ++ named ++ astray ++ not_yet) many p5.0 in
-    let p3 = none_in_both (pools ++ named ++ astray) not_yet p4.0 in
-    let p2 = none_in_both (pools ++ named) astray p3.0 in
+    let p6 = none_in_both (pools ++ named ++ mismatched ++ not_yet ++ many ++ gets) (map finding.Invalidation invalidations) none in
+    let p5 = none_in_both (pools ++ named ++ mismatched ++ not_yet ++ many) gets p6.0 in
+    let p4 = none_in_both (pools ++ named ++ mismatched ++ not_yet) many p5.0 in
+    let p3 = none_in_both (pools ++ named ++ mismatched) not_yet p4.0 in
+    let p2 = none_in_both (pools ++ named) mismatched p3.0 in
     let p1 = none_in_both pools named p2.0 in
     record {
       labels_none = none_mapped finding.NotPlanned labels (λ label. refl) p1.1;
       astray_none = p2.1;
-      undecided_none = none_mapped not_decided undecided (λ told. refl) p3.1;
+      undecided_none = none_mapped not_decided undecided (λ reported. refl) p3.1;
       excesses_none = none_mapped finding.TooMany excesses (λ excess. refl) p4.1;
     }
 
-of_actors : (lines : List RecordedLine) (is_classless : ℕ → Bool) (told : Settled) (found : Finding) → made.IsStrayTold lines is_classless told found → is_of_actors found ≡ true
-of_actors lines is_classless told _ (made.strays number stray so) = refl
+of_actors : (lines : List RecordedLine) (is_classless : ℕ → Bool) (reported : ClassifiedActor) (found : Finding) → made.IsMismatchFinding lines is_classless reported found → is_of_actors found ≡ true
+of_actors lines is_classless reported _ (made.mismatches number mismatch so) = refl
 
-none_told : (lines : List RecordedLine) (is_classless : ℕ → Bool) (told : List Settled) (found : List Finding) → AreStrays lines is_classless told found → list_any is_of_actors found ≡ false → told ≡ []
-none_told lines is_classless [] found are none = refl
-none_told lines is_classless (one ∷ told) [] are none = absurd are
-none_told lines is_classless (one ∷ told) (first ∷ found) are none =
+none_reported : (lines : List RecordedLine) (is_classless : ℕ → Bool) (reported : List ClassifiedActor) (found : List Finding) → AreMismatchesOf lines is_classless reported found → list_any is_of_actors found ≡ false → reported ≡ []
+none_reported lines is_classless [] found are none = refl
+none_reported lines is_classless (one ∷ reported) [] are none = absurd are
+none_reported lines is_classless (one ∷ reported) (first ∷ found) are none =
     absurd (contra (sym (of_actors lines is_classless one first are.0) ∙ (none_of_both (is_of_actors first) (list_any is_of_actors found) none).0))
 
 -- ---- permutations
@@ -165,46 +165,46 @@ none_before xs ys moved none = empty_if xs (sym (length_permutation xs ys moved)
 -- ---- all findings
 -- If no finding concerns an actor, the actors behave as planned.
 pub actors_do : (plan : Plan) (budget : ℕ) (lines : List RecordedLine) (survey : Survey) (kinds : List (Option ℕ)) (excesses : List RoundExcess) (found : List Finding)
-    → RoundsAreWithinPlan → (so : IsSurveyOf plan budget lines survey) → AreFirstKinds plan lines so.judged.told kinds → excesses ≡ excesses_by_lines plan kinds lines → AreGathered lines survey excesses found
+    → RoundsAreWithinPlan → (so : IsSurveyOf plan budget lines survey) → AreFirstKinds plan lines so.actor_survey.reported kinds → excesses ≡ excesses_by_lines plan kinds lines → AreCollected lines survey excesses found
     → list_any is_of_actors found ≡ false → DoAsPlanned plan lines
-actors_do plan budget lines survey kinds excesses found are_within so first counted gathered none =
-    let parts = none_in_parts survey.watched.deviations.items survey.watched.unplanned.found.items gathered.strays survey.judged.verdicts.undecided.actors.items excesses gathered.foreign (filter is_lasting (voids_of lines))
-    (ap (list_any is_of_actors) (sym gathered.all) ∙ none) in
-    let no_strays = none_told lines (has_job survey.judged.verdicts.classless) survey.judged.verdicts.strays.actors.items gathered.strays gathered.strays_so parts.astray_none in
-    let judged = so.judged in
-    let are : AreGood plan budget lines judged.told = record {
-      all = judged.all;
-      good = λ one among. all_good plan budget lines judged.told survey.judged.verdicts survey.watched.unplanned one judged.all.told judged.verdicts so.watched.unplanned no_strays parts.undecided_none parts.labels_none among;
+actors_do plan budget lines survey kinds excesses found are_within so first excess_tracker collect_findings none =
+    let parts = none_in_parts survey.line_survey.deviations.items survey.line_survey.unplanned.found.items collect_findings.mismatches survey.actor_survey.verdicts.undecided.actors.items excesses collect_findings.foreign (filter is_path_independent (invalidations_of lines))
+    (ap (list_any is_of_actors) (sym collect_findings.all) ∙ none) in
+    let no_mismatches = none_reported lines (has_job survey.actor_survey.verdicts.classless) survey.actor_survey.verdicts.mismatches.actors.items collect_findings.mismatches collect_findings.mismatches_so parts.astray_none in
+    let actor_survey = so.actor_survey in
+    let are : AreWellFormed plan budget lines actor_survey.reported = record {
+      all = actor_survey.all;
+      good = λ one among. all_good plan budget lines actor_survey.reported survey.actor_survey.verdicts survey.line_survey.unplanned one actor_survey.all.reported actor_survey.verdicts so.line_survey.unplanned no_mismatches parts.undecided_none parts.labels_none among;
     } in
     record {
-      jobs = λ job. job_so plan budget lines judged.told job are;
-      rounds = λ round. round_so plan budget lines judged.told round are;
+      jobs = λ job. job_so plan budget lines actor_survey.reported job are;
+      rounds = λ round. round_so plan budget lines actor_survey.reported round are;
       clients = record {
         kinds = kinds;
-        each = λ round. kind_so plan budget lines judged.told kinds round are first;
-        within = λ before behind is. are_within plan kinds before behind (ap (excesses_by_lines plan kinds) (sym is) ∙ (sym counted ∙ parts.excesses_none));
+        each = λ round. kind_so plan budget lines actor_survey.reported kinds round are first;
+        within = λ before after is. are_within plan kinds before after (ap (excesses_by_lines plan kinds) (sym is) ∙ (sym excess_tracker ∙ parts.excesses_none));
       };
     }
 
 pub conforms : (plan : Plan) (budget : ℕ) (lines : List RecordedLine) (survey : Survey) (kinds : List (Option ℕ)) (excesses : List RoundExcess) (found : List Finding)
     → PoolsAreAsPlanned → PoolsAreRecorded → RoundsAreWithinPlan
-    → (so : IsSurveyOf plan budget lines survey) → AreFirstKinds plan lines so.judged.told kinds → excesses ≡ excesses_by_lines plan kinds lines → AreGathered lines survey excesses found → found ≡ []
-    → Conforms plan lines × IsNotVoid lines
-conforms plan budget lines survey kinds excesses found as_planned are_recorded are_within so first counted gathered none =
-    let p6 = both_none _ _ (sym gathered.all ∙ none) in
+    → (so : IsSurveyOf plan budget lines survey) → AreFirstKinds plan lines so.actor_survey.reported kinds → excesses ≡ excesses_by_lines plan kinds lines → AreCollected lines survey excesses found → found ≡ []
+    → Conforms plan lines × HasNoInvalidation lines
+conforms plan budget lines survey kinds excesses found as_planned are_recorded are_within so first excess_tracker collect_findings none =
+    let p6 = both_none _ _ (sym collect_findings.all ∙ none) in
     let p5 = both_none _ _ p6.0 in
     let p4 = both_none _ _ p5.0 in
     let p3 = both_none _ _ p4.0 in
     let p2 = both_none _ _ p3.0 in
     let p1 = both_none _ _ p2.0 in
     let no_deviations = map_none finding.Pool _ p1.0 in
-    let no_voids : filter is_lasting (voids_of lines) ≡ [] = map_none finding.Void _ p6.1 in
-    let pools = both_none (deviations_by_lines plan lines) (deviations_at_end plan lines) (sym so.watched.deviations ∙ ap (map deviation_seen) no_deviations) in (
+    let no_invalidations : filter is_path_independent (invalidations_of lines) ≡ [] = map_none finding.Invalidation _ p6.1 in
+    let pools = both_none (deviations_by_lines plan lines) (deviations_at_end plan lines) (sym so.line_survey.deviations ∙ ap (map deviation_seen) no_deviations) in (
       record {
         pools = as_planned plan lines pools.0;
         recorded = λ closed. are_recorded plan lines closed pools.1;
-        actors = actors_do plan budget lines survey kinds excesses found are_within so first counted gathered (ap (list_any is_of_actors) none);
-        gets = no_foreign lines _ _ gathered.foreign_so p5.1;
+        actors = actors_do plan budget lines survey kinds excesses found are_within so first excess_tracker collect_findings (ap (list_any is_of_actors) none);
+        gets = no_foreign lines _ _ collect_findings.foreign_so p5.1;
       },
-      not_void lines no_voids,
+      not_invalidation lines no_invalidations,
     )

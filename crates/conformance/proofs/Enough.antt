@@ -9,7 +9,7 @@ use Rattle.std.proofs.lemmas.List.Elements.{All-map, All-filter}
 use Rattle.std.proofs.lemmas.List.FromFn.{length-range_with_len, get_or-range_with_len}
 use Rattle.job_bodies.specs.Plan.{Plan}
 use Rattle.conformance.specs.Family.{class_family, client_family, is_class_in_family, is_client_in_family}
-use Rattle.conformance.specs.PathFamily.{IsEnoughFor, class_body, client_body, class_bodies, client_bodies}
+use Rattle.conformance.specs.FamilyMatch.{IsEnoughFor, class_body, client_body, class_bodies, client_bodies}
 use Rattle.conformance.specs.PlanBudget.{IsEnoughForPlan}
 
 all_of_range : (P : ℕ → Type 0) (n : ℕ) → ((k : ℕ) → k < n → P k) → All P (range_with_len 0 n)

@@ -7,16 +7,16 @@ use Rattle.job_bodies.specs.Plan.{submits}
 use Rattle.std.proofs.Math.Nat.{pow-suc, one-le-pow}
 use Rattle.job_bodies.specs.declared.action.Action.{Action}
 use Rattle.job_bodies.specs.declared.action.Action.TheVariants.{Work, Submit, Get}
-use Rattle.conformance.specs.declared.deed.Deed.{Deed}
-use Rattle.conformance.specs.declared.answer.PathFit.{PathFit}
-use Rattle.conformance.specs.declared.answer.PathFit.TheVariants.{Fits, Deviates, Undecided}
-use Rattle.conformance.specs.declared.way.Way.{Way}
-use Rattle.conformance.specs.declared.way.Way.TheVariants as way
-use Rattle.conformance.specs.Deed.{gets}
-use Rattle.conformance.specs.Answer.{or_explained, IsDecided}
+use Rattle.conformance.specs.declared.step.PathStep.{PathStep}
+use Rattle.conformance.specs.declared.path_match.PathMatch.{PathMatch}
+use Rattle.conformance.specs.declared.path_match.PathMatch.TheVariants.{Fits, Deviates, Undecided}
+use Rattle.conformance.specs.declared.continuation.Continuation.{Continuation}
+use Rattle.conformance.specs.declared.continuation.Continuation.TheVariants as continuation
+use Rattle.conformance.specs.PathStep.{gets}
+use Rattle.conformance.specs.PathMatch.{with_explained, IsDecided}
 use Rattle.conformance.specs.StepBudget.{submit_count, most_steps, IsDecidedWithin}
-use Rattle.conformance.specs.Way.{place_of, way_of_got, way_on}
-use Rattle.conformance.proofs.StepAnswers.{Places}
+use Rattle.conformance.specs.Continuation.{place_of, continuation_of_get, next_continuation}
+use Rattle.conformance.proofs.StepAnswers.{SubmitIndices}
 
 most_steps-some : (actions : List Action) → 1 ≤ most_steps actions
 most_steps-some [] = omega arith
@@ -30,66 +30,66 @@ most_steps-more (Submit class) actions = omega arith
 most_steps-more (Get submit) actions = omega arith
 
 -- ---- only a submit has two ways to continue
-abbrev IsSubmitted : Way → Type 0
-IsSubmitted way.Stops = ⊥
-IsSubmitted way.Passes = ⊥
-IsSubmitted way.Gets = ⊥
-IsSubmitted way.SubmitsOrPasses = Unit {0}
+abbrev IsSubmitted : Continuation → Type 0
+IsSubmitted continuation.Stops = ⊥
+IsSubmitted continuation.Passes = ⊥
+IsSubmitted continuation.Gets = ⊥
+IsSubmitted continuation.SubmitsOrPasses = Unit {0}
 
-get_not_submitted : (o : Option ℕ) (next : Option Deed) → IsSubmitted (way_of_got o next) → ⊥
+get_not_submitted : (o : Option ℕ) (next : Option PathStep) → IsSubmitted (continuation_of_get o next) → ⊥
 get_not_submitted None next h = h
 get_not_submitted (Some p) None h = h
 get_not_submitted (Some p) (Some d) h = by_test (gets d p) h where
-  by_test : (b : Bool) → IsSubmitted (cond b way.Gets way.Stops) → ⊥
+  by_test : (b : Bool) → IsSubmitted (cond b continuation.Gets continuation.Stops) → ⊥
   by_test true h = h
   by_test false h = h
 
-most_steps-either_at : (places : Places) (a : Action) (next : Option Deed) (actions : List Action) → IsSubmitted (way_on places a next) → 1 + 2 * most_steps actions ≤ most_steps (a ∷ actions)
+most_steps-either_at : (places : SubmitIndices) (a : Action) (next : Option PathStep) (actions : List Action) → IsSubmitted (next_continuation places a next) → 1 + 2 * most_steps actions ≤ most_steps (a ∷ actions)
 most_steps-either_at places (Work units) next actions h = absurd h
 most_steps-either_at places (Submit class) next actions h = omega arith
 most_steps-either_at places (Get submit) next actions h = absurd (get_not_submitted (place_of places submit) next h)
 
-most_steps-either : (places : Places) (a : Action) (next : Option Deed) (actions : List Action) → way.SubmitsOrPasses ≡ way_on places a next → 1 + 2 * most_steps actions ≤ most_steps (a ∷ actions)
+most_steps-either : (places : SubmitIndices) (a : Action) (next : Option PathStep) (actions : List Action) → continuation.SubmitsOrPasses ≡ next_continuation places a next → 1 + 2 * most_steps actions ≤ most_steps (a ∷ actions)
 most_steps-either places a next actions is = most_steps-either_at places a next actions (subst IsSubmitted is tt)
 
 most_steps-first : (body : List Action) (position : ℕ) → position < length body → most_steps (drop position body) ≡ most_steps (get_or body position (Work 0) ∷ drop (position + 1) body)
 most_steps-first body position l = ap most_steps (drop_more body position (Work 0) l)
 
 -- ---- results
-pub decided_not_begun : (actions : List Action) (before after : ℕ) (r : PathFit) → before ≡ 0 → IsDecidedWithin actions before after r
-decided_not_begun actions before after r none = λ enough. absurd (omega (arith, most_steps-some actions))
+pub decided_not_begun : (actions : List Action) (before later : ℕ) (r : PathMatch) → before ≡ 0 → IsDecidedWithin actions before later r
+decided_not_begun actions before later r none = λ enough. absurd (omega (arith, most_steps-some actions))
 
-pub decided_at_once : (actions : List Action) (before : ℕ) (r : PathFit) → before ≢ 0 → IsDecided r → IsDecidedWithin actions before (before - 1) r
+pub decided_at_once : (actions : List Action) (before : ℕ) (r : PathMatch) → before ≢ 0 → IsDecided r → IsDecidedWithin actions before (before - 1) r
 decided_at_once actions before r some decided = λ enough. (decided, omega (arith, most_steps-some actions))
 
-pub decided_behind : (body : List Action) (position before after : ℕ) (r : PathFit) → position < length body → before ≢ 0 → IsDecidedWithin (drop (position + 1) body) (before - 1) after r → IsDecidedWithin (drop position body) before after r
-decided_behind body position before after r l some within = λ enough.
+pub decided_after : (body : List Action) (position before later : ℕ) (r : PathMatch) → position < length body → before ≢ 0 → IsDecidedWithin (drop (position + 1) body) (before - 1) later r → IsDecidedWithin (drop position body) before later r
+decided_after body position before later r l some within = λ enough.
     let first = most_steps-first body position l in
     let more = most_steps-more (get_or body position (Work 0)) (drop (position + 1) body) in
     let rest = within (omega (arith, first, more)) in (rest.0, omega (arith, first, more, rest.1))
 
-or_explained-decided : (r : PathFit) (other : ℕ) → IsDecided r → IsDecided (or_explained r other)
-or_explained-decided Fits other h = h
-or_explained-decided (Deviates explained) other h = h
-or_explained-decided Undecided other h = h
+with_explained-decided : (r : PathMatch) (other : ℕ) → IsDecided r → IsDecided (with_explained r other)
+with_explained-decided Fits other h = h
+with_explained-decided (Deviates explained) other h = h
+with_explained-decided Undecided other h = h
 
-pub decided_either : (body : List Action) (path : List Deed) (places : Places) (position place before between after submitted : ℕ) (r : PathFit) → position < length body → before ≢ 0 → way.SubmitsOrPasses ≡ way_on (take position places) (get_or body position (Work 0)) (slice_get path place)
-    → IsDecidedWithin (drop (position + 1) body) (before - 1) between (Deviates submitted) → IsDecidedWithin (drop (position + 1) body) between after r → IsDecidedWithin (drop position body) before after (or_explained r submitted)
-decided_either body path places position place before between after submitted r l some is within again = λ enough.
+pub decided_either : (body : List Action) (path : List PathStep) (places : SubmitIndices) (position place before between later submitted : ℕ) (r : PathMatch) → position < length body → before ≢ 0 → continuation.SubmitsOrPasses ≡ next_continuation (take position places) (get_or body position (Work 0)) (slice_get path place)
+    → IsDecidedWithin (drop (position + 1) body) (before - 1) between (Deviates submitted) → IsDecidedWithin (drop (position + 1) body) between later r → IsDecidedWithin (drop position body) before later (with_explained r submitted)
+decided_either body path places position place before between later submitted r l some is within again = λ enough.
     let first = most_steps-first body position l in
     let more = most_steps-either (take position places) (get_or body position (Work 0)) (slice_get path place) (drop (position + 1) body) is in
     let made = within (omega (arith, first, more)) in
-    let passed = again (omega (arith, first, more, made.1)) in (or_explained-decided r submitted passed.0, omega (arith, first, more, made.1, passed.1))
+    let passed = again (omega (arith, first, more, made.1)) in (with_explained-decided r submitted passed.0, omega (arith, first, more, made.1, passed.1))
 
 -- ---- a budget
-most_steps-more_submits : (n steps submits : ℕ) → steps ≤ (n + 1) * 2 ^ submits → 1 + 2 * steps ≤ (suc n + 1) * 2 ^ (1 + submits)
-most_steps-more_submits n steps submits h =
+most_steps-more_submits : (n steps_left submits : ℕ) → steps_left ≤ (n + 1) * 2 ^ submits → 1 + 2 * steps_left ≤ (suc n + 1) * 2 ^ (1 + submits)
+most_steps-more_submits n steps_left submits h =
     let more : 1 + submits ≡ suc submits = omega arith in
     let twice : 2 ^ (1 + submits) ≡ 2 ^ submits * 2 = ap (λ (k : ℕ). 2 ^ k) more ∙ pow-suc 2 submits in
     let some : 1 ≤ 2 ^ submits = one-le-pow submits 2 (omega arith) in rw twice (omega (arith, h, some))
 
-most_steps-more_actions : (n steps submits : ℕ) → steps ≤ (n + 1) * 2 ^ submits → 1 + steps ≤ (suc n + 1) * 2 ^ submits
-most_steps-more_actions n steps submits h = let some : 1 ≤ 2 ^ submits = one-le-pow submits 2 (omega arith) in omega (arith, h, some)
+most_steps-more_actions : (n steps_left submits : ℕ) → steps_left ≤ (n + 1) * 2 ^ submits → 1 + steps_left ≤ (suc n + 1) * 2 ^ submits
+most_steps-more_actions n steps_left submits h = let some : 1 ≤ 2 ^ submits = one-le-pow submits 2 (omega arith) in omega (arith, h, some)
 
 most_steps-bound : (body : List Action) → most_steps body ≤ (length body + 1) * 2 ^ submit_count body
 most_steps-bound [] = omega arith
@@ -98,5 +98,5 @@ most_steps-bound (Get submit ∷ body) = most_steps-more_actions (length body) (
 most_steps-bound (Submit class ∷ body) = subst (λ (k : ℕ). 1 + 2 * most_steps body ≤ (suc (length body) + 1) * 2 ^ k) (sym (sum_by-cons (λ (action : Action). cond (submits (Some action)) 1 0) (Submit class) body))
     (most_steps-more_submits (length body) (most_steps body) (submit_count body) (most_steps-bound body))
 
-pub decided_by_budget : (body : List Action) (budget after : ℕ) (r : PathFit) → IsDecidedWithin body budget after r → (length body + 1) * 2 ^ submit_count body ≤ budget → IsDecided r
-decided_by_budget body budget after r within enough = (within (omega (arith, most_steps-bound body, enough))).0
+pub decided_by_budget : (body : List Action) (budget later : ℕ) (r : PathMatch) → IsDecidedWithin body budget later r → (length body + 1) * 2 ^ submit_count body ≤ budget → IsDecided r
+decided_by_budget body budget later r within enough = (within (omega (arith, most_steps-bound body, enough))).0

@@ -6,12 +6,12 @@ use Rattle.std.proofs.lemmas.List.{take_all}
 use Rattle.std.proofs.lemmas.List.Elements.{All-push, Contains-append_left}
 use Rattle.std.proofs.lemmas.List.Quantifiers.{Any-push}
 use Rattle.job_bodies.specs.declared.action.Action.{Action}
-use Rattle.conformance.specs.declared.deed.Deed.{Deed}
-use Rattle.conformance.specs.declared.deed.Course.{Course}
-use Rattle.conformance.specs.declared.deed.Course.TheVariants.{Whole, Begun}
+use Rattle.conformance.specs.declared.step.PathStep.{PathStep}
+use Rattle.conformance.specs.declared.step.PathState.{PathState}
+use Rattle.conformance.specs.declared.step.PathState.TheVariants.{Whole, Prefix}
 use Rattle.conformance.specs.Path.{IsPathOf, IsOfBody}
-use Rattle.conformance.specs.Answer.{IsExplained}
-use Rattle.conformance.specs.PathFamily.{IsMostExplained}
+use Rattle.conformance.specs.PathMatch.{IsExplained}
+use Rattle.conformance.specs.FamilyMatch.{IsMostExplained}
 
 -- ---- the list of all bodies
 -- If an element of a prefix satisfies `P`, some element of the list does.
@@ -24,34 +24,34 @@ length-push : {X : Type 0} → (xs : List X) (y : X) → length (xs ++ y ∷ [])
 length-push xs y = length-append xs (y ∷ [])
 
 -- A whole path of a body is also a prefix of one.
-begun_whole : (course : Course) (body : List Action) (path : List Deed) → IsPathOf course body path → IsPathOf Begun body path
+begun_whole : (path_state : PathState) (body : List Action) (path : List PathStep) → IsPathOf path_state body path → IsPathOf Prefix body path
 begun_whole Whole body path of = ([], subst (IsOfBody body) (sym (append-nil path)) of)
-begun_whole Begun body path of = of
+begun_whole Prefix body path of = of
 
 -- ---- body by body
 -- A body that the path matches explains all of it.
-pub explained_fits : (course : Course) (bodies : List (List Action)) (path : List Deed) (body : List Action) → IsPathOf course body path → IsMostExplained (bodies ++ body ∷ []) path (length path)
-explained_fits course bodies path body of =
+pub explained_fits : (path_state : PathState) (bodies : List (List Action)) (path : List PathStep) (body : List Action) → IsPathOf path_state body path → IsMostExplained (bodies ++ body ∷ []) path (length path)
+explained_fits path_state bodies path body of =
     let all : path ≡ take (length path) path = sym (take_all (length path) path (omega arith)) in
-    let begun : IsPathOf Begun body (take (length path) path) = subst (IsPathOf Begun body) all (begun_whole course body path of) in
+    let begun : IsPathOf Prefix body (take (length path) path) = subst (IsPathOf Prefix body) all (begun_whole path_state body path of) in
     record {
       within = omega arith;
-      front = λ _. Any-push (λ one. IsPathOf Begun one (take (length path) path)) bodies body begun;
+      front = λ _. Any-push (λ one. IsPathOf Prefix one (take (length path) path)) bodies body begun;
       longest = λ more longer within. absurd (omega arith);
       none = λ empty. absurd (omega (arith, length-push bodies body));
     }
 
 -- The new body explains at least as much.
-explained_more : (bodies : List (List Action)) (path : List Deed) (body : List Action) (before now : ℕ) → IsMostExplained bodies path before → IsExplained body path now → before ≤ now → IsMostExplained (bodies ++ body ∷ []) path now
+explained_more : (bodies : List (List Action)) (path : List PathStep) (body : List Action) (before now : ℕ) → IsMostExplained bodies path before → IsExplained body path now → before ≤ now → IsMostExplained (bodies ++ body ∷ []) path now
 explained_more bodies path body before now old new more_now = record {
   within = new.within;
-  front = λ _. Any-push (λ one. IsPathOf Begun one (take now path)) bodies body new.front;
-  longest = λ more longer within. All-push (λ one. ¬ IsPathOf Begun one (take more path)) bodies body (old.longest more (omega arith) within) (new.longest more longer within);
+  front = λ _. Any-push (λ one. IsPathOf Prefix one (take now path)) bodies body new.front;
+  longest = λ more longer within. All-push (λ one. ¬ IsPathOf Prefix one (take more path)) bodies body (old.longest more (omega arith) within) (new.longest more longer within);
   none = λ empty. absurd (omega (arith, length-push bodies body));
 }
 
 -- The new body explains less.
-explained_less : (bodies : List (List Action)) (path : List Deed) (body : List Action) (before now : ℕ) → IsMostExplained bodies path before → IsExplained body path now → now < before → IsMostExplained (bodies ++ body ∷ []) path before
+explained_less : (bodies : List (List Action)) (path : List PathStep) (body : List Action) (before now : ℕ) → IsMostExplained bodies path before → IsExplained body path now → now < before → IsMostExplained (bodies ++ body ∷ []) path before
 explained_less bodies path body before now old new less_now =
     let some : 0 < length bodies = elim (cases_lt 0 (length bodies)) [
       | inl filled ↦ filled
@@ -59,13 +59,13 @@ explained_less bodies path body before now old new less_now =
     ] in
     record {
       within = old.within;
-      front = λ _. Any-append_left (λ one. IsPathOf Begun one (take before path)) bodies (body ∷ []) (old.front some);
-      longest = λ more longer within. All-push (λ one. ¬ IsPathOf Begun one (take more path)) bodies body (old.longest more longer within) (new.longest more (omega arith) within);
+      front = λ _. Any-append_left (λ one. IsPathOf Prefix one (take before path)) bodies (body ∷ []) (old.front some);
+      longest = λ more longer within. All-push (λ one. ¬ IsPathOf Prefix one (take more path)) bodies body (old.longest more longer within) (new.longest more (omega arith) within);
       none = λ empty. absurd (omega (arith, length-push bodies body));
     }
 
 -- The result is the larger of the two lengths.
-pub explained_deviates : (bodies : List (List Action)) (path : List Deed) (body : List Action) (before now : ℕ) → IsMostExplained bodies path before → IsExplained body path now → IsMostExplained (bodies ++ body ∷ []) path (max before now)
+pub explained_deviates : (bodies : List (List Action)) (path : List PathStep) (body : List Action) (before now : ℕ) → IsMostExplained bodies path before → IsExplained body path now → IsMostExplained (bodies ++ body ∷ []) path (max before now)
 explained_deviates bodies path body before now old new = elim (cases_lt now before) [
   | inl less ↦ let same : before ≡ max before now = omega arith in subst (IsMostExplained (bodies ++ body ∷ []) path) same (explained_less bodies path body before now old new less)
   | inr more ↦ let same : now ≡ max before now = omega arith in subst (IsMostExplained (bodies ++ body ∷ []) path) same (explained_more bodies path body before now old new more)
@@ -73,15 +73,15 @@ explained_deviates bodies path body before now old new = elim (cases_lt now befo
 
 -- ---- in terms of one body
 -- If there are bodies, one of them explains the prefix.
-pub one_explains : (bodies : List (List Action)) (path : List Deed) (explained : ℕ) → IsMostExplained bodies path explained → 0 < length bodies → Any (λ body. IsExplained body path explained) bodies
+pub one_explains : (bodies : List (List Action)) (path : List PathStep) (explained : ℕ) → IsMostExplained bodies path explained → 0 < length bodies → Any (λ body. IsExplained body path explained) bodies
 one_explains bodies path explained most some =
     let one = most.front some in
-    let P : List Action → Type 0 = λ body. (more : ℕ) → explained < more → more ≤ length path → ¬ IsPathOf Begun body (take more path) in
-    let longest : P one.1 = λ more longer within. subst (λ (body : List Action). ¬ IsPathOf Begun body (take more path)) one.3 (most.longest more longer within one.0 one.1 one.2) in
+    let P : List Action → Type 0 = λ body. (more : ℕ) → explained < more → more ≤ length path → ¬ IsPathOf Prefix body (take more path) in
+    let longest : P one.1 = λ more longer within. subst (λ (body : List Action). ¬ IsPathOf Prefix body (take more path)) one.3 (most.longest more longer within one.0 one.1 one.2) in
     (one.0, one.1, one.2, one.3, record { within = most.within; front = one.4; longest = longest })
 
 -- No body explains a longer prefix.
-pub none_explains_more : (bodies : List (List Action)) (path : List Deed) (explained : ℕ) → IsMostExplained bodies path explained → All (λ body. (other : ℕ) → IsExplained body path other → other ≤ explained) bodies
+pub none_explains_more : (bodies : List (List Action)) (path : List PathStep) (explained : ℕ) → IsMostExplained bodies path explained → All (λ body. (other : ℕ) → IsExplained body path other → other ≤ explained) bodies
 none_explains_more bodies path explained most k d inside other by = elim (cases_lt explained other) [
   | inl longer ↦ absurd (most.longest other longer by.within k d inside by.front)
   | inr less ↦ less

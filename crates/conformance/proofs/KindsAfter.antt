@@ -14,7 +14,7 @@ use Rattle.recordings.specs.PathsOfLines.{KeepsRules}
 use Rattle.recordings.proofs.ByLast.{by_last, keeps_before}
 use Rattle.job_bodies.specs.Plan.{Plan}
 use Rattle.conformance.specs.Family.{client_family}
-use Rattle.conformance.specs.declared.settled.Settled.{Settled}
+use Rattle.conformance.specs.declared.classified_actor.ClassifiedActor.{ClassifiedActor}
 use Rattle.conformance.specs.Label.{kind_of, kind_in}
 use Rattle.conformance.specs.FirstKinds.{AreFirstKinds}
 use Rattle.conformance.proofs.ListPlaces.{there_before, there_last}
@@ -76,15 +76,15 @@ same_round true one round k label same is = (eqb-true one round same, (let x : k
 same_round false one round k label same is = absurd (grind (arith, is))
 
 -- ---- after a begin
-pub behind_begin : (plan : Plan) (before : List RecordedLine) (told : List Settled) (kinds : List (Option ℕ)) (round : ℕ) (label : List ℕ) → KeepsRules (before ++ RoundBegins round label ∷ []) → AreFirstKinds plan before told kinds
-    → AreFirstKinds plan (before ++ RoundBegins round label ∷ []) told (kinds ++ slice_get (client_family plan label) 0 ∷ [])
-behind_begin plan before told kinds round label keeps are =
+pub after_begin_line : (plan : Plan) (before : List RecordedLine) (reported : List ClassifiedActor) (kinds : List (Option ℕ)) (round : ℕ) (label : List ℕ) → KeepsRules (before ++ RoundBegins round label ∷ []) → AreFirstKinds plan before reported kinds
+    → AreFirstKinds plan (before ++ RoundBegins round label ∷ []) reported (kinds ++ slice_get (client_family plan label) 0 ∷ [])
+after_begin_line plan before reported kinds round label keeps are =
     let line = RoundBegins round label in
     let first = slice_get (client_family plan label) 0 in
     let here : round ≡ length kinds = round_is before round label keeps ∙ sym are.many in
     record {
       many = length-append kinds (first ∷ []) ∙ (ap (λ (n : ℕ). n + 1) are.many ∙ sym (begins_push before line));
-      told_of = λ one r kind among is. there_before kinds (first ∷ []) r (Some kind) (are.told_of one r kind among is);
+      reports_of = λ one r kind among is. there_before kinds (first ∷ []) r (Some kind) (are.reports_of one r kind among is);
       others = λ r name named none. elim (kind_cases before line r name named) [
         | inl earlier ↦ there_before kinds (first ∷ []) r _ (are.others r name earlier none)
         | inr now ↦
@@ -99,10 +99,10 @@ no_kind : (line : RecordedLine) (round : ℕ) (label : List ℕ) → is_begin li
 no_kind (RoundBegins one k) round label none is = grind (arith, none)
 no_kind _ round label none is = grind (arith, is)
 
-pub behind_other : (plan : Plan) (before : List RecordedLine) (line : RecordedLine) (told : List Settled) (kinds : List (Option ℕ)) → is_begin line ≡ false → AreFirstKinds plan before told kinds → AreFirstKinds plan (before ++ line ∷ []) told kinds
-behind_other plan before line told kinds other are = record {
+pub after_other : (plan : Plan) (before : List RecordedLine) (line : RecordedLine) (reported : List ClassifiedActor) (kinds : List (Option ℕ)) → is_begin line ≡ false → AreFirstKinds plan before reported kinds → AreFirstKinds plan (before ++ line ∷ []) reported kinds
+after_other plan before line reported kinds other are = record {
   many = are.many ∙ sym (begins_push before line ∙ (ap (λ (b : Bool). begins before + cond b 1 0) other ∙ (let x : begins before + 0 ≡ begins before = omega arith in x)));
-  told_of = are.told_of;
+  reports_of = are.reports_of;
   others = λ r name named none. elim (kind_cases before line r name named) [ inl earlier ↦ are.others r name earlier none | inr now ↦ absurd (no_kind line r name other now) ];
 }
 
@@ -110,21 +110,21 @@ pub none_yet : (plan : Plan) → AreFirstKinds plan [] [] []
 unfolding begins kind_of
 none_yet plan = record {
   many = refl;
-  told_of = λ one r kind among is. absurd (let below : among.0 < 0 = among.1 in omega (arith, below));
+  reports_of = λ one r kind among is. absurd (let below : among.0 < 0 = among.1 in omega (arith, below));
   others = λ r name named none. absurd (grind (arith, named));
 }
 
 -- ---- all lines
 -- If no actor is classified, each round counts as the first kind of its label.
-pub record HasFirstKinds (plan : Plan) (lines : List RecordedLine) (told : List Settled) : Type 0 where
+pub record HasFirstKinds (plan : Plan) (lines : List RecordedLine) (reported : List ClassifiedActor) : Type 0 where
   pub kinds : List (Option ℕ)
-  pub so : AreFirstKinds plan lines told kinds
+  pub so : AreFirstKinds plan lines reported kinds
 
-behind : (plan : Plan) (before : List RecordedLine) (line : RecordedLine) → KeepsRules (before ++ line ∷ []) → HasFirstKinds plan before [] → HasFirstKinds plan (before ++ line ∷ []) []
-behind plan before (RoundBegins round label) keeps has = record { kinds = has.kinds ++ slice_get (client_family plan label) 0 ∷ []; so = behind_begin plan before [] has.kinds round label keeps has.so }
-behind plan before line keeps has = record { kinds = has.kinds; so = behind_other plan before line [] has.kinds refl has.so }
+after : (plan : Plan) (before : List RecordedLine) (line : RecordedLine) → KeepsRules (before ++ line ∷ []) → HasFirstKinds plan before [] → HasFirstKinds plan (before ++ line ∷ []) []
+after plan before (RoundBegins round label) keeps has = record { kinds = has.kinds ++ slice_get (client_family plan label) 0 ∷ []; so = after_begin_line plan before [] has.kinds round label keeps has.so }
+after plan before line keeps has = record { kinds = has.kinds; so = after_other plan before line [] has.kinds refl has.so }
 
 pub first_kinds : (plan : Plan) (lines : List RecordedLine) → KeepsRules lines → HasFirstKinds plan lines []
 first_kinds plan =
     by_last (λ lines. KeepsRules lines → HasFirstKinds plan lines []) (λ keeps. record { kinds = []; so = none_yet plan })
-    (λ before line has keeps. behind plan before line keeps (has (keeps_before before line keeps)))
+    (λ before line has keeps. after plan before line keeps (has (keeps_before before line keeps)))

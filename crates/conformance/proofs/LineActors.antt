@@ -9,16 +9,16 @@ use Rattle.recordings.specs.Before.{submits, begins, is_ended, has_started, is_d
 use Rattle.recordings.specs.Rules.{has_next_number, is_known_actor, is_running, is_going}
 use Rattle.recordings.proofs.Appended.{submits_more, is_begun_more, is_ended_more, done_more}
 use Rattle.recordings.proofs.Keeping.{Keeps}
-use Rattle.recordings.specs.LineDeeds.{submits_by, is_submitted, has_submitted}
+use Rattle.recordings.specs.LineSteps.{submits_by, is_submitted, has_submitted}
 use Rattle.recordings.specs.Path.{path_of}
-use Rattle.recordings.specs.PathsOfLines.{KeepsRules, is_about}
+use Rattle.recordings.specs.PathsOfLines.{KeepsRules, is_live}
 use Rattle.recordings.proofs.Tests.{and_first, and_second, none_weaker}
 use Rattle.recordings.proofs.ByLast.{by_kept, keeps_before, keeps_last}
-use Rattle.recordings.proofs.Fresh.{next_job, next_round, next_number, known_actor, done_fresh, own_fresh, ended_fresh, round_fresh}
-use Rattle.recordings.proofs.LinesSay.{submitted_more}
+use Rattle.recordings.proofs.LaterNumbers.{next_job, next_round, next_number, known_actor, done_fresh, own_fresh, ended_fresh, round_fresh}
+use Rattle.recordings.proofs.StepsByLine.{submitted_more}
 use Rattle.recordings.proofs.PathAfter.{path_same}
 use Rattle.recordings.proofs.Refusals.{same_actor}
-use Rattle.conformance.specs.Course.{is_through}
+use Rattle.conformance.specs.PathState.{has_ended}
 use Rattle.recordings.specs.LastLine.{ended_by}
 use Rattle.conformance.specs.Changes.{begun_by, refused_by}
 use Rattle.conformance.proofs.Words.{by_bool, apart, or_left, or_right}
@@ -76,7 +76,7 @@ path_at_end before (RoundEnds round) one h = path_same before (RoundEnds round) 
 path_at_end before line one h = apart false h refl
 
 -- ---- ended actors
-pub through_after : (before : List RecordedLine) (line : RecordedLine) (one : RecordedActor) → is_through (before ++ line ∷ []) one ≡ (is_through before one || is_actor one (ended_by line))
+pub through_after : (before : List RecordedLine) (line : RecordedLine) (one : RecordedActor) → has_ended (before ++ line ∷ []) one ≡ (has_ended before one || is_actor one (ended_by line))
 through_after before line (Job job) = done_more before line job ∙ ap (λ b. is_done before job || b) (job_ends job line)
 through_after before line (Round round) = is_ended_more before line round ∙ ap (λ b. is_ended before round || b) (round_ends round line)
 
@@ -92,7 +92,7 @@ job_past before line j k h = next_job before line j k (job_begins j line ∙ h)
 pub round_past : (before : List RecordedLine) (line : RecordedLine) (r : ℕ) → Keeps before line → is_actor (Round r) (begun_by line) ≡ true → begins before ≤ r
 round_past before line r k h = next_begin before line r k h
 
-pub begun_going : (before : List RecordedLine) (line : RecordedLine) (one : RecordedActor) → KeepsRules (before ++ line ∷ []) → is_actor one (begun_by line) ≡ true → is_through before one ≡ false
+pub begun_going : (before : List RecordedLine) (line : RecordedLine) (one : RecordedActor) → KeepsRules (before ++ line ∷ []) → is_actor one (begun_by line) ≡ true → has_ended before one ≡ false
 begun_going before line (Job job) kept h = done_fresh before (keeps_before before line kept) job (job_past before line job (keeps_last before line kept) h)
 begun_going before line (Round round) kept h = ended_fresh before (keeps_before before line kept) round (round_past before line round (keeps_last before line kept) h)
 
@@ -109,10 +109,10 @@ unfolding has_submitted
 begun_submits_none before line one job kept h = none_weaker (submits_by one job) (is_of one) (own_submit one job) before (fresh_lines before line one kept h)
 
 -- ---- open actors
-pub about_before : (before : List RecordedLine) (line : RecordedLine) (one : RecordedActor) → is_about (before ++ line ∷ []) one ≡ true → is_actor one (begun_by line) ≡ false → is_about before one ≡ true
-about_before before line (Job job) h other =
+pub live_before : (before : List RecordedLine) (line : RecordedLine) (one : RecordedActor) → is_live (before ++ line ∷ []) one ≡ true → is_actor one (begun_by line) ≡ false → is_live before one ≡ true
+live_before before line (Job job) h other =
     grind (arith, h, submitted_more before line job, done_more before line job, sym (job_begins job line), other)
-about_before before line (Round round) h other =
+live_before before line (Round round) h other =
     grind (arith, h, is_begun_more before line round, is_ended_more before line round, sym (round_begins round line), other)
 
 submitted_number : (before : List RecordedLine) (line : RecordedLine) (j : ℕ) → has_next_number before line ≡ true → submits before ≤ j → j < submits before + (if is_submit line then 1 else 0) → submits_job j line ≡ true
@@ -126,25 +126,25 @@ none_counted : submits [] ≡ 0
 unfolding submits
 none_counted = refl
 
-counted : (lines : List RecordedLine) → KeepsRules lines → (j : ℕ) → j < submits lines → is_submitted lines j ≡ true
-counted =
+excess_tracker : (lines : List RecordedLine) → KeepsRules lines → (j : ℕ) → j < submits lines → is_submitted lines j ≡ true
+excess_tracker =
     by_kept (λ lines. (j : ℕ) → j < submits lines → is_submitted lines j ≡ true) (λ j h. absurd (omega (arith, h, none_counted)))
     (λ before line kept k known j h.
     let all : j < submits before + (if is_submit line then 1 else 0) = rw (← submits_more before line) h in
     submitted_more before line j
     ∙ among j (submits before) (λ low. or_left _ _ (known j low)) (λ past. or_right _ _ (submitted_number before line j (next_number before line k) past all)))
 
-known_about : (before : List RecordedLine) (job : ℕ) → KeepsRules before → is_known_actor before (Some (Job job)) ≡ true → is_running before (Some (Job job)) ≡ true → is_about before (Job job) ≡ true
-known_about before job kept known running =
+known_live : (before : List RecordedLine) (job : ℕ) → KeepsRules before → is_known_actor before (Some (Job job)) ≡ true → is_running before (Some (Job job)) ≡ true → is_live before (Job job) ≡ true
+known_live before job kept known running =
     let low : job < submits before = grind (arith, known) in
-    grind (arith, counted before kept job low, and_second (has_started before job) (not (is_done before job)) running)
+    grind (arith, excess_tracker before kept job low, and_second (has_started before job) (not (is_done before job)) running)
 
 -- An actor is open before its last line.
-pub ended_about : (before : List RecordedLine) (line : RecordedLine) (one : RecordedActor) → KeepsRules (before ++ line ∷ []) → is_actor one (ended_by line) ≡ true → is_about before one ≡ true
-ended_about before line (Job job) kept h =
+pub ended_live : (before : List RecordedLine) (line : RecordedLine) (one : RecordedActor) → KeepsRules (before ++ line ∷ []) → is_actor one (ended_by line) ≡ true → is_live before one ≡ true
+ended_live before line (Job job) kept h =
     let k = keeps_last before line kept in
-    known_about before job (keeps_before before line kept)
+    known_live before job (keeps_before before line kept)
     (subst (λ (named : Option RecordedActor). is_known_actor before named ≡ true) (ended_own (Job job) line h) (known_actor before line k))
     (subst (λ (named : Option RecordedActor). is_running before named ≡ true) (ended_own (Job job) line h) (and_second _ _ k.jobs))
-ended_about before line (Round round) kept h =
+ended_live before line (Round round) kept h =
     subst (λ (named : Option RecordedActor). is_going before named ≡ true) (ended_own (Round round) line h) (keeps_last before line kept).rounds

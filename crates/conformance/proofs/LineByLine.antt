@@ -6,7 +6,7 @@ use Rattle.std.specs.Prelude.{Option, Some, None}
 use Rattle.std.proofs.lemmas.List.{map-append}
 use Rattle.std.proofs.lemmas.List.Sums.{sum_by_push}
 use Rattle.recordings.specs.RecordingLine.{RecordedLine}
-use Rattle.recordings.specs.LineDeeds.{with_lines_before}
+use Rattle.recordings.specs.LineSteps.{with_lines_before}
 
 -- ---- induction over lines, from the first one
 onward : (P : List RecordedLine → Type 0) → ((before : List RecordedLine) (line : RecordedLine) → P before → P (before ++ line ∷ [])) → (front rest : List RecordedLine) → P front → P (front ++ rest)
@@ -44,9 +44,9 @@ filter_map_more h (y ∷ ys) x = ap (cons_option (h y)) (filter_map_more h ys x)
 lines_before_more : (before : List RecordedLine) (line : RecordedLine) → with_lines_before (before ++ line ∷ []) ≡ with_lines_before before ++ (before, line) ∷ []
 lines_before_more [] line = refl
 lines_before_more (first ∷ before) line =
-    let behind : List RecordedLine × RecordedLine → List RecordedLine × RecordedLine = λ p. (first ∷ p.0, p.1) in
-    ap (λ (ps : List (List RecordedLine × RecordedLine)). ([], first) ∷ map behind ps) (lines_before_more before line)
-    ∙ ap (λ (ps : List (List RecordedLine × RecordedLine)). ([], first) ∷ ps) (map-append behind (with_lines_before before) ((before, line) ∷ []))
+    let after : List RecordedLine × RecordedLine → List RecordedLine × RecordedLine = λ p. (first ∷ p.0, p.1) in
+    ap (λ (ps : List (List RecordedLine × RecordedLine)). ([], first) ∷ map after ps) (lines_before_more before line)
+    ∙ ap (λ (ps : List (List RecordedLine × RecordedLine)). ([], first) ∷ ps) (map-append after (with_lines_before before) ((before, line) ∷ []))
 
 pub all_more : {Y : Type 0} (f : List RecordedLine × RecordedLine → List Y) (before : List RecordedLine) (line : RecordedLine) → flat_map f (with_lines_before (before ++ line ∷ [])) ≡ flat_map f (with_lines_before before) ++ f (before, line)
 all_more f before line = ap (flat_map f) (lines_before_more before line) ∙ flat_map_more f (with_lines_before before) (before, line)

@@ -17,7 +17,7 @@ within (z ∷ xs) zero first there = omega arith
 within (z ∷ xs) (suc place) first there = omega (arith, within xs place first there)
 
 -- An element of a concatenation is in the first list, or its index is not below the length of that list.
-pub before_or_behind : {X : Type 0} (xs ys : List X) (i : ℕ) (x : X) → slice_get (xs ++ ys) i ≡ Some x → (slice_get xs i ≡ Some x) ⊎ (length xs ≤ i)
-before_or_behind [] ys i x h = inr (omega arith)
-before_or_behind (y ∷ xs) ys zero x h = inl h
-before_or_behind (y ∷ xs) ys (suc i) x h = elim (before_or_behind xs ys i x h) [ inl before ↦ inl before | inr behind ↦ inr (omega (arith, behind)) ]
+pub before_or_after : {X : Type 0} (xs ys : List X) (i : ℕ) (x : X) → slice_get (xs ++ ys) i ≡ Some x → (slice_get xs i ≡ Some x) ⊎ (length xs ≤ i)
+before_or_after [] ys i x h = inr (omega arith)
+before_or_after (y ∷ xs) ys zero x h = inl h
+before_or_after (y ∷ xs) ys (suc i) x h = elim (before_or_after xs ys i x h) [ inl before ↦ inl before | inr after ↦ inr (omega (arith, after)) ]

@@ -49,5 +49,5 @@ name_written label name (inr (n, two, most, same)) =
     subst (λ (text : List ℕ). is_of_family label text ≡ true) joined (end_written label (95 ∷ decimal n) (number_ends n two most))
 
 -- A function that returns the result of the test decides which names are of the family.
-pub names_by : (label name : List ℕ) (answer : Bool) → answer ≡ is_of_family label name → IsTrue answer ↔ IsOfFamily label name
-names_by label name answer same = (λ yes. name_read label name (sym same ∙ yes), λ one. same ∙ name_written label name one)
+pub names_by : (label name : List ℕ) (path_match : Bool) → path_match ≡ is_of_family label name → IsTrue path_match ↔ IsOfFamily label name
+names_by label name path_match same = (λ yes. name_read label name (sym same ∙ yes), λ one. same ∙ name_written label name one)

@@ -10,8 +10,8 @@ kept_more p n =
     ap (filter p) (sym (map-id (range_with_len 0 (n + 1))))
     ∙ (filter_of_map_range_with_len_more p (λ (x : ℕ). x) 0 n n (omega arith) ∙ ap (λ (xs : List ℕ). filter p xs ++ cond (p n) (n ∷ []) []) (map-id (range_with_len 0 n)))
 
-by_test : (b : Bool) (n : ℕ) (xs : List ℕ) (answer : Bool) → b ≡ answer → xs ++ cond b (n ∷ []) [] ≡ xs ++ cond answer (n ∷ []) []
-by_test b n xs answer same = ap (λ (one : Bool). xs ++ cond one (n ∷ []) []) same
+by_test : (b : Bool) (n : ℕ) (xs : List ℕ) (path_match : Bool) → b ≡ path_match → xs ++ cond b (n ∷ []) [] ≡ xs ++ cond path_match (n ∷ []) []
+by_test b n xs path_match same = ap (λ (one : Bool). xs ++ cond one (n ∷ []) []) same
 
 pub kept_one : (p : ℕ → Bool) (n : ℕ) → p n ≡ true → filter p (range_with_len 0 (n + 1)) ≡ filter p (range_with_len 0 n) ++ n ∷ []
 kept_one p n passes = kept_more p n ∙ by_test (p n) n (filter p (range_with_len 0 n)) true passes
@@ -24,9 +24,9 @@ at_front : (b : Bool) (n : ℕ) (xs : List ℕ) → b ≡ true → slice_get (co
 at_front true n xs passes = refl
 at_front false n xs passes = cc
 
-behind : (b : Bool) (n : ℕ) (xs : List ℕ) → b ≡ false → slice_get (cond b (n ∷ xs) xs) 0 ≡ slice_get xs 0
-behind true n xs fails = cc
-behind false n xs fails = refl
+after : (b : Bool) (n : ℕ) (xs : List ℕ) → b ≡ false → slice_get (cond b (n ∷ xs) xs) 0 ≡ slice_get xs 0
+after true n xs fails = cc
+after false n xs fails = refl
 
 none_of_both : (b : Bool) (n : ℕ) (xs : List ℕ) → cond b (n ∷ xs) xs ≡ [] → (b ≡ false) × (xs ≡ [])
 none_of_both true n xs none = cc
@@ -40,7 +40,7 @@ first_from p a (suc n) zero less none passes =
 first_from p a (suc n) (suc j) less none passes =
     let same : a + 1 + j ≡ a + suc j = omega arith in
     let parts = none_of_both (p a) a (filter p (range_with_len (a + 1) j)) none in
-    behind (p a) a (filter p (range_with_len (a + 1) n)) parts.0 ∙ (first_from p (a + 1) n j (omega arith) parts.1 (ap p same ∙ passes) ∙ ap (λ (k : ℕ). Some k) same)
+    after (p a) a (filter p (range_with_len (a + 1) n)) parts.0 ∙ (first_from p (a + 1) n j (omega arith) parts.1 (ap p same ∙ passes) ∙ ap (λ (k : ℕ). Some k) same)
 
 -- The first number that passes the test is the first element of the filtered range.
 pub first_kept : (p : ℕ → Bool) (n j : ℕ) → j < n → filter p (range_with_len 0 j) ≡ [] → p j ≡ true → Some j ≡ slice_get (filter p (range_with_len 0 n)) 0

@@ -6,7 +6,7 @@ use Rattle.recordings.specs.declared.rule.LineRule.{LineRule}
 use Rattle.recordings.specs.declared.rule.LineRule.TheVariants.{Frame, Pools, Numbers, Rounds}
 use Rattle.recordings.specs.LineParts.{is_begin, begins_round, ends_round}
 use Rattle.recordings.specs.Before.{begins, is_begun, is_ended}
-use Rattle.recordings.specs.Rules.{broken_of, keeps_frame, keeps_pools, keeps_numbers, keeps_rounds}
+use Rattle.recordings.specs.Rules.{first_broken_rule, keeps_frame, keeps_pools, keeps_numbers, keeps_rounds}
 use Rattle.recordings.specs.PathsOfLines.{KeepsRules}
 use Rattle.conformance.specs.RoundExcesses.{kind_of, is_kind, begins_kind, ends_kind}
 use Rattle.conformance.proofs.LineByLine.{by_last, any_more, count_more}
@@ -21,7 +21,7 @@ passes : (holds : Bool) (rule : LineRule) (rest : Option LineRule) → (if not h
 passes true rule rest h = grind arith
 passes false rule rest h = grind arith
 
-keeps_both : (before : List RecordedLine) (line : RecordedLine) → broken_of before line ≡ None → Keeps before line
+keeps_both : (before : List RecordedLine) (line : RecordedLine) → first_broken_rule before line ≡ None → Keeps before line
 keeps_both before line unbroken =
     let p1 = passes (keeps_frame before line) Frame _ unbroken in
     let p2 = passes (keeps_pools before line) Pools _ p1.1 in
@@ -31,7 +31,7 @@ keeps_both before line unbroken =
 
 keeps_before : (before : List RecordedLine) (line : RecordedLine) → KeepsRules (before ++ line ∷ []) → KeepsRules before
 keeps_before before line kept = record {
-  unbroken = λ front one behind is. kept.unbroken front one (behind ++ line ∷ []) (ap (λ (lines : List RecordedLine). lines ++ line ∷ []) is ∙ append_assoc front (one ∷ behind) (line ∷ []));
+  unbroken = λ front one after is. kept.unbroken front one (after ++ line ∷ []) (ap (λ (lines : List RecordedLine). lines ++ line ∷ []) is ∙ append_assoc front (one ∷ after) (line ∷ []));
 }
 
 keeps_last : (before : List RecordedLine) (line : RecordedLine) → KeepsRules (before ++ line ∷ []) → Keeps before line

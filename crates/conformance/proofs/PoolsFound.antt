@@ -16,8 +16,8 @@ use Rattle.recordings.specs.Before.{has_pool, is_closed}
 use Rattle.conformance.specs.declared.difference.Difference.{Difference}
 use Rattle.conformance.specs.declared.difference.Difference.TheVariants.{Core, Max, KindOfQueue, Capacity, CoreTimeout, Prestarted}
 use Rattle.conformance.specs.Sizes.{differences, unless, is_array_or_linked, IsAsPlanned}
-use Rattle.conformance.specs.PoolDeviations.{Deviation, NotPlanned, Differs, NotRecorded, pool_named, is_pool, is_among, has_difference, has_told, untold, deviations_of_pool, deviations_by_line, deviations_by_lines, unrecorded_at, unrecorded_by, unrecorded}
-use Rattle.conformance.specs.WatchLaws.{DeviationsAddUp, PoolsAreAsPlanned, PoolsAreRecorded, IsPlannedPool}
+use Rattle.conformance.specs.PoolDeviations.{Deviation, NotPlanned, Differs, NotRecorded, pool_named, is_pool, is_among, has_difference, was_reported, unreported, deviations_of_pool, deviations_by_line, deviations_by_lines, unrecorded_at, unrecorded_by, unrecorded}
+use Rattle.conformance.specs.ComparisonLaws.{DeviationsAddUp, PoolsAreAsPlanned, PoolsAreRecorded, IsPlannedPool}
 use Rattle.conformance.proofs.LineByLine.{by_last, any_more, all_more, any_line_more, nothing_first, nothing_last}
 
 pub deviations_add_up : DeviationsAddUp
@@ -32,14 +32,14 @@ has_pool_none : (pool : List ℕ) → has_pool [] pool ≡ false
 unfolding has_pool
 has_pool_none pool = refl
 
-pub told_more : (plan : Plan) (before : List RecordedLine) (line : RecordedLine) (pool : ℕ) (difference : Difference)
-    → has_told plan (before ++ line ∷ []) pool difference ≡ (has_told plan before pool difference || has_difference plan (has_pool before) pool difference line)
-unfolding has_told
-told_more plan before line pool difference = any_line_more (λ (before, line). has_difference plan (has_pool before) pool difference line) before line
+pub reported_more : (plan : Plan) (before : List RecordedLine) (line : RecordedLine) (pool : ℕ) (difference : Difference)
+    → was_reported plan (before ++ line ∷ []) pool difference ≡ (was_reported plan before pool difference || has_difference plan (has_pool before) pool difference line)
+unfolding was_reported
+reported_more plan before line pool difference = any_line_more (λ (before, line). has_difference plan (has_pool before) pool difference line) before line
 
-pub told_none : (plan : Plan) (pool : ℕ) (difference : Difference) → has_told plan [] pool difference ≡ false
-unfolding has_told
-told_none plan pool difference = refl
+pub reported_none : (plan : Plan) (pool : ℕ) (difference : Difference) → was_reported plan [] pool difference ≡ false
+unfolding was_reported
+reported_none plan pool difference = refl
 
 -- ---- a line without differences
 -- The plan has the pool, and the line has no difference.
@@ -52,9 +52,9 @@ none_mapped : (f : Difference → Deviation) (ds : List Difference) → map f ds
 none_mapped f [] h = refl
 none_mapped f (d ∷ ds) h = cc
 
-all_untold : (is_told : Difference → Bool) → ((d : Difference) → is_told d ≡ false) → (ds : List Difference) → untold is_told ds ≡ ds
-all_untold is_told none [] = refl
-all_untold is_told none (d ∷ ds) = rw (none d) (ap (λ (more : List Difference). d ∷ more) (all_untold is_told none ds))
+all_unreported : (is_reported : Difference → Bool) → ((d : Difference) → is_reported d ≡ false) → (ds : List Difference) → unreported is_reported ds ≡ ds
+all_unreported is_reported none [] = refl
+all_unreported is_reported none (d ∷ ds) = rw (none d) (ap (λ (more : List Difference). d ∷ more) (all_unreported is_reported none ds))
 
 never : (P : Type 0) → false ≡ true → P
 never P h = cc
@@ -63,11 +63,11 @@ unplanned : (is_first : Bool) (number : ℕ) (name : List ℕ) → (if is_first 
 unplanned true number name h = cc
 unplanned false number name h = refl
 
-same_if_nothing : (plan : Plan) (is_first : Bool) (is_told : ℕ → Difference → Bool) (number : ℕ) (name : List ℕ) (sizes : PoolSizes) (there : Option ℕ)
-    → ((pool : ℕ) (difference : Difference) → is_told pool difference ≡ false) → (is_first ≡ false → is_some there ≡ true) → deviations_of_pool plan is_first is_told number name sizes there ≡ [] → IsSame plan is_first sizes there
-same_if_nothing plan is_first is_told number name sizes None none known h = never _ (known (unplanned is_first number name h))
-same_if_nothing plan is_first is_told number name sizes (Some pool) none known h =
-    record { pool = pool; is = refl; none = sym (all_untold (is_told pool) (none pool) _) ∙ none_mapped (Differs number pool) _ h }
+same_if_nothing : (plan : Plan) (is_first : Bool) (is_reported : ℕ → Difference → Bool) (number : ℕ) (name : List ℕ) (sizes : PoolSizes) (there : Option ℕ)
+    → ((pool : ℕ) (difference : Difference) → is_reported pool difference ≡ false) → (is_first ≡ false → is_some there ≡ true) → deviations_of_pool plan is_first is_reported number name sizes there ≡ [] → IsSame plan is_first sizes there
+same_if_nothing plan is_first is_reported number name sizes None none known h = never _ (known (unplanned is_first number name h))
+same_if_nothing plan is_first is_reported number name sizes (Some pool) none known h =
+    record { pool = pool; is = refl; none = sym (all_unreported (is_reported pool) (none pool) _) ∙ none_mapped (Differs number pool) _ h }
 
 by_number : (plan : Plan) (is_first : Bool) (sizes : PoolSizes) (one pool : ℕ) (difference : Difference) (same : Bool) → (one == pool) ≡ same → differences is_first sizes (pool_at plan one) ≡ []
     → (same && is_among (differences is_first sizes (pool_at plan pool)) difference) ≡ false
@@ -82,7 +82,7 @@ has_none plan is_first sizes there pool difference same =
 
 -- ---- lines without differences
 record IsNothing (plan : Plan) (lines : List RecordedLine) : Type 0 where
-  told : (pool : ℕ) (difference : Difference) → has_told plan lines pool difference ≡ false
+  reported : (pool : ℕ) (difference : Difference) → was_reported plan lines pool difference ≡ false
   planned : (name : List ℕ) → has_pool lines name ≡ true → is_some (pool_named plan name) ≡ true
 
 neither : (a b : Bool) → a ≡ false → b ≡ false → (a || b) ≡ false
@@ -99,7 +99,7 @@ not_first false h = cc
 here_same : (plan : Plan) (before : List RecordedLine) (number : ℕ) (name : List ℕ) (sizes : PoolSizes) → IsNothing plan before → deviations_by_line plan before number (Pool name sizes) ≡ []
     → IsSame plan (not (has_pool before name)) sizes (pool_named plan name)
 here_same plan before number name sizes front h =
-    same_if_nothing plan (not (has_pool before name)) (has_told plan before) number name sizes (pool_named plan name) front.told (λ named. front.planned name (not_first (has_pool before name) named)) h
+    same_if_nothing plan (not (has_pool before name)) (was_reported plan before) number name sizes (pool_named plan name) front.reported (λ named. front.planned name (not_first (has_pool before name) named)) h
 
 some_there : (there : Option ℕ) (pool : ℕ) → there ≡ Some pool → is_some there ≡ true
 some_there there pool is = ap (λ (one : Option ℕ). is_some one) is
@@ -111,7 +111,7 @@ either_planned plan name other false false is front there h = cc
 
 pool_nothing : (plan : Plan) (before : List RecordedLine) (name : List ℕ) (sizes : PoolSizes) → IsNothing plan before → IsSame plan (not (has_pool before name)) sizes (pool_named plan name) → IsNothing plan (before ++ Pool name sizes ∷ [])
 pool_nothing plan before name sizes front same = record {
-  told = λ pool difference. told_more plan before (Pool name sizes) pool difference ∙ neither (has_told plan before pool difference) _ (front.told pool difference) (has_none plan (not (has_pool before name)) sizes (pool_named plan name) pool difference same);
+  reported = λ pool difference. reported_more plan before (Pool name sizes) pool difference ∙ neither (was_reported plan before pool difference) _ (front.reported pool difference) (has_none plan (not (has_pool before name)) sizes (pool_named plan name) pool difference same);
   planned = λ other h.
       either_planned plan name other (has_pool before other) (bytes_eq name other) refl (front.planned other) (some_there (pool_named plan name) same.pool same.is) (sym (has_pool_more before (Pool name sizes) other) ∙ h);
 }
@@ -119,7 +119,7 @@ pool_nothing plan before name sizes front same = record {
 other_nothing : (plan : Plan) (before : List RecordedLine) (line : RecordedLine) → ((pool : ℕ) (difference : Difference) → has_difference plan (has_pool before) pool difference line ≡ false) → ((name : List ℕ) → declares name line ≡ false)
     → IsNothing plan before → IsNothing plan (before ++ line ∷ [])
 other_nothing plan before line none declared front = record {
-  told = λ pool difference. told_more plan before line pool difference ∙ neither (has_told plan before pool difference) _ (front.told pool difference) (none pool difference);
+  reported = λ pool difference. reported_more plan before line pool difference ∙ neither (was_reported plan before pool difference) _ (front.reported pool difference) (none pool difference);
   planned = λ name h. front.planned name (only_first (has_pool before name) (ap (λ (b : Bool). has_pool before name || b) (sym (declared name)) ∙ (sym (has_pool_more before line name) ∙ h)));
 }
 
@@ -128,7 +128,7 @@ line_nothing plan before number (Pool name sizes) front h = pool_nothing plan be
 line_nothing plan before number line front h = other_nothing plan before line (λ pool difference. refl) (λ name. refl) front
 
 none_nothing : (plan : Plan) → IsNothing plan []
-none_nothing plan = record { told = told_none plan; planned = λ name h. never _ (sym (has_pool_none name) ∙ h) }
+none_nothing plan = record { reported = reported_none plan; planned = λ name h. never _ (sym (has_pool_none name) ∙ h) }
 
 all_nothing : (plan : Plan) (lines : List RecordedLine) → deviations_by_lines plan lines ≡ [] → IsNothing plan lines
 all_nothing plan =
@@ -137,10 +137,10 @@ all_nothing plan =
     let both = sym (deviations_add_up plan before line) ∙ nothing in
     line_nothing plan before (length before + 1) line (h (nothing_first (deviations_by_lines plan before) _ both)) (nothing_last (deviations_by_lines plan before) _ both))
 
-nothing_before : (plan : Plan) (before behind : List RecordedLine) → deviations_by_lines plan (before ++ behind) ≡ [] → deviations_by_lines plan before ≡ []
+nothing_before : (plan : Plan) (before after : List RecordedLine) → deviations_by_lines plan (before ++ after) ≡ [] → deviations_by_lines plan before ≡ []
 nothing_before plan before [] h = subst (λ lines. deviations_by_lines plan lines ≡ []) (append-nil before) h
-nothing_before plan before (line ∷ behind) h =
-    let more = nothing_before plan (before ++ line ∷ []) behind (subst (λ lines. deviations_by_lines plan lines ≡ []) (sym (append_assoc before (line ∷ []) behind)) h) in
+nothing_before plan before (line ∷ after) h =
+    let more = nothing_before plan (before ++ line ∷ []) after (subst (λ lines. deviations_by_lines plan lines ≡ []) (sym (append_assoc before (line ∷ []) after)) h) in
     nothing_first (deviations_by_lines plan before) _ (sym (deviations_add_up plan before line) ∙ more)
 
 -- ---- a planned pool is in the plan
@@ -183,10 +183,10 @@ planned_pool plan is_first name sizes same =
     record { pool = same.pool; there = named.0; named = named.1; sizes_agree = as_planned is_first sizes (pool_at plan same.pool) same.none }
 
 pub pools_are_as_planned : PoolsAreAsPlanned
-pools_are_as_planned plan lines nothing before behind name sizes is =
+pools_are_as_planned plan lines nothing before after name sizes is =
     let line = Pool name sizes in
-    let all = subst (λ (all : List RecordedLine). deviations_by_lines plan all ≡ []) (sym is ∙ sym (append_assoc before (line ∷ []) behind)) nothing in
-    let both = sym (deviations_add_up plan before line) ∙ nothing_before plan (before ++ line ∷ []) behind all in
+    let all = subst (λ (all : List RecordedLine). deviations_by_lines plan all ≡ []) (sym is ∙ sym (append_assoc before (line ∷ []) after)) nothing in
+    let both = sym (deviations_add_up plan before line) ∙ nothing_before plan (before ++ line ∷ []) after all in
     let front = all_nothing plan before (nothing_first (deviations_by_lines plan before) _ both) in
     planned_pool plan (not (has_pool before name)) name sizes (here_same plan before (length before + 1) name sizes front (nothing_last (deviations_by_lines plan before) _ both))
 
@@ -204,9 +204,9 @@ named_each is_named first [] pool h within = absurd (omega arith)
 named_each is_named first (one ∷ pools) zero h within = named_if_none _ first (cons_none (unrecorded_at is_named (first, one)) _ h).0
 named_each is_named first (one ∷ pools) (suc pool) h within = named_each is_named (first + 1) pools pool (cons_none (unrecorded_at is_named (first, one)) _ h).1 (omega arith)
 
-closed_end : (closed : Bool) (told : List Deviation) → closed ≡ true → (if closed then told else []) ≡ [] → told ≡ []
-closed_end true told h nothing = nothing
-closed_end false told h nothing = cc
+closed_end : (closed : Bool) (reported : List Deviation) → closed ≡ true → (if closed then reported else []) ≡ [] → reported ≡ []
+closed_end true reported h nothing = nothing
+closed_end false reported h nothing = cc
 
 unrecorded_none : (plan : Plan) (lines : List RecordedLine) → unrecorded plan lines ≡ [] → unrecorded_by (has_pool lines) plan ≡ []
 unfolding unrecorded

@@ -2,46 +2,46 @@
 use Rattle.std.proofs.Common.{◌≡◌, ◌≤◌, ◌<◌, ◌⊎◌, ℕ, zero, suc, not, nat_le, Bool, true, false, List, [], ◌∷◌, length, slice_get, is_some, Option, Some, None, refl, ap, sym, subst, ◌∙◌, inl, inr, arith}
 use Rattle.std.specs.Option.{option_and_then}
 use Rattle.std.proofs.lemmas.List.{take_all}
-use Rattle.recordings.specs.LineDeeds.{is_refused, has_submitted}
-use Rattle.recordings.proofs.Places.{same_self}
+use Rattle.recordings.specs.LineSteps.{is_refused, has_submitted}
+use Rattle.recordings.proofs.SubmitIndices.{same_self}
 use Rattle.recordings.proofs.Tests.{and_first, and_second}
-use Rattle.conformance.proofs.Later.{path_submits}
+use Rattle.conformance.proofs.LaterJobs.{path_submits}
 use Rattle.std.specs.List.{list_any}
 use Rattle.recordings.specs.declared.recording_line.RecordedActor.{RecordedActor}
 use Rattle.recordings.specs.declared.recording_line.RecordedActor.TheVariants.{Job, Round}
 use Rattle.recordings.specs.RecordingLine.{RecordedLine}
-use Rattle.recordings.specs.declared.deed.RecordedDeed.{RecordedDeed}
-use Rattle.recordings.specs.declared.deed.RecordedDeed.TheVariants as recorded
-use Rattle.recordings.specs.Act.{submits}
+use Rattle.recordings.specs.declared.step.RecordedStep.{RecordedStep}
+use Rattle.recordings.specs.declared.step.RecordedStep.TheVariants as recorded
+use Rattle.recordings.specs.ActorPath.{submits}
 use Rattle.recordings.specs.Path.{path_of}
 use Rattle.job_bodies.specs.Plan.{Plan}
 use Rattle.conformance.specs.declared.actor_table.ActorTable.{ActorTable}
-use Rattle.conformance.specs.declared.actor_table.KeptActor.{KeptActor}
-use Rattle.conformance.specs.declared.actor_table.Waiting.{Waiting}
+use Rattle.conformance.specs.declared.actor_table.UnsettledActor.{UnsettledActor}
+use Rattle.conformance.specs.declared.actor_table.EndedPath.{EndedPath}
 use Rattle.conformance.specs.declared.job_classes.ClassTable.{ClassTable}
-use Rattle.conformance.specs.Kept.{in_table, classes_in, AreSettledBefore, IsUnsettledAt, is_unsettled, is_settled_deed, is_job}
-use Rattle.conformance.specs.StandsFor.{IsBlocked, IsKept}
-use Rattle.conformance.specs.ClassifiedActors.{waiting_of, submitter_of, IsProgressOf, IsReady}
+use Rattle.conformance.specs.ActorTables.{in_table, classes_in, AreSettledBefore, IsUnsettledAt, is_unsettled, is_settled_step, is_job}
+use Rattle.conformance.specs.Represents.{IsBlocked, AreTablesOf}
+use Rattle.conformance.specs.ClassificationResults.{ended_path_of, submitter_of, IsProgressOf, IsReady}
 use Rattle.conformance.proofs.Words.{apart, two_of, one_of, none_some, some_of, some_at, any_at}
 
-pub progress_of : (actors : ActorTable) (table : ClassTable) (actor : RecordedActor) (waiting : Waiting) (known len : ℕ) (path : List RecordedDeed) → path ≡ waiting.path.items → waiting_of actors actor ≡ Some waiting
-    → (waiting.known ≤ length path → known ≤ length path) → (AreSettledBefore table path waiting.known → AreSettledBefore table path known) → IsUnsettledAt table path known → len ≡ length path → IsProgressOf actors table actor known (nat_le len known)
-progress_of actors table actor waiting known len path same is within front there whole = record {
-  waiting = waiting;
+pub progress_of : (actors : ActorTable) (table : ClassTable) (actor : RecordedActor) (ended_path : EndedPath) (known len : ℕ) (path : List RecordedStep) → path ≡ ended_path.path.items → ended_path_of actors actor ≡ Some ended_path
+    → (ended_path.known ≤ length path → known ≤ length path) → (AreSettledBefore table path ended_path.known → AreSettledBefore table path known) → IsUnsettledAt table path known → len ≡ length path → IsProgressOf actors table actor known (nat_le len known)
+progress_of actors table actor ended_path known len path same is within front there whole = record {
+  ended_path = ended_path;
   is = is;
-  within = subst (λ (p : List RecordedDeed). waiting.known ≤ length p → known ≤ length p) same within;
-  front = subst (λ (p : List RecordedDeed). AreSettledBefore table p waiting.known → AreSettledBefore table p known) same front;
-  there = subst (λ (p : List RecordedDeed). IsUnsettledAt table p known) same there;
-  ready = λ h. subst (λ (p : List RecordedDeed). length p ≤ known) same (grind (arith, h, whole));
-  blocked = λ h. subst (λ (p : List RecordedDeed). known < length p) same (grind (arith, h, whole));
+  within = subst (λ (p : List RecordedStep). ended_path.known ≤ length p → known ≤ length p) same within;
+  front = subst (λ (p : List RecordedStep). AreSettledBefore table p ended_path.known → AreSettledBefore table p known) same front;
+  there = subst (λ (p : List RecordedStep). IsUnsettledAt table p known) same there;
+  ready = λ h. subst (λ (p : List RecordedStep). length p ≤ known) same (grind (arith, h, whole));
+  blocked = λ h. subst (λ (p : List RecordedStep). known < length p) same (grind (arith, h, whole));
 }
 
 -- ---- an actor that is ready
-pub settled_jobs : (actors : ActorTable) (table : ClassTable) (actor : RecordedActor) → (r : IsReady actors table actor) → (kept : KeptActor) (waiting : Waiting) → in_table actors actor ≡ Some kept → kept.waiting ≡ Some waiting → (job : ℕ) → list_any (submits job) waiting.path.items ≡ true → is_some (classes_in table job) ≡ true
-settled_jobs actors table actor r kept waiting there waits =
+pub settled_jobs : (actors : ActorTable) (table : ClassTable) (actor : RecordedActor) → (r : IsReady actors table actor) → (kept : UnsettledActor) (ended_path : EndedPath) → in_table actors actor ≡ Some kept → kept.ended_path ≡ Some ended_path → (job : ℕ) → list_any (submits job) ended_path.path.items ≡ true → is_some (classes_in table job) ≡ true
+settled_jobs actors table actor r kept ended_path there waits =
     let same : r.kept ≡ kept = one_of (in_table actors actor) r.kept kept r.there there in
-    let is : r.waiting ≡ waiting = one_of kept.waiting r.waiting waiting (subst (λ (k : KeptActor). k.waiting ≡ Some r.waiting) same r.waits) waits in
-    subst (λ (w : Waiting). (job : ℕ) → list_any (submits job) w.path.items ≡ true → is_some (classes_in table job) ≡ true) is r.settled
+    let is : r.ended_path ≡ ended_path = one_of kept.ended_path r.ended_path ended_path (subst (λ (k : UnsettledActor). k.ended_path ≡ Some r.ended_path) same r.waits) waits in
+    subst (λ (w : EndedPath). (job : ℕ) → list_any (submits job) w.path.items ≡ true → is_some (classes_in table job) ≡ true) is r.settled
 
 two_of_some : {P : Type 0} (next : Option RecordedActor) → next ≡ None → is_some next ≡ true → P
 two_of_some next is h = none_some next is h
@@ -51,11 +51,11 @@ fewer_of (Job job) submitter next is h = refl
 fewer_of (Round round) submitter next is h = two_of_some next is h
 
 -- ---- an actor that is blocked
-blocked_or_its : (actors : ActorTable) (waiting : Waiting) (one actor : RecordedActor) (kept : KeptActor) → in_table actors one ≡ Some kept → kept.waiting ≡ Some waiting
-    → ((kept : KeptActor) (waiting : Waiting) → in_table actors actor ≡ Some kept → kept.waiting ≡ Some waiting → IsBlocked actors waiting)
-    → IsBlocked actors waiting ⊎ (Some actor ≡ Some one) → IsBlocked actors waiting ⊎ (None ≡ Some one)
-blocked_or_its actors waiting one actor kept h is its (inl b) = inl b
-blocked_or_its actors waiting one actor kept h is its (inr e) = let same : actor ≡ one = cc in inl (its kept waiting (ap (in_table actors) same ∙ h) is)
+blocked_or_its : (actors : ActorTable) (ended_path : EndedPath) (one actor : RecordedActor) (kept : UnsettledActor) → in_table actors one ≡ Some kept → kept.ended_path ≡ Some ended_path
+    → ((kept : UnsettledActor) (ended_path : EndedPath) → in_table actors actor ≡ Some kept → kept.ended_path ≡ Some ended_path → IsBlocked actors ended_path)
+    → IsBlocked actors ended_path ⊎ (Some actor ≡ Some one) → IsBlocked actors ended_path ⊎ (None ≡ Some one)
+blocked_or_its actors ended_path one actor kept h is its (inl b) = inl b
+blocked_or_its actors ended_path one actor kept h is its (inr e) = let same : actor ≡ one = cc in inl (its kept ended_path (ap (in_table actors) same ∙ h) is)
 
 there_below : {X : Type 0} (xs : List X) (i : ℕ) → i < length xs → is_some (slice_get xs i) ≡ true
 there_below [] i h = absurd (omega arith)
@@ -65,31 +65,31 @@ there_below (x ∷ xs) (suc i) h = there_below xs i (omega arith)
 not_true : (b : Bool) → not b ≡ true → b ≡ false
 not_true b h = grind (arith, h)
 
-with_blocked : (plan : Plan) (lines : List RecordedLine) (actors : ActorTable) (known : ClassTable) (actor : RecordedActor) → IsKept plan lines actors known (Some actor)
-    → ((kept : KeptActor) (waiting : Waiting) → in_table actors actor ≡ Some kept → kept.waiting ≡ Some waiting → IsBlocked actors waiting) → IsKept plan lines actors known None
+with_blocked : (plan : Plan) (lines : List RecordedLine) (actors : ActorTable) (known : ClassTable) (actor : RecordedActor) → AreTablesOf plan lines actors known (Some actor)
+    → ((kept : UnsettledActor) (ended_path : EndedPath) → in_table actors actor ≡ Some kept → kept.ended_path ≡ Some ended_path → IsBlocked actors ended_path) → AreTablesOf plan lines actors known None
 with_blocked plan lines actors known actor k its = record {
   named = k.named;
   going = k.going;
-  waiting = k.waiting;
-  blocked = λ one kept waiting h is. blocked_or_its actors waiting one actor kept h is its (k.blocked one kept waiting h is);
-  about = k.about;
+  ended_path = k.ended_path;
+  blocked = λ one kept ended_path h is. blocked_or_its actors ended_path one actor kept h is its (k.blocked one kept ended_path h is);
+  live = k.live;
   settled = k.settled;
   classes = k.classes;
   below = k.below;
   submitter = k.submitter;
 }
 
-pub waits_as : (actors : ActorTable) (actor : RecordedActor) (kept : KeptActor) (waiting : Waiting) → in_table actors actor ≡ Some kept → kept.waiting ≡ Some waiting → waiting_of actors actor ≡ Some waiting
-waits_as actors actor kept waiting h is = ap (option_and_then (λ (k : KeptActor). k.waiting)) h ∙ is
+pub waits_as : (actors : ActorTable) (actor : RecordedActor) (kept : UnsettledActor) (ended_path : EndedPath) → in_table actors actor ≡ Some kept → kept.ended_path ≡ Some ended_path → ended_path_of actors actor ≡ Some ended_path
+waits_as actors actor kept ended_path h is = ap (option_and_then (λ (k : UnsettledActor). k.ended_path)) h ∙ is
 
-pub kept_unready : (plan : Plan) (lines : List RecordedLine) (actors : ActorTable) (known : ClassTable) (actor : RecordedActor) → IsKept plan lines actors known (Some actor) → waiting_of actors actor ≡ None → IsKept plan lines actors known None
-kept_unready plan lines actors known actor k none = with_blocked plan lines actors known actor k (λ kept waiting h is. two_of (waiting_of actors actor) waiting (waits_as actors actor kept waiting h is) none)
+pub kept_unready : (plan : Plan) (lines : List RecordedLine) (actors : ActorTable) (known : ClassTable) (actor : RecordedActor) → AreTablesOf plan lines actors known (Some actor) → ended_path_of actors actor ≡ None → AreTablesOf plan lines actors known None
+kept_unready plan lines actors known actor k none = with_blocked plan lines actors known actor k (λ kept ended_path h is. two_of (ended_path_of actors actor) ended_path (waits_as actors actor kept ended_path h is) none)
 
-unsettled_job : (table : ClassTable) (deed : Option RecordedDeed) (one : RecordedDeed) → deed ≡ Some one → is_unsettled table deed ≡ true → not (is_settled_deed table one) ≡ true
-unsettled_job table deed one is h = subst (λ (d : Option RecordedDeed). is_unsettled table d ≡ true) is h
+unsettled_job : (table : ClassTable) (step : Option RecordedStep) (one : RecordedStep) → step ≡ Some one → is_unsettled table step ≡ true → not (is_settled_step table one) ≡ true
+unsettled_job table step one is h = subst (λ (d : Option RecordedStep). is_unsettled table d ≡ true) is h
 
 -- The job of a submit that is not settled.
-job_there : (table : ClassTable) (path : List RecordedDeed) (place : ℕ) (deed : RecordedDeed) → slice_get path place ≡ Some deed → not (is_settled_deed table deed) ≡ true → (job : ℕ) × (list_any (submits job) path ≡ true) × (is_some (classes_in table job) ≡ false)
+job_there : (table : ClassTable) (path : List RecordedStep) (place : ℕ) (step : RecordedStep) → slice_get path place ≡ Some step → not (is_settled_step table step) ≡ true → (job : ℕ) × (list_any (submits job) path ≡ true) × (is_some (classes_in table job) ≡ false)
 job_there table path place (recorded.Submits job) is h = (job, any_at (submits job) path place (recorded.Submits job) is (same_self job), not_true (is_some (classes_in table job)) h)
 job_there table path place (recorded.Gets got) is h = absurd (cc)
 
@@ -97,17 +97,17 @@ kept_job : (actors : ActorTable) (table : ClassTable) (job : ℕ) → is_some (c
 kept_job actors table job none (inl h) = h
 kept_job actors table job none (inr h) = apart (is_some (classes_in table job)) h none
 
-pub kept_blocked : (plan : Plan) (lines : List RecordedLine) (actors : ActorTable) (table : ClassTable) (actor : RecordedActor) (reached : ℕ) → IsKept plan lines actors table (Some actor) → IsProgressOf actors table actor reached false → IsKept plan lines actors table None
+pub kept_blocked : (plan : Plan) (lines : List RecordedLine) (actors : ActorTable) (table : ClassTable) (actor : RecordedActor) (reached : ℕ) → AreTablesOf plan lines actors table (Some actor) → IsProgressOf actors table actor reached false → AreTablesOf plan lines actors table None
 kept_blocked plan lines actors table actor reached k p = with_blocked plan lines actors table actor k
-    (λ kept waiting h is.
-    let same : p.waiting ≡ waiting = one_of (waiting_of actors actor) p.waiting waiting p.is (waits_as actors actor kept waiting h is) in
-    let w = k.waiting actor kept waiting h is in
-    let low : reached < length waiting.path.items = subst (λ (one : Waiting). reached < length one.path.items) same (p.blocked refl) in
-    let open_there : is_unsettled table (slice_get waiting.path.items reached) ≡ true = subst (λ (one : Waiting). is_unsettled table (slice_get one.path.items reached) ≡ true) same p.there in
-    some_at (slice_get waiting.path.items reached) (there_below waiting.path.items reached low)
-    (λ deed at.
-    let j = job_there table waiting.path.items reached deed at (unsettled_job table (slice_get waiting.path.items reached) deed at open_there) in
-    let all : list_any (submits j.0) (path_of lines actor) ≡ true = subst (λ (path : List RecordedDeed). list_any (submits j.0) path ≡ true) w.path j.1 in
+    (λ kept ended_path h is.
+    let same : p.ended_path ≡ ended_path = one_of (ended_path_of actors actor) p.ended_path ended_path p.is (waits_as actors actor kept ended_path h is) in
+    let w = k.ended_path actor kept ended_path h is in
+    let low : reached < length ended_path.path.items = subst (λ (one : EndedPath). reached < length one.path.items) same (p.blocked refl) in
+    let open_there : is_unsettled table (slice_get ended_path.path.items reached) ≡ true = subst (λ (one : EndedPath). is_unsettled table (slice_get one.path.items reached) ≡ true) same p.there in
+    some_at (slice_get ended_path.path.items reached) (there_below ended_path.path.items reached low)
+    (λ step at.
+    let j = job_there table ended_path.path.items reached step at (unsettled_job table (slice_get ended_path.path.items reached) step at open_there) in
+    let all : list_any (submits j.0) (path_of lines actor) ≡ true = subst (λ (path : List RecordedStep). list_any (submits j.0) path ≡ true) w.path j.1 in
     let split = sym (path_submits lines actor j.0) ∙ all in
     record {
       job = j.0;
@@ -116,18 +116,18 @@ kept_blocked plan lines actors table actor reached k p = with_blocked plan lines
     }))
 
 -- ---- an actor that is ready
-waiting_there : (actors : ActorTable) (actor : RecordedActor) (waiting : Waiting) → (there : Option KeptActor) → in_table actors actor ≡ there → option_and_then (λ (k : KeptActor). k.waiting) there ≡ Some waiting → (kept : KeptActor) × (in_table actors actor ≡ Some kept) × (kept.waiting ≡ Some waiting)
-waiting_there actors actor waiting (Some kept) h is = (kept, h, is)
-waiting_there actors actor waiting None h is = absurd (cc)
+waiting_there : (actors : ActorTable) (actor : RecordedActor) (ended_path : EndedPath) → (there : Option UnsettledActor) → in_table actors actor ≡ there → option_and_then (λ (k : UnsettledActor). k.ended_path) there ≡ Some ended_path → (kept : UnsettledActor) × (in_table actors actor ≡ Some kept) × (kept.ended_path ≡ Some ended_path)
+waiting_there actors actor ended_path (Some kept) h is = (kept, h, is)
+waiting_there actors actor ended_path None h is = absurd (cc)
 
-pub ready_of : (plan : Plan) (lines : List RecordedLine) (actors : ActorTable) (table : ClassTable) (actor : RecordedActor) (reached : ℕ) → IsKept plan lines actors table (Some actor) → IsProgressOf actors table actor reached true → IsReady actors table actor
+pub ready_of : (plan : Plan) (lines : List RecordedLine) (actors : ActorTable) (table : ClassTable) (actor : RecordedActor) (reached : ℕ) → AreTablesOf plan lines actors table (Some actor) → IsProgressOf actors table actor reached true → IsReady actors table actor
 ready_of plan lines actors table actor reached k p =
-    let t = waiting_there actors actor p.waiting (in_table actors actor) refl p.is in
-    let w = k.waiting actor t.0 p.waiting t.1 t.2 in
+    let t = waiting_there actors actor p.ended_path (in_table actors actor) refl p.is in
+    let w = k.ended_path actor t.0 p.ended_path t.1 t.2 in
     record {
       kept = t.0;
-      waiting = p.waiting;
+      ended_path = p.ended_path;
       there = t.1;
       waits = t.2;
-      settled = λ job h. p.front w.front job (subst (λ (path : List RecordedDeed). list_any (submits job) path ≡ true) (sym (take_all reached p.waiting.path.items (p.ready refl))) h);
+      settled = λ job h. p.front w.front job (subst (λ (path : List RecordedStep). list_any (submits job) path ≡ true) (sym (take_all reached p.ended_path.path.items (p.ready refl))) h);
     }

@@ -7,8 +7,8 @@ use Rattle.recordings.specs.RecordingLine.{RecordedLine, RoundBegins, RoundEnds}
 use Rattle.conformance.specs.declared.excess.Excess.{Excess}
 use Rattle.conformance.specs.Rounds.{Rounds, open_rounds, excess_of, IsWithinPlan}
 use Rattle.conformance.specs.RoundExcesses.{kind_of, is_kind, rounds_of, exceeds, has_exceeded, excess_at, excesses_of_kind, excesses_by_line, excesses_by_lines}
-use Rattle.conformance.specs.RoundWatch.{with_ended}
-use Rattle.conformance.specs.WatchLaws.{RoundsAreWithinPlan}
+use Rattle.conformance.specs.RoundComparison.{with_ended}
+use Rattle.conformance.specs.ComparisonLaws.{RoundsAreWithinPlan}
 use Rattle.conformance.proofs.LineByLine.{by_last, nothing_first, nothing_last}
 use Rattle.conformance.proofs.RoundsAfter.{excesses_add_up, exceeded_more, exceeded_none, exceeded_same, rounds_ended, rounds_same, none_within}
 
@@ -28,10 +28,10 @@ within_if_none : (rounds : Rounds) → excess_of rounds ≡ None → IsWithinPla
 within_if_none rounds h =
     let first = neither_branch (nat_lt rounds.count (open_rounds rounds)) _ _ h in
     let second = neither_branch (not rounds.repeat && nat_lt rounds.count rounds.begun) _ _ first.1 in
-    record { at_once = not_above rounds.count (open_rounds rounds) first.0; in_all = in_all_within rounds.repeat rounds.count rounds.begun second.0 }
+    record { concurrent = not_above rounds.count (open_rounds rounds) first.0; in_all = in_all_within rounds.repeat rounds.count rounds.begun second.0 }
 
 still_within : (rounds : Rounds) → IsWithinPlan rounds → IsWithinPlan (with_ended rounds)
-still_within rounds h = let before = h.at_once in record { at_once = omega arith; in_all = h.in_all }
+still_within rounds h = let before = h.concurrent in record { concurrent = omega arith; in_all = h.in_all }
 
 -- ---- line by line
 record IsNever (plan : Plan) (kinds : List (Option ℕ)) (kind : ℕ) (lines : List RecordedLine) : Type 0 where
@@ -42,11 +42,11 @@ is_the_kind : (kind : ℕ) (there : Option ℕ) → is_kind kind there ≡ true 
 is_the_kind kind None h = cc
 is_the_kind kind (Some one) h = ap Some (eqb-true one kind h)
 
-nothing_of_kind : (known told : Bool) (excess : Option Excess) (number kind : ℕ) → known ≡ true → told ≡ false → (if known then option_to_list (option_map (excess_at number kind) (if told then None else excess)) else []) ≡ [] → excess ≡ None
+nothing_of_kind : (known reported : Bool) (excess : Option Excess) (number kind : ℕ) → known ≡ true → reported ≡ false → (if known then option_to_list (option_map (excess_at number kind) (if reported then None else excess)) else []) ≡ [] → excess ≡ None
 nothing_of_kind true false None number kind k t h = refl
 nothing_of_kind true false (Some excess) number kind k t h = cc
 nothing_of_kind true true excess number kind k t h = cc
-nothing_of_kind false told excess number kind k t h = cc
+nothing_of_kind false reported excess number kind k t h = cc
 
 neither : (a b : Bool) → a ≡ false → b ≡ false → (a || b) ≡ false
 neither a b g h = grind (arith, g, h)
@@ -58,8 +58,8 @@ begin_never : (plan : Plan) (kinds : List (Option ℕ)) (kind : ℕ) (before : L
     → excesses_by_line plan kinds before number (RoundBegins round name) ≡ [] → IsNever plan kinds kind (before ++ RoundBegins round name ∷ [])
 begin_never plan kinds kind before number round name true known is never nothing =
     let line = RoundBegins round name in
-    let told : excesses_of_kind plan kinds before number line (Some kind) ≡ [] = ap (excesses_of_kind plan kinds before number line) (sym (is_the_kind kind (kind_of kinds round) is)) ∙ nothing in
-    let none : excess_of (rounds_of plan kinds (before ++ line ∷ []) kind) ≡ None = nothing_of_kind (nat_lt kind (length plan.clients)) (has_exceeded plan kinds before kind) _ number kind (lt-ltb _ _ known) never.fresh told in
+    let reported : excesses_of_kind plan kinds before number line (Some kind) ≡ [] = ap (excesses_of_kind plan kinds before number line) (sym (is_the_kind kind (kind_of kinds round) is)) ∙ nothing in
+    let none : excess_of (rounds_of plan kinds (before ++ line ∷ []) kind) ≡ None = nothing_of_kind (nat_lt kind (length plan.clients)) (has_exceeded plan kinds before kind) _ number kind (lt-ltb _ _ known) never.fresh reported in
     record {
       fresh =
           exceeded_more plan kinds before line kind
@@ -96,11 +96,11 @@ never plan kinds kind known =
     let both = sym (excesses_add_up plan kinds before line) ∙ nothing in
     line_never plan kinds kind before (length before + 1) line known (h (nothing_first (excesses_by_lines plan kinds before) _ both)) (nothing_last (excesses_by_lines plan kinds before) _ both))
 
-nothing_before : (plan : Plan) (kinds : List (Option ℕ)) (before behind : List RecordedLine) → excesses_by_lines plan kinds (before ++ behind) ≡ [] → excesses_by_lines plan kinds before ≡ []
+nothing_before : (plan : Plan) (kinds : List (Option ℕ)) (before after : List RecordedLine) → excesses_by_lines plan kinds (before ++ after) ≡ [] → excesses_by_lines plan kinds before ≡ []
 nothing_before plan kinds before [] h = subst (λ lines. excesses_by_lines plan kinds lines ≡ []) (append-nil before) h
-nothing_before plan kinds before (line ∷ behind) h =
-    let more = nothing_before plan kinds (before ++ line ∷ []) behind (subst (λ lines. excesses_by_lines plan kinds lines ≡ []) (sym (append_assoc before (line ∷ []) behind)) h) in
+nothing_before plan kinds before (line ∷ after) h =
+    let more = nothing_before plan kinds (before ++ line ∷ []) after (subst (λ lines. excesses_by_lines plan kinds lines ≡ []) (sym (append_assoc before (line ∷ []) after)) h) in
     nothing_first (excesses_by_lines plan kinds before) _ (sym (excesses_add_up plan kinds before line) ∙ more)
 
 pub rounds_are_within_plan : RoundsAreWithinPlan
-rounds_are_within_plan plan kinds before behind nothing kind known = (never plan kinds kind known before (nothing_before plan kinds before behind nothing)).within
+rounds_are_within_plan plan kinds before after nothing kind known = (never plan kinds kind known before (nothing_before plan kinds before after nothing)).within

@@ -4,177 +4,177 @@ use Rattle.std.proofs.lemmas.Bool.{cases_lt}
 use Rattle.std.specs.Prelude.{Option, None, Some, ⊤, slice_get}
 use Rattle.job_bodies.specs.declared.action.Action.{Action}
 use Rattle.job_bodies.specs.declared.action.Action.TheVariants as action
-use Rattle.conformance.specs.declared.deed.Deed.{Deed}
-use Rattle.conformance.specs.declared.deed.Course.{Course}
-use Rattle.conformance.specs.declared.deed.Course.TheVariants.{Whole, Begun}
-use Rattle.conformance.specs.declared.answer.PathFit.{PathFit}
-use Rattle.conformance.specs.declared.answer.PathFit.TheVariants.{Fits, Deviates, Undecided}
-use Rattle.conformance.specs.declared.way.Way.{Way}
-use Rattle.conformance.specs.declared.way.Way.TheVariants as way
-use Rattle.conformance.specs.Answer.{or_explained}
-use Rattle.conformance.specs.Way.{place_of, way_of_got, way_on}
-use Rattle.conformance.specs.Walk.{ends, ByWay, Walks, IsFurthest, IsToldOfWalk}
+use Rattle.conformance.specs.declared.step.PathStep.{PathStep}
+use Rattle.conformance.specs.declared.step.PathState.{PathState}
+use Rattle.conformance.specs.declared.step.PathState.TheVariants.{Whole, Prefix}
+use Rattle.conformance.specs.declared.path_match.PathMatch.{PathMatch}
+use Rattle.conformance.specs.declared.path_match.PathMatch.TheVariants.{Fits, Deviates, Undecided}
+use Rattle.conformance.specs.declared.continuation.Continuation.{Continuation}
+use Rattle.conformance.specs.declared.continuation.Continuation.TheVariants as continuation
+use Rattle.conformance.specs.PathMatch.{with_explained}
+use Rattle.conformance.specs.Continuation.{place_of, continuation_of_get, next_continuation}
+use Rattle.conformance.specs.Walk.{ends, ByContinuation, Walks, IsFurthest, IsWalkResult}
 
-abbrev pub Places : Type 0
-Places = List (Option ℕ)
+abbrev pub SubmitIndices : Type 0
+SubmitIndices = List (Option ℕ)
 
 -- What follows an action, by the way to continue.
-abbrev pub Follows : Course → Places → List Action → ℕ → List Deed → Way → Type 0
-Follows course places actions place deeds w = ByWay w
-    (Walks course (places ++ None ∷ []) actions place deeds)
-    (Walks course (places ++ None ∷ []) actions (place + 1) (drop 1 deeds))
-    (Walks course (places ++ Some place ∷ []) actions (place + 1) (drop 1 deeds))
+abbrev pub AppliedLine : PathState → SubmitIndices → List Action → ℕ → List PathStep → Continuation → Type 0
+AppliedLine path_state places actions place steps w = ByContinuation w
+    (Walks path_state (places ++ None ∷ []) actions place steps)
+    (Walks path_state (places ++ None ∷ []) actions (place + 1) (drop 1 steps))
+    (Walks path_state (places ++ Some place ∷ []) actions (place + 1) (drop 1 steps))
 
-pub walks_by : (course : Course) (places : Places) (a : Action) (actions : List Action) (place : ℕ) (deeds : List Deed) → ends course deeds ≡ false → Follows course places actions place deeds (way_on places a (slice_get deeds 0)) → Walks course places (a ∷ actions) place deeds
-walks_by course places a actions place deeds e follows = rw e follows
+pub walks_by : (path_state : PathState) (places : SubmitIndices) (a : Action) (actions : List Action) (place : ℕ) (steps : List PathStep) → ends path_state steps ≡ false → AppliedLine path_state places actions place steps (next_continuation places a (slice_get steps 0)) → Walks path_state places (a ∷ actions) place steps
+walks_by path_state places a actions place steps e follows = rw e follows
 
-pub follows_by : (course : Course) (places : Places) (a : Action) (actions : List Action) (place : ℕ) (deeds : List Deed) → ends course deeds ≡ false → Walks course places (a ∷ actions) place deeds → Follows course places actions place deeds (way_on places a (slice_get deeds 0))
-follows_by course places a actions place deeds e walks = rw e at walks
+pub follows_by : (path_state : PathState) (places : SubmitIndices) (a : Action) (actions : List Action) (place : ℕ) (steps : List PathStep) → ends path_state steps ≡ false → Walks path_state places (a ∷ actions) place steps → AppliedLine path_state places actions place steps (next_continuation places a (slice_get steps 0))
+follows_by path_state places a actions place steps e walks = rw e at walks
 
 -- The same, if the way to continue is known.
-pub walks_along : (course : Course) (places : Places) (a : Action) (actions : List Action) (place : ℕ) (deeds : List Deed) (w : Way) → ends course deeds ≡ false → way_on places a (slice_get deeds 0) ≡ w → Follows course places actions place deeds w → Walks course places (a ∷ actions) place deeds
-walks_along course places a actions place deeds w e is follows = walks_by course places a actions place deeds e (subst (λ (v : Way). Follows course places actions place deeds v) (sym is) follows)
+pub walks_along : (path_state : PathState) (places : SubmitIndices) (a : Action) (actions : List Action) (place : ℕ) (steps : List PathStep) (w : Continuation) → ends path_state steps ≡ false → next_continuation places a (slice_get steps 0) ≡ w → AppliedLine path_state places actions place steps w → Walks path_state places (a ∷ actions) place steps
+walks_along path_state places a actions place steps w e is follows = walks_by path_state places a actions place steps e (subst (λ (v : Continuation). AppliedLine path_state places actions place steps v) (sym is) follows)
 
-pub follows_along : (course : Course) (places : Places) (a : Action) (actions : List Action) (place : ℕ) (deeds : List Deed) (w : Way) → ends course deeds ≡ false → way_on places a (slice_get deeds 0) ≡ w → Walks course places (a ∷ actions) place deeds → Follows course places actions place deeds w
-follows_along course places a actions place deeds w e is walks = subst (λ (v : Way). Follows course places actions place deeds v) is (follows_by course places a actions place deeds e walks)
+pub follows_along : (path_state : PathState) (places : SubmitIndices) (a : Action) (actions : List Action) (place : ℕ) (steps : List PathStep) (w : Continuation) → ends path_state steps ≡ false → next_continuation places a (slice_get steps 0) ≡ w → Walks path_state places (a ∷ actions) place steps → AppliedLine path_state places actions place steps w
+follows_along path_state places a actions place steps w e is walks = subst (λ (v : Continuation). AppliedLine path_state places actions place steps v) is (follows_by path_state places a actions place steps e walks)
 
-pub ends_not : (course : Course) (deed : Deed) (deeds : List Deed) → ends course (deed ∷ deeds) ≡ false
-ends_not Whole deed deeds = refl
-ends_not Begun deed deeds = refl
+pub ends_not : (path_state : PathState) (step : PathStep) (steps : List PathStep) → ends path_state (step ∷ steps) ≡ false
+ends_not Whole step steps = refl
+ends_not Prefix step steps = refl
 
 -- A search succeeds at the end of the path of an actor that may continue.
-pub walks_begun : (places : Places) (actions : List Action) (place : ℕ) → Walks Begun places actions place []
+pub walks_begun : (places : SubmitIndices) (actions : List Action) (place : ℕ) → Walks Prefix places actions place []
 walks_begun places [] place = refl
 walks_begun places (a ∷ actions) place = tt
 
 -- ---- ways to continue when no step is left
-abbrev pub IsWithoutDeed : Way → Type 0
-IsWithoutDeed way.Stops = ⊤
-IsWithoutDeed way.Passes = ⊤
-IsWithoutDeed way.Gets = ⊥
-IsWithoutDeed way.SubmitsOrPasses = ⊥
+abbrev pub IsWithoutStep : Continuation → Type 0
+IsWithoutStep continuation.Stops = ⊤
+IsWithoutStep continuation.Passes = ⊤
+IsWithoutStep continuation.Gets = ⊥
+IsWithoutStep continuation.SubmitsOrPasses = ⊥
 
-without_deed_got : (o : Option ℕ) → IsWithoutDeed (way_of_got o None)
-without_deed_got None = tt
-without_deed_got (Some place) = tt
+without_step_got : (o : Option ℕ) → IsWithoutStep (continuation_of_get o None)
+without_step_got None = tt
+without_step_got (Some place) = tt
 
-pub without_deed : (places : Places) (a : Action) → IsWithoutDeed (way_on places a None)
-without_deed places (action.Work units) = tt
-without_deed places (action.Submit class) = tt
-without_deed places (action.Get submit) = without_deed_got (place_of places submit)
+pub without_step : (places : SubmitIndices) (a : Action) → IsWithoutStep (next_continuation places a None)
+without_step places (action.Work units) = tt
+without_step places (action.Submit class) = tt
+without_step places (action.Get submit) = without_step_got (place_of places submit)
 
 -- ---- the end of the body
-pub told_end : (course : Course) (places : Places) (place : ℕ) (deeds : List Deed) → deeds ≡ [] → IsToldOfWalk course places [] place deeds Fits
-told_end course places place deeds e = e
+pub reported_end : (path_state : PathState) (places : SubmitIndices) (place : ℕ) (steps : List PathStep) → steps ≡ [] → IsWalkResult path_state places [] place steps Fits
+reported_end path_state places place steps e = e
 
-pub told_behind_end : (course : Course) (places : Places) (place : ℕ) (deeds : List Deed) → 0 < length deeds → IsToldOfWalk course places [] place deeds (Deviates place)
-told_behind_end course places place [] l = absurd (omega arith)
-told_behind_end course places place (deed ∷ deeds) l = (
+pub reported_after_end : (path_state : PathState) (places : SubmitIndices) (place : ℕ) (steps : List PathStep) → 0 < length steps → IsWalkResult path_state places [] place steps (Deviates place)
+reported_after_end path_state places place [] l = absurd (omega arith)
+reported_after_end path_state places place (step ∷ steps) l = (
   λ e. cc,
   record {
-    behind = omega arith;
+    after = omega arith;
     within = omega arith;
     front = let e : place - place ≡ 0 = omega arith in rw e refl;
-    longest = λ more within front. elim more as (λ m. (Walks Begun places [] place (take m (deed ∷ deeds)) → place + m ≤ place)) [ zero ↦ λ _. omega arith | suc k ↦ λ e. cc ] front;
+    longest = λ more within front. elim more as (λ m. (Walks Prefix places [] place (take m (step ∷ steps)) → place + m ≤ place)) [ zero ↦ λ _. omega arith | suc k ↦ λ e. cc ] front;
   },
 )
 
 -- ---- the next step does not match
-pub told_stops : (course : Course) (places : Places) (a : Action) (actions : List Action) (place : ℕ) (deeds : List Deed) → ends course deeds ≡ false → way_on places a (slice_get deeds 0) ≡ way.Stops → IsToldOfWalk course places (a ∷ actions) place deeds (Deviates place)
-told_stops course places a actions place deeds e is = (
-  λ walks. follows_along course places a actions place deeds way.Stops e is walks,
+pub reported_stops : (path_state : PathState) (places : SubmitIndices) (a : Action) (actions : List Action) (place : ℕ) (steps : List PathStep) → ends path_state steps ≡ false → next_continuation places a (slice_get steps 0) ≡ continuation.Stops → IsWalkResult path_state places (a ∷ actions) place steps (Deviates place)
+reported_stops path_state places a actions place steps e is = (
+  λ walks. follows_along path_state places a actions place steps continuation.Stops e is walks,
   record {
-    behind = omega arith;
+    after = omega arith;
     within = omega arith;
     front = let e : place - place ≡ 0 = omega arith in rw e tt;
-    longest = longest deeds is;
+    longest = longest steps is;
   },
 ) where
-  longest : (deeds : List Deed) → way_on places a (slice_get deeds 0) ≡ way.Stops → (more : ℕ) → more ≤ length deeds → Walks Begun places (a ∷ actions) place (take more deeds) → place + more ≤ place
-  longest deeds is zero within walks = omega arith
+  longest : (steps : List PathStep) → next_continuation places a (slice_get steps 0) ≡ continuation.Stops → (more : ℕ) → more ≤ length steps → Walks Prefix places (a ∷ actions) place (take more steps) → place + more ≤ place
+  longest steps is zero within walks = omega arith
   longest [] is (suc k) within walks = absurd (omega arith)
-  longest (deed ∷ deeds) is (suc k) within walks = absurd (follows_along Begun places a actions place (deed ∷ take k deeds) way.Stops refl is walks)
+  longest (step ∷ steps) is (suc k) within walks = absurd (follows_along Prefix places a actions place (step ∷ take k steps) continuation.Stops refl is walks)
 
 -- ---- the action is skipped
-passes_front : (places : Places) (a : Action) (actions : List Action) (place : ℕ) (deeds : List Deed) → way_on places a (slice_get deeds 0) ≡ way.Passes → (m : ℕ) → Walks Begun (places ++ None ∷ []) actions place (take m deeds) → Walks Begun places (a ∷ actions) place (take m deeds)
-passes_front places a actions place deeds is zero walks = tt
+passes_front : (places : SubmitIndices) (a : Action) (actions : List Action) (place : ℕ) (steps : List PathStep) → next_continuation places a (slice_get steps 0) ≡ continuation.Passes → (m : ℕ) → Walks Prefix (places ++ None ∷ []) actions place (take m steps) → Walks Prefix places (a ∷ actions) place (take m steps)
+passes_front places a actions place steps is zero walks = tt
 passes_front places a actions place [] is (suc k) walks = tt
-passes_front places a actions place (deed ∷ deeds) is (suc k) walks = walks_along Begun places a actions place (deed ∷ take k deeds) way.Passes refl is walks
+passes_front places a actions place (step ∷ steps) is (suc k) walks = walks_along Prefix places a actions place (step ∷ take k steps) continuation.Passes refl is walks
 
-passes_longest : (places : Places) (a : Action) (actions : List Action) (place : ℕ) (deeds : List Deed) (furthest : ℕ) → way_on places a (slice_get deeds 0) ≡ way.Passes → IsFurthest (places ++ None ∷ []) actions place deeds furthest → (m : ℕ) → m ≤ length deeds → Walks Begun places (a ∷ actions) place (take m deeds) → place + m ≤ furthest
-passes_longest places a actions place deeds furthest is f zero within walks = omega (arith, f.behind)
+passes_longest : (places : SubmitIndices) (a : Action) (actions : List Action) (place : ℕ) (steps : List PathStep) (furthest : ℕ) → next_continuation places a (slice_get steps 0) ≡ continuation.Passes → IsFurthest (places ++ None ∷ []) actions place steps furthest → (m : ℕ) → m ≤ length steps → Walks Prefix places (a ∷ actions) place (take m steps) → place + m ≤ furthest
+passes_longest places a actions place steps furthest is f zero within walks = omega (arith, f.after)
 passes_longest places a actions place [] furthest is f (suc k) within walks = absurd (omega arith)
-passes_longest places a actions place (deed ∷ deeds) furthest is f (suc k) within walks = f.longest (suc k) within (follows_along Begun places a actions place (deed ∷ take k deeds) way.Passes refl is walks)
+passes_longest places a actions place (step ∷ steps) furthest is f (suc k) within walks = f.longest (suc k) within (follows_along Prefix places a actions place (step ∷ take k steps) continuation.Passes refl is walks)
 
-pub told_passes : (course : Course) (places : Places) (a : Action) (actions : List Action) (place : ℕ) (deeds : List Deed) (r : PathFit) → ends course deeds ≡ false → way_on places a (slice_get deeds 0) ≡ way.Passes → IsToldOfWalk course (places ++ None ∷ []) actions place deeds r → IsToldOfWalk course places (a ∷ actions) place deeds r
-told_passes course places a actions place deeds Fits e is told = walks_along course places a actions place deeds way.Passes e is told
-told_passes course places a actions place deeds Undecided e is told = tt
-told_passes course places a actions place deeds (Deviates furthest) e is told = (
-  λ walks. told.0 (follows_along course places a actions place deeds way.Passes e is walks),
+pub reported_passes : (path_state : PathState) (places : SubmitIndices) (a : Action) (actions : List Action) (place : ℕ) (steps : List PathStep) (r : PathMatch) → ends path_state steps ≡ false → next_continuation places a (slice_get steps 0) ≡ continuation.Passes → IsWalkResult path_state (places ++ None ∷ []) actions place steps r → IsWalkResult path_state places (a ∷ actions) place steps r
+reported_passes path_state places a actions place steps Fits e is reported = walks_along path_state places a actions place steps continuation.Passes e is reported
+reported_passes path_state places a actions place steps Undecided e is reported = tt
+reported_passes path_state places a actions place steps (Deviates furthest) e is reported = (
+  λ walks. reported.0 (follows_along path_state places a actions place steps continuation.Passes e is walks),
   record {
-    behind = told.1.behind;
-    within = told.1.within;
-    front = passes_front places a actions place deeds is (furthest - place) told.1.front;
-    longest = passes_longest places a actions place deeds furthest is told.1;
+    after = reported.1.after;
+    within = reported.1.within;
+    front = passes_front places a actions place steps is (furthest - place) reported.1.front;
+    longest = passes_longest places a actions place steps furthest is reported.1;
   },
 )
 
 -- ---- the next step is the get
 -- The prefix of the steps up to an index after the next one.
-take_behind : (place furthest : ℕ) (deed : Deed) (deeds : List Deed) → place + 1 ≤ furthest → take (furthest - place) (deed ∷ deeds) ≡ deed ∷ take (furthest - (place + 1)) deeds
-take_behind place furthest deed deeds l = let e : furthest - place ≡ suc (furthest - (place + 1)) = omega arith in rw e refl
+take_after : (place furthest : ℕ) (step : PathStep) (steps : List PathStep) → place + 1 ≤ furthest → take (furthest - place) (step ∷ steps) ≡ step ∷ take (furthest - (place + 1)) steps
+take_after place furthest step steps l = let e : furthest - place ≡ suc (furthest - (place + 1)) = omega arith in rw e refl
 
-pub told_gets : (course : Course) (places : Places) (a : Action) (actions : List Action) (place : ℕ) (deeds : List Deed) (r : PathFit) → way_on places a (slice_get deeds 0) ≡ way.Gets → IsToldOfWalk course (places ++ None ∷ []) actions (place + 1) (drop 1 deeds) r → IsToldOfWalk course places (a ∷ actions) place deeds r
-told_gets course places a actions place [] r is told = absurd (subst IsWithoutDeed is (without_deed places a))
-told_gets course places a actions place (deed ∷ deeds) Fits is told = walks_along course places a actions place (deed ∷ deeds) way.Gets (ends_not course deed deeds) is told
-told_gets course places a actions place (deed ∷ deeds) Undecided is told = tt
-told_gets course places a actions place (deed ∷ deeds) (Deviates furthest) is told = (
-  λ walks. told.0 (follows_along course places a actions place (deed ∷ deeds) way.Gets (ends_not course deed deeds) is walks),
+pub reported_gets : (path_state : PathState) (places : SubmitIndices) (a : Action) (actions : List Action) (place : ℕ) (steps : List PathStep) (r : PathMatch) → next_continuation places a (slice_get steps 0) ≡ continuation.Gets → IsWalkResult path_state (places ++ None ∷ []) actions (place + 1) (drop 1 steps) r → IsWalkResult path_state places (a ∷ actions) place steps r
+reported_gets path_state places a actions place [] r is reported = absurd (subst IsWithoutStep is (without_step places a))
+reported_gets path_state places a actions place (step ∷ steps) Fits is reported = walks_along path_state places a actions place (step ∷ steps) continuation.Gets (ends_not path_state step steps) is reported
+reported_gets path_state places a actions place (step ∷ steps) Undecided is reported = tt
+reported_gets path_state places a actions place (step ∷ steps) (Deviates furthest) is reported = (
+  λ walks. reported.0 (follows_along path_state places a actions place (step ∷ steps) continuation.Gets (ends_not path_state step steps) is walks),
   record {
-    behind = omega (arith, told.1.behind);
-    within = omega (arith, told.1.within);
-    front = rw (take_behind place furthest deed deeds told.1.behind) (walks_along Begun places a actions place (deed ∷ take (furthest - (place + 1)) deeds) way.Gets refl is told.1.front);
+    after = omega (arith, reported.1.after);
+    within = omega (arith, reported.1.within);
+    front = rw (take_after place furthest step steps reported.1.after) (walks_along Prefix places a actions place (step ∷ take (furthest - (place + 1)) steps) continuation.Gets refl is reported.1.front);
     longest = longest;
   },
 ) where
-  longest : (more : ℕ) → more ≤ length (deed ∷ deeds) → Walks Begun places (a ∷ actions) place (take more (deed ∷ deeds)) → place + more ≤ furthest
-  longest zero within walks = omega (arith, told.1.behind)
-  longest (suc k) within walks = omega (arith, told.1.longest k (omega arith) (follows_along Begun places a actions place (deed ∷ take k deeds) way.Gets refl is walks))
+  longest : (more : ℕ) → more ≤ length (step ∷ steps) → Walks Prefix places (a ∷ actions) place (take more (step ∷ steps)) → place + more ≤ furthest
+  longest zero within walks = omega (arith, reported.1.after)
+  longest (suc k) within walks = omega (arith, reported.1.longest k (omega arith) (follows_along Prefix places a actions place (step ∷ take k steps) continuation.Gets refl is walks))
 
 -- ---- the next step is the submit
-pub told_submits : (course : Course) (places : Places) (a : Action) (actions : List Action) (place : ℕ) (deeds : List Deed) → way_on places a (slice_get deeds 0) ≡ way.SubmitsOrPasses → Walks course (places ++ Some place ∷ []) actions (place + 1) (drop 1 deeds) → Walks course places (a ∷ actions) place deeds
-told_submits course places a actions place [] is walks = absurd (subst IsWithoutDeed is (without_deed places a))
-told_submits course places a actions place (deed ∷ deeds) is walks = walks_along course places a actions place (deed ∷ deeds) way.SubmitsOrPasses (ends_not course deed deeds) is (inl walks)
+pub reported_submits : (path_state : PathState) (places : SubmitIndices) (a : Action) (actions : List Action) (place : ℕ) (steps : List PathStep) → next_continuation places a (slice_get steps 0) ≡ continuation.SubmitsOrPasses → Walks path_state (places ++ Some place ∷ []) actions (place + 1) (drop 1 steps) → Walks path_state places (a ∷ actions) place steps
+reported_submits path_state places a actions place [] is walks = absurd (subst IsWithoutStep is (without_step places a))
+reported_submits path_state places a actions place (step ∷ steps) is walks = walks_along path_state places a actions place (step ∷ steps) continuation.SubmitsOrPasses (ends_not path_state step steps) is (inl walks)
 
 max_cases : (m n : ℕ) → (max m n ≡ m) ⊎ (max m n ≡ n)
 max_cases m n = elim (cases_lt m n) [ inl l ↦ inr (omega arith) | inr l ↦ inl (omega arith) ]
 
-pub told_either : (course : Course) (places : Places) (a : Action) (actions : List Action) (place : ℕ) (deeds : List Deed) (submitted : ℕ) (r : PathFit) → way_on places a (slice_get deeds 0) ≡ way.SubmitsOrPasses → IsToldOfWalk course (places ++ Some place ∷ []) actions (place + 1) (drop 1 deeds) (Deviates submitted) → IsToldOfWalk course (places ++ None ∷ []) actions place deeds r → IsToldOfWalk course places (a ∷ actions) place deeds (or_explained r submitted)
-told_either course places a actions place [] submitted r is told passed = absurd (subst IsWithoutDeed is (without_deed places a))
-told_either course places a actions place (deed ∷ deeds) submitted Fits is told passed = walks_along course places a actions place (deed ∷ deeds) way.SubmitsOrPasses (ends_not course deed deeds) is (inr passed)
-told_either course places a actions place (deed ∷ deeds) submitted Undecided is told passed = tt
-told_either course places a actions place (deed ∷ deeds) submitted (Deviates furthest) is told passed = (
-  λ walks. elim (follows_along course places a actions place (deed ∷ deeds) way.SubmitsOrPasses (ends_not course deed deeds) is walks) [ inl w ↦ told.0 w | inr w ↦ passed.0 w ],
+pub reported_either : (path_state : PathState) (places : SubmitIndices) (a : Action) (actions : List Action) (place : ℕ) (steps : List PathStep) (submitted : ℕ) (r : PathMatch) → next_continuation places a (slice_get steps 0) ≡ continuation.SubmitsOrPasses → IsWalkResult path_state (places ++ Some place ∷ []) actions (place + 1) (drop 1 steps) (Deviates submitted) → IsWalkResult path_state (places ++ None ∷ []) actions place steps r → IsWalkResult path_state places (a ∷ actions) place steps (with_explained r submitted)
+reported_either path_state places a actions place [] submitted r is reported passed = absurd (subst IsWithoutStep is (without_step places a))
+reported_either path_state places a actions place (step ∷ steps) submitted Fits is reported passed = walks_along path_state places a actions place (step ∷ steps) continuation.SubmitsOrPasses (ends_not path_state step steps) is (inr passed)
+reported_either path_state places a actions place (step ∷ steps) submitted Undecided is reported passed = tt
+reported_either path_state places a actions place (step ∷ steps) submitted (Deviates furthest) is reported passed = (
+  λ walks. elim (follows_along path_state places a actions place (step ∷ steps) continuation.SubmitsOrPasses (ends_not path_state step steps) is walks) [ inl w ↦ reported.0 w | inr w ↦ passed.0 w ],
   record {
-    behind = omega (arith, passed.1.behind);
-    within = omega (arith, passed.1.within, told.1.within);
+    after = omega (arith, passed.1.after);
+    within = omega (arith, passed.1.within, reported.1.within);
     front = elim (max_cases furthest submitted) [ inl e ↦ rw e by_passing | inr e ↦ rw e by_submitting ];
     longest = longest;
   },
 ) where
-  by_submitting : Walks Begun places (a ∷ actions) place (take (submitted - place) (deed ∷ deeds))
-  by_submitting = rw (take_behind place submitted deed deeds told.1.behind) (walks_along Begun places a actions place (deed ∷ take (submitted - (place + 1)) deeds) way.SubmitsOrPasses refl is (inl told.1.front))
+  by_submitting : Walks Prefix places (a ∷ actions) place (take (submitted - place) (step ∷ steps))
+  by_submitting = rw (take_after place submitted step steps reported.1.after) (walks_along Prefix places a actions place (step ∷ take (submitted - (place + 1)) steps) continuation.SubmitsOrPasses refl is (inl reported.1.front))
 
-  either_front : (m : ℕ) → Walks Begun (places ++ None ∷ []) actions place (take m (deed ∷ deeds)) → Walks Begun places (a ∷ actions) place (take m (deed ∷ deeds))
+  either_front : (m : ℕ) → Walks Prefix (places ++ None ∷ []) actions place (take m (step ∷ steps)) → Walks Prefix places (a ∷ actions) place (take m (step ∷ steps))
   either_front zero walks = tt
-  either_front (suc k) walks = walks_along Begun places a actions place (deed ∷ take k deeds) way.SubmitsOrPasses refl is (inr walks)
+  either_front (suc k) walks = walks_along Prefix places a actions place (step ∷ take k steps) continuation.SubmitsOrPasses refl is (inr walks)
 
-  by_passing : Walks Begun places (a ∷ actions) place (take (furthest - place) (deed ∷ deeds))
+  by_passing : Walks Prefix places (a ∷ actions) place (take (furthest - place) (step ∷ steps))
   by_passing = either_front (furthest - place) passed.1.front
 
-  longest : (more : ℕ) → more ≤ length (deed ∷ deeds) → Walks Begun places (a ∷ actions) place (take more (deed ∷ deeds)) → place + more ≤ max furthest submitted
-  longest zero within walks = omega (arith, passed.1.behind)
-  longest (suc k) within walks = elim (follows_along Begun places a actions place (deed ∷ take k deeds) way.SubmitsOrPasses refl is walks) [
-    | inl w ↦ omega (arith, told.1.longest k (omega arith) w)
+  longest : (more : ℕ) → more ≤ length (step ∷ steps) → Walks Prefix places (a ∷ actions) place (take more (step ∷ steps)) → place + more ≤ max furthest submitted
+  longest zero within walks = omega (arith, passed.1.after)
+  longest (suc k) within walks = elim (follows_along Prefix places a actions place (step ∷ take k steps) continuation.SubmitsOrPasses refl is walks) [
+    | inl w ↦ omega (arith, reported.1.longest k (omega arith) w)
     | inr w ↦ omega (arith, passed.1.longest (suc k) within w)
   ]

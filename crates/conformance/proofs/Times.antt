@@ -28,9 +28,9 @@ none_counted test (x ∷ xs) none =
     omega (arith, count_head test x xs, first, none_counted test xs both.1)
 
 -- ---- at most one
-once_if : (passes : Bool) (before after : ℕ) → before ≤ 1 → (passes ≡ true → before ≡ 0) → after ≡ before + cond passes 1 0 → after ≤ 1
-once_if true before after few none is = omega (arith, none refl, is)
-once_if false before after few none is = omega (arith, few, is)
+once_if : (passes : Bool) (before later : ℕ) → before ≤ 1 → (passes ≡ true → before ≡ 0) → later ≡ before + cond passes 1 0 → later ≤ 1
+once_if true before later few none is = omega (arith, none refl, is)
+once_if false before later few none is = omega (arith, few, is)
 
 -- One more element, if no earlier one passes whenever it does.
 pub once_more : {X : Type 0} (test : X → Bool) (xs : List X) (x : X) → count_by test xs ≤ 1 → (test x ≡ true → list_any test xs ≡ false) → count_by test (xs ++ x ∷ []) ≤ 1

@@ -7,9 +7,9 @@ use Rattle.std.proofs.lemmas.List.FromFn.{get_or-enumerate_from, length-enumerat
 use Rattle.job_bodies.specs.Plan.{Plan, Pool}
 use Rattle.recordings.specs.RecordingLine.{RecordedLine}
 use Rattle.recordings.specs.Before.{has_pool, is_closed}
-use Rattle.conformance.specs.declared.pool_watch.PoolWatch.{PoolWatch}
+use Rattle.conformance.specs.declared.pool_comparison.PoolComparison.{PoolComparison}
 use Rattle.conformance.specs.PoolDeviations.{Deviation, NotRecorded, unrecorded_at, unrecorded_by, unrecorded, deviations_at_end}
-use Rattle.conformance.specs.PoolWatch.{has_name, IsPoolWatchOf}
+use Rattle.conformance.specs.PoolComparison.{has_name, IsPoolComparisonOf}
 use Rattle.conformance.proofs.LineByLine.{filter_map_more}
 
 none_before : (n : ℕ) → 0 + n ≡ n
@@ -42,9 +42,9 @@ written : (plan : Plan) (lines : List RecordedLine) → unrecorded_by (has_pool 
 unfolding unrecorded
 written plan lines = refl
 
-closed_tells : (closed : Bool) (told : List Deviation) → closed ≡ true → told ≡ (if closed then told else [])
-closed_tells closed told h = ap (λ (b : Bool). if b then told else []) (sym h)
+closed_tells : (closed : Bool) (reported : List Deviation) → closed ≡ true → reported ≡ (if closed then reported else [])
+closed_tells closed reported h = ap (λ (b : Bool). if b then reported else []) (sym h)
 
-pub told_at_end : (plan : Plan) (watch : PoolWatch) (lines : List RecordedLine) → IsPoolWatchOf plan watch lines → watch.closed ≡ true → unrecorded_by (has_name watch.named) plan ≡ deviations_at_end plan lines
-told_at_end plan watch lines stands closed =
-    by_name (has_name watch.named) (has_pool lines) stands.named 0 plan.pools ∙ (written plan lines ∙ closed_tells (is_closed lines) (unrecorded plan lines) (sym stands.closed ∙ closed))
+pub reported_at_end : (plan : Plan) (comparison_state : PoolComparison) (lines : List RecordedLine) → IsPoolComparisonOf plan comparison_state lines → comparison_state.closed ≡ true → unrecorded_by (has_name comparison_state.named) plan ≡ deviations_at_end plan lines
+reported_at_end plan comparison_state lines represents closed =
+    by_name (has_name comparison_state.named) (has_pool lines) represents.named 0 plan.pools ∙ (written plan lines ∙ closed_tells (is_closed lines) (unrecorded plan lines) (sym represents.closed ∙ closed))

@@ -45,8 +45,8 @@ or_right true b h = refl
 or_right false b h = h
 
 pub or_either : (a b : Bool) {P : Type 0} → (a || b) ≡ true → (a ≡ true → P) → (b ≡ true → P) → P
-or_either true b h left right = left refl
-or_either false b h left right = right h
+or_either true b h remaining right = remaining refl
+or_either false b h remaining right = right h
 
 pub if_true : {X : Type 0} (b : Bool) (x y : X) → b ≡ true → (if b then x else y) ≡ x
 if_true b x y h = ap (λ (c : Bool). if c then x else y) h

@@ -3,13 +3,13 @@ use Rattle.std.specs.Prelude.{◌≡◌, ◌<◌, ◌++◌, ◌∷◌, ℕ, Bool
 use Rattle.recordings.specs.declared.pool_sizes.PoolSizes.{PoolSizes}
 use Rattle.recordings.specs.RecordingLine.{RecordedLine, Pool, Refused, Cancels, InvokesAny, Removed, JobThrew, Unseen}
 use Rattle.recordings.specs.Before.{has_pool, is_closed, is_begun}
-use Rattle.recordings.specs.LineDeeds.{is_submitted}
+use Rattle.recordings.specs.LineSteps.{is_submitted}
 use Rattle.job_bodies.specs.Plan.{Plan, pool_at}
 use Rattle.conformance.specs.Classes.{AreClassesOf, AreKindsOf}
 use Rattle.recordings.specs.ForeignGets.{first_foreign_get}
 use Rattle.conformance.specs.Rounds.{IsWithinPlan}
 use Rattle.conformance.specs.RoundExcesses as rounds
-use Rattle.conformance.specs.WatchLaws.{IsPlannedPool}
+use Rattle.conformance.specs.ComparisonLaws.{IsPlannedPool}
 
 -- ---- conforming
 -- There are classes of the plan that the job can belong to.
@@ -37,7 +37,7 @@ pub record HasItsKind (plan : Plan) (lines : List RecordedLine) (kinds : List (O
 pub record AreEnoughClients (plan : Plan) (lines : List RecordedLine) : Type 0 where
   pub kinds : List (Option ℕ)
   pub each : (round : ℕ) → is_begun lines round ≡ true → HasItsKind plan lines kinds round
-  pub within : (before behind : List RecordedLine) → lines ≡ before ++ behind → (kind : ℕ) → kind < length plan.clients → IsWithinPlan (rounds.rounds_of plan kinds before kind)
+  pub within : (before after : List RecordedLine) → lines ≡ before ++ after → (kind : ℕ) → kind < length plan.clients → IsWithinPlan (rounds.rounds_of plan kinds before kind)
 
 -- The paths of all jobs and rounds match their bodies, and there are enough clients.
 pub record DoAsPlanned (plan : Plan) (lines : List RecordedLine) : Type 0 where
@@ -47,20 +47,20 @@ pub record DoAsPlanned (plan : Plan) (lines : List RecordedLine) : Type 0 where
 
 -- Each `pool` line has the plan's sizes, and the first one of a pool also has the number of threads that the plan prestarts.
 pub record Conforms (plan : Plan) (lines : List RecordedLine) : Type 0 where
-  pub pools : (before behind : List RecordedLine) (name : List ℕ) (sizes : PoolSizes) → before ++ Pool name sizes ∷ behind ≡ lines → IsPlannedPool plan (not (has_pool before name)) name sizes
+  pub pools : (before after : List RecordedLine) (name : List ℕ) (sizes : PoolSizes) → before ++ Pool name sizes ∷ after ≡ lines → IsPlannedPool plan (not (has_pool before name)) name sizes
   pub recorded : is_closed lines ≡ true → (pool : ℕ) → pool < length plan.pools → has_pool lines (pool_at plan pool).name ≡ true
   pub actors : DoAsPlanned plan lines
   pub gets : first_foreign_get lines ≡ None
 
 -- ---- events that invalidate a SAFE answer, whatever the paths are
-abbrev pub is_void : RecordedLine → Bool
-is_void (Refused actor job) = true
-is_void (Cancels actor job) = true
-is_void (InvokesAny actor pool) = true
-is_void (Removed job) = true
-is_void (JobThrew job) = true
-is_void (Unseen pool jobs) = true
-is_void line = false
+abbrev pub invalidates : RecordedLine → Bool
+invalidates (Refused actor job) = true
+invalidates (Cancels actor job) = true
+invalidates (InvokesAny actor pool) = true
+invalidates (Removed job) = true
+invalidates (JobThrew job) = true
+invalidates (Unseen pool jobs) = true
+invalidates line = false
 
-abbrev pub IsNotVoid : List RecordedLine → Type 0
-IsNotVoid lines = (line : RecordedLine) → Contains lines line → is_void line ≡ false
+abbrev pub HasNoInvalidation : List RecordedLine → Type 0
+HasNoInvalidation lines = (line : RecordedLine) → Contains lines line → invalidates line ≡ false

@@ -1,7 +1,7 @@
 -- The lines of findings.
 use Rattle.std.specs.Prelude.{ℕ, Option, Some, None}
-use Rattle.conformance.specs.declared.pool_watch.PoolDeviation.{PoolDeviation}
-use Rattle.conformance.specs.declared.pool_watch.PoolDeviation.TheVariants as pool
+use Rattle.conformance.specs.declared.pool_comparison.PoolDeviation.{PoolDeviation}
+use Rattle.conformance.specs.declared.pool_comparison.PoolDeviation.TheVariants as pool
 use Rattle.conformance.specs.declared.finding.Finding.{Finding}
 use Rattle.conformance.specs.declared.finding.Finding.TheVariants as finding
 use Rattle.conformance.specs.declared.unplanned.NotPlanned.{NotPlanned}
@@ -20,11 +20,11 @@ label_line (label.Kind line kind) = Some line
 abbrev pub line_of : Finding → Option ℕ
 line_of (finding.Pool deviation) = pool_line deviation
 line_of (finding.NotPlanned name) = label_line name
-line_of (finding.Strays line stray) = line
+line_of (finding.PathMismatch line mismatch) = line
 line_of (finding.NotDecided actor name) = None
 line_of (finding.TooMany excess) = Some excess.line
 line_of (finding.ForeignGet get name) = Some get.line
-line_of (finding.Void void) = Some void.line
+line_of (finding.Invalidation invalidation) = Some invalidation.line
 
 -- A number above every line number.
 abbrev pub last_place : ℕ

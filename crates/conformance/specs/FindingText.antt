@@ -2,20 +2,20 @@
 use Rattle.std.specs.Prelude.{ℕ, ◌++◌, List, [], ◌∷◌, codes, decimal, string_bytes, flat_map, Option, Some, None}
 use Rattle.job_bodies.specs.Plan.{Plan, pool_at, client_at}
 use Rattle.conformance.specs.declared.difference.Difference.{Difference}
-use Rattle.conformance.specs.declared.pool_watch.PoolDeviation.{PoolDeviation}
-use Rattle.conformance.specs.declared.pool_watch.PoolDeviation.TheVariants as pool
-use Rattle.conformance.specs.declared.round_watch.RoundExcess.{RoundExcess}
+use Rattle.conformance.specs.declared.pool_comparison.PoolDeviation.{PoolDeviation}
+use Rattle.conformance.specs.declared.pool_comparison.PoolDeviation.TheVariants as pool
+use Rattle.conformance.specs.declared.round_comparison.RoundExcess.{RoundExcess}
 use Rattle.conformance.specs.Difference.{difference_text}
 use Rattle.conformance.specs.Excess.{excess_text}
 use Rattle.recordings.specs.declared.foreign_get.ForeignGet.{ForeignGet}
-use Rattle.recordings.specs.declared.voiding.Void.{Void}
-use Rattle.recordings.specs.VoidText.{void_text}
+use Rattle.recordings.specs.declared.invalidation.Invalidation.{Invalidation}
+use Rattle.recordings.specs.EventText.{event_text}
 use Rattle.conformance.specs.declared.finding.Finding.{Finding}
 use Rattle.conformance.specs.declared.finding.Finding.TheVariants as finding
 use Rattle.conformance.specs.declared.unplanned.NotPlanned.{NotPlanned}
 use Rattle.conformance.specs.declared.unplanned.NotPlanned.TheVariants as label
 use Rattle.conformance.specs.Finding.{line_of}
-use Rattle.conformance.specs.Stray.{actor_text, stray_text}
+use Rattle.conformance.specs.PathMismatch.{actor_text, mismatch_text}
 
 -- The line number, if there is one.
 abbrev pub line_text : Option ℕ → List ℕ
@@ -53,17 +53,17 @@ kind_excess_text plan found = codes "kind " ++ (client_at plan found.kind).name 
 abbrev pub foreign_get_text : ForeignGet → List ℕ → List ℕ
 foreign_get_text get name = actor_text get.actor name ++ (codes " got job " ++ decimal get.job ++ codes ", which it did not submit")
 
-abbrev pub void_line_text : Void → List ℕ
-void_line_text void = codes "a yes is void from here on: " ++ void_text void.what
+abbrev pub invalidation_text : Invalidation → List ℕ
+invalidation_text invalidation = codes "a yes is void from here on: " ++ event_text invalidation.event
 
 abbrev pub found_text : Plan → Finding → List ℕ
 found_text plan (finding.Pool deviation) = deviation_text plan deviation
 found_text plan (finding.NotPlanned name) = not_planned_text name
-found_text plan (finding.Strays line stray) = stray_text stray
+found_text plan (finding.PathMismatch line mismatch) = mismatch_text mismatch
 found_text plan (finding.NotDecided actor name) = actor_text actor (string_bytes name) ++ codes ": not decided, its body has too many alike submits"
 found_text plan (finding.TooMany excess) = kind_excess_text plan excess
 found_text plan (finding.ForeignGet get name) = foreign_get_text get (string_bytes name)
-found_text plan (finding.Void void) = void_line_text void
+found_text plan (finding.Invalidation invalidation) = invalidation_text invalidation
 
 -- ---- lines
 -- The text of a finding, without a newline.

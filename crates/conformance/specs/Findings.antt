@@ -4,35 +4,35 @@ use Rattle.std.specs.List.{list_any}
 use Rattle.std.specs.List.Sorted.{IsPermutation}
 use Rattle.job_bodies.specs.Plan.{Plan}
 use Rattle.recordings.specs.RecordingLine.{RecordedLine}
-use Rattle.conformance.specs.declared.settled.Settled.{Settled}
-use Rattle.conformance.specs.Settled.{AreAllTold}
+use Rattle.conformance.specs.declared.classified_actor.ClassifiedActor.{ClassifiedActor}
+use Rattle.conformance.specs.ClassifiedActor.{AreAllResultsOf}
 use Rattle.recordings.specs.ForeignGets.{first_foreign_get}
-use Rattle.recordings.specs.Voids.{voids_of}
-use Rattle.conformance.specs.declared.pool_watch.PoolDeviation.{PoolDeviation}
+use Rattle.recordings.specs.Invalidations.{invalidations_of}
+use Rattle.conformance.specs.declared.pool_comparison.PoolDeviation.{PoolDeviation}
 use Rattle.conformance.specs.PoolDeviations.{deviation_seen, deviations_by_lines, deviations_at_end}
 use Rattle.conformance.specs.RoundExcesses.{excesses_by_lines}
 use Rattle.conformance.specs.declared.finding.Finding.{Finding}
 use Rattle.conformance.specs.declared.finding.Finding.TheVariants as finding
 use Rattle.conformance.specs.declared.unplanned.NotPlanned.{NotPlanned}
 use Rattle.conformance.specs.FirstKinds.{AreFirstKinds}
-use Rattle.conformance.specs.Firsts.{AreFirsts}
-use Rattle.conformance.specs.Gathered.{AreStrays, AreForeign, is_lasting, one_behind_another}
-use Rattle.conformance.specs.Unplanned.{AreNotPlanned}
-use Rattle.conformance.specs.Verdicts.{is_stray, is_undecided, is_classless_job}
+use Rattle.conformance.specs.FirstActors.{AreFirstActorsOf}
+use Rattle.conformance.specs.CollectedFindings.{AreMismatchesOf, AreForeign, is_path_independent, all_findings}
+use Rattle.conformance.specs.UnplannedLabels.{AreNotPlanned}
+use Rattle.conformance.specs.Verdicts.{is_mismatch, is_undecided, is_classless_job}
 
 -- The finding concerns a label, a path or a number of rounds.
 abbrev pub is_of_actors : Finding → Bool
 is_of_actors (finding.NotPlanned label) = true
-is_of_actors (finding.Strays line stray) = true
+is_of_actors (finding.PathMismatch line mismatch) = true
 is_of_actors (finding.NotDecided actor label) = true
 is_of_actors (finding.TooMany excess) = true
 is_of_actors (finding.Pool deviation) = false
 is_of_actors (finding.ForeignGet get label) = false
-is_of_actors (finding.Void void) = false
+is_of_actors (finding.Invalidation invalidation) = false
 
 -- The job is one of the classified jobs whose path matches no class.
-abbrev pub is_classless_in : List Settled → ℕ → Bool
-is_classless_in told job = list_any (is_classless_job job) told
+abbrev pub is_classless_in : List ClassifiedActor → ℕ → Bool
+is_classless_in reported job = list_any (is_classless_job job) reported
 
 -- Every difference from the plan and every invalidating event, each once, and nothing else: each way in which a pool
 -- differs, with the first line that shows it; each pool that the recording lacks; each label that is not in the plan; for
@@ -40,20 +40,20 @@ is_classless_in told job = list_any (is_classless_job job) told
 -- first line at which each kind has too many rounds; the first get of another actor's job; and the first line of each event
 -- type that invalidates a SAFE answer.
 pub record AreFindingsOf (plan : Plan) (budget : ℕ) (lines : List RecordedLine) (findings : List Finding) : Type 0 where
-  pub told : List Settled
-  pub all_told : AreAllTold plan budget lines told
+  pub reported : List ClassifiedActor
+  pub all_reported : AreAllResultsOf plan budget lines reported
   pub kinds : List (Option ℕ)
-  pub kinds_so : AreFirstKinds plan lines told kinds
+  pub kinds_so : AreFirstKinds plan lines reported kinds
   pub deviations : List PoolDeviation
   pub deviations_so : map deviation_seen deviations ≡ deviations_by_lines plan lines ++ deviations_at_end plan lines
   pub labels : List NotPlanned
   pub labels_so : AreNotPlanned plan lines labels
-  pub first_strays : List Settled
-  pub first_strays_so : AreFirsts (filter (is_stray plan) told) first_strays
-  pub strays : List Finding
-  pub strays_so : AreStrays lines (is_classless_in told) first_strays strays
-  pub undecided : List Settled
-  pub undecided_so : AreFirsts (filter (is_undecided plan) told) undecided
+  pub first_mismatches : List ClassifiedActor
+  pub first_mismatches_so : AreFirstActorsOf (filter (is_mismatch plan) reported) first_mismatches
+  pub mismatches : List Finding
+  pub mismatches_so : AreMismatchesOf lines (is_classless_in reported) first_mismatches mismatches
+  pub undecided : List ClassifiedActor
+  pub undecided_so : AreFirstActorsOf (filter (is_undecided plan) reported) undecided
   pub foreign : List Finding
   pub foreign_so : AreForeign lines (first_foreign_get lines) foreign
-  pub all : IsPermutation (one_behind_another deviations labels strays undecided (excesses_by_lines plan kinds lines) foreign (filter is_lasting (voids_of lines))) findings
+  pub all : IsPermutation (all_findings deviations labels mismatches undecided (excesses_by_lines plan kinds lines) foreign (filter is_path_independent (invalidations_of lines))) findings

@@ -6,7 +6,7 @@ use Rattle.recordings.specs.RecordingLine.{RecordedLine}
 use Rattle.recordings.specs.Before.{begins}
 use Rattle.job_bodies.specs.Plan.{Plan}
 use Rattle.conformance.specs.Family.{client_family}
-use Rattle.conformance.specs.declared.settled.Settled.{Settled}
+use Rattle.conformance.specs.declared.classified_actor.ClassifiedActor.{ClassifiedActor}
 use Rattle.conformance.specs.Label.{kind_of}
 
 -- A round, with the first of the kinds that it can belong to.
@@ -16,13 +16,13 @@ has_kind (kind ∷ more) (Job job) = None
 has_kind (kind ∷ more) (Round round) = Some (round, kind)
 
 -- The round of a classified actor, with the first kind that it can belong to.
-abbrev pub round_told : Settled → Option (ℕ × ℕ)
-round_told told = has_kind told.family.members.items told.actor
+abbrev pub round_and_kind : ClassifiedActor → Option (ℕ × ℕ)
+round_and_kind reported = has_kind reported.family.members.items reported.actor
 
 -- A kind or none for each round. A classified round that can belong to some kind has the first of these. Any other round has
 -- the first kind of its label, if there is one.
-pub record AreFirstKinds (plan : Plan) (lines : List RecordedLine) (told : List Settled) (kinds : List (Option ℕ)) : Type 0 where
+pub record AreFirstKinds (plan : Plan) (lines : List RecordedLine) (reported : List ClassifiedActor) (kinds : List (Option ℕ)) : Type 0 where
   pub many : length kinds ≡ begins lines
-  pub told_of : (one : Settled) (round kind : ℕ) → Contains told one → round_told one ≡ Some (round, kind) → slice_get kinds round ≡ Some (Some kind)
-  pub others : (round : ℕ) (label : List ℕ) → kind_of lines round ≡ Some label → ((one : Settled) (kind : ℕ) → Contains told one → ¬ (round_told one ≡ Some (round, kind)))
+  pub reports_of : (one : ClassifiedActor) (round kind : ℕ) → Contains reported one → round_and_kind one ≡ Some (round, kind) → slice_get kinds round ≡ Some (Some kind)
+  pub others : (round : ℕ) (label : List ℕ) → kind_of lines round ≡ Some label → ((one : ClassifiedActor) (kind : ℕ) → Contains reported one → ¬ (round_and_kind one ≡ Some (round, kind)))
       → slice_get kinds round ≡ Some (slice_get (client_family plan label) 0)

@@ -4,16 +4,16 @@ use Rattle.std.specs.List.{list_any}
 use Rattle.recordings.specs.declared.recording_line.RecordedActor.{RecordedActor}
 use Rattle.recordings.specs.declared.recording_line.RecordedActor.TheVariants.{Job, Round}
 use Rattle.recordings.specs.RecordingLine.{RecordedLine}
-use Rattle.recordings.specs.Act.{submits}
+use Rattle.recordings.specs.ActorPath.{submits}
 use Rattle.recordings.specs.Path.{path_of}
 use Rattle.recordings.specs.PathsOfLines.{KeepsRules}
 use Rattle.job_bodies.specs.Plan.{Plan}
-use Rattle.conformance.specs.Course.{is_through}
+use Rattle.conformance.specs.PathState.{has_ended}
 use Rattle.conformance.specs.Classes.{AreClassesOf, AreKindsOf, IsSettled}
 
 -- Later lines do not change the path of an ended actor.
 abbrev pub PathsStay : Type 0
-PathsStay = (before more : List RecordedLine) (actor : RecordedActor) → KeepsRules (before ++ more) → is_through before actor ≡ true → path_of (before ++ more) actor ≡ path_of before actor
+PathsStay = (before more : List RecordedLine) (actor : RecordedActor) → KeepsRules (before ++ more) → has_ended before actor ≡ true → path_of (before ++ more) actor ≡ path_of before actor
 
 -- A job submits only jobs with larger numbers.
 abbrev pub JobsAreLater : Type 0

@@ -4,7 +4,7 @@ use Rattle.std.specs.Option.{option_and_then}
 use Rattle.support.specs.Numbered.{value_at}
 use Rattle.recordings.specs.declared.recording_line.RecordedActor.TheVariants.{Round}
 use Rattle.recordings.specs.RecordingLine.{RecordedLine, RoundBegins, RoundEnds}
-use Rattle.recordings.specs.PathsOfLines.{is_about}
+use Rattle.recordings.specs.PathsOfLines.{is_live}
 use Rattle.job_bodies.specs.Plan.{Plan}
 use Rattle.conformance.specs.RoundExcesses.{kind_of}
 use Rattle.conformance.specs.declared.open_rounds.OpenRounds.{OpenRounds}
@@ -13,17 +13,17 @@ use Rattle.conformance.specs.OtherKinds.{kind_by}
 
 -- The table has the kind of each open round, and no other entry.
 pub record AreOpen (kinds : List (Option ℕ)) (lines : List RecordedLine) (open_now : OpenRounds) : Type 0 where
-  pub kept : (round : ℕ) → value_at open_now.kinds round ≡ (if is_about lines (Round round) then Some (kind_of kinds round) else None)
+  pub kept : (round : ℕ) → value_at open_now.kinds round ≡ (if is_live lines (Round round) then Some (kind_of kinds round) else None)
 
 -- ---- one line
 abbrev pub kept_without : ℕ → ℕ → Option (Option ℕ) → Option (Option ℕ)
 kept_without round one there = if round == one then None else there
 
 -- The entry of a round after the line.
-abbrev pub kept_behind : Plan → OtherKinds → RecordedLine → ℕ → Option (Option ℕ) → Option (Option ℕ)
-kept_behind plan others (RoundBegins round label) one there = if round == one then Some (kind_by plan others round label) else there
-kept_behind plan others (RoundEnds round) one there = kept_without round one there
-kept_behind plan others line one there = there
+abbrev pub entry_after_line : Plan → OtherKinds → RecordedLine → ℕ → Option (Option ℕ) → Option (Option ℕ)
+entry_after_line plan others (RoundBegins round label) one there = if round == one then Some (kind_by plan others round label) else there
+entry_after_line plan others (RoundEnds round) one there = kept_without round one there
+entry_after_line plan others line one there = there
 
 -- The recorded kind of a round.
 abbrev pub kind_in : OpenRounds → ℕ → Option ℕ

@@ -5,10 +5,10 @@ use Rattle.recordings.specs.RecordingLine.{RecordedLine}
 use Rattle.job_bodies.specs.Plan.{Plan}
 use Rattle.conformance.specs.Family.{client_family}
 use Rattle.conformance.specs.RoundExcesses as rounds
-use Rattle.conformance.specs.declared.settled.Settled.{Settled}
+use Rattle.conformance.specs.declared.classified_actor.ClassifiedActor.{ClassifiedActor}
 use Rattle.conformance.specs.Label as labels
 use Rattle.conformance.specs.declared.other_kinds.OtherKinds.{OtherKinds}
-use Rattle.conformance.specs.FirstKinds.{round_told}
+use Rattle.conformance.specs.FirstKinds.{round_and_kind}
 
 -- ---- classified rounds
 -- The first kind of a label.
@@ -20,19 +20,19 @@ unless_first first None = None
 unless_first first (Some (round, kind)) = if rounds.is_kind kind first then None else Some (round, kind)
 
 -- The round of a classified actor and the first kind that it can belong to, if that is not the first kind of its label.
-abbrev pub other_told : Plan → Settled → Option (ℕ × ℕ)
-other_told plan told = unless_first (first_of plan (string_bytes told.label)) (round_told told)
+abbrev pub other_kind_of : Plan → ClassifiedActor → Option (ℕ × ℕ)
+other_kind_of plan reported = unless_first (first_of plan (string_bytes reported.label)) (round_and_kind reported)
 
 -- One of the classified actors is this round, and belongs to this other kind.
-pub record IsToldOther (plan : Plan) (told : List Settled) (round kind : ℕ) : Type 0 where
-  pub one : Settled
-  pub among : Contains told one
-  pub is : other_told plan one ≡ Some (round, kind)
+pub record HasOtherKind (plan : Plan) (reported : List ClassifiedActor) (round kind : ℕ) : Type 0 where
+  pub one : ClassifiedActor
+  pub among : Contains reported one
+  pub is : other_kind_of plan one ≡ Some (round, kind)
 
 -- The table has the rounds that belong to another kind than the first of their label, and no others.
-pub record AreOtherKinds (plan : Plan) (told : List Settled) (others : OtherKinds) : Type 0 where
-  pub sound : (round kind : ℕ) → value_at others.kinds round ≡ Some kind → IsToldOther plan told round kind
-  pub complete : (round kind : ℕ) → IsToldOther plan told round kind → is_some (value_at others.kinds round) ≡ true
+pub record AreOtherKinds (plan : Plan) (reported : List ClassifiedActor) (others : OtherKinds) : Type 0 where
+  pub sound : (round kind : ℕ) → value_at others.kinds round ≡ Some kind → HasOtherKind plan reported round kind
+  pub complete : (round kind : ℕ) → HasOtherKind plan reported round kind → is_some (value_at others.kinds round) ≡ true
   pub none : others.has_any ≡ false → (round : ℕ) → value_at others.kinds round ≡ None
 
 -- ---- the kinds by which rounds are counted
@@ -45,7 +45,7 @@ abbrev pub kind_by : Plan → OtherKinds → ℕ → List ℕ → Option ℕ
 kind_by plan others round label = kind_or (value_at others.kinds round) (first_of plan label)
 
 -- `kinds` gives each round that has begun the kind of `kind_by`.
-pub record AreGiven (plan : Plan) (others : OtherKinds) (lines : List RecordedLine) (kinds : List (Option ℕ)) : Type 0 where
+pub record AreKindsBy (plan : Plan) (others : OtherKinds) (lines : List RecordedLine) (kinds : List (Option ℕ)) : Type 0 where
   pub each : (round : ℕ) (label : List ℕ) → labels.kind_of lines round ≡ Some label → rounds.kind_of kinds round ≡ kind_by plan others round label
 
 -- Each round that has begun has the first kind of its label.

@@ -3,18 +3,18 @@ use Rattle.std.specs.Prelude.{List, ⊤, Option, Some, None}
 use Rattle.std.specs.List.Sorted.{IsNonDecreasingBy}
 use Rattle.recordings.specs.declared.fault.RecordingFault.{RecordingFault}
 use Rattle.conformance.specs.declared.comparison.Conformance.{Conformance}
-use Rattle.conformance.specs.declared.comparison.Conformance.TheVariants.{Bad, Compared}
+use Rattle.conformance.specs.declared.comparison.Conformance.TheVariants.{Invalid, Compared}
 use Rattle.conformance.specs.declared.finding.Finding.{Finding}
 use Rattle.conformance.specs.Finding.{place_of}
 
 -- The fault of the first invalid line, if there is one.
 abbrev pub fault_of : Conformance → Option RecordingFault
-fault_of (Bad fault) = Some fault
+fault_of (Invalid fault) = Some fault
 fault_of (Compared findings) = None
 
 -- `P` holds of the findings, unless a line is invalid.
 abbrev pub IfCompared : Conformance → (List Finding → Type 0) → Type 0
-IfCompared (Bad fault) P = ⊤
+IfCompared (Invalid fault) P = ⊤
 IfCompared (Compared findings) P = P findings.items
 
 -- The findings are in the order of their lines, those without a line last.

@@ -7,10 +7,10 @@ use Rattle.job_bodies.specs.Plan.{Plan, pool_at}
 use Rattle.recordings.specs.declared.pool_sizes.PoolSizes.{PoolSizes}
 use Rattle.recordings.specs.RecordingLine.{RecordedLine, Pool}
 use Rattle.recordings.specs.Before.{has_pool, is_closed}
-use Rattle.recordings.specs.LineDeeds.{with_lines_before}
+use Rattle.recordings.specs.LineSteps.{with_lines_before}
 use Rattle.conformance.specs.declared.difference.Difference.{Difference}
-use Rattle.conformance.specs.declared.pool_watch.PoolDeviation.{PoolDeviation}
-use Rattle.conformance.specs.declared.pool_watch.PoolDeviation.TheVariants as code
+use Rattle.conformance.specs.declared.pool_comparison.PoolDeviation.{PoolDeviation}
+use Rattle.conformance.specs.declared.pool_comparison.PoolDeviation.TheVariants as code
 use Rattle.conformance.specs.Difference.{is_same_difference}
 use Rattle.conformance.specs.Sizes.{differences}
 
@@ -47,29 +47,29 @@ has_difference plan is_named pool difference (Pool name sizes) =
 has_difference plan is_named pool difference line = false
 
 -- One of the lines has this difference of this pool of the plan, so it has been reported.
-unfoldable pub has_told : Plan → List RecordedLine → ℕ → Difference → Bool
-has_told plan lines pool difference = list_any (λ (before, line). has_difference plan (has_pool before) pool difference line) (with_lines_before lines)
+unfoldable pub was_reported : Plan → List RecordedLine → ℕ → Difference → Bool
+was_reported plan lines pool difference = list_any (λ (before, line). has_difference plan (has_pool before) pool difference line) (with_lines_before lines)
 
 -- The differences that have not been reported.
-abbrev pub untold : (Difference → Bool) → List Difference → List Difference
-untold is_told found = filter (λ difference. not (is_told difference)) found
+abbrev pub unreported : (Difference → Bool) → List Difference → List Difference
+unreported is_reported found = filter (λ difference. not (is_reported difference)) found
 
 -- The result for a `pool` line. If the plan has no pool of the name, that is reported at the first line of the name.
 -- Otherwise each difference is reported that has not been reported for that pool.
 abbrev pub deviations_of_pool : Plan → Bool → (ℕ → Difference → Bool) → ℕ → List ℕ → PoolSizes → Option ℕ → List Deviation
-deviations_of_pool plan is_first is_told number name sizes None = if is_first then NotPlanned number name ∷ [] else []
-deviations_of_pool plan is_first is_told number name sizes (Some pool) = map (Differs number pool) (untold (is_told pool) (differences is_first sizes (pool_at plan pool)))
+deviations_of_pool plan is_first is_reported number name sizes None = if is_first then NotPlanned number name ∷ [] else []
+deviations_of_pool plan is_first is_reported number name sizes (Some pool) = map (Differs number pool) (unreported (is_reported pool) (differences is_first sizes (pool_at plan pool)))
 
--- The result for a line. `is_named` tells which pools have an earlier line, and `is_told` which differences have been
+-- The result for a line. `is_named` tells which pools have an earlier line, and `is_reported` which differences have been
 -- reported.
-abbrev pub told_by_line : Plan → (List ℕ → Bool) → (ℕ → Difference → Bool) → ℕ → RecordedLine → List Deviation
-told_by_line plan is_named is_told number (Pool name sizes) = deviations_of_pool plan (not (is_named name)) is_told number name sizes (pool_named plan name)
-told_by_line plan is_named is_told number line = []
+abbrev pub reported_by_line : Plan → (List ℕ → Bool) → (ℕ → Difference → Bool) → ℕ → RecordedLine → List Deviation
+reported_by_line plan is_named is_reported number (Pool name sizes) = deviations_of_pool plan (not (is_named name)) is_reported number name sizes (pool_named plan name)
+reported_by_line plan is_named is_reported number line = []
 
 -- Each difference of a pool is reported once, at the first line that has it. A pool that is not in the plan is reported
 -- once, at its first line.
 abbrev pub deviations_by_line : Plan → List RecordedLine → ℕ → RecordedLine → List Deviation
-deviations_by_line plan before number line = told_by_line plan (has_pool before) (has_told plan before) number line
+deviations_by_line plan before number line = reported_by_line plan (has_pool before) (was_reported plan before) number line
 
 -- ---- all lines
 -- Lines are numbered from 1.

@@ -4,9 +4,9 @@ use Rattle.std.specs.List.{list_any, flat_map}
 use Rattle.std.specs.Option.{option_map, option_and_then, option_to_list}
 use Rattle.job_bodies.specs.Plan.{Plan, client_at}
 use Rattle.recordings.specs.RecordingLine.{RecordedLine, RoundBegins, RoundEnds}
-use Rattle.recordings.specs.LineDeeds.{with_lines_before}
+use Rattle.recordings.specs.LineSteps.{with_lines_before}
 use Rattle.conformance.specs.declared.excess.Excess.{Excess}
-use Rattle.conformance.specs.declared.round_watch.RoundExcess.{RoundExcess}
+use Rattle.conformance.specs.declared.round_comparison.RoundExcess.{RoundExcess}
 use Rattle.conformance.specs.Rounds.{Rounds, excess_of}
 
 -- ---- the kinds of rounds

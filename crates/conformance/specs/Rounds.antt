@@ -2,7 +2,7 @@
 use Rattle.std.specs.Prelude.{◌≡◌, ℕ, ◌-◌, ◌≤◌, Bool, false, ◌&&◌, not, nat_lt, if◌then◌else◌, Option, Some, None}
 use Rattle.job_bodies.specs.Plan.{Client}
 use Rattle.conformance.specs.declared.excess.Excess.{Excess}
-use Rattle.conformance.specs.declared.excess.Excess.TheVariants.{AtOnce, InAll}
+use Rattle.conformance.specs.declared.excess.Excess.TheVariants.{Concurrent, InAll}
 
 -- The `count` and `repeat` of the plan, and the numbers of rounds that began and ended.
 pub record Rounds : Type 0 where
@@ -21,10 +21,10 @@ open_rounds rounds = rounds.begun - rounds.ended
 -- More than `count` rounds at once or, if the kind does not repeat, more than `count` in all.
 abbrev pub excess_of : Rounds → Option Excess
 excess_of rounds =
-    if nat_lt rounds.count (open_rounds rounds) then Some (AtOnce (open_rounds rounds) rounds.count)
+    if nat_lt rounds.count (open_rounds rounds) then Some (Concurrent (open_rounds rounds) rounds.count)
     else (if not rounds.repeat && nat_lt rounds.count rounds.begun then Some (InAll rounds.begun rounds.count) else None)
 
 -- The number of rounds is within the limits of the plan.
 pub record IsWithinPlan (rounds : Rounds) : Type 0 where
-  pub at_once : open_rounds rounds ≤ rounds.count
+  pub concurrent : open_rounds rounds ≤ rounds.count
   pub in_all : rounds.repeat ≡ false → rounds.begun ≤ rounds.count

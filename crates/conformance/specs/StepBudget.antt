@@ -3,8 +3,8 @@ use Rattle.std.specs.Prelude.{◌≤◌, ℕ, ◌+◌, ◌*◌, List, [], ◌∷
 use Rattle.job_bodies.specs.declared.action.Action.{Action}
 use Rattle.job_bodies.specs.declared.action.Action.TheVariants.{Work, Submit, Get}
 use Rattle.job_bodies.specs.Plan.{submits}
-use Rattle.conformance.specs.declared.answer.PathFit.{PathFit}
-use Rattle.conformance.specs.Answer.{IsDecided}
+use Rattle.conformance.specs.declared.path_match.PathMatch.{PathMatch}
+use Rattle.conformance.specs.PathMatch.{IsDecided}
 
 -- The number of submits of a body.
 abbrev pub submit_count : List Action → ℕ
@@ -18,6 +18,6 @@ most_steps (Submit class ∷ actions) = 1 + 2 * most_steps actions
 most_steps (Work units ∷ actions) = 1 + most_steps actions
 most_steps (Get submit ∷ actions) = 1 + most_steps actions
 
--- If the steps are enough for these actions, the result is decided. `after` is what is left of `before`.
-abbrev pub IsDecidedWithin : List Action → ℕ → ℕ → PathFit → Type 0
-IsDecidedWithin actions before after answer = most_steps actions ≤ before → IsDecided answer × (before ≤ after + most_steps actions)
+-- If the steps are enough for these actions, the result is decided. `later` is what is left of `before`.
+abbrev pub IsDecidedWithin : List Action → ℕ → ℕ → PathMatch → Type 0
+IsDecidedWithin actions before later path_match = most_steps actions ≤ before → IsDecided path_match × (before ≤ later + most_steps actions)

@@ -7,16 +7,16 @@ ghost use Rattle.std.specs.Option.{option_map, option_copied, option_and_then};
 ghost use Rattle.support.specs.Numbered.{value_at, count_of};
 ghost use Rattle.recordings.specs.declared.recording_line.RecordedActor.{RecordedActor};
 ghost use Rattle.recordings.specs.LineParts.{is_same_actor};
-ghost use Rattle.conformance.specs.Kept.{in_table, Comes, without_submitter, with_waiting, with_known, is_job};
-ghost use Rattle.conformance.specs.Left.{AreJobsAmong, AreRoundsAmong};
+ghost use Rattle.conformance.specs.ActorTables.{in_table, InsertsActor, without_submitter, with_ended_path, with_known, is_job};
+ghost use Rattle.conformance.specs.RemainingActors.{AreJobsAmong, AreRoundsAmong};
 
-use recordings::{RecordedActor, RecordedDeed};
+use recordings::{RecordedActor, RecordedStep};
 use std::alloc::{AllocError, Global};
 use support::IdMap;
 
 /// An unsettled actor. It is open, or it has ended and waits for a job of its path.
 #[derive(Drop)]
-pub(crate) struct KeptActor {
+pub(crate) struct UnsettledActor {
     /// The class of a job, or the kind of a round.
     pub(crate) label: String,
     /// The pool of a job.
@@ -24,23 +24,23 @@ pub(crate) struct KeptActor {
     /// The submitter of a job, unless the job was refused.
     pub(crate) submitter: Option<RecordedActor>,
     /// The state of an actor that has ended.
-    pub(crate) waiting: Option<Waiting>,
+    pub(crate) ended_path: Option<EndedPath>,
 }
 
 /// The state of an actor that has ended and waits for jobs of its path.
 #[derive(Drop)]
-pub(crate) struct Waiting {
-    pub(crate) path: Vec<RecordedDeed>,
+pub(crate) struct EndedPath {
+    pub(crate) path: Vec<RecordedStep>,
     /// The length of the prefix of the path whose jobs are all settled.
     pub(crate) known: usize,
 }
 
-impl KeptActor {
+impl UnsettledActor {
     fn advance(&mut self, known: usize)
         ensures { self.new ≡ with_known known self.old }
     {
-        if let Some(waiting) = &mut self.waiting {
-            waiting.known = known;
+        if let Some(ended_path) = &mut self.ended_path {
+            ended_path.known = known;
         }
     }
 }
@@ -48,8 +48,8 @@ impl KeptActor {
 /// The unsettled actors, by number.
 #[derive(Drop)]
 pub(crate) struct ActorTable {
-    pub(crate) jobs: IdMap<KeptActor>,
-    pub(crate) rounds: IdMap<KeptActor>,
+    pub(crate) jobs: IdMap<UnsettledActor>,
+    pub(crate) rounds: IdMap<UnsettledActor>,
 }
 
 impl ActorTable {
@@ -64,7 +64,7 @@ impl ActorTable {
     }
 
     /// Inserts an actor.
-    pub(crate) fn insert(&mut self, actor: RecordedActor, kept: KeptActor) -> Result<(), AllocError>
+    pub(crate) fn insert(&mut self, actor: RecordedActor, kept: UnsettledActor) -> Result<(), AllocError>
         ensures { OnOk result
             ((one : RecordedActor)
             → in_table self.new one
@@ -89,19 +89,19 @@ impl ActorTable {
         pool: &str,
         submitter: Option<RecordedActor>,
     ) -> Result<(), AllocError>
-        ensures { OnOk result (Comes self.old actor label.now pool.now submitter self.new) }
+        ensures { OnOk result (InsertsActor self.old actor label.now pool.now submitter self.new) }
     {
-        let kept = KeptActor {
+        let kept = UnsettledActor {
             label: String::from_str(alloc, label)?,
             pool: String::from_str(alloc, pool)?,
             submitter,
-            waiting: None,
+            ended_path: None,
         };
         self.insert(actor, kept)
     }
 
     /// Removes the submitter of a refused job, which belongs to no path.
-    pub(crate) fn forget_submitter(&mut self, job: usize)
+    pub(crate) fn clear_submitter(&mut self, job: usize)
         ensures { (one : RecordedActor)
             → in_table self.new one
             ≡ (if is_same_actor (RecordedActor.Job job) one then option_map without_submitter
@@ -113,42 +113,42 @@ impl ActorTable {
     }
 
     /// Marks the actor as ended, if it is in the table.
-    pub(crate) fn wait(&mut self, actor: RecordedActor, waiting: Waiting)
+    pub(crate) fn set_ended(&mut self, actor: RecordedActor, ended_path: EndedPath)
         ensures { (one : RecordedActor)
             → in_table self.new one
-            ≡ (if is_same_actor actor one then option_map (with_waiting waiting)
+            ≡ (if is_same_actor actor one then option_map (with_ended_path ended_path)
             (in_table self.old one) else in_table self.old one) }
     {
         match actor {
             RecordedActor::Job(job) => {
                 if let Some(kept) = self.jobs.get_mut(job) {
-                    kept.waiting = Some(waiting);
+                    kept.ended_path = Some(ended_path);
                 }
             }
             RecordedActor::Round(round) => {
                 if let Some(kept) = self.rounds.get_mut(round) {
-                    kept.waiting = Some(waiting);
+                    kept.ended_path = Some(ended_path);
                 }
             }
         }
     }
 
     /// Returns the state of the actor, if it is in the table and has ended.
-    pub(crate) fn waiting(&self, actor: RecordedActor) -> Option<&Waiting>
+    pub(crate) fn ended_path(&self, actor: RecordedActor) -> Option<&EndedPath>
         ensures { option_copied result
-            ≡ option_and_then (λ kept. kept.waiting) (in_table self.now actor) }
+            ≡ option_and_then (λ kept. kept.ended_path) (in_table self.now actor) }
     {
         let kept = match actor {
             RecordedActor::Job(job) => self.jobs.get(job)?,
             RecordedActor::Round(round) => self.rounds.get(round)?,
         };
-        kept.waiting.as_ref()
+        kept.ended_path.as_ref()
     }
 
     /// Sets the length of the settled prefix of the actor's path, if the actor is in the table and
     /// has ended.
     pub(crate) fn advance(&mut self, actor: RecordedActor, known: usize)
-        ensures after { (one : RecordedActor)
+        ensures later { (one : RecordedActor)
             → in_table self.new one
             ≡ (if is_same_actor actor one then option_map (with_known known) (in_table self.old one)
             else in_table self.old one) }
@@ -168,9 +168,9 @@ impl ActorTable {
     }
 
     /// Removes and returns the actor.
-    pub(crate) fn remove(&mut self, actor: RecordedActor) -> Option<KeptActor>
+    pub(crate) fn remove(&mut self, actor: RecordedActor) -> Option<UnsettledActor>
         ensures value { result ≡ in_table self.old actor }
-        ensures after { (one : RecordedActor)
+        ensures later { (one : RecordedActor)
             → in_table self.new one
             ≡ (if is_same_actor actor one then None else in_table self.old one) }
         ensures fewer { count_of self.new.jobs + (if is_some result then is_job actor else 0)
@@ -206,7 +206,7 @@ impl ActorTable {
     }
 }
 
-fn numbers_of(alloc: Global, actors: &IdMap<KeptActor>) -> Result<Vec<usize>, AllocError>
+fn numbers_of(alloc: Global, actors: &IdMap<UnsettledActor>) -> Result<Vec<usize>, AllocError>
     ensures all { IfOk result (λ numbers.
         (number : ℕ)
         → is_some (value_at actors.now number) ≡ true

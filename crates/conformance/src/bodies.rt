@@ -2,7 +2,7 @@
 
 ghost use Rattle.std.specs.Prelude.{◌≡◌, ◌≤◌, length};
 ghost use Rattle.job_bodies.specs.declared.limits.TheConstants.{MAX_ACTIONS};
-ghost use Rattle.conformance.specs.PathFamily as spec;
+ghost use Rattle.conformance.specs.FamilyMatch as spec;
 
 use job_bodies::{Action, Plan};
 

@@ -7,16 +7,16 @@ ghost use Rattle.recordings.specs.Faults.{IsFirstFault};
 ghost use Rattle.recordings.specs.PathsOfLines.{KeepsRules};
 ghost use Rattle.conformance.specs.RoundExcesses.{excesses_by_lines};
 ghost use Rattle.conformance.specs.Lines.{lines_of};
-ghost use Rattle.conformance.specs.Conforms.{Conforms, DoAsPlanned, IsNotVoid};
+ghost use Rattle.conformance.specs.Conforms.{Conforms, DoAsPlanned, HasNoInvalidation};
 ghost use Rattle.conformance.specs.Findings.{AreFindingsOf, is_of_actors};
 ghost use Rattle.conformance.specs.FirstKinds.{AreFirstKinds};
 ghost use Rattle.conformance.specs.Survey.{IsSurveyOf};
 ghost use Rattle.conformance.specs.Outcome as spec;
 
-use crate::counted::excesses;
+use crate::excess_tracker::excesses;
 use crate::finding::Finding;
-use crate::gathered::gathered;
-use crate::survey::{Survey, surveyed};
+use crate::collect_findings::collect_findings;
+use crate::survey::{Survey, survey_recording};
 use crate::{RoundExcess, pools_are_as_planned, rounds_are_within_plan};
 use job_bodies::Plan;
 use recordings::RecordingFault;
@@ -26,7 +26,7 @@ use std::alloc::{AllocError, Global};
 #[derive(Drop)]
 pub enum Conformance {
     /// The first invalid line of the recording. No comparison was made.
-    Bad(RecordingFault),
+    Invalid(RecordingFault),
     /// Every difference from the plan and every event that invalidates a SAFE answer, each listed
     /// once. Findings are ordered by line; those without a line come last. The recording conforms
     /// if the list is empty.
@@ -67,26 +67,26 @@ pub fn conform(
     budget: u64,
 ) -> Result<Conformance, AllocError>
     ensures bad { IfOk result
-        (λ told. IsFirstFault (lines_read recording.now) (spec.fault_of told)) }
-    ensures conforms { IfOk result (λ told.
-        spec.IfCompared told (λ findings.
+        (λ reported. IsFirstFault (lines_read recording.now) (spec.fault_of reported)) }
+    ensures conforms { IfOk result (λ reported.
+        spec.IfCompared reported (λ findings.
         findings ≡ []
-        → Conforms plan.now (lines_of recording.now) × IsNotVoid (lines_of recording.now))) }
-    ensures actors { IfOk result (λ told.
-        spec.IfCompared told (λ findings.
+        → Conforms plan.now (lines_of recording.now) × HasNoInvalidation (lines_of recording.now))) }
+    ensures actors { IfOk result (λ reported.
+        spec.IfCompared reported (λ findings.
         list_any is_of_actors findings ≡ false → DoAsPlanned plan.now (lines_of recording.now))) }
     ensures found { IfOk result
-        (λ told. spec.IfCompared told (AreFindingsOf plan.now budget (lines_of recording.now))) }
-    ensures ascending { IfOk result (λ told. spec.IfCompared told spec.AreInOrder) }
+        (λ reported. spec.IfCompared reported (AreFindingsOf plan.now budget (lines_of recording.now))) }
+    ensures ascending { IfOk result (λ reported. spec.IfCompared reported spec.AreInOrder) }
 {
-    match surveyed(alloc, plan, recording, budget)? {
-        Ok(survey) => Ok(Conformance::Compared(compared(alloc, plan, recording, survey)?)),
-        Err(fault) => Ok(Conformance::Bad(fault)),
+    match survey_recording(alloc, plan, recording, budget)? {
+        Ok(survey) => Ok(Conformance::Compared(findings_of_survey(alloc, plan, recording, survey)?)),
+        Err(fault) => Ok(Conformance::Invalid(fault)),
     }
 }
 
 // Returns the findings for a recording whose lines are all valid, from its survey.
-fn compared(
+fn findings_of_survey(
     alloc: Global,
     plan: &Plan,
     recording: &[u8],
@@ -97,7 +97,7 @@ fn compared(
         → IsSurveyOf plan.now budget (lines_of recording.now) survey
         → IfOk result (λ findings.
         findings.items ≡ []
-        → Conforms plan.now (lines_of recording.now) × IsNotVoid (lines_of recording.now)) }
+        → Conforms plan.now (lines_of recording.now) × HasNoInvalidation (lines_of recording.now)) }
     ensures actors { (budget : ℕ)
         → KeepsRules (lines_of recording.now)
         → IsSurveyOf plan.now budget (lines_of recording.now) survey
@@ -113,8 +113,8 @@ fn compared(
 {
     pools_are_as_planned();
     rounds_are_within_plan();
-    let excesses = counted(alloc, plan, recording, &survey)?;
-    let mut findings = gathered(alloc, recording, survey, excesses)?;
+    let excesses = round_excesses(alloc, plan, recording, &survey)?;
+    let mut findings = collect_findings(alloc, recording, survey, excesses)?;
     findings.sort_by_key(Finding::place)?;
     Ok(findings)
 }
@@ -122,7 +122,7 @@ fn compared(
 // Returns, for each kind, the first line at which it has more rounds than the plan allows. The
 // survey counted each round as the first kind of its label. The rounds are counted again only if
 // one of them belongs to another kind.
-fn counted(
+fn round_excesses(
     alloc: Global,
     plan: &Plan,
     recording: &[u8],
@@ -131,14 +131,14 @@ fn counted(
     ensures { (budget : ℕ) (kinds : List (Option ℕ))
         → KeepsRules (lines_of recording.now)
         → (so : IsSurveyOf plan.now budget (lines_of recording.now) survey.now)
-        → AreFirstKinds plan.now (lines_of recording.now) so.judged.told kinds
+        → AreFirstKinds plan.now (lines_of recording.now) so.actor_survey.reported kinds
         → IfOk result
         (λ found. found.items ≡ excesses_by_lines plan.now kinds (lines_of recording.now)) }
 {
-    let others = &survey.judged.others;
+    let others = &survey.actor_survey.others;
     if others.has_any {
         excesses(alloc, plan, recording, others)
     } else {
-        Vec::from_slice(alloc, &survey.counted.found)
+        Vec::from_slice(alloc, &survey.excess_tracker.found)
     }
 }

@@ -11,7 +11,7 @@ use std::fmt;
 #[derive(Clone, Copy, PartialEq, Eq)]
 pub enum Excess {
     /// This many rounds are open at once.
-    AtOnce { rounds: u64, count: u64 },
+    Concurrent { rounds: u64, count: u64 },
     /// This many rounds began in all, of a kind that does not repeat.
     InAll { rounds: u64, count: u64 },
 }
@@ -21,7 +21,7 @@ impl fmt::Display for Excess {
 
     fn fmt<W: fmt::Write>(&self, f: &mut fmt::Formatter<W>) -> fmt::Result {
         match *self {
-            Excess::AtOnce { rounds, count } => write!(f, "{rounds} at once, count is {count}"),
+            Excess::Concurrent { rounds, count } => write!(f, "{rounds} at once, count is {count}"),
             Excess::InAll { rounds, count } => {
                 write!(
                     f,

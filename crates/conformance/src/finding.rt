@@ -3,10 +3,10 @@
 ghost use Rattle.std.specs.Prelude.{◌≡◌};
 ghost use Rattle.conformance.specs.Finding as spec;
 
-use crate::stray::Stray;
+use crate::mismatch::PathMismatch;
 use crate::unplanned::NotPlanned;
 use crate::{PoolDeviation, RoundExcess};
-use recordings::{ForeignGet, RecordedActor, Void};
+use recordings::{ForeignGet, RecordedActor, Invalidation};
 
 /// A difference between a recording and a plan, or an event that invalidates a SAFE answer. Lines
 /// are numbered from 1.
@@ -18,7 +18,7 @@ pub enum Finding {
     NotPlanned(NotPlanned),
     /// Of the actors of one label whose path matches no body, the one with the smallest number, and
     /// the line of its first deviating step. The label is in the plan.
-    Strays { line: Option<usize>, stray: Stray },
+    PathMismatch { line: Option<usize>, mismatch: PathMismatch },
     /// Of the actors of one label for which the budget was too small to decide which bodies their
     /// path matches, the one with the smallest number. The label is in the plan. The result for
     /// this label is neither yes nor no.
@@ -29,7 +29,7 @@ pub enum Finding {
     /// The first get of a job by an actor that did not submit it.
     ForeignGet { get: ForeignGet, label: String },
     /// The first line of an event type that invalidates a SAFE answer.
-    Void(Void),
+    Invalidation(Invalidation),
 }
 
 impl Finding {
@@ -40,11 +40,11 @@ impl Finding {
         match self {
             Finding::Pool(deviation) => pool_line(deviation),
             Finding::NotPlanned(label) => label_line(label),
-            Finding::Strays { line, .. } => *line,
+            Finding::PathMismatch { line, .. } => *line,
             Finding::NotDecided { .. } => None,
             Finding::TooMany(excess) => Some(excess.line),
             Finding::ForeignGet { get, .. } => Some(get.line),
-            Finding::Void(void) => Some(void.line),
+            Finding::Invalidation(invalidation) => Some(invalidation.line),
         }
     }
 

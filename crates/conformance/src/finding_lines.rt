@@ -5,11 +5,11 @@ ghost use Rattle.support.specs.Pushed.{Pushes};
 ghost use Rattle.conformance.specs.FindingText as spec;
 
 use crate::finding::Finding;
-use crate::stray::{push_actor, push_stray};
+use crate::mismatch::{push_actor, push_mismatch};
 use crate::unplanned::NotPlanned;
 use crate::{Difference, PoolDeviation, RoundExcess};
 use job_bodies::Plan;
-use recordings::{ForeignGet, Void};
+use recordings::{ForeignGet, Invalidation};
 use std::alloc::AllocError;
 
 /// Appends each finding as a line, such as `line 3: pool db: max 20, plan 10`. Appends nothing if
@@ -40,14 +40,14 @@ pub fn push_finding(text: &mut String, plan: &Plan, finding: &Finding) -> Result
     match finding {
         Finding::Pool(deviation) => push_deviation(text, plan, deviation),
         Finding::NotPlanned(label) => push_not_planned(text, label),
-        Finding::Strays { stray, .. } => push_stray(text, stray),
+        Finding::PathMismatch { mismatch, .. } => push_mismatch(text, mismatch),
         Finding::NotDecided { actor, label } => {
             push_actor(text, *actor, label)?;
             text.push_str(": not decided, its body has too many alike submits")
         }
         Finding::TooMany(excess) => push_excess(text, plan, *excess),
         Finding::ForeignGet { get, label } => push_foreign_get(text, *get, label),
-        Finding::Void(void) => push_void(text, *void),
+        Finding::Invalidation(invalidation) => push_invalidation(text, *invalidation),
     }
 }
 
@@ -134,9 +134,9 @@ fn push_foreign_get(text: &mut String, get: ForeignGet, label: &str) -> Result<(
     write!(text, " got job {job}, which it did not submit")
 }
 
-fn push_void(text: &mut String, void: Void) -> Result<(), AllocError>
-    ensures { Pushes result text.old text.new (spec.void_line_text void) }
+fn push_invalidation(text: &mut String, invalidation: Invalidation) -> Result<(), AllocError>
+    ensures { Pushes result text.old text.new (spec.invalidation_text invalidation) }
 {
-    let what = void.what;
-    write!(text, "a yes is void from here on: {what}")
+    let event = invalidation.event;
+    write!(text, "a yes is void from here on: {event}")
 }

@@ -6,126 +6,126 @@ ghost use Rattle.recordings.specs.RecordingLine.{RecordedLine};
 ghost use Rattle.recordings.specs.declared.recording_line.RecordedActor as actors;
 ghost use Rattle.recordings.specs.LineParts.{is_same_actor};
 ghost use Rattle.recordings.specs.PathsOfLines.{KeepsRules, IsPathsOf};
-ghost use Rattle.conformance.specs.declared.settled.Settled.{Settled};
-ghost use Rattle.conformance.specs.Kept.{in_table};
-ghost use Rattle.conformance.specs.Left.{IsLeft, AreNoneBelow, AreJobsAmong, AreRoundsAmong, HasNoJobs, HasNoRounds};
-ghost use Rattle.conformance.specs.Settled.{IsTold, AreTold, AreAllTold};
-ghost use Rattle.conformance.specs.StandsFor.{IsClassesOf};
-ghost use Rattle.conformance.specs.ClassifiedActors.{TellsTaken};
+ghost use Rattle.conformance.specs.declared.classified_actor.ClassifiedActor.{ClassifiedActor};
+ghost use Rattle.conformance.specs.ActorTables.{in_table};
+ghost use Rattle.conformance.specs.RemainingActors.{IsStateAtEnd, AreNoneBelow, AreJobsAmong, AreRoundsAmong, HasNoJobs, HasNoRounds};
+ghost use Rattle.conformance.specs.ClassifiedActor.{IsCorrectResult, AreResultsSoFarOf, AreAllResultsOf};
+ghost use Rattle.conformance.specs.Represents.{IsClassifierOf};
+ghost use Rattle.conformance.specs.ClassificationResults.{AddsResults};
 
-use crate::actor_table::KeptActor;
-use crate::classes::Classes;
-use crate::settled::Settled;
+use crate::actor_table::UnsettledActor;
+use crate::actor_classifier::ActorClassifier;
+use crate::classified_actor::ClassifiedActor;
 use job_bodies::Plan;
 use recordings::RecordedActor;
 use std::alloc::AllocError;
 
-impl Classes {
+impl ActorClassifier {
     /// Classifies each unsettled actor at the end of the recording, by the lines up to there.
-    /// Appends the jobs to `told` in descending order of their numbers, then the rounds.
+    /// Appends the jobs to `reported` in descending order of their numbers, then the rounds.
     ///
     /// # Errors
     ///
     /// Returns `AllocError` if memory runs out.
-    pub fn finish(mut self, plan: &Plan, told: &mut Vec<Settled>) -> Result<(), AllocError>
-        ensures { (budget : ℕ) (lines : List RecordedLine) (earlier : List Settled)
+    pub fn finish(mut self, plan: &Plan, reported: &mut Vec<ClassifiedActor>) -> Result<(), AllocError>
+        ensures { (budget : ℕ) (lines : List RecordedLine) (earlier : List ClassifiedActor)
             → KeepsRules lines
-            → IsClassesOf plan.now budget self lines
-            → AreTold plan.now budget lines (earlier ++ told.old.items)
-            → OnOk result (AreAllTold plan.now budget lines (earlier ++ told.new.items)) }
+            → IsClassifierOf plan.now budget self lines
+            → AreResultsSoFarOf plan.now budget lines (earlier ++ reported.old.items)
+            → OnOk result (AreAllResultsOf plan.now budget lines (earlier ++ reported.new.items)) }
     {
-        self.leave_all(plan, told)
+        self.classify_remaining_actors(plan, reported)
     }
 
-    fn leave_all(&mut self, plan: &Plan, told: &mut Vec<Settled>) -> Result<(), AllocError>
-        ensures left { (lines : List RecordedLine)
+    fn classify_remaining_actors(&mut self, plan: &Plan, reported: &mut Vec<ClassifiedActor>) -> Result<(), AllocError>
+        ensures remaining { (lines : List RecordedLine)
             → KeepsRules lines
             → IsPathsOf self.old.paths lines
-            → IsLeft plan.now self.old.budget lines self.old.actors self.old.known
+            → IsStateAtEnd plan.now self.old.budget lines self.old.actors self.old.known
             → OnOk result
-            (TellsTaken (IsTold plan.now self.old.budget lines) self.old.actors self.new.actors
-            told.old.items told.new.items) }
+            (AddsResults (IsCorrectResult plan.now self.old.budget lines) self.old.actors self.new.actors
+            reported.old.items reported.new.items) }
         ensures none { OnOk result
             ((actor : actors.RecordedActor) → in_table self.new.actors actor ≡ None) }
     {
         let jobs = self.actors.job_numbers(self.alloc)?;
-        self.leave_jobs(plan, jobs, told)?;
+        self.classify_remaining_jobs(plan, jobs, reported)?;
         let rounds = self.actors.round_numbers(self.alloc)?;
-        self.leave_rounds(plan, rounds, told)
+        self.classify_remaining_rounds(plan, rounds, reported)
     }
 
     // Classifies these jobs, starting with the last one. A job submits only jobs with larger
     // numbers, so each job is classified before its submitter.
-    fn leave_jobs(
+    fn classify_remaining_jobs(
         &mut self,
         plan: &Plan,
         mut jobs: Vec<usize>,
-        told: &mut Vec<Settled>,
+        reported: &mut Vec<ClassifiedActor>,
     ) -> Result<(), AllocError>
-        ensures left { (lines : List RecordedLine)
+        ensures remaining { (lines : List RecordedLine)
             → KeepsRules lines
             → IsPathsOf self.old.paths lines
-            → IsLeft plan.now self.old.budget lines self.old.actors self.old.known
+            → IsStateAtEnd plan.now self.old.budget lines self.old.actors self.old.known
             → AreJobsAmong self.old.actors jobs.items
             → IsNonDecreasing jobs.items
             → OnOk result
-            (IsLeft plan.now self.old.budget lines self.new.actors self.new.known
-            × TellsTaken (IsTold plan.now self.old.budget lines) self.old.actors self.new.actors
-            told.old.items told.new.items) }
+            (IsStateAtEnd plan.now self.old.budget lines self.new.actors self.new.known
+            × AddsResults (IsCorrectResult plan.now self.old.budget lines) self.old.actors self.new.actors
+            reported.old.items reported.new.items) }
         ensures none { AreJobsAmong self.old.actors jobs.items
             → OnOk result (HasNoJobs self.new.actors) }
         ensures paths { self.new.paths ≡ self.old.paths }
         ensures budget { self.new.budget ≡ self.old.budget }
     {
         while let Some(job) = jobs.pop() {
-            self.leave(plan, RecordedActor::Job(job), told)?;
+            self.classify_remaining(plan, RecordedActor::Job(job), reported)?;
         }
         Ok(())
     }
 
     // Classifies these rounds, after all jobs.
-    fn leave_rounds(
+    fn classify_remaining_rounds(
         &mut self,
         plan: &Plan,
         mut rounds: Vec<usize>,
-        told: &mut Vec<Settled>,
+        reported: &mut Vec<ClassifiedActor>,
     ) -> Result<(), AllocError>
-        ensures left { (lines : List RecordedLine)
+        ensures remaining { (lines : List RecordedLine)
             → KeepsRules lines
             → IsPathsOf self.old.paths lines
-            → IsLeft plan.now self.old.budget lines self.old.actors self.old.known
+            → IsStateAtEnd plan.now self.old.budget lines self.old.actors self.old.known
             → HasNoJobs self.old.actors
             → OnOk result
-            (IsLeft plan.now self.old.budget lines self.new.actors self.new.known
-            × TellsTaken (IsTold plan.now self.old.budget lines) self.old.actors self.new.actors
-            told.old.items told.new.items) }
+            (IsStateAtEnd plan.now self.old.budget lines self.new.actors self.new.known
+            × AddsResults (IsCorrectResult plan.now self.old.budget lines) self.old.actors self.new.actors
+            reported.old.items reported.new.items) }
         ensures none { AreRoundsAmong self.old.actors rounds.items
             → OnOk result (HasNoRounds self.new.actors) }
         ensures jobs { HasNoJobs self.old.actors → HasNoJobs self.new.actors }
     {
         while let Some(round) = rounds.pop() {
-            self.leave(plan, RecordedActor::Round(round), told)?;
+            self.classify_remaining(plan, RecordedActor::Round(round), reported)?;
         }
         Ok(())
     }
 
     // Classifies and removes the actor, if it is in the table. All jobs of its path must have been
     // removed before.
-    fn leave(
+    fn classify_remaining(
         &mut self,
         plan: &Plan,
         actor: RecordedActor,
-        told: &mut Vec<Settled>,
+        reported: &mut Vec<ClassifiedActor>,
     ) -> Result<(), AllocError>
-        ensures left { (lines : List RecordedLine)
+        ensures remaining { (lines : List RecordedLine)
             → KeepsRules lines
             → IsPathsOf self.old.paths lines
-            → IsLeft plan.now self.old.budget lines self.old.actors self.old.known
+            → IsStateAtEnd plan.now self.old.budget lines self.old.actors self.old.known
             → AreNoneBelow self.old.actors actor
             → OnOk result
-            (IsLeft plan.now self.old.budget lines self.new.actors self.new.known
-            × TellsTaken (IsTold plan.now self.old.budget lines) self.old.actors self.new.actors
-            told.old.items told.new.items) }
+            (IsStateAtEnd plan.now self.old.budget lines self.new.actors self.new.known
+            × AddsResults (IsCorrectResult plan.now self.old.budget lines) self.old.actors self.new.actors
+            reported.old.items reported.new.items) }
         ensures goes { (one : actors.RecordedActor)
             → in_table self.new.actors one
             ≡ (if is_same_actor actor one then None else in_table self.old.actors one) }
@@ -135,13 +135,13 @@ impl Classes {
         let Some(kept) = self.actors.remove(actor) else {
             return Ok(());
         };
-        let KeptActor {
+        let UnsettledActor {
             label,
             pool,
             submitter,
-            waiting,
+            ended_path,
         } = kept;
-        let done = self.done_by(actor, waiting)?;
-        self.tell_of(plan, actor, submitter, label, pool, done, told)
+        let actor_path = self.actor_path_of(actor, ended_path)?;
+        self.classify(plan, actor, submitter, label, pool, actor_path, reported)
     }
 }

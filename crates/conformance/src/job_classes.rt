@@ -2,14 +2,14 @@
 
 ghost use Rattle.std.specs.Prelude.{◌≡◌, ◌≤◌, ◌&&◌, ◌++◌, ◌∷◌, [], ℕ, List, OnOk, IfOk, IsTrue, None, Some, is_some, if◌then◌else◌, ◌==◌, length};
 ghost use Rattle.recordings.specs.RecordingLine.{RecordedLine};
-ghost use Rattle.recordings.specs.declared.deed.RecordedDeed.{RecordedDeed};
-ghost use Rattle.recordings.specs.Act.{submits};
+ghost use Rattle.recordings.specs.declared.step.RecordedStep.{RecordedStep};
+ghost use Rattle.recordings.specs.ActorPath.{submits};
 ghost use Rattle.job_bodies.specs.Plan.{Plan};
-ghost use Rattle.conformance.specs.Classes.{AreClassesOf, StandFor};
-ghost use Rattle.conformance.specs.Kept.{Keeps, AreTaken, classes_in, is_settled_deed, AreClassesIn, AreDecidedIn, AreAllIn, AreOnce, AreSettledBefore, IsUnsettledAt};
+ghost use Rattle.conformance.specs.Classes.{AreClassesOf, AreStepsOf};
+ghost use Rattle.conformance.specs.ActorTables.{Keeps, AreRemoved, classes_in, is_settled_step, AreClassesIn, AreDecidedIn, AreAllIn, AreOnce, AreSettledBefore, IsUnsettledAt};
 
-use crate::{Deed, PathFamily};
-use recordings::{RecordedActor, RecordedDeed};
+use crate::{PathStep, FamilyMatch};
+use recordings::{RecordedActor, RecordedStep};
 use std::alloc::{AllocError, Global};
 use support::IdMap;
 
@@ -57,7 +57,7 @@ impl ClassTable {
         &mut self,
         actor: RecordedActor,
         submitter: Option<RecordedActor>,
-        family: &PathFamily,
+        family: &FamilyMatch,
     ) -> Result<(), AllocError>
         ensures { OnOk result
             (Keeps self.old actor submitter family.now.members.items family.now.is_decided
@@ -75,7 +75,7 @@ impl ClassTable {
 
     /// Returns the index of the first submit of an unsettled job in the path, starting at `from`,
     /// or the length of the path.
-    pub(crate) fn first_unsettled(&self, path: &[RecordedDeed], from: usize) -> usize
+    pub(crate) fn first_unsettled(&self, path: &[RecordedStep], from: usize) -> usize
         ensures within { from ≤ length path.now → result ≤ length path.now }
         ensures before { AreSettledBefore self.now path.now from
             → AreSettledBefore self.now path.now result }
@@ -89,12 +89,12 @@ impl ClassTable {
     }
 
     // A get refers to an earlier submit of the path, so it needs no check.
-    fn is_settled(&self, deed: RecordedDeed) -> bool
-        ensures { result ≡ is_settled_deed self.now deed }
+    fn is_settled(&self, step: RecordedStep) -> bool
+        ensures { result ≡ is_settled_step self.now step }
     {
-        match deed {
-            RecordedDeed::Submits(job) => self.jobs.contains(job),
-            RecordedDeed::Gets(_) => true,
+        match step {
+            RecordedStep::Submits(job) => self.jobs.contains(job),
+            RecordedStep::Gets(_) => true,
         }
     }
 
@@ -107,52 +107,52 @@ impl ClassTable {
     /// Returns `AllocError` if memory runs out.
     pub(crate) fn take_path(
         &mut self,
-        path: &[RecordedDeed],
-        deeds: &mut Vec<Deed>,
+        path: &[RecordedStep],
+        steps: &mut Vec<PathStep>,
     ) -> Result<bool, AllocError>
-        ensures stands { (plan : Plan) (lines : List RecordedLine)
+        ensures represents { (plan : Plan) (lines : List RecordedLine)
             → AreClassesIn plan lines self.old
             → IfOk result
-            (λ is_decided. IsTrue is_decided → StandFor plan lines path.now deeds.new.items) }
+            (λ is_decided. IsTrue is_decided → AreStepsOf plan lines path.now steps.new.items) }
         ensures decided { AreDecidedIn self.old
             → AreAllIn self.old path.now
             → AreOnce path.now
             → IfOk result (λ is_decided. IsTrue is_decided) }
-        ensures gone { OnOk result (AreTaken self.old path.now self.new) }
+        ensures gone { OnOk result (AreRemoved self.old path.now self.new) }
     {
-        deeds.clear();
+        steps.clear();
         let mut is_decided = true;
-        for deed in path {
-            let is_known = self.take_deed(*deed, deeds)?;
-            is_decided = are_both(is_decided, is_known);
+        for step in path {
+            let is_step_decided = self.take_step(*step, steps)?;
+            is_decided = both_hold(is_decided, is_step_decided);
         }
         Ok(is_decided)
     }
 
     // Appends the step to the list and removes its job. Returns true if the classes of the job are
     // decided.
-    fn take_deed(&mut self, deed: RecordedDeed, deeds: &mut Vec<Deed>) -> Result<bool, AllocError>
-        ensures stands { (plan : Plan) (lines : List RecordedLine) (path : List RecordedDeed)
+    fn take_step(&mut self, step: RecordedStep, steps: &mut Vec<PathStep>) -> Result<bool, AllocError>
+        ensures represents { (plan : Plan) (lines : List RecordedLine) (path : List RecordedStep)
             → AreClassesIn plan lines self.old
-            → StandFor plan lines path deeds.old.items
-            → IfOk result (λ is_known.
-            IsTrue is_known → StandFor plan lines (path ++ deed ∷ []) deeds.new.items) }
+            → AreStepsOf plan lines path steps.old.items
+            → IfOk result (λ is_step_decided.
+            IsTrue is_step_decided → AreStepsOf plan lines (path ++ step ∷ []) steps.new.items) }
         ensures decided { AreDecidedIn self.old
-            → IsTrue (is_settled_deed self.old deed)
-            → IfOk result (λ is_known. IsTrue is_known) }
+            → IsTrue (is_settled_step self.old step)
+            → IfOk result (λ is_step_decided. IsTrue is_step_decided) }
         ensures gone { OnOk result
             ((one : ℕ)
             → classes_in self.new one
-            ≡ (if submits one deed then None else classes_in self.old one)) }
+            ≡ (if submits one step then None else classes_in self.old one)) }
     {
-        match deed {
-            RecordedDeed::Gets(place) => {
-                deeds.push(Deed::Gets(place))?;
+        match step {
+            RecordedStep::Gets(place) => {
+                steps.push(PathStep::Gets(place))?;
                 Ok(true)
             }
-            RecordedDeed::Submits(job) => {
+            RecordedStep::Submits(job) => {
                 let known = self.take_classes(job);
-                deeds.push(Deed::Submits(known.classes))?;
+                steps.push(PathStep::Submits(known.classes))?;
                 Ok(known.is_decided)
             }
         }
@@ -181,7 +181,7 @@ impl ClassTable {
     }
 }
 
-pub(crate) fn are_both(one: bool, other: bool) -> bool
+pub(crate) fn both_hold(one: bool, other: bool) -> bool
     ensures { result ≡ (one && other) }
 {
     one && other

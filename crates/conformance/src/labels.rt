@@ -2,24 +2,24 @@
 
 ghost use Rattle.std.specs.Prelude.{◌≡◌, ◌||◌, ◌++◌, ℕ, List, OnOk, IfOk, false, codes, string_bytes};
 ghost use Rattle.std.specs.Str.{bytes_eq};
-ghost use Rattle.conformance.specs.Labels.{has_label, pair_text};
+ghost use Rattle.conformance.specs.LabelSet.{has_label, pair_text};
 
 use std::alloc::{AllocError, Global};
 use std::collections::HashSet;
 
 /// A set of labels.
 #[derive(Drop)]
-pub(crate) struct Labels {
+pub(crate) struct LabelSet {
     labels: HashSet<String>,
     alloc: Global,
 }
 
-impl Labels {
+impl LabelSet {
     /// Creates an empty set.
-    pub(crate) fn new(alloc: Global) -> Labels
+    pub(crate) fn new(alloc: Global) -> LabelSet
         ensures { (q : List ℕ) → has_label result q ≡ false }
     {
-        Labels {
+        LabelSet {
             labels: HashSet::new(alloc),
             alloc,
         }

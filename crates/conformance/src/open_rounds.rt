@@ -2,10 +2,10 @@
 
 ghost use Rattle.std.specs.Prelude.{◌≡◌, ◌++◌, ◌∷◌, [], ℕ, List, Option, OnOk, IfOk};
 ghost use Rattle.support.specs.Numbered.{value_at};
-ghost use Rattle.recordings.specs.RecordingLine.{RecordedLine, line_seen};
+ghost use Rattle.recordings.specs.RecordingLine.{RecordedLine, line_view};
 ghost use Rattle.recordings.specs.PathsOfLines.{KeepsRules};
 ghost use Rattle.conformance.specs.RoundExcesses.{kind_at};
-ghost use Rattle.conformance.specs.OtherKinds.{AreGiven};
+ghost use Rattle.conformance.specs.OtherKinds.{AreKindsBy};
 ghost use Rattle.conformance.specs.OpenRounds as spec;
 
 use crate::other_kinds::OtherKinds;
@@ -43,15 +43,15 @@ impl OpenRounds {
         line: &Line<'_>,
     ) -> Result<Option<usize>, AllocError>
         ensures kind { (kinds : List (Option ℕ)) (before : List RecordedLine)
-            → KeepsRules (before ++ line_seen line.now ∷ [])
-            → AreGiven plan.now others.now (before ++ line_seen line.now ∷ []) kinds
+            → KeepsRules (before ++ line_view line.now ∷ [])
+            → AreKindsBy plan.now others.now (before ++ line_view line.now ∷ []) kinds
             → spec.AreOpen kinds before self.old
-            → IfOk result (λ kind. kind_at kinds (line_seen line.now) ≡ kind) }
+            → IfOk result (λ kind. kind_at kinds (line_view line.now) ≡ kind) }
         ensures kept { (kinds : List (Option ℕ)) (before : List RecordedLine)
-            → KeepsRules (before ++ line_seen line.now ∷ [])
-            → AreGiven plan.now others.now (before ++ line_seen line.now ∷ []) kinds
+            → KeepsRules (before ++ line_view line.now ∷ [])
+            → AreKindsBy plan.now others.now (before ++ line_view line.now ∷ []) kinds
             → spec.AreOpen kinds before self.old
-            → OnOk result (spec.AreOpen kinds (before ++ line_seen line.now ∷ []) self.new) }
+            → OnOk result (spec.AreOpen kinds (before ++ line_view line.now ∷ []) self.new) }
     {
         self.note(plan, others, line)
     }
@@ -63,11 +63,11 @@ impl OpenRounds {
         line: &Line<'_>,
     ) -> Result<Option<usize>, AllocError>
         ensures kind { IfOk result (λ kind.
-            kind ≡ spec.kind_by_line plan.now others.now self.old (line_seen line.now)) }
+            kind ≡ spec.kind_by_line plan.now others.now self.old (line_view line.now)) }
         ensures kept { OnOk result
             ((round : ℕ)
             → value_at self.new.kinds round
-            ≡ spec.kept_behind plan.now others.now (line_seen line.now) round
+            ≡ spec.entry_after_line plan.now others.now (line_view line.now) round
             (value_at self.old.kinds round)) }
     {
         match *line {

@@ -2,11 +2,11 @@
 
 ghost use Rattle.std.specs.Prelude.{◌≡◌, ◌++◌, ◌∷◌, [], List, OnOk, false};
 ghost use Rattle.job_bodies.specs.Plan as plans;
-ghost use Rattle.conformance.specs.declared.settled.Settled as settleds;
+ghost use Rattle.conformance.specs.declared.classified_actor.ClassifiedActor as classified_actors;
 ghost use Rattle.conformance.specs.FirstKinds as first;
 ghost use Rattle.conformance.specs.OtherKinds as spec;
 
-use crate::{Settled, first_client};
+use crate::{ClassifiedActor, first_client};
 use job_bodies::Plan;
 use recordings::RecordedActor;
 use std::alloc::{AllocError, Global};
@@ -36,10 +36,10 @@ impl OtherKinds {
     /// # Errors
     ///
     /// Returns `AllocError` if memory runs out.
-    pub(crate) fn note(&mut self, plan: &Plan, settled: &Settled) -> Result<(), AllocError>
-        ensures noted { (told : List settleds.Settled)
-            → spec.AreOtherKinds plan.now told self.old
-            → OnOk result (spec.AreOtherKinds plan.now (told ++ settled.now ∷ []) self.new) }
+    pub(crate) fn note(&mut self, plan: &Plan, settled: &ClassifiedActor) -> Result<(), AllocError>
+        ensures noted { (reported : List classified_actors.ClassifiedActor)
+            → spec.AreOtherKinds plan.now reported self.old
+            → OnOk result (spec.AreOtherKinds plan.now (reported ++ settled.now ∷ []) self.new) }
         ensures had { OnOk result (self.new.has_any ≡ false → self.old.has_any ≡ false) }
     {
         if let Some((round, kind)) = other_kind(plan, settled) {
@@ -63,8 +63,8 @@ impl OtherKinds {
 
 // Returns the round and the first kind that it can belong to, if that is not the first kind of its
 // label.
-fn other_kind(plan: &Plan, settled: &Settled) -> Option<(usize, usize)>
-    ensures { result ≡ spec.other_told plan.now settled.now }
+fn other_kind(plan: &Plan, settled: &ClassifiedActor) -> Option<(usize, usize)>
+    ensures { result ≡ spec.other_kind_of plan.now settled.now }
 {
     let (round, kind) = first_kind(settled)?;
     if first_client(plan, &settled.label) == Some(kind) {
@@ -74,8 +74,8 @@ fn other_kind(plan: &Plan, settled: &Settled) -> Option<(usize, usize)>
 }
 
 // Returns the round and the first kind that it can belong to.
-fn first_kind(settled: &Settled) -> Option<(usize, usize)>
-    ensures { result ≡ first.round_told settled.now }
+fn first_kind(settled: &ClassifiedActor) -> Option<(usize, usize)>
+    ensures { result ≡ first.round_and_kind settled.now }
 {
     let kind = *settled.family.members.first()?;
     match settled.actor {

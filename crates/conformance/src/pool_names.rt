@@ -2,7 +2,7 @@
 
 ghost use Rattle.std.specs.Prelude.{◌≡◌, ◌||◌, ℕ, List, OnOk, false};
 ghost use Rattle.std.specs.Str.{bytes_eq};
-ghost use Rattle.conformance.specs.PoolWatch.{has_name};
+ghost use Rattle.conformance.specs.PoolComparison.{has_name};
 
 use std::alloc::{AllocError, Global};
 use std::collections::HashSet;

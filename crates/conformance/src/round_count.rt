@@ -51,7 +51,7 @@ impl RoundCount {
     /// its rounds in order.
     pub fn begin(&mut self) -> Option<Excess>
         requires { self.old.begun < MAX_RECORDED_ROUNDS }
-        ensures counted { self.new ≡ record self.old { begun = self.old.begun + 1 } }
+        ensures excess_tracker { self.new ≡ record self.old { begun = self.old.begun + 1 } }
         ensures exact { result ≡ spec.excess_of self.new }
         ensures none { IsNone result ↔ spec.IsWithinPlan self.new }
     {
@@ -90,7 +90,7 @@ impl RoundCount {
     {
         let (count, open) = (self.count, self.begun - self.ended);
         if open > count {
-            Some(Excess::AtOnce {
+            Some(Excess::Concurrent {
                 rounds: open,
                 count,
             })

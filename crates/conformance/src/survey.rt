@@ -2,44 +2,44 @@
 
 ghost use Rattle.std.specs.Prelude.{◌≡◌, ◌++◌, ◌∷◌, [], ℕ, false, List, Option, OnOk, IfOk};
 ghost use Rattle.job_bodies.specs.Plan as plans;
-ghost use Rattle.recordings.specs.RecordingLine.{RecordedLine, line_seen};
+ghost use Rattle.recordings.specs.RecordingLine.{RecordedLine, line_view};
 ghost use Rattle.recordings.specs.PathsOfLines.{KeepsRules};
-ghost use Rattle.conformance.specs.declared.settled.Settled as settleds;
-ghost use Rattle.conformance.specs.Settled.{AreTold, AreAllTold};
-ghost use Rattle.conformance.specs.Counted.{IsCountedFirst, IsCountedOf};
+ghost use Rattle.conformance.specs.declared.classified_actor.ClassifiedActor as classified_actors;
+ghost use Rattle.conformance.specs.ClassifiedActor.{AreResultsSoFarOf, AreAllResultsOf};
+ghost use Rattle.conformance.specs.ExcessTracker.{CountsFirstKinds, IsExcessTrackerOf};
 ghost use Rattle.conformance.specs.OtherKinds.{AreOtherKinds};
-ghost use Rattle.conformance.specs.Unplanned.{IsNext};
+ghost use Rattle.conformance.specs.UnplannedLabels.{IsNext};
 ghost use Rattle.conformance.specs.Verdicts.{IsVerdictsOf};
 ghost use Rattle.conformance.specs.Survey as spec;
 
-use crate::counted::Counted;
+use crate::excess_tracker::ExcessTracker;
 use crate::other_kinds::OtherKinds;
-use crate::unplanned::Unplanned;
+use crate::unplanned::UnplannedLabels;
 use crate::verdicts::Verdicts;
-use crate::{Classes, PoolDeviation, PoolWatch, Settled, pools_are_as_planned};
+use crate::{ActorClassifier, PoolDeviation, PoolComparison, ClassifiedActor, pools_are_as_planned};
 use job_bodies::Plan;
-use recordings::{Line, RecordedNotes, RecordingFault, RuledLines};
+use recordings::{Line, RecordedNotes, RecordingFault, CheckedLines};
 use std::alloc::{AllocError, Global};
 
 /// The part of a survey that each line updates on its own.
 #[derive(Drop)]
-pub(crate) struct Watched {
-    pools: PoolWatch,
+pub(crate) struct LineSurvey {
+    pools: PoolComparison,
     pub(crate) deviations: Vec<PoolDeviation>,
     pub(crate) notes: RecordedNotes,
-    pub(crate) unplanned: Unplanned,
+    pub(crate) unplanned: UnplannedLabels,
 }
 
-impl Watched {
+impl LineSurvey {
     /// Creates the state before the first line.
-    pub(crate) fn new(alloc: Global) -> Watched
-        ensures { (plan : plans.Plan) → spec.IsWatchedOf plan [] result }
+    pub(crate) fn new(alloc: Global) -> LineSurvey
+        ensures { (plan : plans.Plan) → spec.IsLineSurveyOf plan [] result }
     {
-        let pools = PoolWatch::new(alloc);
+        let pools = PoolComparison::new(alloc);
         let deviations = Vec::new(alloc);
         let notes = RecordedNotes::new(alloc);
-        let unplanned = Unplanned::new(alloc);
-        Watched {
+        let unplanned = UnplannedLabels::new(alloc);
+        LineSurvey {
             pools,
             deviations,
             notes,
@@ -59,10 +59,10 @@ impl Watched {
         line: &Line<'_>,
     ) -> Result<(), AllocError>
         ensures { (before : List RecordedLine)
-            → KeepsRules (before ++ line_seen line.now ∷ [])
+            → KeepsRules (before ++ line_view line.now ∷ [])
             → IsNext number before
-            → spec.IsWatchedOf plan.now before self.old
-            → OnOk result (spec.IsWatchedOf plan.now (before ++ line_seen line.now ∷ []) self.new) }
+            → spec.IsLineSurveyOf plan.now before self.old
+            → OnOk result (spec.IsLineSurveyOf plan.now (before ++ line_view line.now ∷ []) self.new) }
     {
         pools_are_as_planned();
         self.pools.take(plan, number, line, &mut self.deviations)?;
@@ -77,8 +77,8 @@ impl Watched {
     /// Returns `AllocError` if memory runs out.
     pub(crate) fn finish(&mut self, plan: &Plan) -> Result<(), AllocError>
         ensures { (lines : List RecordedLine)
-            → spec.IsWatchedOf plan.now lines self.old
-            → OnOk result (spec.IsWatched plan.now lines self.new) }
+            → spec.IsLineSurveyOf plan.now lines self.old
+            → OnOk result (spec.IsLineSurveyAtEnd plan.now lines self.new) }
     {
         self.pools.finish(plan, &mut self.deviations)
     }
@@ -86,21 +86,21 @@ impl Watched {
 
 /// The part of a survey that each classified actor updates.
 #[derive(Drop)]
-pub(crate) struct Judged {
+pub(crate) struct ActorSurvey {
     pub(crate) verdicts: Verdicts,
     pub(crate) others: OtherKinds,
 }
 
-impl Judged {
+impl ActorSurvey {
     /// Creates the state before the first line.
-    pub(crate) fn new(alloc: Global) -> Judged
+    pub(crate) fn new(alloc: Global) -> ActorSurvey
         ensures { (plan : plans.Plan) (budget : ℕ)
-            → AreTold plan budget [] []
-            → spec.IsJudgedOf plan budget [] [] result }
+            → AreResultsSoFarOf plan budget [] []
+            → spec.IsActorSurveyOf plan budget [] [] result }
     {
         let verdicts = Verdicts::new(alloc);
         let others = OtherKinds::new(alloc);
-        Judged { verdicts, others }
+        ActorSurvey { verdicts, others }
     }
 
     /// Records the classified actors and empties the list.
@@ -111,22 +111,22 @@ impl Judged {
     pub(crate) fn note_all(
         &mut self,
         plan: &Plan,
-        told: &mut Vec<Settled>,
+        reported: &mut Vec<ClassifiedActor>,
     ) -> Result<(), AllocError>
-        ensures verdicts { (earlier : List settleds.Settled)
+        ensures verdicts { (earlier : List classified_actors.ClassifiedActor)
             → IsVerdictsOf plan.now earlier self.old.verdicts
-            → OnOk result (IsVerdictsOf plan.now (earlier ++ told.old.items) self.new.verdicts) }
-        ensures others { (earlier : List settleds.Settled)
+            → OnOk result (IsVerdictsOf plan.now (earlier ++ reported.old.items) self.new.verdicts) }
+        ensures others { (earlier : List classified_actors.ClassifiedActor)
             → AreOtherKinds plan.now earlier self.old.others
-            → OnOk result (AreOtherKinds plan.now (earlier ++ told.old.items) self.new.others) }
+            → OnOk result (AreOtherKinds plan.now (earlier ++ reported.old.items) self.new.others) }
         ensures had { OnOk result
             (self.new.others.has_any ≡ false → self.old.others.has_any ≡ false) }
-        ensures emptied { OnOk result (told.new.items ≡ []) }
+        ensures emptied { OnOk result (reported.new.items ≡ []) }
     {
-        if told.is_empty() {
+        if reported.is_empty() {
             return Ok(());
         }
-        for settled in told.drain(..) {
+        for settled in reported.drain(..) {
             self.others.note(plan, &settled)?;
             self.verdicts.note(plan, settled)?;
         }
@@ -137,24 +137,24 @@ impl Judged {
 /// A survey of all lines of a recording.
 #[derive(Drop)]
 pub(crate) struct Survey {
-    pub(crate) watched: Watched,
-    pub(crate) judged: Judged,
-    pub(crate) counted: Counted,
+    pub(crate) line_survey: LineSurvey,
+    pub(crate) actor_survey: ActorSurvey,
+    pub(crate) excess_tracker: ExcessTracker,
 }
 
 impl Survey {
     // Completes the survey at the end of the recording, with the actors that are still
     // unclassified.
-    fn finish(&mut self, alloc: Global, plan: &Plan, classes: Classes) -> Result<(), AllocError>
+    fn finish(&mut self, alloc: Global, plan: &Plan, classes: ActorClassifier) -> Result<(), AllocError>
         ensures { (budget : ℕ) (lines : List RecordedLine)
             → KeepsRules lines
-            → spec.IsWatchedOf plan.now lines self.old.watched
-            → spec.IsSoFar plan.now budget lines classes self.old.judged
-            → IsCountedFirst plan.now self.old.judged.others lines self.old.counted
+            → spec.IsLineSurveyOf plan.now lines self.old.line_survey
+            → spec.IsCurrent plan.now budget lines classes self.old.actor_survey
+            → CountsFirstKinds plan.now self.old.actor_survey.others lines self.old.excess_tracker
             → OnOk result (spec.IsSurveyOf plan.now budget lines self.new) }
     {
-        self.watched.finish(plan)?;
-        finish(alloc, plan, classes, &mut self.judged)?;
+        self.line_survey.finish(plan)?;
+        finish(alloc, plan, classes, &mut self.actor_survey)?;
         Ok(())
     }
 }
@@ -164,49 +164,49 @@ impl Survey {
 /// # Errors
 ///
 /// Returns `AllocError` if memory runs out.
-pub(crate) fn surveyed(
+pub(crate) fn survey_recording(
     alloc: Global,
     plan: &Plan,
     recording: &[u8],
     budget: u64,
 ) -> Result<Result<Survey, RecordingFault>, AllocError>
-    ensures { IfOk result (spec.IsSurveyed plan.now budget recording.now) }
+    ensures { IfOk result (spec.IsSurveyResult plan.now budget recording.now) }
 {
-    let counted = Counted::new(alloc, plan)?;
-    let mut underway = Underway::new(alloc, budget, counted);
-    match underway.take_all(alloc, plan, recording)? {
+    let excess_tracker = ExcessTracker::new(alloc, plan)?;
+    let mut builder = SurveyBuilder::new(alloc, budget, excess_tracker);
+    match builder.take_all(alloc, plan, recording)? {
         Some(fault) => Ok(Err(fault)),
-        None => Ok(Ok(underway.finish(alloc, plan)?)),
+        None => Ok(Ok(builder.finish(alloc, plan)?)),
     }
 }
 
 /// A survey under construction, with the state of the unclassified actors.
 #[derive(Drop)]
-pub(crate) struct Underway {
+pub(crate) struct SurveyBuilder {
     pub(crate) survey: Survey,
-    pub(crate) classes: Classes,
-    pub(crate) told: Vec<Settled>,
+    pub(crate) classes: ActorClassifier,
+    pub(crate) reported: Vec<ClassifiedActor>,
 }
 
-impl Underway {
+impl SurveyBuilder {
     // Creates the state before the first line.
-    fn new(alloc: Global, budget: u64, counted: Counted) -> Underway
+    fn new(alloc: Global, budget: u64, excess_tracker: ExcessTracker) -> SurveyBuilder
         ensures { (plan : plans.Plan)
-            → ((kinds : List (Option ℕ)) → IsCountedOf plan kinds [] counted)
-            → spec.IsUnderway plan budget [] result }
+            → ((kinds : List (Option ℕ)) → IsExcessTrackerOf plan kinds [] excess_tracker)
+            → spec.IsSurveyBuilderOf plan budget [] result }
     {
-        let watched = Watched::new(alloc);
-        let judged = Judged::new(alloc);
-        let classes = Classes::new(alloc, budget);
-        let told = Vec::new(alloc);
-        Underway {
+        let line_survey = LineSurvey::new(alloc);
+        let actor_survey = ActorSurvey::new(alloc);
+        let classes = ActorClassifier::new(alloc, budget);
+        let reported = Vec::new(alloc);
+        SurveyBuilder {
             survey: Survey {
-                watched,
-                judged,
-                counted,
+                line_survey,
+                actor_survey,
+                excess_tracker,
             },
             classes,
-            told,
+            reported,
         }
     }
 
@@ -218,10 +218,10 @@ impl Underway {
         recording: &[u8],
     ) -> Result<Option<RecordingFault>, AllocError>
         ensures { (budget : ℕ)
-            → spec.IsUnderway plan.now budget [] self.old
-            → IfOk result (spec.IsThrough plan.now budget recording.now self.new) }
+            → spec.IsSurveyBuilderOf plan.now budget [] self.old
+            → IfOk result (spec.ReadsAllLines plan.now budget recording.now self.new) }
     {
-        let mut lines = RuledLines::new(alloc, recording);
+        let mut lines = CheckedLines::new(alloc, recording);
         while let Some(line) = lines.next()? {
             let line = match line {
                 Ok(line) => line,
@@ -235,24 +235,24 @@ impl Underway {
     // Reads line `number` of a valid recording.
     fn take(&mut self, plan: &Plan, number: usize, line: &Line<'_>) -> Result<(), AllocError>
         ensures { (budget : ℕ) (before : List RecordedLine)
-            → KeepsRules (before ++ line_seen line.now ∷ [])
+            → KeepsRules (before ++ line_view line.now ∷ [])
             → IsNext number before
-            → spec.IsUnderway plan.now budget before self.old
+            → spec.IsSurveyBuilderOf plan.now budget before self.old
             → OnOk result
-            (spec.IsUnderway plan.now budget (before ++ line_seen line.now ∷ []) self.new) }
+            (spec.IsSurveyBuilderOf plan.now budget (before ++ line_view line.now ∷ []) self.new) }
     {
-        self.survey.watched.take(plan, number, line)?;
+        self.survey.line_survey.take(plan, number, line)?;
         take_line(
             plan,
             line,
             &mut self.classes,
-            &mut self.survey.judged,
-            &mut self.told,
+            &mut self.survey.actor_survey,
+            &mut self.reported,
         )?;
-        let judged = &self.survey.judged;
+        let actor_survey = &self.survey.actor_survey;
         self.survey
-            .counted
-            .take(plan, &judged.others, number, line)?;
+            .excess_tracker
+            .take(plan, &actor_survey.others, number, line)?;
         Ok(())
     }
 
@@ -260,10 +260,10 @@ impl Underway {
     fn finish(self, alloc: Global, plan: &Plan) -> Result<Survey, AllocError>
         ensures { (budget : ℕ) (lines : List RecordedLine)
             → KeepsRules lines
-            → spec.IsUnderway plan.now budget lines self
+            → spec.IsSurveyBuilderOf plan.now budget lines self
             → IfOk result (spec.IsSurveyOf plan.now budget lines) }
     {
-        let Underway {
+        let SurveyBuilder {
             mut survey,
             classes,
             ..
@@ -273,44 +273,44 @@ impl Underway {
     }
 }
 
-// Reads a line and records the actors that it classifies. `told` is a scratch list, empty before
+// Reads a line and records the actors that it classifies. `reported` is a scratch list, empty before
 // and after the call.
 fn take_line(
     plan: &Plan,
     line: &Line<'_>,
-    classes: &mut Classes,
-    judged: &mut Judged,
-    told: &mut Vec<Settled>,
+    classes: &mut ActorClassifier,
+    actor_survey: &mut ActorSurvey,
+    reported: &mut Vec<ClassifiedActor>,
 ) -> Result<(), AllocError>
-    ensures emptied { OnOk result (told.new.items ≡ []) }
+    ensures emptied { OnOk result (reported.new.items ≡ []) }
     ensures had { OnOk result
-        (judged.new.others.has_any ≡ false → judged.old.others.has_any ≡ false) }
-    ensures so_far { (budget : ℕ) (before : List RecordedLine)
-        → KeepsRules (before ++ line_seen line.now ∷ [])
-        → told.old.items ≡ []
-        → spec.IsSoFar plan.now budget before classes.old judged.old
+        (actor_survey.new.others.has_any ≡ false → actor_survey.old.others.has_any ≡ false) }
+    ensures current { (budget : ℕ) (before : List RecordedLine)
+        → KeepsRules (before ++ line_view line.now ∷ [])
+        → reported.old.items ≡ []
+        → spec.IsCurrent plan.now budget before classes.old actor_survey.old
         → OnOk result
-        (spec.IsSoFar plan.now budget (before ++ line_seen line.now ∷ []) classes.new judged.new) }
+        (spec.IsCurrent plan.now budget (before ++ line_view line.now ∷ []) classes.new actor_survey.new) }
 {
-    classes.take(plan, line, told)?;
-    judged.note_all(plan, told)
+    classes.take(plan, line, reported)?;
+    actor_survey.note_all(plan, reported)
 }
 
 // Records the actors that are still unclassified at the end of the recording.
 fn finish(
     alloc: Global,
     plan: &Plan,
-    classes: Classes,
-    judged: &mut Judged,
+    classes: ActorClassifier,
+    actor_survey: &mut ActorSurvey,
 ) -> Result<(), AllocError>
     ensures had { OnOk result
-        (judged.new.others.has_any ≡ false → judged.old.others.has_any ≡ false) }
+        (actor_survey.new.others.has_any ≡ false → actor_survey.old.others.has_any ≡ false) }
     ensures all { (budget : ℕ) (lines : List RecordedLine)
         → KeepsRules lines
-        → spec.IsSoFar plan.now budget lines classes judged.old
-        → OnOk result (spec.IsJudged plan.now budget lines judged.new) }
+        → spec.IsCurrent plan.now budget lines classes actor_survey.old
+        → OnOk result (spec.IsActorSurveyAtEnd plan.now budget lines actor_survey.new) }
 {
-    let mut told = Vec::new(alloc);
-    classes.finish(plan, &mut told)?;
-    judged.note_all(plan, &mut told)
+    let mut reported = Vec::new(alloc);
+    classes.finish(plan, &mut reported)?;
+    actor_survey.note_all(plan, &mut reported)
 }

@@ -2,10 +2,10 @@
 
 ghost use Rattle.std.specs.Prelude.{◌≡◌, ◌++◌, ◌∷◌, [], List, OnOk};
 ghost use Rattle.job_bodies.specs.Plan as plans;
-ghost use Rattle.recordings.specs.RecordingLine.{RecordedLine, line_seen};
-ghost use Rattle.conformance.specs.Unplanned as spec;
+ghost use Rattle.recordings.specs.RecordingLine.{RecordedLine, line_view};
+ghost use Rattle.conformance.specs.UnplannedLabels as spec;
 
-use crate::labels::{Labels, pair};
+use crate::labels::{LabelSet, pair};
 use crate::{first_class, first_client};
 use job_bodies::Plan;
 use recordings::Line;
@@ -29,22 +29,22 @@ pub enum NotPlanned {
 
 /// The labels that are not in the plan, for the lines read so far.
 #[derive(Drop)]
-pub(crate) struct Unplanned {
+pub(crate) struct UnplannedLabels {
     pub(crate) found: Vec<NotPlanned>,
-    classes: Labels,
-    kinds: Labels,
+    classes: LabelSet,
+    kinds: LabelSet,
     alloc: Global,
 }
 
-impl Unplanned {
+impl UnplannedLabels {
     /// Creates an empty set.
-    pub(crate) fn new(alloc: Global) -> Unplanned
-        ensures { (plan : plans.Plan) → spec.IsUnplannedOf plan [] result }
+    pub(crate) fn new(alloc: Global) -> UnplannedLabels
+        ensures { (plan : plans.Plan) → spec.AreUnplannedLabelsOf plan [] result }
     {
-        Unplanned {
+        UnplannedLabels {
             found: Vec::new(alloc),
-            classes: Labels::new(alloc),
-            kinds: Labels::new(alloc),
+            classes: LabelSet::new(alloc),
+            kinds: LabelSet::new(alloc),
             alloc,
         }
     }
@@ -62,9 +62,9 @@ impl Unplanned {
     ) -> Result<(), AllocError>
         ensures { (before : List RecordedLine)
             → spec.IsNext number before
-            → spec.IsUnplannedOf plan.now before self.old
+            → spec.AreUnplannedLabelsOf plan.now before self.old
             → OnOk result
-            (spec.IsUnplannedOf plan.now (before ++ line_seen line.now ∷ []) self.new) }
+            (spec.AreUnplannedLabelsOf plan.now (before ++ line_view line.now ∷ []) self.new) }
     {
         match *line {
             Line::Submits { class, pool, .. } => self.take_class(plan, number, class, pool),
@@ -81,7 +81,7 @@ impl Unplanned {
         pool: &str,
     ) -> Result<(), AllocError>
         ensures { OnOk result
-            (spec.TakesClass plan.now number class.now pool.now self.old self.new) }
+            (spec.AddsClass plan.now number class.now pool.now self.old self.new) }
     {
         if first_class(plan, class, pool).is_some() {
             return Ok(());
@@ -102,7 +102,7 @@ impl Unplanned {
     }
 
     fn take_kind(&mut self, plan: &Plan, number: usize, kind: &str) -> Result<(), AllocError>
-        ensures { OnOk result (spec.TakesKind plan.now number kind.now self.old self.new) }
+        ensures { OnOk result (spec.AddsKind plan.now number kind.now self.old self.new) }
     {
         if first_client(plan, kind).is_some() {
             return Ok(());

@@ -2,15 +2,15 @@
 
 ghost use Rattle.std.specs.Prelude.{◌≡◌, ◌++◌, ◌∷◌, [], ℕ, List, OnOk};
 ghost use Rattle.job_bodies.specs.Plan as plans;
-ghost use Rattle.conformance.specs.declared.settled.Settled as settleds;
-ghost use Rattle.conformance.specs.Firsts.{AreFirsts};
+ghost use Rattle.conformance.specs.declared.classified_actor.ClassifiedActor as classified_actors;
+ghost use Rattle.conformance.specs.FirstActors.{AreFirstActorsOf};
 ghost use Rattle.conformance.specs.JobSet.{has_job};
 ghost use Rattle.conformance.specs.Verdicts as spec;
 
-use crate::firsts::Firsts;
+use crate::first_actors::FirstActors;
 use crate::job_set::JobSet;
-use crate::numbers::is_none;
-use crate::{Settled, first_class, first_client};
+use crate::numbers::is_empty_slice;
+use crate::{ClassifiedActor, first_class, first_client};
 use job_bodies::Plan;
 use recordings::RecordedActor;
 use std::alloc::{AllocError, Global};
@@ -19,8 +19,8 @@ use std::alloc::{AllocError, Global};
 /// the one for which this is undecided.
 #[derive(Drop)]
 pub(crate) struct Verdicts {
-    pub(crate) strays: Firsts,
-    pub(crate) undecided: Firsts,
+    pub(crate) mismatches: FirstActors,
+    pub(crate) undecided: FirstActors,
     /// The jobs whose path matches no class of the plan.
     pub(crate) classless: JobSet,
 }
@@ -31,8 +31,8 @@ impl Verdicts {
         ensures { (plan : plans.Plan) → spec.IsVerdictsOf plan [] result }
     {
         Verdicts {
-            strays: Firsts::new(alloc),
-            undecided: Firsts::new(alloc),
+            mismatches: FirstActors::new(alloc),
+            undecided: FirstActors::new(alloc),
             classless: JobSet::new(alloc),
         }
     }
@@ -42,26 +42,26 @@ impl Verdicts {
     /// # Errors
     ///
     /// Returns `AllocError` if memory runs out.
-    pub(crate) fn note(&mut self, plan: &Plan, settled: Settled) -> Result<(), AllocError>
-        ensures { (told : List settleds.Settled)
-            → spec.IsVerdictsOf plan.now told self.old
-            → OnOk result (spec.IsVerdictsOf plan.now (told ++ settled ∷ []) self.new) }
+    pub(crate) fn note(&mut self, plan: &Plan, settled: ClassifiedActor) -> Result<(), AllocError>
+        ensures { (reported : List classified_actors.ClassifiedActor)
+            → spec.IsVerdictsOf plan.now reported self.old
+            → OnOk result (spec.IsVerdictsOf plan.now (reported ++ settled ∷ []) self.new) }
     {
         if !settled.family.is_decided {
             return self.note_undecided(plan, settled);
         }
-        if is_none(&settled.family.members) {
-            return self.note_stray(plan, settled);
+        if is_empty_slice(&settled.family.members) {
+            return self.note_mismatch(plan, settled);
         }
         Ok(())
     }
 
-    fn note_undecided(&mut self, plan: &Plan, settled: Settled) -> Result<(), AllocError>
+    fn note_undecided(&mut self, plan: &Plan, settled: ClassifiedActor) -> Result<(), AllocError>
         ensures undecided { OnOk result
-            ((told : List settleds.Settled)
-            → AreFirsts told self.old.undecided.actors.items
-            → AreFirsts (spec.with_planned plan.now settled told) self.new.undecided.actors.items) }
-        ensures strays { self.new.strays ≡ self.old.strays }
+            ((reported : List classified_actors.ClassifiedActor)
+            → AreFirstActorsOf reported self.old.undecided.actors.items
+            → AreFirstActorsOf (spec.with_planned plan.now settled reported) self.new.undecided.actors.items) }
+        ensures mismatches { self.new.mismatches ≡ self.old.mismatches }
         ensures classless { self.new.classless ≡ self.old.classless }
     {
         if is_planned(plan, &settled) {
@@ -70,11 +70,11 @@ impl Verdicts {
         Ok(())
     }
 
-    fn note_stray(&mut self, plan: &Plan, settled: Settled) -> Result<(), AllocError>
-        ensures strays { OnOk result
-            ((told : List settleds.Settled)
-            → AreFirsts told self.old.strays.actors.items
-            → AreFirsts (spec.with_planned plan.now settled told) self.new.strays.actors.items) }
+    fn note_mismatch(&mut self, plan: &Plan, settled: ClassifiedActor) -> Result<(), AllocError>
+        ensures mismatches { OnOk result
+            ((reported : List classified_actors.ClassifiedActor)
+            → AreFirstActorsOf reported self.old.mismatches.actors.items
+            → AreFirstActorsOf (spec.with_planned plan.now settled reported) self.new.mismatches.actors.items) }
         ensures undecided { self.new.undecided ≡ self.old.undecided }
         ensures classless { OnOk result
             ((job : ℕ)
@@ -83,13 +83,13 @@ impl Verdicts {
     {
         self.note_job(settled.actor)?;
         if is_planned(plan, &settled) {
-            self.strays.note(settled)?;
+            self.mismatches.note(settled)?;
         }
         Ok(())
     }
 
     fn note_job(&mut self, actor: RecordedActor) -> Result<(), AllocError>
-        ensures strays { self.new.strays ≡ self.old.strays }
+        ensures mismatches { self.new.mismatches ≡ self.old.mismatches }
         ensures undecided { self.new.undecided ≡ self.old.undecided }
         ensures classless { OnOk result
             ((job : ℕ)
@@ -105,7 +105,7 @@ impl Verdicts {
 
 /// Returns true if the actor's label is in the plan.
 #[tactic(auto, using(crate::proofs::UnplannedAfter::is_filled))]
-fn is_planned(plan: &Plan, settled: &Settled) -> bool
+fn is_planned(plan: &Plan, settled: &ClassifiedActor) -> bool
     ensures { result ≡ spec.is_planned plan.now settled.now }
 {
     match settled.actor {

@@ -2,15 +2,15 @@
 
 ghost use Rattle.std.specs.Prelude.{◌≡◌, ◌≤◌, ◌<◌, ℕ, List, [], Option, length, take, drop, slice_get, slice_index_or};
 ghost use Rattle.job_bodies.specs.declared.action.Action.TheVariants.{Work};
-ghost use Rattle.conformance.specs.declared.deed.Course.{Course};
-ghost use Rattle.conformance.specs.Way as spec;
-ghost use Rattle.conformance.specs.Walk.{ends, IsToldOfWalk};
-ghost use Rattle.conformance.specs.Answer.{IsDecided};
+ghost use Rattle.conformance.specs.declared.step.PathState.{PathState};
+ghost use Rattle.conformance.specs.Continuation as spec;
+ghost use Rattle.conformance.specs.Walk.{ends, IsWalkResult};
+ghost use Rattle.conformance.specs.PathMatch.{IsDecided};
 ghost use Rattle.conformance.specs.StepBudget.{IsDecidedWithin};
 
-use crate::answer::PathFit;
-use crate::deed::{Course, Deed};
-use crate::way::{Way, way_on};
+use crate::path_match::PathMatch;
+use crate::step::{PathState, PathStep};
+use crate::continuation::{Continuation, next_continuation};
 use job_bodies::Action;
 
 /// Matches the path from the index `place` on against the body from the index `position` on.
@@ -18,51 +18,51 @@ use job_bodies::Action;
 /// Each action takes one of the search steps.
 pub(crate) fn walk(
     body: &[Action],
-    path: &[Deed],
-    course: Course,
+    path: &[PathStep],
+    path_state: PathState,
     places: &mut [Option<usize>],
     position: usize,
     place: usize,
-    steps: &mut u64,
-) -> PathFit
+    steps_left: &mut u64,
+) -> PathMatch
     requires position { position ≤ length body.now }
     requires place { place ≤ length path.now }
     requires room { length body.now ≤ length places.old }
-    ensures told { IsToldOfWalk course (take position places.old) (drop position body.now) place
+    ensures reported { IsWalkResult path_state (take position places.old) (drop position body.now) place
         (drop place path.now) result }
     ensures kept { take position places.new ≡ take position places.old }
-    ensures decided { IsDecidedWithin (drop position body.now) steps.old steps.new result }
+    ensures decided { IsDecidedWithin (drop position body.now) steps_left.old steps_left.new result }
 {
-    if *steps == 0 {
-        return PathFit::Undecided;
+    if *steps_left == 0 {
+        return PathMatch::Undecided;
     }
-    *steps -= 1;
-    if may_end(path, course, place) {
-        return PathFit::Fits;
+    *steps_left -= 1;
+    if may_end(path, path_state, place) {
+        return PathMatch::Fits;
     }
     if position == body.len() {
         return at_end(path, place);
     }
-    match way_at(body, path, places, position, place) {
-        Way::Stops => PathFit::Deviates(place),
-        Way::Passes => {
+    match continuation_at(body, path, places, position, place) {
+        Continuation::Stops => PathMatch::Deviates(place),
+        Continuation::Passes => {
             places[position] = None;
-            walk(body, path, course, places, position + 1, place, steps)
+            walk(body, path, path_state, places, position + 1, place, steps_left)
         }
-        Way::Gets => {
+        Continuation::Gets => {
             places[position] = None;
-            walk(body, path, course, places, position + 1, place + 1, steps)
+            walk(body, path, path_state, places, position + 1, place + 1, steps_left)
         }
-        Way::SubmitsOrPasses => {
+        Continuation::SubmitsOrPasses => {
             places[position] = Some(place);
-            let submitted = walk(body, path, course, places, position + 1, place + 1, steps);
+            let submitted = walk(body, path, path_state, places, position + 1, place + 1, steps_left);
             match submitted {
-                PathFit::Fits => PathFit::Fits,
-                PathFit::Undecided => PathFit::Undecided,
-                PathFit::Deviates(explained) => {
+                PathMatch::Fits => PathMatch::Fits,
+                PathMatch::Undecided => PathMatch::Undecided,
+                PathMatch::Deviates(explained) => {
                     places[position] = None;
-                    let passed = walk(body, path, course, places, position + 1, place, steps);
-                    passed.or_explained(explained)
+                    let passed = walk(body, path, path_state, places, position + 1, place, steps_left);
+                    passed.with_explained(explained)
                 }
             }
         }
@@ -70,42 +70,42 @@ pub(crate) fn walk(
 }
 
 /// Returns true if the path ends before this index and its actor may continue.
-fn may_end(path: &[Deed], course: Course, place: usize) -> bool
-    ensures { result ≡ ends course (drop place path.now) }
+fn may_end(path: &[PathStep], path_state: PathState, place: usize) -> bool
+    ensures { result ≡ ends path_state (drop place path.now) }
 {
-    match course {
-        Course::Whole => false,
-        Course::Begun => path.get(place).is_none(),
+    match path_state {
+        PathState::Whole => false,
+        PathState::Prefix => path.get(place).is_none(),
     }
 }
 
 /// Returns the result for the path from `place` on when no actions are left.
-fn at_end(path: &[Deed], place: usize) -> PathFit
+fn at_end(path: &[PathStep], place: usize) -> PathMatch
     requires { place ≤ length path.now }
-    ensures told { (course : Course) (places : List (Option ℕ))
-        → IsToldOfWalk course places [] place (drop place path.now) result }
+    ensures reported { (path_state : PathState) (places : List (Option ℕ))
+        → IsWalkResult path_state places [] place (drop place path.now) result }
     ensures decided { IsDecided result }
 {
     if place == path.len() {
-        PathFit::Fits
+        PathMatch::Fits
     } else {
-        PathFit::Deviates(place)
+        PathMatch::Deviates(place)
     }
 }
 
 /// Returns the ways to continue at an action of the body and an index of the path.
-fn way_at(
+fn continuation_at(
     body: &[Action],
-    path: &[Deed],
+    path: &[PathStep],
     places: &[Option<usize>],
     position: usize,
     place: usize,
-) -> Way
+) -> Continuation
     requires position { position < length body.now }
     requires room { length body.now ≤ length places.now }
     ensures { result
-        ≡ spec.way_on (take position places.now) (slice_index_or body.now position (Work 0))
+        ≡ spec.next_continuation (take position places.now) (slice_index_or body.now position (Work 0))
         (slice_get path.now place) }
 {
-    way_on(&places[..position], body[position], path.get(place))
+    next_continuation(&places[..position], body[position], path.get(place))
 }

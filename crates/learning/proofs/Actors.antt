@@ -6,10 +6,10 @@ use Rattle.std.proofs.lemmas.List.Elements.{Contains-append_left, Contains-appen
 use Rattle.recordings.specs.RecordingLine.{RecordedLine, RoundBegins, RoundEnds}
 use Rattle.recordings.specs.Before.{is_begun}
 use Rattle.recordings.specs.LineParts.{begins_round, is_begin}
-use Rattle.recordings.specs.Rules.{broken_of}
+use Rattle.recordings.specs.Rules.{first_broken_rule}
 use Rattle.recordings.proofs.Keeping.{keeps_all}
 use Rattle.learning.specs.Names.{HasBegun}
-use Rattle.learning.specs.TooMuch.{HasActors}
+use Rattle.learning.specs.InferenceLimit.{HasActors}
 
 pub begin_actors : (lines : List RecordedLine) (line : RecordedLine) → is_begin line ≡ true → Contains lines line → HasActors lines
 begin_actors lines (RoundBegins round label) begins there = (label, inl (round, there))
@@ -30,9 +30,9 @@ begun_before [] round any = absurd (grind (arith, any))
 begun_before (line ∷ before) round any = begun_at (begins_round round line) line before round refl any (begun_before before round)
 
 -- A valid line ends only a round that has begun.
-pub end_begun : (before behind : List RecordedLine) (round : ℕ) → broken_of before (RoundEnds round) ≡ None → (label : List ℕ) × HasBegun (before ++ RoundEnds round ∷ behind) label
+pub end_begun : (before after : List RecordedLine) (round : ℕ) → first_broken_rule before (RoundEnds round) ≡ None → (label : List ℕ) × HasBegun (before ++ RoundEnds round ∷ after) label
 unfolding is_begun
-end_begun before behind round kept =
+end_begun before after round kept =
     let going = and_parts (is_begun before round) _ (keeps_all before (RoundEnds round) kept).rounds in
     let begun = begun_before before round going.0 in
-    (begun.0, (begun.1.0, Contains-append_left before (RoundEnds round ∷ behind) (RoundBegins begun.1.0 begun.0) begun.1.1))
+    (begun.0, (begun.1.0, Contains-append_left before (RoundEnds round ∷ after) (RoundBegins begun.1.0 begun.0) begun.1.1))

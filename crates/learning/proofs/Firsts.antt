@@ -8,8 +8,8 @@ use Rattle.std.proofs.lemmas.List.{append-nil, append_assoc}
 use Rattle.std.proofs.lemmas.Slice.Eq.{bytes_eq-Decides}
 use Rattle.job_bodies.specs.Plan.{Pool}
 use Rattle.recordings.specs.RecordingLine.{RecordedLine}
-use Rattle.learning.specs.Kept.{AreFirstPools}
-use Rattle.learning.specs.Pools.{pool_of_line, has_other_name, firsts, pools_seen, has_name, with_first, with_first_of}
+use Rattle.learning.specs.LearningState.{AreFirstPools}
+use Rattle.learning.specs.Pools.{pool_of_line, has_other_name, firsts, recorded_pools, has_name, with_first, with_first_of}
 
 -- Equal names compare equally with any third name.
 same_other : (x f p : List ℕ) → bytes_eq f p ≡ true → bytes_eq x f ≡ bytes_eq x p
@@ -30,28 +30,28 @@ step true false x pools p same has = grind (arith, same, has, filter_one x pools
 step false true x pools p same has = grind (arith, same, has, name_left x p pools same)
 step false false x pools p same has = grind (arith, same, has, name_left x p pools same, filter_one x pools p)
 
-with_behind : (same : Bool) (x : Pool) (pools : List Pool) (p : Pool) → bytes_eq x.name p.name ≡ same → x ∷ (if same then pools else with_first pools p) ≡ with_first (x ∷ pools) p
-with_behind true x pools p same = grind (arith, same)
-with_behind false x pools p same = grind (arith, same)
+with_after : (same : Bool) (x : Pool) (pools : List Pool) (p : Pool) → bytes_eq x.name p.name ≡ same → x ∷ (if same then pools else with_first pools p) ≡ with_first (x ∷ pools) p
+with_after true x pools p same = grind (arith, same)
+with_after false x pools p same = grind (arith, same)
 
 pub firsts_more : (pools : List Pool) (p : Pool) → firsts (pools ++ p ∷ []) ≡ with_first (firsts pools) p
 firsts_more [] p = refl
 firsts_more (x ∷ pools) p =
     ap (λ rest. x ∷ filter (has_other_name x) rest) (firsts_more pools p)
     ∙ ap (λ rest. x ∷ rest) (step _ _ x (firsts pools) p refl refl)
-    ∙ with_behind _ x (filter (has_other_name x) (firsts pools)) p refl
+    ∙ with_after _ x (filter (has_other_name x) (firsts pools)) p refl
 
-behind_all : (one : Option Pool) (pools : List Pool) → firsts (pools ++ option_to_list one) ≡ with_first_of one (firsts pools)
-behind_all (Some pool) pools = firsts_more pools pool
-behind_all None pools = ap firsts (append-nil pools)
+after_all : (one : Option Pool) (pools : List Pool) → firsts (pools ++ option_to_list one) ≡ with_first_of one (firsts pools)
+after_all (Some pool) pools = firsts_more pools pool
+after_all None pools = ap firsts (append-nil pools)
 
 as_list : (one : Option Pool) → cons_option one [] ≡ option_to_list one
 as_list None = refl
 as_list (Some pool) = refl
 
-pub pools_more : (before : List RecordedLine) (line : RecordedLine) → pools_seen (before ++ line ∷ []) ≡ with_first_of (pool_of_line line) (pools_seen before)
-unfolding pools_seen
-pools_more before line = ap firsts (filter_map-append pool_of_line before (line ∷ []) ∙ ap (λ more. filter_map pool_of_line before ++ more) (as_list (pool_of_line line))) ∙ behind_all (pool_of_line line) (filter_map pool_of_line before)
+pub pools_more : (before : List RecordedLine) (line : RecordedLine) → recorded_pools (before ++ line ∷ []) ≡ with_first_of (pool_of_line line) (recorded_pools before)
+unfolding recorded_pools
+pools_more before line = ap firsts (filter_map-append pool_of_line before (line ∷ []) ∙ ap (λ more. filter_map pool_of_line before ++ more) (as_list (pool_of_line line))) ∙ after_all (pool_of_line line) (filter_map pool_of_line before)
 
 -- ---- the pools of a prefix of the lines
 first_begins : (has : Bool) (pools : List Pool) (p : Pool) → has_name p.name pools ≡ has → (more : List Pool) × (with_first pools p ≡ pools ++ more)
@@ -63,13 +63,13 @@ one_begins None pools = ([], sym (append-nil pools))
 one_begins (Some pool) pools = first_begins (has_name pool.name pools) pools pool refl
 
 -- The pools of a prefix of the lines are a prefix of the pools of all lines.
-pools_begin : (before behind : List RecordedLine) → (more : List Pool) × (pools_seen (before ++ behind) ≡ pools_seen before ++ more)
-pools_begin before [] = ([], ap pools_seen (append-nil before) ∙ sym (append-nil (pools_seen before)))
-pools_begin before (line ∷ behind) =
-    let rest = pools_begin (before ++ line ∷ []) behind in
-    let one = one_begins (pool_of_line line) (pools_seen before) in (
+pools_begin : (before after : List RecordedLine) → (more : List Pool) × (recorded_pools (before ++ after) ≡ recorded_pools before ++ more)
+pools_begin before [] = ([], ap recorded_pools (append-nil before) ∙ sym (append-nil (recorded_pools before)))
+pools_begin before (line ∷ after) =
+    let rest = pools_begin (before ++ line ∷ []) after in
+    let one = one_begins (pool_of_line line) (recorded_pools before) in (
       one.0 ++ rest.0,
-      ap pools_seen (sym (append_assoc before (line ∷ []) behind)) ∙ rest.1 ∙ ap (λ pools. pools ++ rest.0) (pools_more before line ∙ one.1) ∙ append_assoc (pools_seen before) one.0 rest.0,
+      ap recorded_pools (sym (append_assoc before (line ∷ []) after)) ∙ rest.1 ∙ ap (λ pools. pools ++ rest.0) (pools_more before line ∙ one.1) ∙ append_assoc (recorded_pools before) one.0 rest.0,
     )
 
 still_there : (pools more : List Pool) (n : ℕ) (pool : Pool) → slice_get pools n ≡ Some pool → slice_get (pools ++ more) n ≡ Some pool
@@ -77,15 +77,15 @@ still_there [] more n pool there = absurd (grind (arith, there))
 still_there (first ∷ pools) more zero pool there = there
 still_there (first ∷ pools) more (suc n) pool there = still_there pools more n pool there
 
-pub first_pools : (before behind : List RecordedLine) (pools : List Pool) → pools ≡ pools_seen before → AreFirstPools (before ++ behind) pools
-first_pools before behind pools same n pool there =
-    let more = pools_begin before behind in
-    ap (λ ps. slice_get ps n) more.1 ∙ still_there (pools_seen before) more.0 n pool (ap (λ ps. slice_get ps n) (sym same) ∙ there)
+pub first_pools : (before after : List RecordedLine) (pools : List Pool) → pools ≡ recorded_pools before → AreFirstPools (before ++ after) pools
+first_pools before after pools same n pool there =
+    let more = pools_begin before after in
+    ap (λ ps. slice_get ps n) more.1 ∙ still_there (recorded_pools before) more.0 n pool (ap (λ ps. slice_get ps n) (sym same) ∙ there)
 
-pub no_fewer_pools : (before behind : List RecordedLine) (line : RecordedLine) (pools : List Pool) → pools ≡ pools_seen before
-    → length (with_first_of (pool_of_line line) pools) ≤ length (pools_seen (before ++ line ∷ behind))
-no_fewer_pools before behind line pools same =
-    let more = pools_begin (before ++ line ∷ []) behind in
-    let now : with_first_of (pool_of_line line) pools ≡ pools_seen (before ++ line ∷ []) = ap (with_first_of (pool_of_line line)) same ∙ sym (pools_more before line) in
-    let all : pools_seen (before ++ line ∷ behind) ≡ pools_seen (before ++ line ∷ []) ++ more.0 = ap pools_seen (sym (append_assoc before (line ∷ []) behind)) ∙ more.1 in
-    omega (arith, ap (λ (ps : List Pool). length ps) now, ap (λ (ps : List Pool). length ps) all, length-append (pools_seen (before ++ line ∷ [])) more.0)
+pub no_fewer_pools : (before after : List RecordedLine) (line : RecordedLine) (pools : List Pool) → pools ≡ recorded_pools before
+    → length (with_first_of (pool_of_line line) pools) ≤ length (recorded_pools (before ++ line ∷ after))
+no_fewer_pools before after line pools same =
+    let more = pools_begin (before ++ line ∷ []) after in
+    let now : with_first_of (pool_of_line line) pools ≡ recorded_pools (before ++ line ∷ []) = ap (with_first_of (pool_of_line line)) same ∙ sym (pools_more before line) in
+    let all : recorded_pools (before ++ line ∷ after) ≡ recorded_pools (before ++ line ∷ []) ++ more.0 = ap recorded_pools (sym (append_assoc before (line ∷ []) after)) ∙ more.1 in
+    omega (arith, ap (λ (ps : List Pool). length ps) now, ap (λ (ps : List Pool). length ps) all, length-append (recorded_pools (before ++ line ∷ [])) more.0)

@@ -12,9 +12,9 @@ use Rattle.recordings.specs.RecordingLine.{RecordedLine, RoundBegins, RoundEnds}
 use Rattle.learning.specs.declared.counts.KindCount.{KindCount}
 use Rattle.learning.specs.declared.label_rounds.LabelRounds.{LabelRounds}
 use Rattle.learning.specs.Counts.{Kinds, is_kind, begins_one, ends_one, AreOfKinds, BeginsOfKind}
-use Rattle.learning.specs.Kept.{AreCountsOf, ChangesOne, with_begin, with_end}
+use Rattle.learning.specs.LearningState.{AreCountsOf, ChangesOne, with_begin, with_end}
 use Rattle.learning.specs.LabelRounds.{AreLabelRoundsOf, labels_of}
-use Rattle.learning.proofs.Tallies.{all_counted}
+use Rattle.learning.proofs.RoundCounts.{all_counted}
 
 -- ---- elements at an index
 pub at_seam : (kinds more : List ℕ) (kind round : ℕ) → round ≡ length kinds → slice_get ((kinds ++ kind ∷ []) ++ more) round ≡ Some kind
@@ -61,60 +61,60 @@ same_lists (x ∷ xs) (y ∷ ys) long each =
 
 -- ---- a line that begins a round
 begin_counts : (kinds more : List ℕ) (kind round : ℕ) (label : List ℕ) (before : List RecordedLine) (old new : List KindCount) → round ≡ length kinds → ChangesOne (Some kind) with_begin old new
-    → ((behind : List ℕ) → AreCountsOf (slice_get (kinds ++ behind)) before old) → AreCountsOf (slice_get ((kinds ++ kind ∷ []) ++ more)) (before ++ RoundBegins round label ∷ []) new
+    → ((after : List ℕ) → AreCountsOf (slice_get (kinds ++ after)) before old) → AreCountsOf (slice_get ((kinds ++ kind ∷ []) ++ more)) (before ++ RoundBegins round label ∷ []) new
 begin_counts kinds more kind round label before old new is one counts =
     let now : Kinds = slice_get ((kinds ++ kind ∷ []) ++ more) in
     all_counted now (Some kind) None before (RoundBegins round label) old new new (λ k. ap (is_kind k) (sym (at_seam kinds more kind round is))) (λ k. refl) one (λ k. refl)
     (subst (λ ks. AreCountsOf (slice_get ks) before old) (sym (append_assoc kinds (kind ∷ []) more)) (counts (kind ∷ more)))
 
 begin_kinds : (kinds more : List ℕ) (kind round : ℕ) (label : List ℕ) (before : List RecordedLine) (old new extra names : List (List ℕ)) → round ≡ length kinds → new ≡ old ++ extra → slice_get new kind ≡ Some label
-    → ((behind : List ℕ) (others : List (List ℕ)) → AreOfKinds (slice_get (kinds ++ behind)) (old ++ others) before) → AreOfKinds (slice_get ((kinds ++ kind ∷ []) ++ more)) (new ++ names) (before ++ RoundBegins round label ∷ [])
-begin_kinds kinds more kind round label before old new extra names is grown at of_kinds =
+    → ((after : List ℕ) (others : List (List ℕ)) → AreOfKinds (slice_get (kinds ++ after)) (old ++ others) before) → AreOfKinds (slice_get ((kinds ++ kind ∷ []) ++ more)) (new ++ names) (before ++ RoundBegins round label ∷ [])
+begin_kinds kinds more kind round label before old new extra names is extend_body at of_kinds =
     let now : Kinds = slice_get ((kinds ++ kind ∷ []) ++ more) in
     let all : AreOfKinds now (new ++ names) before =
-    subst (λ ns. AreOfKinds now ns before) (sym (ap (λ ls. ls ++ names) grown ∙ append_assoc old extra names))
+    subst (λ ns. AreOfKinds now ns before) (sym (ap (λ ls. ls ++ names) extend_body ∙ append_assoc old extra names))
     (subst (λ ks. AreOfKinds (slice_get ks) (old ++ (extra ++ names)) before) (sym (append_assoc kinds (kind ∷ []) more)) (of_kinds (kind ∷ more) (extra ++ names))) in
     All-push (BeginsOfKind now (new ++ names)) before (RoundBegins round label) all
     (record { kind = kind; is_kind = at_seam kinds more kind round is; name = label; is_name = still_there new names kind label at; named = inl refl })
 
 -- Each open round has the kind at the index of its number, and so does the new one.
-about_begun : (kinds : List ℕ) (kind round one : ℕ) (old : Option ℕ) (is_new : Bool) → (length kinds == round) ≡ is_new → (if is_new then Some kind else old) ≡ Some one → (old ≡ Some one → slice_get kinds round ≡ Some one)
+live_begun : (kinds : List ℕ) (kind round one : ℕ) (old : Option ℕ) (is_new : Bool) → (length kinds == round) ≡ is_new → (if is_new then Some kind else old) ≡ Some one → (old ≡ Some one → slice_get kinds round ≡ Some one)
     → slice_get (kinds ++ kind ∷ []) round ≡ Some one
-about_begun kinds kind round one old true is there so = at_end kinds kind round (grind (arith, is)) ∙ there
-about_begun kinds kind round one old false is there so = still_there kinds (kind ∷ []) round one (so there)
+live_begun kinds kind round one old true is there so = at_end kinds kind round (grind (arith, is)) ∙ there
+live_begun kinds kind round one old false is there so = still_there kinds (kind ∷ []) round one (so there)
 
 pub begun_after : (old new : LabelRounds) (kind round : ℕ) (label : List ℕ) (extra : List (List ℕ)) (before : List RecordedLine) → round ≡ old.begun → new.begun ≡ old.begun + 1
-    → ((round : ℕ) → value_at new.about round ≡ (if old.begun == round then Some kind else value_at old.about round)) → labels_of new ≡ labels_of old ++ extra → slice_get (labels_of new) kind ≡ Some label
+    → ((round : ℕ) → value_at new.open_labels round ≡ (if old.begun == round then Some kind else value_at old.open_labels round)) → labels_of new ≡ labels_of old ++ extra → slice_get (labels_of new) kind ≡ Some label
     → ChangesOne (Some kind) with_begin old.counts.items new.counts.items → AreLabelRoundsOf old before → AreLabelRoundsOf new (before ++ RoundBegins round label ∷ [])
-begun_after old new kind round label extra before is begun about labels at one rounds = record {
+begun_after old new kind round label extra before is begun open_labels labels at one rounds = record {
   kinds = rounds.kinds ++ kind ∷ [];
   begun = length-append rounds.kinds (kind ∷ []) ∙ ap (λ (n : ℕ). n + 1) rounds.begun ∙ sym begun;
-  about = λ r one there. about_begun rounds.kinds kind r one (value_at old.about r) (length rounds.kinds == r) refl
-      (ap (λ (n : ℕ). if n == r then Some kind else value_at old.about r) rounds.begun ∙ sym (about r) ∙ there) (rounds.about r one);
+  open_labels = λ r one there. live_begun rounds.kinds kind r one (value_at old.open_labels r) (length rounds.kinds == r) refl
+      (ap (λ (n : ℕ). if n == r then Some kind else value_at old.open_labels r) rounds.begun ∙ sym (open_labels r) ∙ there) (rounds.open_labels r one);
   counts = λ more. begin_counts rounds.kinds more kind round label before old.counts.items new.counts.items (is ∙ sym rounds.begun) one rounds.counts;
   of_kinds = λ more names. begin_kinds rounds.kinds more kind round label before (labels_of old) (labels_of new) extra names (is ∙ sym rounds.begun) labels at rounds.of_kinds;
 }
 
 -- ---- a line that ends a round
 end_counts : (kinds more : List ℕ) (kind round : ℕ) (before : List RecordedLine) (old new : List KindCount) → slice_get kinds round ≡ Some kind → ChangesOne (Some kind) with_end old new
-    → ((behind : List ℕ) → AreCountsOf (slice_get (kinds ++ behind)) before old) → AreCountsOf (slice_get (kinds ++ more)) (before ++ RoundEnds round ∷ []) new
+    → ((after : List ℕ) → AreCountsOf (slice_get (kinds ++ after)) before old) → AreCountsOf (slice_get (kinds ++ more)) (before ++ RoundEnds round ∷ []) new
 end_counts kinds more kind round before old new at one counts =
     let now : Kinds = slice_get (kinds ++ more) in
     all_counted now None (Some kind) before (RoundEnds round) old old new (λ k. refl) (λ k. ap (is_kind k) (sym (still_there kinds more round kind at))) (λ k. refl) one (counts more)
 
 -- A round that is open after the line was open before it.
-still_about : (has_ended : Bool) (kind : ℕ) (old : Option ℕ) → (if has_ended then None else old) ≡ Some kind → old ≡ Some kind
-still_about true kind old there = absurd (grind (arith, there))
-still_about false kind old there = there
+still_live : (has_ended : Bool) (kind : ℕ) (old : Option ℕ) → (if has_ended then None else old) ≡ Some kind → old ≡ Some kind
+still_live true kind old there = absurd (grind (arith, there))
+still_live false kind old there = there
 
-pub ended_after : (old new : LabelRounds) (kind round : ℕ) (before : List RecordedLine) → value_at old.about round ≡ Some kind
-    → ((one : ℕ) → value_at new.about one ≡ (if round == one then None else value_at old.about one)) → new.begun ≡ old.begun → new.labels.items ≡ old.labels.items
+pub ended_after : (old new : LabelRounds) (kind round : ℕ) (before : List RecordedLine) → value_at old.open_labels round ≡ Some kind
+    → ((one : ℕ) → value_at new.open_labels one ≡ (if round == one then None else value_at old.open_labels one)) → new.begun ≡ old.begun → new.labels.items ≡ old.labels.items
     → ChangesOne (Some kind) with_end old.counts.items new.counts.items → AreLabelRoundsOf old before → AreLabelRoundsOf new (before ++ RoundEnds round ∷ [])
-ended_after old new kind round before at about begun labels one rounds = record {
+ended_after old new kind round before at open_labels begun labels one rounds = record {
   kinds = rounds.kinds;
   begun = rounds.begun ∙ sym begun;
-  about = λ n k there. rounds.about n k (still_about (round == n) k (value_at old.about n) (sym (about n) ∙ there));
-  counts = λ more. end_counts rounds.kinds more kind round before old.counts.items new.counts.items (rounds.about round kind at) one rounds.counts;
+  open_labels = λ n k there. rounds.open_labels n k (still_live (round == n) k (value_at old.open_labels n) (sym (open_labels n) ∙ there));
+  counts = λ more. end_counts rounds.kinds more kind round before old.counts.items new.counts.items (rounds.open_labels round kind at) one rounds.counts;
   of_kinds = λ more names. subst (λ ls. AreOfKinds (slice_get (rounds.kinds ++ more)) (map string_bytes ls ++ names) (before ++ RoundEnds round ∷ [])) (sym labels)
       (All-push (BeginsOfKind (slice_get (rounds.kinds ++ more)) (labels_of old ++ names)) before (RoundEnds round) (rounds.of_kinds more names) tt);
 }
@@ -125,7 +125,7 @@ pub other_after : (rounds : LabelRounds) (before : List RecordedLine) (line : Re
 other_after rounds before line begins ends of_kinds so = record {
   kinds = so.kinds;
   begun = so.begun;
-  about = so.about;
+  open_labels = so.open_labels;
   counts = λ more. let now : Kinds = slice_get (so.kinds ++ more) in
       all_counted now None None before line rounds.counts.items rounds.counts.items rounds.counts.items (λ k. sym (begins now k)) (λ k. sym (ends now k)) (λ k. refl) (λ k. refl) (so.counts more);
   of_kinds = λ more names. let now : Kinds = slice_get (so.kinds ++ more) in

@@ -1,16 +1,16 @@
-mod Moved
-mod PutIn
-mod Grown
-mod Found
-mod Stood
-mod LawfulGets
+mod ShiftedIndices
+mod InsertedActions
+mod ExtendedBodies
+mod OptionalResults
+mod MatchedSteps
+mod ValidGetsByIndex
 mod OwnBody
-pub mod Rest
+pub mod LoopState
 pub mod Firsts
-pub mod Named
-pub mod Tallies
-pub mod Pushed
-pub mod Entered
+pub mod FirstPass
+pub mod RoundCounts
+pub mod PushedElements
+pub mod LabelEntries
 pub mod LabelRounds
 pub mod Actors
-pub mod LawfulPools
+pub mod ValidPools

@@ -10,9 +10,9 @@ use Rattle.job_bodies.specs.declared.action.Action.{Action}
 use Rattle.job_bodies.specs.declared.action.Action.TheVariants.{Work, Submit, Get}
 use Rattle.job_bodies.specs.Plan.{submits, has_get_of}
 use Rattle.job_bodies.specs.WellFormed.{is_valid_get}
-use Rattle.conformance.specs.declared.deed.Deed.{Deed}
-use Rattle.conformance.specs.declared.deed.Deed.TheVariants as deed
-use Rattle.conformance.specs.Path.{keeps, stays, IsDeedOf, IsOfBody}
+use Rattle.conformance.specs.declared.step.PathStep.{PathStep}
+use Rattle.conformance.specs.declared.step.PathStep.TheVariants as step
+use Rattle.conformance.specs.Path.{keeps, stays, IsStepOf, IsOfBody}
 use Rattle.learning.specs.PathBody.{action_of, body_of, HasClass, HasBody}
 
 -- ---- the element at an index
@@ -34,18 +34,18 @@ keeps-all zero p l = absurd (omega arith)
 keeps-all (suc n) zero l = refl
 keeps-all (suc n) (suc p) l = keeps-all n p (omega arith)
 
-stay_each : (choice : List Bool) (n : ℕ) (path : List Deed) → ((p : ℕ) (d : Deed) → slice_get path p ≡ Some d → stays choice (n + p, action_of d) ≡ true) → filter (stays choice) (enumerate_from n (body_of path)) ≡ enumerate_from n (body_of path)
+stay_each : (choice : List Bool) (n : ℕ) (path : List PathStep) → ((p : ℕ) (d : PathStep) → slice_get path p ≡ Some d → stays choice (n + p, action_of d) ≡ true) → filter (stays choice) (enumerate_from n (body_of path)) ≡ enumerate_from n (body_of path)
 stay_each choice n [] each = refl
 stay_each choice n (d ∷ path) each =
     let at : n + 0 ≡ n = omega arith in
     let here : stays choice (n, action_of d) ≡ true = subst (λ (k : ℕ). stays choice (k, action_of d) ≡ true) at (each 0 d refl) in
     rw here (ap (λ (entries : List (ℕ × Action)). (n, action_of d) ∷ entries) (stay_each choice (n + 1) path (λ p other e. let further : n + suc p ≡ n + 1 + p = omega arith in subst (λ (k : ℕ). stays choice (k, action_of other) ≡ true) further (each (suc p) other e))))
 
-deeds_each : (kept : List (ℕ × Action)) (n : ℕ) (path : List Deed) → ((p : ℕ) (d : Deed) → slice_get path p ≡ Some d → IsDeedOf kept d (n + p, action_of d)) → AllZip (IsDeedOf kept) path (enumerate_from n (body_of path))
-deeds_each kept n [] each = tt
-deeds_each kept n (d ∷ path) each = (
-  (let at : n + 0 ≡ n = omega arith in subst (λ (k : ℕ). IsDeedOf kept d (k, action_of d)) at (each 0 d refl)),
-  deeds_each kept (n + 1) path (λ p other e. let further : n + suc p ≡ n + 1 + p = omega arith in subst (λ (k : ℕ). IsDeedOf kept other (k, action_of other)) further (each (suc p) other e)),
+steps_each : (kept : List (ℕ × Action)) (n : ℕ) (path : List PathStep) → ((p : ℕ) (d : PathStep) → slice_get path p ≡ Some d → IsStepOf kept d (n + p, action_of d)) → AllZip (IsStepOf kept) path (enumerate_from n (body_of path))
+steps_each kept n [] each = tt
+steps_each kept n (d ∷ path) each = (
+  (let at : n + 0 ≡ n = omega arith in subst (λ (k : ℕ). IsStepOf kept d (k, action_of d)) at (each 0 d refl)),
+  steps_each kept (n + 1) path (λ p other e. let further : n + suc p ≡ n + 1 + p = omega arith in subst (λ (k : ℕ). IsStepOf kept other (k, action_of other)) further (each (suc p) other e)),
 )
 
 -- ---- a valid get
@@ -55,36 +55,36 @@ submit_there (Some (Work units)) e = cc
 submit_there (Some (Submit class)) e = (class, refl)
 submit_there (Some (Get t)) e = cc
 
-record IsGetAt (path : List Deed) (p t : ℕ) : Type 0 where
-  behind : nat_lt t p ≡ true
+record IsGetAt (path : List PathStep) (p t : ℕ) : Type 0 where
+  after : nat_lt t p ≡ true
   submit : submits (slice_get (body_of path) t) ≡ true
 
-get_at : (path : List Deed) → HasBody path → (p t : ℕ) → slice_get path p ≡ Some (deed.Gets t) → IsGetAt path p t
+get_at : (path : List PathStep) → HasBody path → (p t : ℕ) → slice_get path p ≡ Some (step.Gets t) → IsGetAt path p t
 get_at path has p t e =
     let action : slice_get (body_of path) p ≡ Some (Get t) = slice_get-map action_of path p ∙ ap (option_map action_of) e in
-    let lawful = and_parts (nat_lt t p && submits (slice_get (body_of path) t)) (not (has_get_of (take p (body_of path)) t)) (has.gets p t action) in
-    let parts = and_parts (nat_lt t p) (submits (slice_get (body_of path) t)) lawful.0 in record { behind = parts.0; submit = parts.1 }
+    let valid_gets = and_parts (nat_lt t p && submits (slice_get (body_of path) t)) (not (has_get_of (take p (body_of path)) t)) (has.gets p t action) in
+    let parts = and_parts (nat_lt t p) (submits (slice_get (body_of path) t)) valid_gets.0 in record { after = parts.0; submit = parts.1 }
 
 -- ---- all actions of the body are kept
-stays_here : (path : List Deed) → HasBody path → (p : ℕ) (d : Deed) → slice_get path p ≡ Some d → stays (all_kept (length path)) (p, action_of d) ≡ true
-stays_here path has p (deed.Submits classes) e = keeps-all (length path) p (slice_get_within path p (deed.Submits classes) e)
-stays_here path has p (deed.Gets t) e =
+stays_here : (path : List PathStep) → HasBody path → (p : ℕ) (d : PathStep) → slice_get path p ≡ Some d → stays (all_kept (length path)) (p, action_of d) ≡ true
+stays_here path has p (step.Submits classes) e = keeps-all (length path) p (slice_get_within path p (step.Submits classes) e)
+stays_here path has p (step.Gets t) e =
     let get = get_at path has p t e in
-    let within = slice_get_within path p (deed.Gets t) e in
-    and_from (nat_lt t p) (keeps (all_kept (length path)) t) get.behind (keeps-all (length path) t (omega (arith, within, ltb-true t p get.behind)))
+    let within = slice_get_within path p (step.Gets t) e in
+    and_from (nat_lt t p) (keeps (all_kept (length path)) t) get.after (keeps-all (length path) t (omega (arith, within, ltb-true t p get.after)))
 
 -- ---- each step corresponds to its action
-deed_here : (path : List Deed) → HasBody path → (p : ℕ) (d : Deed) → slice_get path p ≡ Some d → IsDeedOf (enumerate_from 0 (body_of path)) d (p, action_of d)
-deed_here path has p (deed.Submits classes) e =
-    let some : 1 ≤ length classes.items = all_at HasClass path p (deed.Submits classes) has.classes e in
+step_here : (path : List PathStep) → HasBody path → (p : ℕ) (d : PathStep) → slice_get path p ≡ Some d → IsStepOf (enumerate_from 0 (body_of path)) d (p, action_of d)
+step_here path has p (step.Submits classes) e =
+    let some : 1 ≤ length classes.items = all_at HasClass path p (step.Submits classes) has.classes e in
     list_any_at (λ (one : ℕ). one == slice_index classes.items 0) classes.items 0 0 (omega (arith, some)) (eq-eqb (slice_index classes.items 0) (slice_index classes.items 0) refl)
-deed_here path has p (deed.Gets t) e =
+step_here path has p (step.Gets t) e =
     let get = get_at path has p t e in
     let there = submit_there (slice_get (body_of path) t) get.submit in (there.0, enumerated_at 0 (body_of path) t (Submit there.0) there.1 ∙ ap (λ (k : ℕ). Some (k, Submit there.0)) (zero-add t))
 
-pub of_own_body : (path : List Deed) → HasBody path → IsOfBody (body_of path) path
+pub of_own_body : (path : List PathStep) → HasBody path → IsOfBody (body_of path) path
 of_own_body path has = (
   all_kept (length path),
-  subst (λ (kept : List (ℕ × Action)). AllZip (IsDeedOf kept) path kept) (sym (stay_each (all_kept (length path)) 0 path (λ p d e. subst (λ (k : ℕ). stays (all_kept (length path)) (k, action_of d) ≡ true) (sym (zero-add p)) (stays_here path has p d e))))
-      (deeds_each (enumerate_from 0 (body_of path)) 0 path (λ p d e. subst (λ (k : ℕ). IsDeedOf (enumerate_from 0 (body_of path)) d (k, action_of d)) (sym (zero-add p)) (deed_here path has p d e))),
+  subst (λ (kept : List (ℕ × Action)). AllZip (IsStepOf kept) path kept) (sym (stay_each (all_kept (length path)) 0 path (λ p d e. subst (λ (k : ℕ). stays (all_kept (length path)) (k, action_of d) ≡ true) (sym (zero-add p)) (stays_here path has p d e))))
+      (steps_each (enumerate_from 0 (body_of path)) 0 path (λ p d e. subst (λ (k : ℕ). IsStepOf (enumerate_from 0 (body_of path)) d (k, action_of d)) (sym (zero-add p)) (step_here path has p d e))),
 )

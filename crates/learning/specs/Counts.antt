@@ -65,14 +65,14 @@ pub record IsCrowded (lines : List RecordedLine) : Type 0 where
   pub of_kinds : AreOfKinds kinds names lines
   pub kind : ℕ
   pub most : ℕ
-  pub at_once : IsMostAtOnce kinds kind lines most
+  pub concurrent : IsMostAtOnce kinds kind lines most
   pub beyond : MAX_SIZE < most
 
 -- ---- the clients of a kind
 -- `count` is the maximum number of rounds open at once, and at least one. The kind repeats if more rounds began in all.
 pub record IsCounted (kinds : Kinds) (lines : List RecordedLine) (kind : ℕ) (client : Client) : Type 0 where
   pub most : ℕ
-  pub at_once : IsMostAtOnce kinds kind lines most
+  pub concurrent : IsMostAtOnce kinds kind lines most
   pub count : client.count ≡ max most 1
   pub repeat : client.repeat ≡ nat_lt most (begun_of kinds kind lines)
 

@@ -3,16 +3,16 @@ use Rattle.std.specs.Prelude.{◌≡◌, ◌≤◌, ◌+◌, ◌*◌, ◌^◌, B
 use Rattle.job_bodies.specs.declared.action.Action.{Action}
 use Rattle.job_bodies.specs.declared.action.Action.TheVariants.{Work, Submit, Get}
 use Rattle.job_bodies.specs.declared.limits.TheConstants.{MAX_ACTIONS, MAX_PATH_STEPS}
-use Rattle.conformance.specs.declared.deed.Deed.{Deed}
-use Rattle.conformance.specs.declared.deed.Course.{Course}
-use Rattle.conformance.specs.declared.deed.Course.TheVariants.{Whole}
+use Rattle.conformance.specs.declared.step.PathStep.{PathStep}
+use Rattle.conformance.specs.declared.step.PathState.{PathState}
+use Rattle.conformance.specs.declared.step.PathState.TheVariants.{Whole}
 use Rattle.conformance.specs.Path.{IsPathOf}
 use Rattle.conformance.specs.StepBudget.{submit_count}
-use Rattle.learning.specs.Lawful.{HasLawfulGets}
+use Rattle.learning.specs.ValidGets.{HasValidGets}
 
 -- Each path of the body is also a path of the other body.
 abbrev pub Covers : List Action → List Action → Type 0
-Covers body other = (course : Course) (path : List Deed) → IsPathOf course body path → IsPathOf course other path
+Covers body other = (path_state : PathState) (path : List PathStep) → IsPathOf path_state body path → IsPathOf path_state other path
 
 abbrev pub is_work : Action → Bool
 is_work (Work units) = true
@@ -24,13 +24,13 @@ abbrev pub work_of : List Action → List Action
 work_of body = filter is_work body
 
 -- The other body covers the body, and has the same work.
-pub record Grows (body other : List Action) : Type 0 where
+pub record Extends (body other : List Action) : Type 0 where
   pub covers : Covers body other
   pub work : work_of other ≡ work_of body
 
 -- The path matches the body. The body is valid in a plan, and has so few submits that the search always decides.
-pub record IsSurelyOf (body : List Action) (path : List Deed) : Type 0 where
+pub record IsSurelyOf (body : List Action) (path : List PathStep) : Type 0 where
   pub of : IsPathOf Whole body path
   pub short : length body ≤ MAX_ACTIONS
-  pub lawful : HasLawfulGets body
+  pub valid_gets : HasValidGets body
   pub few : (length body + 1) * 2 ^ submit_count body ≤ MAX_PATH_STEPS

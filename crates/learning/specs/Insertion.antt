@@ -4,15 +4,15 @@ use Rattle.job_bodies.specs.declared.action.Action.{Action}
 use Rattle.job_bodies.specs.declared.action.Action.TheVariants.{Work, Submit, Get}
 
 -- The index of an action after an insertion at index `at`.
-abbrev pub moved : ℕ → ℕ → ℕ
-moved at position = if nat_lt position at then position else position + 1
+abbrev pub shifted_index : ℕ → ℕ → ℕ
+shifted_index at position = if nat_lt position at then position else position + 1
 
 -- The action after the insertion: a get names its submit by the new index.
-abbrev pub moved_action : ℕ → Action → Action
-moved_action at (Work units) = Work units
-moved_action at (Submit class) = Submit class
-moved_action at (Get submit) = Get (moved at submit)
+abbrev pub shifted_action : ℕ → Action → Action
+shifted_action at (Work units) = Work units
+shifted_action at (Submit class) = Submit class
+shifted_action at (Get submit) = Get (shifted_index at submit)
 
 -- The body with the action inserted at index `at`.
 abbrev pub with_action : List Action → ℕ → Action → List Action
-with_action body at action = insert (map (moved_action at) body) at action
+with_action body at action = insert (map (shifted_action at) body) at action

@@ -4,7 +4,7 @@ use Rattle.support.specs.Numbered.{value_at}
 use Rattle.recordings.specs.RecordingLine.{RecordedLine}
 use Rattle.learning.specs.declared.label_rounds.LabelRounds.{LabelRounds}
 use Rattle.learning.specs.Counts.{AreOfKinds}
-use Rattle.learning.specs.Kept.{AreCountsOf}
+use Rattle.learning.specs.LearningState.{AreCountsOf}
 
 abbrev pub labels_of : LabelRounds → List (List ℕ)
 labels_of rounds = map string_bytes rounds.labels.items
@@ -14,6 +14,6 @@ labels_of rounds = map string_bytes rounds.labels.items
 pub record AreLabelRoundsOf (rounds : LabelRounds) (lines : List RecordedLine) : Type 0 where
   pub kinds : List ℕ
   pub begun : length kinds ≡ rounds.begun
-  pub about : (round kind : ℕ) → value_at rounds.about round ≡ Some kind → slice_get kinds round ≡ Some kind
+  pub open_labels : (round kind : ℕ) → value_at rounds.open_labels round ≡ Some kind → slice_get kinds round ≡ Some kind
   pub counts : (more : List ℕ) → AreCountsOf (slice_get (kinds ++ more)) lines rounds.counts.items
   pub of_kinds : (more : List ℕ) (names : List (List ℕ)) → AreOfKinds (slice_get (kinds ++ more)) (labels_of rounds ++ names) lines

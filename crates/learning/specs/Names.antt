@@ -6,7 +6,7 @@ use Rattle.job_bodies.specs.Plan.{Pool, Class, Client}
 use Rattle.conformance.specs.Family.{IsOfFamily}
 use Rattle.recordings.specs.declared.recording_line.RecordedActor.{RecordedActor}
 use Rattle.recordings.specs.RecordingLine.{RecordedLine, RoundBegins, Submits}
-use Rattle.learning.specs.Pools.{pools_seen}
+use Rattle.learning.specs.Pools.{recorded_pools}
 
 -- ---- labels
 -- A round of this label began.
@@ -25,7 +25,7 @@ IsLong label = (n : ℕ) × (n ≤ MAX_CLASSES) × (MAX_NAME_BYTES < length (lab
 -- The name of the class is of the family of a label whose jobs were submitted to the pool of the class.
 pub record IsNamedClass (lines : List RecordedLine) (class : Class) : Type 0 where
   pub pool : Pool
-  pub is_pool : slice_get (pools_seen lines) class.pool ≡ Some pool
+  pub is_pool : slice_get (recorded_pools lines) class.pool ≡ Some pool
   pub label : List ℕ
   pub submitted : WasSubmitted lines label pool.name
   pub named : IsOfFamily label class.name

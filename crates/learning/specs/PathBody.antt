@@ -3,27 +3,27 @@ use Rattle.std.specs.Prelude.{◌≤◌, List, length, map, slice_index, All}
 use Rattle.job_bodies.specs.declared.action.Action.{Action}
 use Rattle.job_bodies.specs.declared.action.Action.TheVariants.{Submit, Get}
 use Rattle.job_bodies.specs.declared.limits.TheConstants.{MAX_ACTIONS}
-use Rattle.conformance.specs.declared.deed.Deed.{Deed}
-use Rattle.conformance.specs.declared.deed.Deed.TheVariants as deed
-use Rattle.learning.specs.Lawful.{HasLawfulGets}
+use Rattle.conformance.specs.declared.step.PathStep.{PathStep}
+use Rattle.conformance.specs.declared.step.PathStep.TheVariants as step
+use Rattle.learning.specs.ValidGets.{HasValidGets}
 
 -- The action of a step: a submit of the first class that the job can belong to, or the get of the submit at the same index.
-abbrev pub action_of : Deed → Action
-action_of (deed.Submits classes) = Submit (slice_index classes.items 0)
-action_of (deed.Gets place) = Get place
+abbrev pub action_of : PathStep → Action
+action_of (step.Submits classes) = Submit (slice_index classes.items 0)
+action_of (step.Gets place) = Get place
 
 -- The actions of all steps, in order.
-abbrev pub body_of : List Deed → List Action
+abbrev pub body_of : List PathStep → List Action
 body_of path = map action_of path
 
 -- The job can belong to some class.
-abbrev pub HasClass : Deed → Type 0
-HasClass (deed.Submits classes) = 1 ≤ length classes.items
-HasClass (deed.Gets place) = Unit {0}
+abbrev pub HasClass : PathStep → Type 0
+HasClass (step.Submits classes) = 1 ≤ length classes.items
+HasClass (step.Gets place) = Unit {0}
 
 -- The path has a body: it is not too long, each job can belong to some class, and each get names an earlier submit that no
 -- earlier get names.
-pub record HasBody (path : List Deed) : Type 0 where
+pub record HasBody (path : List PathStep) : Type 0 where
   pub short : length path ≤ MAX_ACTIONS
   pub classes : All HasClass path
-  pub gets : HasLawfulGets (body_of path)
+  pub gets : HasValidGets (body_of path)

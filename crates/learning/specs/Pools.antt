@@ -18,14 +18,14 @@ abbrev pub has_core_threads : PoolSizes → Bool
 has_core_threads sizes = not (sizes.prestarted == 0) && (sizes.prestarted == sizes.core)
 
 -- The pool of a `pool` line, with sizes that a plan can have.
-abbrev pub pool_seen : List ℕ → PoolSizes → Pool
-pool_seen name sizes = let core = into_range 1 sizes.core in
+abbrev pub recorded_pool : List ℕ → PoolSizes → Pool
+recorded_pool name sizes = let core = into_range 1 sizes.core in
     record { name = name; core = core; max = into_range core sizes.max; queue = into_range 1 sizes.capacity; prestart = has_core_threads sizes }
 
 -- ---- all pools
 -- The pool of a `pool` line, or `None` for any other line.
 abbrev pub pool_of_line : RecordedLine → Option Pool
-pool_of_line (line.Pool name sizes) = Some (pool_seen name sizes)
+pool_of_line (line.Pool name sizes) = Some (recorded_pool name sizes)
 pool_of_line other = None
 
 abbrev pub has_other_name : Pool → Pool → Bool
@@ -37,8 +37,8 @@ firsts [] = []
 firsts (pool ∷ pools) = pool ∷ filter (has_other_name pool) (firsts pools)
 
 -- The pool of the first `pool` line of each name, in the order of the lines.
-unfoldable pub pools_seen : List RecordedLine → List Pool
-pools_seen lines = firsts (filter_map pool_of_line lines)
+unfoldable pub recorded_pools : List RecordedLine → List Pool
+recorded_pools lines = firsts (filter_map pool_of_line lines)
 
 -- ---- one more pool
 abbrev pub has_name : List ℕ → List Pool → Bool

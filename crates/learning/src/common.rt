@@ -1,7 +1,7 @@
 //! The longest common subsequence of a body and a path.
 
-use crate::alike::{are_alike, get_in_body, get_of};
-use conformance::Deed;
+use crate::correspondence::{may_correspond, get_in_body, get_of};
+use conformance::PathStep;
 use job_bodies::Action;
 use std::alloc::{AllocError, Global};
 
@@ -11,11 +11,11 @@ use std::alloc::{AllocError, Global};
 pub(crate) fn partners_of(
     alloc: Global,
     body: &[Action],
-    path: &[Deed],
+    path: &[PathStep],
 ) -> Result<Vec<Option<usize>>, AllocError> {
     let submits = longest_common(alloc, body, path, None)?;
     let mut partners = longest_common(alloc, body, path, Some(&submits))?;
-    drop_halves(body, path, &mut partners);
+    drop_unpaired(body, path, &mut partners);
     Ok(partners)
 }
 
@@ -23,7 +23,7 @@ pub(crate) fn partners_of(
 fn longest_common(
     alloc: Global,
     body: &[Action],
-    path: &[Deed],
+    path: &[PathStep],
     known: Option<&[Option<usize>]>,
 ) -> Result<Vec<Option<usize>>, AllocError> {
     let lengths = common_lengths(alloc, body, path, known)?;
@@ -33,7 +33,7 @@ fn longest_common(
     while position > 0 && place > 0 {
         let above = length_at(&lengths, position - 1, place);
         let before = length_at(&lengths, position, place - 1);
-        if are_alike(body, path, known, position - 1, place - 1) {
+        if may_correspond(body, path, known, position - 1, place - 1) {
             position -= 1;
             place -= 1;
             partners[place] = Some(position);
@@ -58,7 +58,7 @@ fn length_at(lengths: &[Vec<usize>], position: usize, place: usize) -> usize {
 fn common_lengths(
     alloc: Global,
     body: &[Action],
-    path: &[Deed],
+    path: &[PathStep],
     known: Option<&[Option<usize>]>,
 ) -> Result<Vec<Vec<usize>>, AllocError> {
     let mut rows = Vec::new(alloc);
@@ -74,7 +74,7 @@ fn common_lengths(
 fn next_row(
     alloc: Global,
     body: &[Action],
-    path: &[Deed],
+    path: &[PathStep],
     known: Option<&[Option<usize>]>,
     position: usize,
     rows: &[Vec<usize>],
@@ -83,7 +83,7 @@ fn next_row(
     let mut before = 0;
     row.push(before)?;
     for place in 0..path.len() {
-        before = if are_alike(body, path, known, position, place) {
+        before = if may_correspond(body, path, known, position, place) {
             length_at(rows, position, place).saturating_add(1)
         } else {
             before.max(length_at(rows, position, place.saturating_add(1)))
@@ -95,7 +95,7 @@ fn next_row(
 
 /// Removes the partners of a submit and its get, unless these partners are also a submit and its
 /// get.
-fn drop_halves(body: &[Action], path: &[Deed], partners: &mut [Option<usize>]) {
+fn drop_unpaired(body: &[Action], path: &[PathStep], partners: &mut [Option<usize>]) {
     for place in 0..path.len() {
         if let Some(get) = get_of(path, place) {
             let submit = partner_at(partners, place);

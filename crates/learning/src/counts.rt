@@ -2,15 +2,15 @@
 
 ghost use Rattle.std.specs.Prelude.{◌≡◌, ◌++◌, ◌∷◌, [], ℕ, List, Some, true, false, length, slice_get, OnOk, IfOk, IfErr, IsTrue};
 ghost use Rattle.conformance.specs.Family.{IsOfFamily};
-ghost use Rattle.recordings.specs.RecordingLine.{RecordedLine, line_seen};
+ghost use Rattle.recordings.specs.RecordingLine.{RecordedLine, line_view};
 ghost use Rattle.recordings.specs.LineParts.{is_begin};
 ghost use Rattle.learning.specs.Counts.{AreOfKinds, BeginsOfKind, IsOfKind, Kinds, is_kind, begins_one, ends_one};
-ghost use Rattle.learning.specs.Kept.{IsCountOf, AreCountsOf, ChangesOne, IsStop, kinds_in, names_of, with_begin, with_end};
-ghost use Rattle.learning.specs.Learned.{lines_of};
+ghost use Rattle.learning.specs.LearningState.{IsCountOf, AreCountsOf, ChangesOne, IsLearnError, kinds_in, names_of, with_begin, with_end};
+ghost use Rattle.learning.specs.InferenceResult.{lines_of};
 
 use crate::entries::Entry;
-use crate::stop::Stop;
-use crate::too_much::TooMuch;
+use crate::learn_error::LearnError;
+use crate::inference_limit::InferenceLimit;
 use conformance::is_of_family;
 use recordings::{Line, RecordingLines};
 use std::alloc::{AllocError, Global};
@@ -56,26 +56,26 @@ impl KindCount {
 ///
 /// # Errors
 ///
-/// - [`Stop::TooMuch`] if a round has no kind, or one whose name is not of its label's family.
-/// - [`Stop::Memory`] if memory runs out.
+/// - [`LearnError::InferenceLimit`] if a round has no kind, or one whose name is not of its label's family.
+/// - [`LearnError::Memory`] if memory runs out.
 pub(crate) fn kind_counts(
     alloc: Global,
     recording: &[u8],
     kinds: &[Option<usize>],
     entries: &[Entry],
-) -> Result<Vec<KindCount>, Stop>
+) -> Result<Vec<KindCount>, LearnError>
     ensures counts { IfOk result
         (λ counts. AreCountsOf (kinds_in kinds.now) (lines_of recording.now) counts.items) }
     ensures of_kinds { IfOk result (λ counts.
         AreOfKinds (kinds_in kinds.now) (names_of entries.now) (lines_of recording.now)) }
-    ensures err { IfErr result (IsStop (lines_of recording.now)) }
+    ensures err { IfErr result (IsLearnError (lines_of recording.now)) }
 {
-    let mut counts = no_counts(alloc, entries.len())?;
+    let mut counts = zero_counts(alloc, entries.len())?;
     let mut lines = RecordingLines::new(recording);
     while let Some(line) = lines.next() {
         if let Ok(line) = line {
             if !begins_of_kind(kinds, entries, &line) {
-                return Err(Stop::TooMuch(TooMuch::Paths));
+                return Err(LearnError::InferenceLimit(InferenceLimit::Paths));
             }
             note(&mut counts, kinds, &line)?;
         }
@@ -87,8 +87,8 @@ pub(crate) fn kind_counts(
 // of its label.
 fn begins_of_kind(kinds: &[Option<usize>], entries: &[Entry], line: &Line<'_>) -> bool
     ensures of_kind { IsTrue result
-        → BeginsOfKind (kinds_in kinds.now) (names_of entries.now) (line_seen line.now) }
-    ensures other { result ≡ false → is_begin (line_seen line.now) ≡ true }
+        → BeginsOfKind (kinds_in kinds.now) (names_of entries.now) (line_view line.now) }
+    ensures other { result ≡ false → is_begin (line_view line.now) ≡ true }
 {
     match *line {
         Line::RoundBegins { round, kind } => is_of_kind(kinds, entries, round, kind),
@@ -100,13 +100,13 @@ fn is_of_kind(kinds: &[Option<usize>], entries: &[Entry], round: usize, label: &
     ensures { IsTrue result → IsOfKind (kinds_in kinds.now) (names_of entries.now) round label.now }
 {
     match kind_of(kinds, round) {
-        Some(kind) => has_name_of(entries, kind, label),
+        Some(kind) => has_family_name(entries, kind, label),
         None => false,
     }
 }
 
 // Returns true if there is an entry with this number and its name is of the label's family.
-fn has_name_of(entries: &[Entry], number: usize, label: &str) -> bool
+fn has_family_name(entries: &[Entry], number: usize, label: &str) -> bool
     ensures { IsTrue result
         → (name : List ℕ)
         × (slice_get (names_of entries.now) number ≡ Some name)
@@ -123,7 +123,7 @@ fn has_name_of(entries: &[Entry], number: usize, label: &str) -> bool
 /// # Errors
 ///
 /// Returns `AllocError` if memory runs out.
-pub(crate) fn no_counts(alloc: Global, count: usize) -> Result<Vec<KindCount>, AllocError>
+pub(crate) fn zero_counts(alloc: Global, count: usize) -> Result<Vec<KindCount>, AllocError>
     ensures { (kinds : Kinds) → IfOk result (λ counts. AreCountsOf kinds [] counts.items) }
 {
     let mut counts = Vec::new(alloc);
@@ -143,16 +143,16 @@ fn note(
     ensures all { (before : List RecordedLine)
         → AreCountsOf (kinds_in kinds.now) before counts.old
         → OnOk result
-        (AreCountsOf (kinds_in kinds.now) (before ++ line_seen line.now ∷ []) counts.new) }
+        (AreCountsOf (kinds_in kinds.now) (before ++ line_view line.now ∷ []) counts.new) }
 {
-    begin_one(counts, kind_begun(kinds, line))?;
-    end_one(counts, kind_ended(kinds, line))?;
+    count_begin(counts, kind_begun(kinds, line))?;
+    count_end(counts, kind_ended(kinds, line))?;
     Ok(())
 }
 
 fn kind_begun(kinds: &[Option<usize>], line: &Line<'_>) -> Option<usize>
     ensures { (kind : ℕ)
-        → is_kind kind result ≡ begins_one (kinds_in kinds.now) kind (line_seen line.now) }
+        → is_kind kind result ≡ begins_one (kinds_in kinds.now) kind (line_view line.now) }
 {
     match *line {
         Line::RoundBegins { round, .. } => kind_of(kinds, round),
@@ -162,7 +162,7 @@ fn kind_begun(kinds: &[Option<usize>], line: &Line<'_>) -> Option<usize>
 
 fn kind_ended(kinds: &[Option<usize>], line: &Line<'_>) -> Option<usize>
     ensures { (kind : ℕ)
-        → is_kind kind result ≡ ends_one (kinds_in kinds.now) kind (line_seen line.now) }
+        → is_kind kind result ≡ ends_one (kinds_in kinds.now) kind (line_view line.now) }
 {
     match *line {
         Line::RoundEnds { round } => kind_of(kinds, round),
@@ -181,7 +181,7 @@ fn kind_of(kinds: &[Option<usize>], round: usize) -> Option<usize>
 /// # Errors
 ///
 /// Returns `AllocError` if the counter would overflow.
-pub(crate) fn begin_one(counts: &mut [KindCount], kind: Option<usize>) -> Result<(), AllocError>
+pub(crate) fn count_begin(counts: &mut [KindCount], kind: Option<usize>) -> Result<(), AllocError>
     ensures count { length counts.new ≡ length counts.old }
     ensures one { OnOk result (ChangesOne kind with_begin counts.old counts.new) }
 {
@@ -196,7 +196,7 @@ pub(crate) fn begin_one(counts: &mut [KindCount], kind: Option<usize>) -> Result
 /// # Errors
 ///
 /// Returns `AllocError` if the counter would overflow.
-pub(crate) fn end_one(counts: &mut [KindCount], kind: Option<usize>) -> Result<(), AllocError>
+pub(crate) fn count_end(counts: &mut [KindCount], kind: Option<usize>) -> Result<(), AllocError>
     ensures count { length counts.new ≡ length counts.old }
     ensures one { OnOk result (ChangesOne kind with_end counts.old counts.new) }
 {

@@ -2,16 +2,16 @@
 
 ghost use Rattle.std.specs.Prelude.{◌≡◌, ◌≤◌, length, IfOk, IfSome, IsSome, IsSomeAnd, IsTrue};
 ghost use Rattle.job_bodies.specs.declared.limits.TheConstants.{MAX_ACTIONS};
-ghost use Rattle.conformance.specs.declared.deed.Course.TheVariants.{Whole};
+ghost use Rattle.conformance.specs.declared.step.PathState.TheVariants.{Whole};
 ghost use Rattle.conformance.specs.Path.{IsPathOf};
-ghost use Rattle.learning.specs.Covers.{Covers, Grows, IsSurelyOf, work_of};
-ghost use Rattle.learning.specs.Lawful.{HasLawfulGets};
+ghost use Rattle.learning.specs.Covers.{Covers, Extends, IsSurelyOf, work_of};
+ghost use Rattle.learning.specs.ValidGets.{HasValidGets};
 
 use crate::common::partners_of;
-use crate::lawful::has_lawful_gets;
-use crate::merge::merged;
-use crate::stands::stands_at;
-use conformance::{Course, Deed, PathFit, path_fits};
+use crate::valid_gets::has_valid_gets;
+use crate::merge::with_missing_steps;
+use crate::match_check::matches_at;
+use conformance::{PathState, PathStep, PathMatch, match_path};
 use job_bodies::{Action, MAX_ACTIONS, MAX_PATH_STEPS};
 use std::alloc::{AllocError, Global};
 
@@ -29,14 +29,14 @@ use std::alloc::{AllocError, Global};
 pub fn covering_body(
     alloc: Global,
     body: &[Action],
-    path: &[Deed],
+    path: &[PathStep],
 ) -> Result<Option<Vec<Action>>, AllocError>
     ensures fits { IfOk result (λ found. IfSome found (λ new. IsPathOf Whole new.items path.now)) }
     ensures covers { IfOk result (λ found. IfSome found (λ new. Covers body.now new.items)) }
     ensures work { IfOk result
         (λ found. IfSome found (λ new. work_of new.items ≡ work_of body.now)) }
     ensures short { IfOk result (λ found. IfSome found (λ new. length new.items ≤ MAX_ACTIONS)) }
-    ensures lawful { IfOk result (λ found. IfSome found (λ new. HasLawfulGets new.items)) }
+    ensures valid_gets { IfOk result (λ found. IfSome found (λ new. HasValidGets new.items)) }
 
     // If the path already matches the body, and the body is short, the result is the body.
     ensures same { IsSurelyOf body.now path.now
@@ -45,17 +45,17 @@ pub fn covering_body(
     if body.len() > MAX_ACTIONS {
         return Ok(None);
     }
-    match grown(alloc, body, path)? {
-        Some(new) => Ok(if_lawful(new)),
+    match extend_body(alloc, body, path)? {
+        Some(new) => Ok(if_valid(new)),
         None => Ok(None),
     }
 }
 
 /// Returns the body if the path matches it, or the body extended by the path.
-fn grown(alloc: Global, body: &[Action], path: &[Deed]) -> Result<Option<Vec<Action>>, AllocError>
+fn extend_body(alloc: Global, body: &[Action], path: &[PathStep]) -> Result<Option<Vec<Action>>, AllocError>
     requires { length body.now ≤ MAX_ACTIONS }
     ensures fits { IfOk result (λ found. IfSome found (λ new. IsPathOf Whole new.items path.now)) }
-    ensures grows { IfOk result (λ found. IfSome found (λ new. Grows body.now new.items)) }
+    ensures extends { IfOk result (λ found. IfSome found (λ new. Extends body.now new.items)) }
     ensures same { IsSurelyOf body.now path.now
         → IfOk result (λ found. IsSomeAnd found (λ new. new.items ≡ body.now)) }
 {
@@ -67,14 +67,14 @@ fn grown(alloc: Global, body: &[Action], path: &[Deed]) -> Result<Option<Vec<Act
 }
 
 /// Returns true if the path matches the body. Returns false if this is undecided.
-fn is_path_of(body: &[Action], path: &[Deed]) -> bool
+fn is_path_of(body: &[Action], path: &[PathStep]) -> bool
     requires { length body.now ≤ MAX_ACTIONS }
     ensures yes { IsTrue result → IsPathOf Whole body.now path.now }
     ensures sure { IsSurelyOf body.now path.now → IsTrue result }
 {
-    match path_fits(body, path, Course::Whole, MAX_PATH_STEPS) {
-        PathFit::Fits => true,
-        PathFit::Deviates(_) | PathFit::Undecided => false,
+    match match_path(body, path, PathState::Whole, MAX_PATH_STEPS) {
+        PathMatch::Fits => true,
+        PathMatch::Deviates(_) | PathMatch::Undecided => false,
     }
 }
 
@@ -82,18 +82,18 @@ fn is_path_of(body: &[Action], path: &[Deed]) -> bool
 fn with_path(
     alloc: Global,
     body: &[Action],
-    path: &[Deed],
+    path: &[PathStep],
 ) -> Result<Option<Vec<Action>>, AllocError>
     ensures fits { IfOk result (λ found. IfSome found (λ new. IsPathOf Whole new.items path.now)) }
-    ensures grows { IfOk result (λ found. IfSome found (λ new. Grows body.now new.items)) }
+    ensures extends { IfOk result (λ found. IfSome found (λ new. Extends body.now new.items)) }
 {
     if path.len() > MAX_ACTIONS {
         return Ok(None);
     }
     let mut places = partners_of(alloc, body, path)?;
-    match merged(alloc, body, path, &mut places)? {
+    match with_missing_steps(alloc, body, path, &mut places)? {
         Some(new) => {
-            if stands_at(alloc, &new, path, &places)? {
+            if matches_at(alloc, &new, path, &places)? {
                 Ok(Some(new))
             } else {
                 Ok(None)
@@ -104,13 +104,13 @@ fn with_path(
 }
 
 /// Returns the body if it is valid in a plan, and `None` otherwise.
-fn if_lawful(body: Vec<Action>) -> Option<Vec<Action>>
+fn if_valid(body: Vec<Action>) -> Option<Vec<Action>>
     ensures same { IfSome result (λ found. found ≡ body) }
     ensures short { IfSome result (λ found. length found.items ≤ MAX_ACTIONS) }
-    ensures lawful { IfSome result (λ found. HasLawfulGets found.items) }
-    ensures always { length body.items ≤ MAX_ACTIONS → HasLawfulGets body.items → IsSome result }
+    ensures valid_gets { IfSome result (λ found. HasValidGets found.items) }
+    ensures always { length body.items ≤ MAX_ACTIONS → HasValidGets body.items → IsSome result }
 {
-    if body.len() <= MAX_ACTIONS && has_lawful_gets(&body) {
+    if body.len() <= MAX_ACTIONS && has_valid_gets(&body) {
         Some(body)
     } else {
         None

@@ -2,14 +2,14 @@
 
 ghost use Rattle.std.specs.Prelude.{◌≡◌, List, OnOk, IfErr};
 ghost use Rattle.recordings.specs.RecordingLine.{RecordedLine};
-ghost use Rattle.learning.specs.Kept.{AreWorkingOf, IsStop};
-ghost use Rattle.learning.specs.TooMuch.{HasActors};
+ghost use Rattle.learning.specs.LearningState.{IsDraftOf, IsLearnError};
+ghost use Rattle.learning.specs.InferenceLimit.{HasActors};
 
-use crate::extent::Part;
-use crate::pass::pass_over;
-use crate::stop::Stop;
-use crate::too_much::TooMuch;
-use crate::working::Working;
+use crate::extent::RecordingPart;
+use crate::pass::run_pass;
+use crate::learn_error::LearnError;
+use crate::inference_limit::InferenceLimit;
+use crate::draft::PlanDraft;
 use job_bodies::Pool;
 use std::alloc::Global;
 
@@ -21,27 +21,27 @@ const MAX_PASSES: usize = 600;
 ///
 /// # Errors
 ///
-/// - [`Stop::TooMuch`] if the bodies stop changing before that, or after [`MAX_PASSES`] passes.
+/// - [`LearnError::InferenceLimit`] if the bodies stop changing before that, or after [`MAX_PASSES`] passes.
 ///   This happens for example if the part is cut and an open actor matches no body.
-/// - [`Stop::Memory`] if memory runs out.
+/// - [`LearnError::Memory`] if memory runs out.
 pub(crate) fn cover_all(
     alloc: Global,
-    part: Part<'_>,
+    part: RecordingPart<'_>,
     pools: &[Pool],
     budget: u64,
-    working: &mut Working,
-) -> Result<Vec<Option<usize>>, Stop>
+    draft: &mut PlanDraft,
+) -> Result<Vec<Option<usize>>, LearnError>
     ensures ok { (lines : List RecordedLine)
-        → AreWorkingOf lines working.old
-        → OnOk result (AreWorkingOf lines working.new) }
+        → IsDraftOf lines draft.old
+        → OnOk result (IsDraftOf lines draft.new) }
     ensures err { (lines : List RecordedLine)
         → HasActors lines
-        → AreWorkingOf lines working.old
-        → IfErr result (IsStop lines) }
+        → IsDraftOf lines draft.old
+        → IfErr result (IsLearnError lines) }
 {
     for _ in 0..MAX_PASSES {
-        let plan = working.plan(pools)?;
-        let pass = pass_over(alloc, part, pools, &plan, budget, working)?;
+        let plan = draft.plan(pools)?;
+        let pass = run_pass(alloc, part, pools, &plan, budget, draft)?;
         if pass.is_explained {
             return Ok(pass.kinds);
         }
@@ -49,5 +49,5 @@ pub(crate) fn cover_all(
             break;
         }
     }
-    Err(Stop::TooMuch(TooMuch::Paths))
+    Err(LearnError::InferenceLimit(InferenceLimit::Paths))
 }

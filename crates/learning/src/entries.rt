@@ -5,12 +5,12 @@ ghost use Rattle.std.specs.List.{list_any};
 ghost use Rattle.std.specs.Str.{bytes_eq};
 ghost use Rattle.job_bodies.specs.declared.limits.TheConstants.{MAX_CLASSES};
 ghost use Rattle.recordings.specs.RecordingLine.{RecordedLine};
-ghost use Rattle.learning.specs.declared.too_much.TooMuch.{TooMuch as Reason};
-ghost use Rattle.learning.specs.Kept.{AreEntriesOf, IsGiven, IsStop};
+ghost use Rattle.learning.specs.declared.inference_limit.InferenceLimit.{InferenceLimit as Reason};
+ghost use Rattle.learning.specs.LearningState.{AreEntriesOf, IsGiven, IsLearnError};
 
 use crate::names::free_name;
-use crate::stop::Stop;
-use crate::too_much::TooMuch;
+use crate::learn_error::LearnError;
+use crate::inference_limit::InferenceLimit;
 use job_bodies::Action;
 use std::alloc::{AllocError, Global};
 
@@ -32,13 +32,13 @@ pub(crate) struct Entries {
     pub(crate) entries: Vec<Entry>,
     /// The maximum number of entries in a plan. `beyond` is the reason to report if there are more.
     limit: usize,
-    beyond: TooMuch,
+    beyond: InferenceLimit,
     pub(crate) alloc: Global,
 }
 
 impl Entries {
     /// Creates an empty list.
-    pub(crate) fn new(alloc: Global, limit: usize, beyond: TooMuch) -> Entries
+    pub(crate) fn new(alloc: Global, limit: usize, beyond: InferenceLimit) -> Entries
         ensures { (lines : List RecordedLine)
             → limit ≤ MAX_CLASSES
             → AreEntriesOf lines beyond result }
@@ -56,7 +56,7 @@ impl Entries {
     /// # Errors
     ///
     /// As for [`add`](Entries::add).
-    pub(crate) fn note(&mut self, label: &str, pool: usize) -> Result<(), Stop>
+    pub(crate) fn note(&mut self, label: &str, pool: usize) -> Result<(), LearnError>
         ensures ok { (lines : List RecordedLine) (beyond : Reason)
             → IsGiven lines beyond label.now pool
             → AreEntriesOf lines beyond self.old
@@ -64,7 +64,7 @@ impl Entries {
         ensures err { (lines : List RecordedLine) (beyond : Reason)
             → IsGiven lines beyond label.now pool
             → AreEntriesOf lines beyond self.old
-            → IfErr result (IsStop lines) }
+            → IfErr result (IsLearnError lines) }
     {
         if self.has(label, pool) {
             return Ok(());
@@ -86,9 +86,9 @@ impl Entries {
     ///
     /// # Errors
     ///
-    /// - [`Stop::TooMuch`] if a plan cannot have one more entry, or if the name would be too long.
-    /// - [`Stop::Memory`] if memory runs out.
-    pub(crate) fn add(&mut self, label: &str, pool: usize, body: Vec<Action>) -> Result<(), Stop>
+    /// - [`LearnError::InferenceLimit`] if a plan cannot have one more entry, or if the name would be too long.
+    /// - [`LearnError::Memory`] if memory runs out.
+    pub(crate) fn add(&mut self, label: &str, pool: usize, body: Vec<Action>) -> Result<(), LearnError>
         ensures ok { (lines : List RecordedLine) (beyond : Reason)
             → IsGiven lines beyond label.now pool
             → AreEntriesOf lines beyond self.old
@@ -96,10 +96,10 @@ impl Entries {
         ensures err { (lines : List RecordedLine) (beyond : Reason)
             → IsGiven lines beyond label.now pool
             → AreEntriesOf lines beyond self.old
-            → IfErr result (IsStop lines) }
+            → IfErr result (IsLearnError lines) }
     {
         if self.entries.len() >= self.limit {
-            return Err(Stop::TooMuch(self.beyond));
+            return Err(LearnError::InferenceLimit(self.beyond));
         }
         let name = free_name(self.alloc, &self.entries, label)?;
         let label = String::from_str(self.alloc, label)?;
@@ -131,7 +131,7 @@ impl Entries {
     }
 
     /// Replaces the body of an entry, if there is one with this number.
-    pub(crate) fn put(&mut self, number: usize, body: Vec<Action>)
+    pub(crate) fn set_body(&mut self, number: usize, body: Vec<Action>)
         ensures { (lines : List RecordedLine) (beyond : Reason)
             → AreEntriesOf lines beyond self.old
             → AreEntriesOf lines beyond self.new }

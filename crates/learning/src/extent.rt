@@ -18,7 +18,7 @@ pub const START_BYTES: usize = 262_144;
 
 /// A prefix of a recording. It may end within a line, which is then not read.
 #[derive(Clone, Copy)]
-pub(crate) struct Part<'a> {
+pub(crate) struct RecordingPart<'a> {
     pub(crate) text: &'a [u8],
     /// True if the recording continues after the part. Actors open at the end of the part may then
     /// continue.
@@ -27,13 +27,13 @@ pub(crate) struct Part<'a> {
 
 impl Extent {
     /// Returns the part of the recording from which bodies are learned.
-    pub(crate) fn of(self, recording: &[u8]) -> Part<'_> {
+    pub(crate) fn of(self, recording: &[u8]) -> RecordingPart<'_> {
         match self {
-            Extent::Start if recording.len() > START_BYTES => Part {
+            Extent::Start if recording.len() > START_BYTES => RecordingPart {
                 text: &recording[..START_BYTES],
                 is_cut: true,
             },
-            _ => Part {
+            _ => RecordingPart {
                 text: recording,
                 is_cut: false,
             },

@@ -2,26 +2,26 @@
 
 ghost use Rattle.std.specs.Prelude.{◌≡◌, List, OnOk, IfErr};
 ghost use Rattle.recordings.specs.RecordingLine.{RecordedLine};
-ghost use Rattle.learning.specs.declared.too_much.TooMuch.{TooMuch as Reason};
-ghost use Rattle.learning.specs.Kept.{AreEntriesOf, IsGiven, IsStop};
+ghost use Rattle.learning.specs.declared.inference_limit.InferenceLimit.{InferenceLimit as Reason};
+ghost use Rattle.learning.specs.LearningState.{AreEntriesOf, IsGiven, IsLearnError};
 
 use crate::entries::Entries;
-use crate::stop::Stop;
+use crate::learn_error::LearnError;
 use crate::{body_of_path, covering_body};
-use conformance::{Course, Deed, PathFit, path_fits};
+use conformance::{PathState, PathStep, PathMatch, match_path};
 use job_bodies::{Action, MAX_ACTIONS, MAX_PATH_STEPS};
 use std::alloc::{AllocError, Global};
 
 /// An observed path, with the class assigned to each of its jobs.
 #[derive(Drop)]
-pub(crate) struct Did {
-    pub(crate) deeds: Vec<Deed>,
-    pub(crate) course: Course,
+pub(crate) struct ObservedPath {
+    pub(crate) steps: Vec<PathStep>,
+    pub(crate) path_state: PathState,
 }
 
 /// The class or kind assigned to an actor, by number.
 #[derive(Clone, Copy)]
-pub(crate) struct Taken {
+pub(crate) struct Assignment {
     pub(crate) number: usize,
     /// True if its body changed.
     pub(crate) is_changed: bool,
@@ -29,17 +29,17 @@ pub(crate) struct Taken {
 
 impl Entries {
     /// Returns the first entry of this label and pool whose body the path matches.
-    pub(crate) fn explaining(&self, label: &str, pool: usize, did: &Did) -> Option<Taken> {
+    pub(crate) fn matching_entry(&self, label: &str, pool: usize, observed_path: &ObservedPath) -> Option<Assignment> {
         let number = self.entries.iter().position(|entry| entry.is_of(label, pool)
-            && is_path_of(&entry.body, did))?;
-        Some(Taken {
+            && is_path_of(&entry.body, observed_path))?;
+        Some(Assignment {
             number,
             is_changed: false,
         })
     }
 
     /// Extends the first entry of this label and pool whose body can be made to cover the path, or
-    /// adds a new entry for it. Skips each entry that is marked in `reached`: jobs of that class
+    /// adds a new entry for it. Skips each entry that is marked in `reachable`: jobs of that class
     /// would submit jobs of their own class without end. Returns `None` if no body covers the path.
     ///
     /// # Errors
@@ -49,41 +49,41 @@ impl Entries {
         &mut self,
         label: &str,
         pool: usize,
-        did: &Did,
-        reached: &[bool],
-    ) -> Result<Option<Taken>, Stop>
+        observed_path: &ObservedPath,
+        reachable: &[bool],
+    ) -> Result<Option<Assignment>, LearnError>
         ensures ok { (lines : List RecordedLine) (beyond : Reason)
             → AreEntriesOf lines beyond self.old
             → OnOk result (AreEntriesOf lines beyond self.new) }
         ensures err { (lines : List RecordedLine) (beyond : Reason)
             → AreEntriesOf lines beyond self.old
-            → IfErr result (IsStop lines) }
+            → IfErr result (IsLearnError lines) }
     {
         for number in 0..self.entries.len() {
-            if self.is_free(number, label, pool, reached) {
-                if let Some(body) = covering_body(self.alloc, self.body(number), &did.deeds)? {
+            if self.is_free(number, label, pool, reachable) {
+                if let Some(body) = covering_body(self.alloc, self.body(number), &observed_path.steps)? {
                     let is_changed = body.len() > self.body(number).len();
-                    self.put(number, body);
-                    return Ok(Some(Taken { number, is_changed }));
+                    self.set_body(number, body);
+                    return Ok(Some(Assignment { number, is_changed }));
                 }
             }
         }
         if !self.has(label, pool) {
             return Ok(None);
         }
-        match body_of_path(self.alloc, &did.deeds)? {
-            Some(body) => self.add_grown(label, pool, body),
+        match body_of_path(self.alloc, &observed_path.steps)? {
+            Some(body) => self.add_further_entry(label, pool, body),
             None => Ok(None),
         }
     }
 
     // Adds an entry for a label that already has one.
-    fn add_grown(
+    fn add_further_entry(
         &mut self,
         label: &str,
         pool: usize,
         body: Vec<Action>,
-    ) -> Result<Option<Taken>, Stop>
+    ) -> Result<Option<Assignment>, LearnError>
         ensures ok { (lines : List RecordedLine) (beyond : Reason)
             → IsGiven lines beyond label.now pool
             → AreEntriesOf lines beyond self.old
@@ -91,28 +91,28 @@ impl Entries {
         ensures err { (lines : List RecordedLine) (beyond : Reason)
             → IsGiven lines beyond label.now pool
             → AreEntriesOf lines beyond self.old
-            → IfErr result (IsStop lines) }
+            → IfErr result (IsLearnError lines) }
     {
         let number = self.entries.len();
         self.add(label, pool, body)?;
-        Ok(Some(Taken {
+        Ok(Some(Assignment {
             number,
             is_changed: true,
         }))
     }
 
     // Returns true if the entry has this label and pool and may be extended.
-    fn is_free(&self, number: usize, label: &str, pool: usize, reached: &[bool]) -> bool {
+    fn is_free(&self, number: usize, label: &str, pool: usize, reachable: &[bool]) -> bool {
         match self.entries.get(number) {
-            Some(entry) => entry.is_of(label, pool) && !is_marked(reached, number),
+            Some(entry) => entry.is_of(label, pool) && !is_marked(reachable, number),
             None => false,
         }
     }
 }
 
-fn is_path_of(body: &[Action], did: &Did) -> bool {
+fn is_path_of(body: &[Action], observed_path: &ObservedPath) -> bool {
     body.len() <= MAX_ACTIONS
-        && path_fits(body, &did.deeds, did.course, MAX_PATH_STEPS) == PathFit::Fits
+        && match_path(body, &observed_path.steps, observed_path.path_state, MAX_PATH_STEPS) == PathMatch::Fits
 }
 
 /// Returns, for each class, whether jobs of it are submitted by these steps, directly or through
@@ -121,47 +121,47 @@ fn is_path_of(body: &[Action], did: &Did) -> bool {
 /// # Errors
 ///
 /// Returns `AllocError` if memory runs out.
-pub(crate) fn reached_from(
+pub(crate) fn reachable_classes(
     alloc: Global,
     classes: &Entries,
-    deeds: &[Deed],
+    steps: &[PathStep],
 ) -> Result<Vec<bool>, AllocError> {
-    let mut reached = Vec::from_elem(alloc, false, classes.entries.len())?;
-    for deed in deeds {
-        mark_deed(&mut reached, deed);
+    let mut reachable = Vec::from_elem(alloc, false, classes.entries.len())?;
+    for step in steps {
+        mark_step(&mut reachable, step);
     }
     for _ in 0..classes.entries.len() {
-        if !spread(classes, &mut reached) {
+        if !propagate(classes, &mut reachable) {
             break;
         }
     }
-    Ok(reached)
+    Ok(reachable)
 }
 
-fn mark_deed(reached: &mut [bool], deed: &Deed) {
-    if let Deed::Submits(classes) = deed {
+fn mark_step(reachable: &mut [bool], step: &PathStep) {
+    if let PathStep::Submits(classes) = step {
         for class in classes {
-            mark(reached, *class);
+            mark(reachable, *class);
         }
     }
 }
 
 /// Marks the classes that marked classes submit. Returns true if a class was newly marked.
-fn spread(classes: &Entries, reached: &mut [bool]) -> bool {
+fn propagate(classes: &Entries, reachable: &mut [bool]) -> bool {
     let mut is_more = false;
     for number in 0..classes.entries.len() {
-        if is_marked(reached, number) && mark_body(reached, classes.body(number)) {
+        if is_marked(reachable, number) && mark_body(reachable, classes.body(number)) {
             is_more = true;
         }
     }
     is_more
 }
 
-fn mark_body(reached: &mut [bool], body: &[Action]) -> bool {
+fn mark_body(reachable: &mut [bool], body: &[Action]) -> bool {
     let mut is_more = false;
     for action in body {
         if let Action::Submit(class) = *action {
-            if mark(reached, class) {
+            if mark(reachable, class) {
                 is_more = true;
             }
         }
@@ -169,13 +169,13 @@ fn mark_body(reached: &mut [bool], body: &[Action]) -> bool {
     is_more
 }
 
-fn is_marked(reached: &[bool], number: usize) -> bool {
-    reached.get(number).copied().unwrap_or(false)
+fn is_marked(reachable: &[bool], number: usize) -> bool {
+    reachable.get(number).copied().unwrap_or(false)
 }
 
 /// Marks the class. Returns true if it was not marked before.
-fn mark(reached: &mut [bool], class: usize) -> bool {
-    match reached.get_mut(class) {
+fn mark(reachable: &mut [bool], class: usize) -> bool {
+    match reachable.get_mut(class) {
         Some(slot) => {
             let is_new = !*slot;
             *slot = true;

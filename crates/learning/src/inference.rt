@@ -6,24 +6,24 @@ ghost use Rattle.recordings.specs.RecordingLine.{RecordedLine, lines_read};
 ghost use Rattle.recordings.specs.Faults.{IsFirstFault};
 ghost use Rattle.recordings.specs.Before.{begins, submits};
 ghost use Rattle.learning.specs.Counts.{AreCounted, AreOfKinds, Kinds, IsCounted, client_names};
-ghost use Rattle.learning.specs.Kept.{AreCountsOf, AreWorkingOf, IsCountOf, IsStop, names_of};
+ghost use Rattle.learning.specs.LearningState.{AreCountsOf, IsDraftOf, IsCountOf, IsLearnError, names_of};
 ghost use Rattle.learning.specs.LabelRounds.{AreLabelRoundsOf};
-ghost use Rattle.learning.specs.Learned.{lines_of, fault_of, IfSeen, IfTooMuch};
-ghost use Rattle.learning.specs.Named.{AreNamesOfAll, IsStopAt, IsToldOf, IsSeenOf};
+ghost use Rattle.learning.specs.InferenceResult.{lines_of, fault_of, IfInferred, IfLimit};
+ghost use Rattle.learning.specs.FirstPass.{AreNamesOfAll, IsLearnErrorAt, IsCorrectResult, IsInferredFrom};
 ghost use Rattle.learning.specs.Names.{IsNamedClass, IsNamedClient};
-ghost use Rattle.learning.specs.Pools.{pools_seen};
-ghost use Rattle.learning.specs.TooMuch.{HasActors, IsReason};
+ghost use Rattle.learning.specs.Pools.{recorded_pools};
+ghost use Rattle.learning.specs.InferenceLimit.{HasActors, IsReason};
 ghost use Rattle.learning.specs.Unfinished.{unfinished_rounds, unfinished_jobs};
 
 use crate::counts::{KindCount, kind_counts};
 use crate::covering::cover_all;
 use crate::entries::Entry;
-use crate::extent::{Extent, Part};
-use crate::learned::{Learned, SeenPlan};
-use crate::seen_names::{SeenNames, seen_names};
-use crate::stop::Stop;
-use crate::too_much::TooMuch;
-use crate::working::client_of;
+use crate::extent::{Extent, RecordingPart};
+use crate::inference_result::{InferenceResult, InferredPlan};
+use crate::recorded_names::{RecordedNames, recorded_names};
+use crate::learn_error::LearnError;
+use crate::inference_limit::InferenceLimit;
+use crate::draft::client_of;
 use job_bodies::{Client, MAX_SIZE, Plan};
 use std::alloc::{AllocError, Global};
 
@@ -40,122 +40,122 @@ pub fn learn(
     recording: &[u8],
     extent: Extent,
     budget: u64,
-) -> Result<Learned, AllocError>
-    ensures bad { IfOk result (λ told. IsFirstFault (lines_read recording.now) (fault_of told)) }
+) -> Result<InferenceResult, AllocError>
+    ensures bad { IfOk result (λ reported. IsFirstFault (lines_read recording.now) (fault_of reported)) }
     ensures pools { IfOk result
-        (IfSeen (λ seen. seen.plan.pools ≡ pools_seen (lines_of recording.now))) }
+        (IfInferred (λ inferred. inferred.plan.pools ≡ recorded_pools (lines_of recording.now))) }
     ensures counts { IfOk result
-        (IfSeen (λ seen. AreCounted (lines_of recording.now) seen.plan.clients)) }
+        (IfInferred (λ inferred. AreCounted (lines_of recording.now) inferred.plan.clients)) }
     ensures classes { IfOk result
-        (IfSeen (λ seen. All (IsNamedClass (lines_of recording.now)) seen.plan.classes)) }
+        (IfInferred (λ inferred. All (IsNamedClass (lines_of recording.now)) inferred.plan.classes)) }
     ensures clients { IfOk result
-        (IfSeen (λ seen. All (IsNamedClient (lines_of recording.now)) seen.plan.clients)) }
-    ensures rounds { IfOk result (IfSeen (λ seen. seen.rounds ≡ begins (lines_of recording.now))) }
-    ensures jobs { IfOk result (IfSeen (λ seen. seen.jobs ≡ submits (lines_of recording.now))) }
+        (IfInferred (λ inferred. All (IsNamedClient (lines_of recording.now)) inferred.plan.clients)) }
+    ensures rounds { IfOk result (IfInferred (λ inferred. inferred.rounds ≡ begins (lines_of recording.now))) }
+    ensures jobs { IfOk result (IfInferred (λ inferred. inferred.jobs ≡ submits (lines_of recording.now))) }
     ensures unfinished_rounds { IfOk result
-        (IfSeen (λ seen. seen.unfinished_rounds ≡ unfinished_rounds (lines_of recording.now))) }
+        (IfInferred (λ inferred. inferred.unfinished_rounds ≡ unfinished_rounds (lines_of recording.now))) }
     ensures unfinished_jobs { IfOk result
-        (IfSeen (λ seen. seen.unfinished_jobs ≡ unfinished_jobs (lines_of recording.now))) }
-    ensures too_much { IfOk result (IfTooMuch (IsReason (lines_of recording.now))) }
+        (IfInferred (λ inferred. inferred.unfinished_jobs ≡ unfinished_jobs (lines_of recording.now))) }
+    ensures inference_limit { IfOk result (IfLimit (IsReason (lines_of recording.now))) }
 {
-    match learned(alloc, recording, extent, budget) {
-        Ok(told) => Ok(told),
-        Err(Stop::TooMuch(reason)) => Ok(Learned::TooMuch(reason)),
-        Err(Stop::Memory(error)) => Err(error),
+    match inference_result(alloc, recording, extent, budget) {
+        Ok(reported) => Ok(reported),
+        Err(LearnError::InferenceLimit(reason)) => Ok(InferenceResult::InferenceLimit(reason)),
+        Err(LearnError::Memory(error)) => Err(error),
     }
 }
 
-fn learned(alloc: Global, recording: &[u8], extent: Extent, budget: u64) -> Result<Learned, Stop>
-    ensures ok { IfOk result (IsToldOf recording.now) }
-    ensures err { IfErr result (IsStopAt (lines_read recording.now)) }
+fn inference_result(alloc: Global, recording: &[u8], extent: Extent, budget: u64) -> Result<InferenceResult, LearnError>
+    ensures ok { IfOk result (IsCorrectResult recording.now) }
+    ensures err { IfErr result (IsLearnErrorAt (lines_read recording.now)) }
 {
-    match seen_names(alloc, recording)? {
-        Err(fault) => Ok(Learned::Bad(fault)),
-        Ok(names) => Ok(Learned::Seen(seen_plan(alloc, recording, extent, budget, names)?)),
+    match recorded_names(alloc, recording)? {
+        Err(fault) => Ok(InferenceResult::Invalid(fault)),
+        Ok(names) => Ok(InferenceResult::Inferred(infer_plan(alloc, recording, extent, budget, names)?)),
     }
 }
 
-fn seen_plan(
+fn infer_plan(
     alloc: Global,
     recording: &[u8],
     extent: Extent,
     budget: u64,
-    mut names: SeenNames,
-) -> Result<SeenPlan, Stop>
+    mut names: RecordedNames,
+) -> Result<InferredPlan, LearnError>
     ensures ok { AreNamesOfAll (lines_read recording.now) names
-        → IfOk result (IsSeenOf (lines_of recording.now)) }
+        → IfOk result (IsInferredFrom (lines_of recording.now)) }
     ensures err { AreNamesOfAll (lines_read recording.now) names
-        → IfErr result (IsStop (lines_of recording.now)) }
+        → IfErr result (IsLearnError (lines_of recording.now)) }
 {
-    let kinds = learned_kinds(alloc, extent.of(recording), budget, &mut names)?;
-    let classes = names.working.copied_classes()?;
-    let clients = seen_clients(alloc, recording, &kinds, &names)?;
+    let kinds = learn_round_kinds(alloc, extent.of(recording), budget, &mut names)?;
+    let classes = names.draft.copied_classes()?;
+    let clients = infer_clients(alloc, recording, &kinds, &names)?;
     match Plan::build(alloc, names.pools, classes, clients) {
-        Ok(plan) => Ok(SeenPlan {
+        Ok(plan) => Ok(InferredPlan {
             plan,
             rounds: names.rounds,
             jobs: names.jobs,
             unfinished_rounds: names.rounds.saturating_sub(names.ended_rounds),
             unfinished_jobs: names.started_jobs.saturating_sub(names.ended_jobs),
         }),
-        Err(_) => Err(Stop::TooMuch(TooMuch::Paths)),
+        Err(_) => Err(LearnError::InferenceLimit(InferenceLimit::Paths)),
     }
 }
 
 // Extends the bodies, and returns the kind of each round of the part, by number. If the part is cut
 // and a label has several kinds, there is no plan: the kinds of the rounds after the part are
 // unknown.
-fn learned_kinds(
+fn learn_round_kinds(
     alloc: Global,
-    part: Part<'_>,
+    part: RecordingPart<'_>,
     budget: u64,
-    names: &mut SeenNames,
-) -> Result<Vec<Option<usize>>, Stop>
+    names: &mut RecordedNames,
+) -> Result<Vec<Option<usize>>, LearnError>
     ensures ok { (lines : List RecordedLine)
-        → AreWorkingOf lines names.old.working
-        → OnOk result (AreWorkingOf lines names.new.working) }
+        → IsDraftOf lines names.old.draft
+        → OnOk result (IsDraftOf lines names.new.draft) }
     ensures err { (lines : List RecordedLine)
-        → AreWorkingOf lines names.old.working
-        → IfErr result (IsStop lines) }
-    ensures same { names.new ≡ record names.old { working = names.new.working } }
+        → IsDraftOf lines names.old.draft
+        → IfErr result (IsLearnError lines) }
+    ensures same { names.new ≡ record names.old { draft = names.new.draft } }
 {
-    if names.working.is_empty() {
+    if names.draft.is_empty() {
         return Ok(Vec::new(alloc));
     }
-    let kinds = cover_all(alloc, part, &names.pools, budget, &mut names.working)?;
-    if part.is_cut && !names.label_rounds.are_of(&names.working.kinds.entries) {
-        return Err(Stop::TooMuch(TooMuch::Paths));
+    let kinds = cover_all(alloc, part, &names.pools, budget, &mut names.draft)?;
+    if part.is_cut && !names.label_rounds.are_of(&names.draft.kinds.entries) {
+        return Err(LearnError::InferenceLimit(InferenceLimit::Paths));
     }
     Ok(kinds)
 }
 
-fn seen_clients(
+fn infer_clients(
     alloc: Global,
     recording: &[u8],
     kinds: &[Option<usize>],
-    names: &SeenNames,
-) -> Result<Vec<Client>, Stop>
+    names: &RecordedNames,
+) -> Result<Vec<Client>, LearnError>
     ensures counts { AreLabelRoundsOf names.now.label_rounds (lines_of recording.now)
         → IfOk result (λ clients. AreCounted (lines_of recording.now) clients.items) }
     ensures names { IfOk result
-        (λ clients. client_names clients.items ≡ names_of names.now.working.kinds.entries.items) }
+        (λ clients. client_names clients.items ≡ names_of names.now.draft.kinds.entries.items) }
     ensures err { AreLabelRoundsOf names.now.label_rounds (lines_of recording.now)
-        → AreWorkingOf (lines_of recording.now) names.now.working
-        → IfErr result (IsStop (lines_of recording.now)) }
+        → IsDraftOf (lines_of recording.now) names.now.draft
+        → IfErr result (IsLearnError (lines_of recording.now)) }
 {
-    let entries = &names.working.kinds.entries;
+    let entries = &names.draft.kinds.entries;
     if names.label_rounds.are_of(entries) {
-        return counted_clients(alloc, &names.label_rounds.counts, entries);
+        return clients_from_counts(alloc, &names.label_rounds.counts, entries);
     }
     let counts = kind_counts(alloc, recording, kinds, entries)?;
-    counted_clients(alloc, &counts, entries)
+    clients_from_counts(alloc, &counts, entries)
 }
 
-fn counted_clients(
+fn clients_from_counts(
     alloc: Global,
     counts: &[KindCount],
     entries: &[Entry],
-) -> Result<Vec<Client>, Stop>
+) -> Result<Vec<Client>, LearnError>
     ensures counts { (kinds : Kinds) (lines : List RecordedLine)
         → AreOfKinds kinds (names_of entries.now) lines
         → AreCountsOf kinds lines counts.now
@@ -165,14 +165,14 @@ fn counted_clients(
         → AreOfKinds kinds (names_of entries.now) lines
         → AreCountsOf kinds lines counts.now
         → (0 < length entries.now → HasActors lines)
-        → IfErr result (IsStop lines) }
+        → IfErr result (IsLearnError lines) }
 {
     let mut clients = Vec::new(alloc);
     for kind in 0..entries.len() {
         let (Some(entry), Some(count)) = (entries.get(kind), count_at(counts, kind)) else {
-            return Err(Stop::TooMuch(TooMuch::Paths));
+            return Err(LearnError::InferenceLimit(InferenceLimit::Paths));
         };
-        let client = counted_client(alloc, entry, count)?;
+        let client = client_from_count(alloc, entry, count)?;
         push_client(&mut clients, client)?;
     }
     Ok(clients)
@@ -191,7 +191,7 @@ fn push_client(clients: &mut Vec<Client>, client: Client) -> Result<(), AllocErr
     Ok(())
 }
 
-fn counted_client(alloc: Global, entry: &Entry, count: KindCount) -> Result<Client, Stop>
+fn client_from_count(alloc: Global, entry: &Entry, count: KindCount) -> Result<Client, LearnError>
     ensures counted { (kinds : Kinds) (lines : List RecordedLine) (kind : ℕ)
         → IsCountOf kinds lines kind count
         → IfOk result (IsCounted kinds lines kind) }
@@ -199,10 +199,10 @@ fn counted_client(alloc: Global, entry: &Entry, count: KindCount) -> Result<Clie
     ensures err { (kinds : Kinds) (names : List (List ℕ)) (lines : List RecordedLine) (kind : ℕ)
         → AreOfKinds kinds names lines
         → IsCountOf kinds lines kind count
-        → IfErr result (IsStop lines) }
+        → IfErr result (IsLearnError lines) }
 {
     if count.most > MAX_SIZE {
-        return Err(Stop::TooMuch(TooMuch::Rounds));
+        return Err(LearnError::InferenceLimit(InferenceLimit::Rounds));
     }
     let repeat = count.begun > count.most;
     Ok(client_of(alloc, entry, count.most.max(1), repeat)?)

@@ -1,7 +1,7 @@
 //! Insertion of a submit, or of a submit and its get, into a body.
 
 ghost use Rattle.std.specs.Prelude.{◌≡◌, ◌≤◌, length, map, IfOk, IfSome};
-ghost use Rattle.learning.specs.Covers.{Grows};
+ghost use Rattle.learning.specs.Covers.{Extends};
 ghost use Rattle.learning.specs.Insertion as spec;
 
 use job_bodies::Action;
@@ -15,7 +15,7 @@ pub(crate) fn with_submit(
     at: usize,
     class: usize,
 ) -> Result<Option<Vec<Action>>, AllocError>
-    ensures { IfOk result (λ found. IfSome found (λ new. Grows body.now new.items)) }
+    ensures { IfOk result (λ found. IfSome found (λ new. Extends body.now new.items)) }
 {
     with_action(alloc, body, at, Action::Submit(class))
 }
@@ -29,7 +29,7 @@ pub(crate) fn with_submit_and_get(
     class: usize,
     get_at: usize,
 ) -> Result<Option<Vec<Action>>, AllocError>
-    ensures { IfOk result (λ found. IfSome found (λ new. Grows body.now new.items)) }
+    ensures { IfOk result (λ found. IfSome found (λ new. Extends body.now new.items)) }
 {
     if get_at <= at {
         return Ok(None);
@@ -54,7 +54,7 @@ fn with_action(
     if body.len() < at {
         return Ok(None);
     }
-    match all_moved(alloc, body, at)? {
+    match shifted_actions(alloc, body, at)? {
         Some(mut new) => {
             new.insert(at, action)?;
             Ok(Some(new))
@@ -65,13 +65,13 @@ fn with_action(
 
 /// Returns the actions with the indices of their gets adjusted for an insertion at index `at`, or
 /// `None` if an index overflows.
-fn all_moved(alloc: Global, body: &[Action], at: usize) -> Result<Option<Vec<Action>>, AllocError>
+fn shifted_actions(alloc: Global, body: &[Action], at: usize) -> Result<Option<Vec<Action>>, AllocError>
     ensures { IfOk result
-        (λ found. IfSome found (λ new. new.items ≡ map (spec.moved_action at) body.now)) }
+        (λ found. IfSome found (λ new. new.items ≡ map (spec.shifted_action at) body.now)) }
 {
     let mut new = Vec::with_capacity(alloc, body.len().saturating_add(1))?;
     for action in body {
-        match moved_action(at, *action) {
+        match shifted_action(at, *action) {
             Some(action) => new.push(action)?,
             None => return Ok(None),
         }
@@ -80,19 +80,19 @@ fn all_moved(alloc: Global, body: &[Action], at: usize) -> Result<Option<Vec<Act
 }
 
 /// Returns the action with the index of its get adjusted for an insertion at index `at`.
-fn moved_action(at: usize, action: Action) -> Option<Action>
-    ensures { IfSome result (λ new. new ≡ spec.moved_action at action) }
+fn shifted_action(at: usize, action: Action) -> Option<Action>
+    ensures { IfSome result (λ new. new ≡ spec.shifted_action at action) }
 {
     match action {
         Action::Work(units) => Some(Action::Work(units)),
         Action::Submit(class) => Some(Action::Submit(class)),
-        Action::Get(submit) => Some(Action::Get(moved(at, submit)?)),
+        Action::Get(submit) => Some(Action::Get(shifted_index(at, submit)?)),
     }
 }
 
 /// Returns the index of an action after an insertion at index `at`, or `None` on overflow.
-pub(crate) fn moved(at: usize, position: usize) -> Option<usize>
-    ensures { IfSome result (λ new. new ≡ spec.moved at position) }
+pub(crate) fn shifted_index(at: usize, position: usize) -> Option<usize>
+    ensures { IfSome result (λ new. new ≡ spec.shifted_index at position) }
 {
     if position < at {
         Some(position)

@@ -4,16 +4,16 @@ ghost use Rattle.std.specs.Prelude.{◌≡◌, ◌+◌, ◌++◌, ◌∷◌, ◌
 ghost use Rattle.std.specs.List.{position};
 ghost use Rattle.std.specs.Str.{bytes_eq};
 ghost use Rattle.support.specs.Numbered.{value_at};
-ghost use Rattle.recordings.specs.RecordingLine.{RecordedLine, RoundBegins, RoundEnds, line_seen};
-ghost use Rattle.recordings.specs.Rules.{broken_of};
-ghost use Rattle.learning.specs.Kept.{ChangesOne, IsStop, names_of, with_begin, with_end};
+ghost use Rattle.recordings.specs.RecordingLine.{RecordedLine, RoundBegins, RoundEnds, line_view};
+ghost use Rattle.recordings.specs.Rules.{first_broken_rule};
+ghost use Rattle.learning.specs.LearningState.{ChangesOne, IsLearnError, names_of, with_begin, with_end};
 ghost use Rattle.learning.specs.LabelRounds.{AreLabelRoundsOf, labels_of};
 ghost use Rattle.learning.specs.Names.{HasBegun};
 
-use crate::counts::{KindCount, begin_one, end_one, no_counts};
+use crate::counts::{KindCount, count_begin, count_end, zero_counts};
 use crate::entries::Entry;
-use crate::stop::Stop;
-use crate::too_much::TooMuch;
+use crate::learn_error::LearnError;
+use crate::inference_limit::InferenceLimit;
 use conformance::is_of_family;
 use job_bodies::MAX_CLIENT_KINDS;
 use recordings::Line;
@@ -26,7 +26,7 @@ use support::IdMap;
 pub(crate) struct LabelRounds {
     labels: Vec<String>,
     /// The label number of each open round, by round number.
-    about: IdMap<usize>,
+    open_labels: IdMap<usize>,
     /// The number of rounds that have begun.
     begun: usize,
     /// The counters of each label that a plan has room for, by label number.
@@ -43,10 +43,10 @@ impl LabelRounds {
     pub(crate) fn new(alloc: Global) -> Result<LabelRounds, AllocError>
         ensures { IfOk result (λ rounds. AreLabelRoundsOf rounds []) }
     {
-        let counts = no_counts(alloc, MAX_CLIENT_KINDS)?;
+        let counts = zero_counts(alloc, MAX_CLIENT_KINDS)?;
         Ok(LabelRounds {
             labels: Vec::new(alloc),
-            about: IdMap::new(alloc),
+            open_labels: IdMap::new(alloc),
             begun: 0,
             counts,
             alloc,
@@ -57,16 +57,16 @@ impl LabelRounds {
     ///
     /// # Errors
     ///
-    /// - [`Stop::TooMuch`] if a round does not have the number that the rules of recordings
+    /// - [`LearnError::InferenceLimit`] if a round does not have the number that the rules of recordings
     ///   require.
-    /// - [`Stop::Memory`] if memory runs out.
-    pub(crate) fn take(&mut self, line: &Line<'_>) -> Result<(), Stop>
+    /// - [`LearnError::Memory`] if memory runs out.
+    pub(crate) fn take(&mut self, line: &Line<'_>) -> Result<(), LearnError>
         ensures ok { (before : List RecordedLine)
             → AreLabelRoundsOf self.old before
-            → OnOk result (AreLabelRoundsOf self.new (before ++ line_seen line.now ∷ [])) }
-        ensures err { (before behind : List RecordedLine)
-            → broken_of before (line_seen line.now) ≡ None
-            → IfErr result (IsStop (before ++ line_seen line.now ∷ behind)) }
+            → OnOk result (AreLabelRoundsOf self.new (before ++ line_view line.now ∷ [])) }
+        ensures err { (before after : List RecordedLine)
+            → first_broken_rule before (line_view line.now) ≡ None
+            → IfErr result (IsLearnError (before ++ line_view line.now ∷ after)) }
     {
         match *line {
             Line::RoundBegins { round, kind } => self.begin(round, kind),
@@ -75,37 +75,37 @@ impl LabelRounds {
         }
     }
 
-    // A valid recording numbers its rounds consecutively, so this never returns `Stop::TooMuch`.
-    fn begin(&mut self, round: usize, label: &str) -> Result<(), Stop>
+    // A valid recording numbers its rounds consecutively, so this never returns `LearnError::InferenceLimit`.
+    fn begin(&mut self, round: usize, label: &str) -> Result<(), LearnError>
         ensures ok { (before : List RecordedLine)
             → AreLabelRoundsOf self.old before
             → OnOk result (AreLabelRoundsOf self.new (before ++ RoundBegins round label.now ∷ [])) }
         ensures err { (lines : List RecordedLine)
             → HasBegun lines label.now
-            → IfErr result (IsStop lines) }
+            → IfErr result (IsLearnError lines) }
     {
         if round != self.begun {
-            return Err(Stop::TooMuch(TooMuch::Paths));
+            return Err(LearnError::InferenceLimit(InferenceLimit::Paths));
         }
         let kind = self.number_of(label)?;
         self.push(kind)?;
-        begin_one(&mut self.counts, Some(kind))?;
+        count_begin(&mut self.counts, Some(kind))?;
         Ok(())
     }
 
-    // In a valid recording only an open round ends, so this never returns `Stop::TooMuch`.
-    fn end(&mut self, round: usize) -> Result<(), Stop>
+    // In a valid recording only an open round ends, so this never returns `LearnError::InferenceLimit`.
+    fn end(&mut self, round: usize) -> Result<(), LearnError>
         ensures ok { (before : List RecordedLine)
             → AreLabelRoundsOf self.old before
             → OnOk result (AreLabelRoundsOf self.new (before ++ RoundEnds round ∷ [])) }
         ensures err { (lines : List RecordedLine) (label : List ℕ)
             → HasBegun lines label
-            → IfErr result (IsStop lines) }
+            → IfErr result (IsLearnError lines) }
     {
-        let Some(kind) = self.about.remove(round) else {
-            return Err(Stop::TooMuch(TooMuch::Paths));
+        let Some(kind) = self.open_labels.remove(round) else {
+            return Err(LearnError::InferenceLimit(InferenceLimit::Paths));
         };
-        end_one(&mut self.counts, Some(kind))?;
+        count_end(&mut self.counts, Some(kind))?;
         Ok(())
     }
 
@@ -115,7 +115,7 @@ impl LabelRounds {
             (λ kind. slice_get (labels_of self.new) kind ≡ Some label.now) }
         ensures labels { OnOk result
             ((more : List (List ℕ)) × (labels_of self.new ≡ labels_of self.old ++ more)) }
-        ensures about { self.new.about ≡ self.old.about }
+        ensures open_labels { self.new.open_labels ≡ self.old.open_labels }
         ensures begun { self.new.begun ≡ self.old.begun }
         ensures counts { self.new.counts ≡ self.old.counts }
     {
@@ -131,7 +131,7 @@ impl LabelRounds {
 
     fn add(&mut self, label: &str) -> Result<(), AllocError>
         ensures labels { OnOk result (labels_of self.new ≡ labels_of self.old ++ label.now ∷ []) }
-        ensures about { self.new.about ≡ self.old.about }
+        ensures open_labels { self.new.open_labels ≡ self.old.open_labels }
         ensures begun { self.new.begun ≡ self.old.begun }
         ensures counts { self.new.counts ≡ self.old.counts }
     {
@@ -141,15 +141,15 @@ impl LabelRounds {
 
     // Records the next round as open, with this kind.
     fn push(&mut self, kind: usize) -> Result<(), AllocError>
-        ensures about { OnOk result
+        ensures open_labels { OnOk result
             ((round : ℕ)
-            → value_at self.new.about round
-            ≡ (if self.old.begun == round then Some kind else value_at self.old.about round)) }
+            → value_at self.new.open_labels round
+            ≡ (if self.old.begun == round then Some kind else value_at self.old.open_labels round)) }
         ensures begun { OnOk result (self.new.begun ≡ self.old.begun + 1) }
         ensures labels { self.new.labels ≡ self.old.labels }
         ensures counts { self.new.counts ≡ self.old.counts }
     {
-        self.about.insert(self.begun, kind)?;
+        self.open_labels.insert(self.begun, kind)?;
         self.begun = self.begun.checked_add(1).ok_or(AllocError)?;
         Ok(())
     }

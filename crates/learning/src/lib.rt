@@ -4,35 +4,35 @@
 //! recording.
 #![tactic(auto)]
 
-mod alike;
+mod correspondence;
 mod common;
 mod counts;
 mod cover;
 mod covering;
-mod ended;
+mod ended_actors;
 mod entries;
 mod extent;
 mod growth;
 mod inference;
 mod insertion;
 mod label_rounds;
-mod lawful;
-mod learned;
-mod members;
+mod valid_gets;
+mod inference_result;
+mod assigned_classes;
 mod merge;
 mod names;
 mod pass;
 mod path_body;
 mod pools;
-mod seen_names;
-mod stands;
-mod stop;
-mod too_much;
-mod working;
+mod recorded_names;
+mod match_check;
+mod learn_error;
+mod inference_limit;
+mod draft;
 
 pub use cover::covering_body;
 pub use extent::{Extent, START_BYTES};
 pub use inference::learn;
-pub use learned::{Learned, SeenPlan};
+pub use inference_result::{InferenceResult, InferredPlan};
 pub use path_body::body_of_path;
-pub use too_much::TooMuch;
+pub use inference_limit::InferenceLimit;

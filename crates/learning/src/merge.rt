@@ -1,11 +1,11 @@
 //! Insertion of the missing steps of a path into a body.
 
 ghost use Rattle.std.specs.Prelude.{IfOk, IfSome};
-ghost use Rattle.learning.specs.Covers.{Grows};
+ghost use Rattle.learning.specs.Covers.{Extends};
 
-use crate::alike::get_of;
-use crate::insertion::{moved, with_submit, with_submit_and_get};
-use conformance::Deed;
+use crate::correspondence::get_of;
+use crate::insertion::{shifted_index, with_submit, with_submit_and_get};
+use conformance::PathStep;
 use job_bodies::Action;
 use std::alloc::{AllocError, Global};
 
@@ -14,22 +14,22 @@ use std::alloc::{AllocError, Global};
 ///
 /// `places` has the index in the body of each step of the path, or `None` for a missing one. The
 /// function updates it for the insertions.
-pub(crate) fn merged(
+pub(crate) fn with_missing_steps(
     alloc: Global,
     body: &[Action],
-    path: &[Deed],
+    path: &[PathStep],
     places: &mut [Option<usize>],
 ) -> Result<Option<Vec<Action>>, AllocError>
-    ensures { IfOk result (λ found. IfSome found (λ new. Grows body.now new.items)) }
+    ensures { IfOk result (λ found. IfSome found (λ new. Extends body.now new.items)) }
 {
     let mut new = Vec::from_slice(alloc, body)?;
-    for (place, deed) in path.iter().enumerate() {
-        if let Deed::Submits(classes) = deed {
+    for (place, step) in path.iter().enumerate() {
+        if let PathStep::Submits(classes) = step {
             if place_at(places, place).is_none() {
                 let Some(class) = classes.first() else {
                     return Ok(None);
                 };
-                match with_deed(alloc, &new, path, places, place, *class)? {
+                match with_step(alloc, &new, path, places, place, *class)? {
                     Some(next) => new = next,
                     None => return Ok(None),
                 }
@@ -41,26 +41,26 @@ pub(crate) fn merged(
 
 /// Returns the body with the submit at index `place` of the path inserted, and its get if it has
 /// one.
-fn with_deed(
+fn with_step(
     alloc: Global,
     body: &[Action],
-    path: &[Deed],
+    path: &[PathStep],
     places: &mut [Option<usize>],
     place: usize,
     class: usize,
 ) -> Result<Option<Vec<Action>>, AllocError>
-    ensures { IfOk result (λ found. IfSome found (λ new. Grows body.now new.items)) }
+    ensures { IfOk result (λ found. IfSome found (λ new. Extends body.now new.items)) }
 {
-    let at = behind_those_before(places, place);
+    let at = insertion_index(places, place);
     match get_of(path, place) {
         None => {
-            put(places, place, at);
+            record_insertion(places, place, at);
             with_submit(alloc, body, at, class)
         }
         Some(get) => {
-            put(places, place, at);
-            let get_at = behind_those_before(places, get);
-            put(places, get, get_at);
+            record_insertion(places, place, at);
+            let get_at = insertion_index(places, get);
+            record_insertion(places, get, get_at);
             with_submit_and_get(alloc, body, at, class, get_at)
         }
     }
@@ -72,19 +72,19 @@ fn place_at(places: &[Option<usize>], place: usize) -> Option<usize> {
 }
 
 /// Returns the first index in the body after all steps before index `place` of the path.
-fn behind_those_before(places: &[Option<usize>], place: usize) -> usize {
-    let mut behind = 0;
+fn insertion_index(places: &[Option<usize>], place: usize) -> usize {
+    let mut after = 0;
     for at in places.iter().take(place).flatten() {
-        behind = at.saturating_add(1);
+        after = at.saturating_add(1);
     }
-    behind
+    after
 }
 
 /// Records that the step at index `place` of the path is inserted at index `at` of the body.
-fn put(places: &mut [Option<usize>], place: usize, at: usize) {
+fn record_insertion(places: &mut [Option<usize>], place: usize, at: usize) {
     for other in places.iter_mut() {
         *other = match *other {
-            Some(position) => moved(at, position),
+            Some(position) => shifted_index(at, position),
             None => None,
         };
     }

@@ -3,11 +3,11 @@
 ghost use Rattle.std.specs.Prelude.{◌<◌, length, string_bytes, IfOk, IfErr};
 ghost use Rattle.job_bodies.specs.declared.limits.TheConstants.{MAX_CLASSES};
 ghost use Rattle.conformance.specs.Family.{IsOfFamily};
-ghost use Rattle.learning.specs.Kept.{IsNoName};
+ghost use Rattle.learning.specs.LearningState.{IsNameError};
 
 use crate::entries::Entry;
-use crate::stop::Stop;
-use crate::too_much::TooMuch;
+use crate::learn_error::LearnError;
+use crate::inference_limit::InferenceLimit;
 use job_bodies::MAX_NAME_BYTES;
 use std::alloc::{AllocError, Global};
 
@@ -15,12 +15,12 @@ use std::alloc::{AllocError, Global};
 ///
 /// # Errors
 ///
-/// - [`Stop::TooMuch`] if that name is too long for a plan.
-/// - [`Stop::Memory`] if memory runs out.
-pub(crate) fn free_name(alloc: Global, entries: &[Entry], label: &str) -> Result<String, Stop>
+/// - [`LearnError::InferenceLimit`] if that name is too long for a plan.
+/// - [`LearnError::Memory`] if memory runs out.
+pub(crate) fn free_name(alloc: Global, entries: &[Entry], label: &str) -> Result<String, LearnError>
     ensures ok { length entries.now < MAX_CLASSES
         → IfOk result (λ name. IsOfFamily label.now (string_bytes name)) }
-    ensures err { length entries.now < MAX_CLASSES → IfErr result (IsNoName label.now) }
+    ensures err { length entries.now < MAX_CLASSES → IfErr result (IsNameError label.now) }
 {
     if !has_name(entries, label) {
         return Ok(String::from_str(alloc, label)?);
@@ -31,13 +31,13 @@ pub(crate) fn free_name(alloc: Global, entries: &[Entry], label: &str) -> Result
         let number = step.saturating_add(2);
         let name = format!(in alloc; "{label}_{number}")?;
         if name.len() > MAX_NAME_BYTES {
-            return Err(Stop::TooMuch(TooMuch::Names));
+            return Err(LearnError::InferenceLimit(InferenceLimit::Names));
         }
         if !has_name(entries, &name) {
             return Ok(name);
         }
     }
-    Err(Stop::Memory(AllocError))
+    Err(LearnError::Memory(AllocError))
 }
 
 fn has_name(entries: &[Entry], name: &str) -> bool {

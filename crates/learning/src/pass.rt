@@ -2,16 +2,16 @@
 
 ghost use Rattle.std.specs.Prelude.{◌≡◌, List, OnOk, IfErr};
 ghost use Rattle.recordings.specs.RecordingLine.{RecordedLine};
-ghost use Rattle.learning.specs.Kept.{AreWorkingOf, IsStop};
+ghost use Rattle.learning.specs.LearningState.{IsDraftOf, IsLearnError};
 
-use crate::ended::Ended;
-use crate::extent::Part;
-use crate::growth::{Did, Taken};
-use crate::members::Members;
+use crate::ended_actors::EndedActors;
+use crate::extent::RecordingPart;
+use crate::growth::{ObservedPath, Assignment};
+use crate::assigned_classes::AssignedClasses;
 use crate::pools::pool_number;
-use crate::stop::Stop;
-use crate::working::Working;
-use conformance::{Classes, Course, Settled};
+use crate::learn_error::LearnError;
+use crate::draft::PlanDraft;
+use conformance::{ActorClassifier, PathState, ClassifiedActor};
 use job_bodies::{Plan, Pool};
 use recordings::{Line, RecordedActor, RecordingLines};
 use std::alloc::{AllocError, Global};
@@ -27,8 +27,8 @@ pub(crate) struct Pass {
     pub(crate) is_explained: bool,
     /// True if the recording continues after the part.
     is_cut: bool,
-    members: Members,
-    ended: Ended,
+    members: AssignedClasses,
+    ended: EndedActors,
     alloc: Global,
 }
 
@@ -40,56 +40,56 @@ pub(crate) struct Pass {
 ///
 /// # Errors
 ///
-/// - [`Stop::TooMuch`] if the actors need more than a plan may have.
-/// - [`Stop::Memory`] if memory runs out.
-pub(crate) fn pass_over(
+/// - [`LearnError::InferenceLimit`] if the actors need more than a plan may have.
+/// - [`LearnError::Memory`] if memory runs out.
+pub(crate) fn run_pass(
     alloc: Global,
-    part: Part<'_>,
+    part: RecordingPart<'_>,
     pools: &[Pool],
     plan: &Plan,
     budget: u64,
-    working: &mut Working,
-) -> Result<Pass, Stop>
+    draft: &mut PlanDraft,
+) -> Result<Pass, LearnError>
     ensures ok { (lines : List RecordedLine)
-        → AreWorkingOf lines working.old
-        → OnOk result (AreWorkingOf lines working.new) }
+        → IsDraftOf lines draft.old
+        → OnOk result (IsDraftOf lines draft.new) }
     ensures err { (lines : List RecordedLine)
-        → AreWorkingOf lines working.old
-        → IfErr result (IsStop lines) }
+        → IsDraftOf lines draft.old
+        → IfErr result (IsLearnError lines) }
 {
     let mut pass = Pass::new(alloc, part.is_cut);
-    let mut telling = Telling::new(alloc, budget);
+    let mut classifier = PassClassifier::new(alloc, budget);
     let mut lines = RecordingLines::new(part.text);
     while let Some(line) = lines.next() {
         if let Ok(line) = line {
-            pass.hear_line(pools, plan, &line, &mut telling, working)?;
+            pass.process_line(pools, plan, &line, &mut classifier, draft)?;
         }
     }
-    let told = telling.finish(plan)?;
-    pass.hear_last(pools, &told, working)?;
+    let reported = classifier.finish(plan)?;
+    pass.process_unclassified(pools, &reported, draft)?;
     Ok(pass)
 }
 
 /// The classification of the actors along the lines.
 #[derive(Drop)]
-struct Telling {
-    classes: Classes,
-    told: Vec<Settled>,
+struct PassClassifier {
+    classes: ActorClassifier,
+    reported: Vec<ClassifiedActor>,
 }
 
-impl Telling {
-    fn new(alloc: Global, budget: u64) -> Telling {
-        Telling {
-            classes: Classes::new(alloc, budget),
-            told: Vec::new(alloc),
+impl PassClassifier {
+    fn new(alloc: Global, budget: u64) -> PassClassifier {
+        PassClassifier {
+            classes: ActorClassifier::new(alloc, budget),
+            reported: Vec::new(alloc),
         }
     }
 
     // Returns the actors that are still unclassified at the end of the lines.
-    fn finish(self, plan: &Plan) -> Result<Vec<Settled>, AllocError> {
-        let Telling { classes, mut told } = self;
-        classes.finish(plan, &mut told)?;
-        Ok(told)
+    fn finish(self, plan: &Plan) -> Result<Vec<ClassifiedActor>, AllocError> {
+        let PassClassifier { classes, mut reported } = self;
+        classes.finish(plan, &mut reported)?;
+        Ok(reported)
     }
 }
 
@@ -100,8 +100,8 @@ impl Pass {
             is_changed: false,
             is_explained: true,
             is_cut,
-            members: Members::new(alloc),
-            ended: Ended::new(alloc),
+            members: AssignedClasses::new(alloc),
+            ended: EndedActors::new(alloc),
             alloc,
         }
     }
@@ -116,91 +116,91 @@ impl Pass {
     }
 
     // Reads the next line, and processes each actor that it classifies.
-    fn hear_line(
+    fn process_line(
         &mut self,
         pools: &[Pool],
         plan: &Plan,
         line: &Line<'_>,
-        telling: &mut Telling,
-        working: &mut Working,
-    ) -> Result<(), Stop>
+        classifier: &mut PassClassifier,
+        draft: &mut PlanDraft,
+    ) -> Result<(), LearnError>
         ensures ok { (lines : List RecordedLine)
-            → AreWorkingOf lines working.old
-            → OnOk result (AreWorkingOf lines working.new) }
+            → IsDraftOf lines draft.old
+            → OnOk result (IsDraftOf lines draft.new) }
         ensures err { (lines : List RecordedLine)
-            → AreWorkingOf lines working.old
-            → IfErr result (IsStop lines) }
+            → IsDraftOf lines draft.old
+            → IfErr result (IsLearnError lines) }
     {
         self.note(line)?;
-        telling.classes.take(plan, line, &mut telling.told)?;
-        self.hear_all(pools, &telling.told, working)?;
-        telling.told.clear();
+        classifier.classes.take(plan, line, &mut classifier.reported)?;
+        self.process_classified(pools, &classifier.reported, draft)?;
+        classifier.reported.clear();
         Ok(())
     }
 
     // Processes the classified actors, all of which have ended.
-    fn hear_all(
+    fn process_classified(
         &mut self,
         pools: &[Pool],
-        told: &[Settled],
-        working: &mut Working,
-    ) -> Result<(), Stop>
+        reported: &[ClassifiedActor],
+        draft: &mut PlanDraft,
+    ) -> Result<(), LearnError>
         ensures ok { (lines : List RecordedLine)
-            → AreWorkingOf lines working.old
-            → OnOk result (AreWorkingOf lines working.new) }
+            → IsDraftOf lines draft.old
+            → OnOk result (IsDraftOf lines draft.new) }
         ensures err { (lines : List RecordedLine)
-            → AreWorkingOf lines working.old
-            → IfErr result (IsStop lines) }
+            → IsDraftOf lines draft.old
+            → IfErr result (IsLearnError lines) }
     {
-        for one in told {
+        for one in reported {
             self.ended.remove(one.actor);
-            let class = self.learn(pools, one, Course::Whole, working)?;
+            let class = self.learn(pools, one, PathState::Whole, draft)?;
             self.members.forget(&one.path);
-            self.remember(one, class)?;
+            self.record_assignment(one, class)?;
         }
         Ok(())
     }
 
     // Processes the actors that are classified at the end of the lines.
-    fn hear_last(
+    fn process_unclassified(
         &mut self,
         pools: &[Pool],
-        told: &[Settled],
-        working: &mut Working,
-    ) -> Result<(), Stop>
+        reported: &[ClassifiedActor],
+        draft: &mut PlanDraft,
+    ) -> Result<(), LearnError>
         ensures ok { (lines : List RecordedLine)
-            → AreWorkingOf lines working.old
-            → OnOk result (AreWorkingOf lines working.new) }
+            → IsDraftOf lines draft.old
+            → OnOk result (IsDraftOf lines draft.new) }
         ensures err { (lines : List RecordedLine)
-            → AreWorkingOf lines working.old
-            → IfErr result (IsStop lines) }
+            → IsDraftOf lines draft.old
+            → IfErr result (IsLearnError lines) }
     {
-        for one in told {
+        for one in reported {
             let class = if self.ended.contains(one.actor) {
-                self.learn(pools, one, Course::Whole, working)?
+                self.learn(pools, one, PathState::Whole, draft)?
             } else {
                 one.family.members.first().copied()
             };
-            self.remember(one, class)?;
+            self.record_assignment(one, class)?;
         }
-        if self.is_through() {
+        if self.skips_open_actors() {
             return Ok(());
         }
-        for one in told {
+        for one in reported {
             if !self.ended.contains(one.actor) {
-                self.learn(pools, one, Course::Begun, working)?;
+                self.learn(pools, one, PathState::Prefix, draft)?;
             }
         }
         Ok(())
     }
 
     // Returns true if actors without an end may not extend a body.
-    fn is_through(&self) -> bool {
+    fn skips_open_actors(&self) -> bool {
         self.is_changed || self.is_cut
     }
 
     // Records the kind of a round, or assigns the class to a job.
-    fn remember(&mut self, one: &Settled, class: Option<usize>) -> Result<(), AllocError> {
+    fn record_assignment(&mut self, one: &ClassifiedActor, class: Option<usize>) -> Result<(), AllocError> {
         let member = one.family.members.first().copied();
         if member.is_none() {
             self.is_explained = false;
@@ -221,28 +221,28 @@ impl Pass {
     fn learn(
         &mut self,
         pools: &[Pool],
-        one: &Settled,
-        course: Course,
-        working: &mut Working,
-    ) -> Result<Option<usize>, Stop>
+        one: &ClassifiedActor,
+        path_state: PathState,
+        draft: &mut PlanDraft,
+    ) -> Result<Option<usize>, LearnError>
         ensures ok { (lines : List RecordedLine)
-            → AreWorkingOf lines working.old
-            → OnOk result (AreWorkingOf lines working.new) }
+            → IsDraftOf lines draft.old
+            → OnOk result (IsDraftOf lines draft.new) }
         ensures err { (lines : List RecordedLine)
-            → AreWorkingOf lines working.old
-            → IfErr result (IsStop lines) }
+            → IsDraftOf lines draft.old
+            → IfErr result (IsLearnError lines) }
     {
         let member = one.family.members.first().copied();
         if !one.family.is_decided || member.is_some() {
             return Ok(member);
         }
-        let Some(deeds) = self.members.deeds(self.alloc, &one.path)? else {
+        let Some(steps) = self.members.steps(self.alloc, &one.path)? else {
             return Ok(None);
         };
-        match learn_of(pools, one, &Did { deeds, course }, working)? {
-            Some(taken) => {
-                self.is_changed = self.is_changed || taken.is_changed;
-                Ok(Some(taken.number))
+        match learn_of(pools, one, &ObservedPath { steps, path_state }, draft)? {
+            Some(assignment) => {
+                self.is_changed = self.is_changed || assignment.is_changed;
+                Ok(Some(assignment.number))
             }
             None => Ok(None),
         }
@@ -251,21 +251,21 @@ impl Pass {
 
 fn learn_of(
     pools: &[Pool],
-    one: &Settled,
-    did: &Did,
-    working: &mut Working,
-) -> Result<Option<Taken>, Stop>
+    one: &ClassifiedActor,
+    observed_path: &ObservedPath,
+    draft: &mut PlanDraft,
+) -> Result<Option<Assignment>, LearnError>
     ensures ok { (lines : List RecordedLine)
-        → AreWorkingOf lines working.old
-        → OnOk result (AreWorkingOf lines working.new) }
+        → IsDraftOf lines draft.old
+        → OnOk result (IsDraftOf lines draft.new) }
     ensures err { (lines : List RecordedLine)
-        → AreWorkingOf lines working.old
-        → IfErr result (IsStop lines) }
+        → IsDraftOf lines draft.old
+        → IfErr result (IsLearnError lines) }
 {
     match one.actor {
-        RecordedActor::Round(_) => working.learn_round(&one.label, did),
+        RecordedActor::Round(_) => draft.learn_round(&one.label, observed_path),
         RecordedActor::Job(_) => match pool_number(pools, &one.pool) {
-            Some(pool) => working.learn_job(&one.label, pool, did),
+            Some(pool) => draft.learn_job(&one.label, pool, observed_path),
             None => Ok(None),
         },
     }

@@ -2,13 +2,13 @@
 
 ghost use Rattle.std.specs.Prelude.{◌≡◌, ◌≤◌, ◌↔◌, IfOk, IfSome, MatchOption, All, IsTrue, length};
 ghost use Rattle.job_bodies.specs.declared.limits.TheConstants.{MAX_ACTIONS};
-ghost use Rattle.conformance.specs.declared.deed.Course.TheVariants.{Whole};
+ghost use Rattle.conformance.specs.declared.step.PathState.TheVariants.{Whole};
 ghost use Rattle.conformance.specs.Path.{IsPathOf};
-ghost use Rattle.learning.specs.Lawful.{HasLawfulGets};
+ghost use Rattle.learning.specs.ValidGets.{HasValidGets};
 ghost use Rattle.learning.specs.PathBody as spec;
 
-use crate::lawful::has_lawful_gets;
-use conformance::Deed;
+use crate::valid_gets::has_valid_gets;
+use conformance::PathStep;
 use job_bodies::{Action, MAX_ACTIONS};
 use std::alloc::{AllocError, Global};
 
@@ -21,52 +21,52 @@ use std::alloc::{AllocError, Global};
 /// # Errors
 ///
 /// Returns [`AllocError`] if memory runs out.
-pub fn body_of_path(alloc: Global, path: &[Deed]) -> Result<Option<Vec<Action>>, AllocError>
+pub fn body_of_path(alloc: Global, path: &[PathStep]) -> Result<Option<Vec<Action>>, AllocError>
     ensures exact { IfOk result (λ found.
         MatchOption found (¬ spec.HasBody path.now) (λ body. body.items ≡ spec.body_of path.now)) }
     ensures has_body { IfOk result (λ found. IfSome found (λ body. spec.HasBody path.now)) }
     ensures fits { IfOk result
         (λ found. IfSome found (λ body. IsPathOf Whole body.items path.now)) }
     ensures short { IfOk result (λ found. IfSome found (λ body. length body.items ≤ MAX_ACTIONS)) }
-    ensures lawful { IfOk result (λ found. IfSome found (λ body. HasLawfulGets body.items)) }
+    ensures valid_gets { IfOk result (λ found. IfSome found (λ body. HasValidGets body.items)) }
 {
     if path.len() > MAX_ACTIONS || !has_classes(path) {
         return Ok(None);
     }
     let body = all_actions(alloc, path)?;
-    if has_lawful_gets(&body) {
+    if has_valid_gets(&body) {
         Ok(Some(body))
     } else {
         Ok(None)
     }
 }
 
-fn has_classes(path: &[Deed]) -> bool
+fn has_classes(path: &[PathStep]) -> bool
     ensures { IsTrue result ↔ All spec.HasClass path.now }
 {
-    path.iter().all(|deed| has_class(deed))
+    path.iter().all(|step| has_class(step))
 }
 
-fn has_class(deed: &Deed) -> bool
-    ensures { IsTrue result ↔ spec.HasClass deed.now }
+fn has_class(step: &PathStep) -> bool
+    ensures { IsTrue result ↔ spec.HasClass step.now }
 {
-    match deed {
-        Deed::Submits(classes) => !classes.is_empty(),
-        Deed::Gets(_) => true,
+    match step {
+        PathStep::Submits(classes) => !classes.is_empty(),
+        PathStep::Gets(_) => true,
     }
 }
 
-fn all_actions(alloc: Global, path: &[Deed]) -> Result<Vec<Action>, AllocError>
+fn all_actions(alloc: Global, path: &[PathStep]) -> Result<Vec<Action>, AllocError>
     ensures { IfOk result (λ body. body.items ≡ spec.body_of path.now) }
 {
-    path.iter().map(|deed| action_of(deed)).collect(alloc)
+    path.iter().map(|step| action_of(step)).collect(alloc)
 }
 
-fn action_of(deed: &Deed) -> Action
-    ensures { result ≡ spec.action_of deed.now }
+fn action_of(step: &PathStep) -> Action
+    ensures { result ≡ spec.action_of step.now }
 {
-    match deed {
-        Deed::Submits(classes) => Action::Submit(classes.first().copied().unwrap_or(0)),
-        Deed::Gets(place) => Action::Get(*place),
+    match step {
+        PathStep::Submits(classes) => Action::Submit(classes.first().copied().unwrap_or(0)),
+        PathStep::Gets(place) => Action::Get(*place),
     }
 }

@@ -1,14 +1,14 @@
 //! The pools of a recording, as pools of a plan.
 
 ghost use Rattle.std.specs.Prelude.{◌≡◌, ◌≤◌, ◌<◌, ◌++◌, ◌∷◌, List, Some, length, slice_get, IfOk, IfErr, IfSome, OnOk};
-ghost use Rattle.recordings.specs.RecordingLine.{RecordedLine, line_seen};
+ghost use Rattle.recordings.specs.RecordingLine.{RecordedLine, line_view};
 ghost use Rattle.std.specs.List.{position};
 ghost use Rattle.std.specs.Str.{bytes_eq};
-ghost use Rattle.learning.specs.Kept.{IsStop};
+ghost use Rattle.learning.specs.LearningState.{IsLearnError};
 ghost use Rattle.learning.specs.Pools as spec;
 
-use crate::stop::Stop;
-use crate::too_much::TooMuch;
+use crate::learn_error::LearnError;
+use crate::inference_limit::InferenceLimit;
 use job_bodies::{MAX_POOLS, MAX_SIZE, Pool};
 use recordings::{Line, PoolSizes};
 use std::alloc::{AllocError, Global};
@@ -18,8 +18,8 @@ use std::alloc::{AllocError, Global};
 /// # Errors
 ///
 /// Returns `AllocError` if memory runs out.
-pub(crate) fn pool_seen(alloc: Global, name: &str, sizes: PoolSizes) -> Result<Pool, AllocError>
-    ensures { IfOk result (λ pool. pool ≡ spec.pool_seen name.now sizes) }
+pub(crate) fn recorded_pool(alloc: Global, name: &str, sizes: PoolSizes) -> Result<Pool, AllocError>
+    ensures { IfOk result (λ pool. pool ≡ spec.recorded_pool name.now sizes) }
 {
     let core = into_range(1, sizes.core as u64);
     Ok(Pool {
@@ -48,17 +48,17 @@ fn has_core_threads(sizes: PoolSizes) -> bool
 ///
 /// # Errors
 ///
-/// - [`Stop::TooMuch`] if a plan cannot have one more pool.
-/// - [`Stop::Memory`] if memory runs out.
-pub(crate) fn note_pool(alloc: Global, pools: &mut Vec<Pool>, line: &Line<'_>) -> Result<(), Stop>
+/// - [`LearnError::InferenceLimit`] if a plan cannot have one more pool.
+/// - [`LearnError::Memory`] if memory runs out.
+pub(crate) fn note_pool(alloc: Global, pools: &mut Vec<Pool>, line: &Line<'_>) -> Result<(), LearnError>
     ensures ok { OnOk result
         (pools.new.items
-        ≡ spec.with_first_of (spec.pool_of_line (line_seen line.now)) pools.old.items) }
+        ≡ spec.with_first_of (spec.pool_of_line (line_view line.now)) pools.old.items) }
     ensures few { length pools.old.items ≤ MAX_POOLS
         → OnOk result (length pools.new.items ≤ MAX_POOLS) }
-    ensures err { (before behind : List RecordedLine)
-        → pools.old.items ≡ spec.pools_seen before
-        → IfErr result (IsStop (before ++ line_seen line.now ∷ behind)) }
+    ensures err { (before after : List RecordedLine)
+        → pools.old.items ≡ spec.recorded_pools before
+        → IfErr result (IsLearnError (before ++ line_view line.now ∷ after)) }
 {
     match *line {
         Line::Pool { name, sizes } => add_pool(alloc, pools, name, sizes),
@@ -66,23 +66,23 @@ pub(crate) fn note_pool(alloc: Global, pools: &mut Vec<Pool>, line: &Line<'_>) -
     }
 }
 
-fn add_pool(alloc: Global, pools: &mut Vec<Pool>, name: &str, sizes: PoolSizes) -> Result<(), Stop>
+fn add_pool(alloc: Global, pools: &mut Vec<Pool>, name: &str, sizes: PoolSizes) -> Result<(), LearnError>
     ensures ok { OnOk result
-        (pools.new.items ≡ spec.with_first pools.old.items (spec.pool_seen name.now sizes)) }
+        (pools.new.items ≡ spec.with_first pools.old.items (spec.recorded_pool name.now sizes)) }
     ensures few { length pools.old.items ≤ MAX_POOLS
         → OnOk result (length pools.new.items ≤ MAX_POOLS) }
     ensures err { (lines : List RecordedLine)
-        → (length (spec.with_first pools.old.items (spec.pool_seen name.now sizes))
-        ≤ length (spec.pools_seen lines))
-        → IfErr result (IsStop lines) }
+        → (length (spec.with_first pools.old.items (spec.recorded_pool name.now sizes))
+        ≤ length (spec.recorded_pools lines))
+        → IfErr result (IsLearnError lines) }
 {
     if has_name(pools, name) {
         return Ok(());
     }
     if pools.len() >= MAX_POOLS {
-        return Err(Stop::TooMuch(TooMuch::Pools));
+        return Err(LearnError::InferenceLimit(InferenceLimit::Pools));
     }
-    let pool = pool_seen(alloc, name, sizes)?;
+    let pool = recorded_pool(alloc, name, sizes)?;
     pools.push(pool).map_err(AllocError::from)?;
     Ok(())
 }

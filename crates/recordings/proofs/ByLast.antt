@@ -14,7 +14,7 @@ by_last P none more lines = onward P more [] lines none
 -- ---- lines that keep the rules
 pub keeps_before : (before : List RecordedLine) (line : RecordedLine) → KeepsRules (before ++ line ∷ []) → KeepsRules before
 keeps_before before line kept = record {
-  unbroken = λ front one behind is. kept.unbroken front one (behind ++ line ∷ []) (ap (λ (lines : List RecordedLine). lines ++ line ∷ []) is ∙ append_assoc front (one ∷ behind) (line ∷ []));
+  unbroken = λ front one after is. kept.unbroken front one (after ++ line ∷ []) (ap (λ (lines : List RecordedLine). lines ++ line ∷ []) is ∙ append_assoc front (one ∷ after) (line ∷ []));
 }
 
 pub keeps_last : (before : List RecordedLine) (line : RecordedLine) → KeepsRules (before ++ line ∷ []) → Keeps before line

@@ -5,10 +5,10 @@ use Rattle.std.specs.Option.{option_to_list}
 use Rattle.std.specs.List.{list_any, filter}
 use Rattle.recordings.specs.RecordingLine.{RecordedLine}
 use Rattle.recordings.proofs.Tests.{filter_filter}
-use Rattle.recordings.specs.declared.line_void.NotedVoid.{NotedVoid}
-use Rattle.recordings.specs.declared.voiding.Void.{Void}
-use Rattle.recordings.specs.Voids.{word_of, has_word, first_of_each}
-use Rattle.recordings.specs.Noted.{voids_in, closed_with, IsEnough, none, keep, leave, is_first_before, kept_with, closes, stays_behind, closed_by, settled_by}
+use Rattle.recordings.specs.declared.invalidation_entry.InvalidationEntry.{InvalidationEntry}
+use Rattle.recordings.specs.declared.invalidation.Invalidation.{Invalidation}
+use Rattle.recordings.specs.Invalidations.{keyword_of, has_type, first_of_each}
+use Rattle.recordings.specs.InvalidationList.{invalidations_in, closed_with, IsEnough, none, keep, leave, is_certain_first, with_entry, ends_pending, remains_after, with_pending_ended, entries_after_line}
 use Rattle.recordings.proofs.Firsts.{same_text, unlike}
 
 -- ---- removed events
@@ -17,59 +17,59 @@ or_wider true b c wider h = ap (λ x. x || c) (wider refl)
 or_wider false true c wider h = refl
 or_wider false false c wider h = h
 
-closed_wider : (closed wider : List ℕ → Bool) (one : NotedVoid) → ((word : List ℕ) → closed word ≡ true → wider word ≡ true) → (word : List ℕ) → closed_with closed one word ≡ true → closed_with wider one word ≡ true
-closed_wider closed wider one more word h = or_wider (closed word) (wider word) (not one.pending && bytes_eq (word_of one.void.what) word) (more word) h
+closed_wider : (closed wider : List ℕ → Bool) (one : InvalidationEntry) → ((word : List ℕ) → closed word ≡ true → wider word ≡ true) → (word : List ℕ) → closed_with closed one word ≡ true → closed_with wider one word ≡ true
+closed_wider closed wider one more word h = or_wider (closed word) (wider word) (not one.pending && bytes_eq (keyword_of one.invalidation.event) word) (more word) h
 
 closes_none : (a pending c : Bool) → pending ≡ true → (a || (not pending && c)) ≡ true → a ≡ true
 closes_none true pending c pends h = refl
 closes_none false pending c pends h = sym (ap (λ b. not b && c) pends) ∙ h
 
-keep_if : (b : Bool) (closed : List ℕ → Bool) (one : NotedVoid) (kept all : List NotedVoid) → (b ≡ true → IsEnough (closed_with closed one) kept all) → (b ≡ false → IsEnough closed kept all)
+keep_if : (b : Bool) (closed : List ℕ → Bool) (one : InvalidationEntry) (kept all : List InvalidationEntry) → (b ≡ true → IsEnough (closed_with closed one) kept all) → (b ≡ false → IsEnough closed kept all)
     → IsEnough closed (if b then one ∷ kept else kept) (if b then one ∷ all else all)
 keep_if true closed one kept all stays goes = keep closed kept all one (stays refl)
 keep_if false closed one kept all stays goes = goes refl
 
-leave_if : (b : Bool) (closed : List ℕ → Bool) (one : NotedVoid) (kept all : List NotedVoid) → closed (word_of one.void.what) ≡ true → IsEnough closed kept all → IsEnough closed kept (if b then one ∷ all else all)
+leave_if : (b : Bool) (closed : List ℕ → Bool) (one : InvalidationEntry) (kept all : List InvalidationEntry) → closed (keyword_of one.invalidation.event) ≡ true → IsEnough closed kept all → IsEnough closed kept (if b then one ∷ all else all)
 leave_if true closed one kept all is_closed h = leave closed kept all one is_closed h
 leave_if false closed one kept all is_closed h = h
 
-enough_filter : (p : NotedVoid → Bool) → ((one : NotedVoid) → p one ≡ false → one.pending ≡ true) → (closed wider : List ℕ → Bool) (kept all : List NotedVoid) → ((word : List ℕ) → closed word ≡ true → wider word ≡ true)
+enough_filter : (p : InvalidationEntry → Bool) → ((one : InvalidationEntry) → p one ≡ false → one.pending ≡ true) → (closed wider : List ℕ → Bool) (kept all : List InvalidationEntry) → ((word : List ℕ) → closed word ≡ true → wider word ≡ true)
     → IsEnough closed kept all → IsEnough wider (filter p kept) (filter p all)
 enough_filter p pends _ wider _ _ more (none closed) = none wider
 enough_filter p pends _ wider _ _ more (keep closed kept all one h) =
     keep_if (p one) wider one (filter p kept) (filter p all) (λ stays. enough_filter p pends (closed_with closed one) (closed_with wider one) kept all (closed_wider closed wider one more) h)
-    (λ goes. enough_filter p pends (closed_with closed one) wider kept all (λ word c. more word (closes_none (closed word) one.pending (bytes_eq (word_of one.void.what) word) (pends one goes) c)) h)
+    (λ goes. enough_filter p pends (closed_with closed one) wider kept all (λ word c. more word (closes_none (closed word) one.pending (bytes_eq (keyword_of one.invalidation.event) word) (pends one goes) c)) h)
 enough_filter p pends _ wider _ _ more (leave closed kept all one is_closed h) =
-    leave_if (p one) wider one (filter p kept) (filter p all) (more (word_of one.void.what) is_closed) (enough_filter p pends closed wider kept all more h)
+    leave_if (p one) wider one (filter p kept) (filter p all) (more (keyword_of one.invalidation.event) is_closed) (enough_filter p pends closed wider kept all more h)
 
 -- ---- events that are no longer pending
-or_closer : (a b pending closes c : Bool) → (a ≡ true → b ≡ true) → (a || (not pending && c)) ≡ true → (b || (not (pending && not closes) && c)) ≡ true
-or_closer true b pending closes c more h = ap (λ x. x || (not (pending && not closes) && c)) (more refl)
-or_closer false true pending closes c more h = refl
-or_closer false false true closes c more h = absurd (let e : false ≡ true = h in cc)
-or_closer false false false closes c more h = h
+or_closer : (a b pending ends_pending c : Bool) → (a ≡ true → b ≡ true) → (a || (not pending && c)) ≡ true → (b || (not (pending && not ends_pending) && c)) ≡ true
+or_closer true b pending ends_pending c more h = ap (λ x. x || (not (pending && not ends_pending) && c)) (more refl)
+or_closer false true pending ends_pending c more h = refl
+or_closer false false true ends_pending c more h = absurd (let e : false ≡ true = h in cc)
+or_closer false false false ends_pending c more h = h
 
-enough_closed : (line : RecordedLine) (closed wider : List ℕ → Bool) (kept all : List NotedVoid) → ((word : List ℕ) → closed word ≡ true → wider word ≡ true) → IsEnough closed kept all
-    → IsEnough wider (map (closed_by line) kept) (map (closed_by line) all)
+enough_closed : (line : RecordedLine) (closed wider : List ℕ → Bool) (kept all : List InvalidationEntry) → ((word : List ℕ) → closed word ≡ true → wider word ≡ true) → IsEnough closed kept all
+    → IsEnough wider (map (with_pending_ended line) kept) (map (with_pending_ended line) all)
 enough_closed line _ wider _ _ more (none closed) = none wider
 enough_closed line _ wider _ _ more (keep closed kept all one h) =
-    keep wider (map (closed_by line) kept) (map (closed_by line) all) (closed_by line one)
-    (enough_closed line (closed_with closed one) (closed_with wider (closed_by line one)) kept all
-    (λ word c. or_closer (closed word) (wider word) one.pending (closes line one.void.what) (bytes_eq (word_of one.void.what) word) (more word) c) h)
+    keep wider (map (with_pending_ended line) kept) (map (with_pending_ended line) all) (with_pending_ended line one)
+    (enough_closed line (closed_with closed one) (closed_with wider (with_pending_ended line one)) kept all
+    (λ word c. or_closer (closed word) (wider word) one.pending (ends_pending line one.invalidation.event) (bytes_eq (keyword_of one.invalidation.event) word) (more word) c) h)
 enough_closed line _ wider _ _ more (leave closed kept all one is_closed h) =
-    leave wider (map (closed_by line) kept) (map (closed_by line) all) (closed_by line one) (more (word_of one.void.what) is_closed) (enough_closed line closed wider kept all more h)
+    leave wider (map (with_pending_ended line) kept) (map (with_pending_ended line) all) (with_pending_ended line one) (more (keyword_of one.invalidation.event) is_closed) (enough_closed line closed wider kept all more h)
 
 open_goes : (pending excuses : Bool) → not (pending && excuses) ≡ false → pending ≡ true
 open_goes true excuses h = refl
 open_goes false excuses h = absurd (let e : true ≡ false = h in cc)
 
-enough_settled : (line : RecordedLine) (closed : List ℕ → Bool) (kept all : List NotedVoid) → IsEnough closed kept all → IsEnough closed (settled_by line kept) (settled_by line all)
+enough_settled : (line : RecordedLine) (closed : List ℕ → Bool) (kept all : List InvalidationEntry) → IsEnough closed kept all → IsEnough closed (entries_after_line line kept) (entries_after_line line all)
 enough_settled line closed kept all h =
-    enough_closed line closed closed (filter (stays_behind line) kept) (filter (stays_behind line) all) (λ word c. c)
-    (enough_filter (stays_behind line) (λ one goes. open_goes one.pending _ goes) closed closed kept all (λ word c. c) h)
+    enough_closed line closed closed (filter (remains_after line) kept) (filter (remains_after line) all) (λ word c. c)
+    (enough_filter (remains_after line) (λ one goes. open_goes one.pending _ goes) closed closed kept all (λ word c. c) h)
 
 -- ---- a new event
-enough_push : (one : NotedVoid) (closed : List ℕ → Bool) (kept all : List NotedVoid) → IsEnough closed kept all → IsEnough closed (kept ++ one ∷ []) (all ++ one ∷ [])
+enough_push : (one : InvalidationEntry) (closed : List ℕ → Bool) (kept all : List InvalidationEntry) → IsEnough closed kept all → IsEnough closed (kept ++ one ∷ []) (all ++ one ∷ [])
 enough_push one _ _ _ (none closed) = keep closed [] [] one (none (closed_with closed one))
 enough_push one _ _ _ (keep closed kept all first h) = keep closed (kept ++ one ∷ []) (all ++ one ∷ []) first (enough_push one (closed_with closed first) kept all h)
 enough_push one _ _ _ (leave closed kept all first is_closed h) = leave closed (kept ++ one ∷ []) (all ++ one ∷ []) first is_closed (enough_push one closed kept all h)
@@ -82,31 +82,31 @@ or_again : (a b c : Bool) → (a || (b || c)) ≡ true → ((a || b) || c) ≡ t
 or_again true b c h = refl
 or_again false b c h = h
 
-enough_skip : (one : NotedVoid) (closed : List ℕ → Bool) (kept all : List NotedVoid) → IsEnough closed kept all → (closed (word_of one.void.what) || list_any (is_first_before one.void.what) kept) ≡ true
+enough_skip : (one : InvalidationEntry) (closed : List ℕ → Bool) (kept all : List InvalidationEntry) → IsEnough closed kept all → (closed (keyword_of one.invalidation.event) || list_any (is_certain_first one.invalidation.event) kept) ≡ true
     → IsEnough closed kept (all ++ one ∷ [])
-enough_skip one _ _ _ (none closed) h = leave closed [] [] one (or_none (closed (word_of one.void.what)) h) (none closed)
+enough_skip one _ _ _ (none closed) h = leave closed [] [] one (or_none (closed (keyword_of one.invalidation.event)) h) (none closed)
 enough_skip one _ _ _ (keep closed kept all first e) h =
     keep closed kept (all ++ one ∷ []) first
-    (enough_skip one (closed_with closed first) kept all e (or_again (closed (word_of one.void.what)) (is_first_before one.void.what first) (list_any (is_first_before one.void.what) kept) h))
+    (enough_skip one (closed_with closed first) kept all e (or_again (closed (keyword_of one.invalidation.event)) (is_certain_first one.invalidation.event first) (list_any (is_certain_first one.invalidation.event) kept) h))
 enough_skip one _ _ _ (leave closed kept all first is_closed e) h = leave closed kept (all ++ one ∷ []) first is_closed (enough_skip one closed kept all e h)
 
 abbrev pub no_word : List ℕ → Bool
 no_word word = false
 
-first_if : (one : NotedVoid) (kept all : List NotedVoid) → IsEnough no_word kept all → (there : Bool) → list_any (is_first_before one.void.what) kept ≡ there → IsEnough no_word (if there then kept else kept ++ one ∷ []) (all ++ one ∷ [])
+first_if : (one : InvalidationEntry) (kept all : List InvalidationEntry) → IsEnough no_word kept all → (there : Bool) → list_any (is_certain_first one.invalidation.event) kept ≡ there → IsEnough no_word (if there then kept else kept ++ one ∷ []) (all ++ one ∷ [])
 first_if one kept all h true there = enough_skip one no_word kept all h there
 first_if one kept all h false there = enough_push one no_word kept all h
 
-enough_with : (more : Option NotedVoid) (kept all : List NotedVoid) → IsEnough no_word kept all → IsEnough no_word (kept_with more kept) (all ++ option_to_list more)
-enough_with None kept all h = subst (λ (xs : List NotedVoid). IsEnough no_word kept xs) (sym (append-nil all)) h
-enough_with (Some one) kept all h = first_if one kept all h (list_any (is_first_before one.void.what) kept) refl
+enough_with : (more : Option InvalidationEntry) (kept all : List InvalidationEntry) → IsEnough no_word kept all → IsEnough no_word (with_entry more kept) (all ++ option_to_list more)
+enough_with None kept all h = subst (λ (xs : List InvalidationEntry). IsEnough no_word kept xs) (sym (append-nil all)) h
+enough_with (Some one) kept all h = first_if one kept all h (list_any (is_certain_first one.invalidation.event) kept) refl
 
-pub enough_more : (line : RecordedLine) (more : Option NotedVoid) (kept all : List NotedVoid) → IsEnough no_word kept all → IsEnough no_word (kept_with more (settled_by line kept)) (settled_by line all ++ option_to_list more)
-enough_more line more kept all h = enough_with more (settled_by line kept) (settled_by line all) (enough_settled line no_word kept all h)
+pub enough_more : (line : RecordedLine) (more : Option InvalidationEntry) (kept all : List InvalidationEntry) → IsEnough no_word kept all → IsEnough no_word (with_entry more (entries_after_line line kept)) (entries_after_line line all ++ option_to_list more)
+enough_more line more kept all h = enough_with more (entries_after_line line kept) (entries_after_line line all) (enough_settled line no_word kept all h)
 
 -- ---- the first events
-abbrev is_new : (List ℕ → Bool) → Void → Bool
-is_new closed void = not (closed (word_of void.what))
+abbrev is_new : (List ℕ → Bool) → Invalidation → Bool
+is_new closed invalidation = not (closed (keyword_of invalidation.event))
 
 both_ways : (c o s : Bool) → (not s && not c) ≡ (not (c || (o && s)) && not s)
 both_ways true o true = refl
@@ -117,35 +117,35 @@ both_ways false false true = refl
 both_ways false false false = refl
 
 -- Of the types that are new after `one`, those other than its own.
-new_behind : (closed : List ℕ → Bool) (one : NotedVoid) (xs : List Void) → filter (is_new closed) (filter (unlike one.void) xs) ≡ filter (unlike one.void) (filter (is_new (closed_with closed one)) xs)
-new_behind closed one xs =
-    let both : Void → Bool = λ other. unlike one.void other && is_new closed other in
-    sym (filter_filter (unlike one.void) (is_new closed) both (λ other. refl) xs)
-    ∙ filter_filter (is_new (closed_with closed one)) (unlike one.void) both (λ other. both_ways (closed (word_of other.what)) (not one.pending) (has_word other.what one.void)) xs
+new_after : (closed : List ℕ → Bool) (one : InvalidationEntry) (xs : List Invalidation) → filter (is_new closed) (filter (unlike one.invalidation) xs) ≡ filter (unlike one.invalidation) (filter (is_new (closed_with closed one)) xs)
+new_after closed one xs =
+    let both : Invalidation → Bool = λ other. unlike one.invalidation other && is_new closed other in
+    sym (filter_filter (unlike one.invalidation) (is_new closed) both (λ other. refl) xs)
+    ∙ filter_filter (is_new (closed_with closed one)) (unlike one.invalidation) both (λ other. both_ways (closed (keyword_of other.event)) (not one.pending) (has_type other.event one.invalidation)) xs
 
-same_behind : (closed : List ℕ → Bool) (one : NotedVoid) (xs ys : List Void) → filter (is_new (closed_with closed one)) xs ≡ filter (is_new (closed_with closed one)) ys
-    → filter (is_new closed) (one.void ∷ filter (unlike one.void) xs) ≡ filter (is_new closed) (one.void ∷ filter (unlike one.void) ys)
-same_behind closed one xs ys same =
-    ap (λ (zs : List Void). if is_new closed one.void then one.void ∷ zs else zs) (new_behind closed one xs ∙ (ap (filter (unlike one.void)) same ∙ sym (new_behind closed one ys)))
+same_after : (closed : List ℕ → Bool) (one : InvalidationEntry) (xs ys : List Invalidation) → filter (is_new (closed_with closed one)) xs ≡ filter (is_new (closed_with closed one)) ys
+    → filter (is_new closed) (one.invalidation ∷ filter (unlike one.invalidation) xs) ≡ filter (is_new closed) (one.invalidation ∷ filter (unlike one.invalidation) ys)
+same_after closed one xs ys same =
+    ap (λ (zs : List Invalidation). if is_new closed one.invalidation then one.invalidation ∷ zs else zs) (new_after closed one xs ∙ (ap (filter (unlike one.invalidation)) same ∙ sym (new_after closed one ys)))
 
 -- An event whose type is not new.
-not_own : (closed : List ℕ → Bool) (one : NotedVoid) → closed (word_of one.void.what) ≡ true → (other : Void) → (s : Bool) → has_word other.what one.void ≡ s → is_new closed other ≡ (not s && is_new closed other)
-not_own closed one is_closed other true same = ap not (subst (λ word. closed word ≡ true) (same_text (word_of one.void.what) (word_of other.what) same) is_closed)
+not_own : (closed : List ℕ → Bool) (one : InvalidationEntry) → closed (keyword_of one.invalidation.event) ≡ true → (other : Invalidation) → (s : Bool) → has_type other.event one.invalidation ≡ s → is_new closed other ≡ (not s && is_new closed other)
+not_own closed one is_closed other true same = ap not (subst (λ word. closed word ≡ true) (same_text (keyword_of one.invalidation.event) (keyword_of other.event) same) is_closed)
 not_own closed one is_closed other false same = refl
 
-left_out : (closed : List ℕ → Bool) (one : NotedVoid) (xs : List Void) → closed (word_of one.void.what) ≡ true → filter (is_new closed) xs ≡ filter (is_new closed) (one.void ∷ filter (unlike one.void) xs)
+left_out : (closed : List ℕ → Bool) (one : InvalidationEntry) (xs : List Invalidation) → closed (keyword_of one.invalidation.event) ≡ true → filter (is_new closed) xs ≡ filter (is_new closed) (one.invalidation ∷ filter (unlike one.invalidation) xs)
 left_out closed one xs is_closed =
-    filter_filter (unlike one.void) (is_new closed) (is_new closed) (λ other. not_own closed one is_closed other (has_word other.what one.void) refl) xs
-    ∙ ap (λ (b : Bool). if not b then one.void ∷ filter (is_new closed) (filter (unlike one.void) xs) else filter (is_new closed) (filter (unlike one.void) xs)) (sym is_closed)
+    filter_filter (unlike one.invalidation) (is_new closed) (is_new closed) (λ other. not_own closed one is_closed other (has_type other.event one.invalidation) refl) xs
+    ∙ ap (λ (b : Bool). if not b then one.invalidation ∷ filter (is_new closed) (filter (unlike one.invalidation) xs) else filter (is_new closed) (filter (unlike one.invalidation) xs)) (sym is_closed)
 
-same_new : (closed : List ℕ → Bool) (kept all : List NotedVoid) → IsEnough closed kept all → filter (is_new closed) (first_of_each (voids_in kept)) ≡ filter (is_new closed) (first_of_each (voids_in all))
+same_new : (closed : List ℕ → Bool) (kept all : List InvalidationEntry) → IsEnough closed kept all → filter (is_new closed) (first_of_each (invalidations_in kept)) ≡ filter (is_new closed) (first_of_each (invalidations_in all))
 same_new _ _ _ (none closed) = refl
-same_new _ _ _ (keep closed kept all one h) = same_behind closed one (first_of_each (voids_in kept)) (first_of_each (voids_in all)) (same_new (closed_with closed one) kept all h)
-same_new _ _ _ (leave closed kept all one is_closed h) = same_new closed kept all h ∙ left_out closed one (first_of_each (voids_in all)) is_closed
+same_new _ _ _ (keep closed kept all one h) = same_after closed one (first_of_each (invalidations_in kept)) (first_of_each (invalidations_in all)) (same_new (closed_with closed one) kept all h)
+same_new _ _ _ (leave closed kept all one is_closed h) = same_new closed kept all h ∙ left_out closed one (first_of_each (invalidations_in all)) is_closed
 
-all_new : (xs : List Void) → filter (is_new no_word) xs ≡ xs
+all_new : (xs : List Invalidation) → filter (is_new no_word) xs ≡ xs
 all_new [] = refl
-all_new (x ∷ xs) = ap (λ (ys : List Void). x ∷ ys) (all_new xs)
+all_new (x ∷ xs) = ap (λ (ys : List Invalidation). x ∷ ys) (all_new xs)
 
-pub same_firsts : (kept all : List NotedVoid) → IsEnough no_word kept all → first_of_each (voids_in kept) ≡ first_of_each (voids_in all)
-same_firsts kept all h = sym (all_new (first_of_each (voids_in kept))) ∙ (same_new no_word kept all h ∙ all_new (first_of_each (voids_in all)))
+pub same_firsts : (kept all : List InvalidationEntry) → IsEnough no_word kept all → first_of_each (invalidations_in kept) ≡ first_of_each (invalidations_in all)
+same_firsts kept all h = sym (all_new (first_of_each (invalidations_in kept))) ∙ (same_new no_word kept all h ∙ all_new (first_of_each (invalidations_in all)))

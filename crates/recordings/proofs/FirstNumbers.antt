@@ -9,7 +9,7 @@ use Rattle.job_bodies.specs.declared.limits.TheConstants.{MAX_LINE_NUMBER}
 use Rattle.line_words.specs.Number.{has_leading_zero, is_whole_number, number_of, digit_count, leading_number, is_valid_number}
 use Rattle.line_words.proofs.Numbers.{prefix_read}
 use Rattle.line_words.proofs.WrittenNumbers.{number_read, number_written}
-use Rattle.recordings.specs.Words.{number_then}
+use Rattle.recordings.specs.Words.{parse_number}
 use Rattle.recordings.proofs.WordByWord.{number_then_read, number_then_written}
 
 -- ---- the text of a number
@@ -34,32 +34,32 @@ leading_written n rest valid =
     let read : number_of word ≡ Some n = number_written n valid in
     let count : digit_count text ≡ length word = count_of word rest (digits_are word n read) in
     let front : take (digit_count text) text ≡ word = ap (λ i. take i text) count ∙ take_at word (32 ∷ rest) (length word) refl in
-    let behind : drop (digit_count text) text ≡ 32 ∷ rest = ap (λ i. drop i text) count ∙ drop_at word (32 ∷ rest) (length word) refl in
-    rw (front, behind, read) refl
+    let after : drop (digit_count text) text ≡ 32 ∷ rest = ap (λ i. drop i text) count ∙ drop_at word (32 ∷ rest) (length word) refl in
+    rw (front, after, read) refl
 
 -- ---- a parsed number
 -- followed by a space
-pub space_there : (text : List ℕ) (n : ℕ) (rest : List ℕ) → Some (n, 32 ∷ rest) ≡ leading_number text → Some (n, rest) ≡ number_then text
+pub space_there : (text : List ℕ) (n : ℕ) (rest : List ℕ) → Some (n, 32 ∷ rest) ≡ leading_number text → Some (n, rest) ≡ parse_number text
 space_there text n rest read =
     let found = prefix_read text n (32 ∷ rest) read in
     let number = number_read (take (digit_count text) text) n found.0 in
     let whole : text ≡ decimal n ++ 32 ∷ rest = sym (take-append-drop (digit_count text) text) ∙ ap₂ (λ (x y : List ℕ). x ++ y) number.1 found.1 in
-    sym (ap number_then whole ∙ number_then_written n rest number.0)
+    sym (ap parse_number whole ∙ number_then_written n rest number.0)
 
 -- otherwise the text does not begin with a number and a space
-no_other : (text : List ℕ) → ((n : ℕ) (rest : List ℕ) → ¬ (leading_number text ≡ Some (n, 32 ∷ rest))) → None ≡ number_then text
-no_other text other = by_read (number_then text) refl
+no_other : (text : List ℕ) → ((n : ℕ) (rest : List ℕ) → ¬ (leading_number text ≡ Some (n, 32 ∷ rest))) → None ≡ parse_number text
+no_other text other = by_read (parse_number text) refl
   where
-    by_read : (o : Option (ℕ × List ℕ)) → number_then text ≡ o → None ≡ o
+    by_read : (o : Option (ℕ × List ℕ)) → parse_number text ≡ o → None ≡ o
     by_read None e = refl
     by_read (Some read) e =
         let found = number_then_read text read e in
         absurd (other read.0 read.1 (ap leading_number found.1 ∙ leading_written read.0 read.1 found.0))
 
 -- there is no number
-pub number_none : (text : List ℕ) → None ≡ leading_number text → None ≡ number_then text
+pub number_none : (text : List ℕ) → None ≡ leading_number text → None ≡ parse_number text
 number_none text none = no_other text (λ n rest e. none-some (n, 32 ∷ rest) (none ∙ e))
 
 -- another byte follows the number
-pub no_space : (text : List ℕ) (n : ℕ) (behind : List ℕ) → Some (n, behind) ≡ leading_number text → ((rest : List ℕ) → behind ≢ 32 ∷ rest) → None ≡ number_then text
-no_space text n behind read other = no_other text (λ m rest e. other rest (ap (λ (x : ℕ × List ℕ). x.1) (same_Some (n, behind) (m, 32 ∷ rest) (read ∙ e))))
+pub no_space : (text : List ℕ) (n : ℕ) (after : List ℕ) → Some (n, after) ≡ leading_number text → ((rest : List ℕ) → after ≢ 32 ∷ rest) → None ≡ parse_number text
+no_space text n after read other = no_other text (λ m rest e. other rest (ap (λ (x : ℕ × List ℕ). x.1) (same_Some (n, after) (m, 32 ∷ rest) (read ∙ e))))

@@ -1,7 +1,7 @@
 -- The rules that hold for a line that breaks none.
 use Rattle.std.proofs.Common.{◌≡◌, Bool, true, List, Option, Some, None, arith}
 use Rattle.recordings.specs.RecordingLine.{RecordedLine}
-use Rattle.recordings.specs.Rules.{broken_of, keeps_frame, keeps_pools, keeps_numbers, keeps_rounds, keeps_jobs, keeps_refusals, keeps_gets}
+use Rattle.recordings.specs.Rules.{first_broken_rule, keeps_frame, keeps_pools, keeps_numbers, keeps_rounds, keeps_jobs, keeps_refusals, keeps_gets}
 use Rattle.recordings.specs.declared.rule.LineRule.{LineRule}
 use Rattle.recordings.specs.declared.rule.LineRule.TheVariants.{Frame, Pools, Numbers, Rounds, Jobs, Refusals, Gets}
 use Rattle.std.proofs.Common.{if◌then◌else◌, not, false}
@@ -20,7 +20,7 @@ passes : (holds : Bool) (rule : LineRule) (rest : Option LineRule) → (if not h
 passes true rule rest h = grind arith
 passes false rule rest h = grind arith
 
-pub keeps_all : (before : List RecordedLine) (line : RecordedLine) → broken_of before line ≡ None → Keeps before line
+pub keeps_all : (before : List RecordedLine) (line : RecordedLine) → first_broken_rule before line ≡ None → Keeps before line
 keeps_all before line unbroken =
     let p1 = passes (keeps_frame before line) Frame _ unbroken in
     let p2 = passes (keeps_pools before line) Pools _ p1.1 in

@@ -4,7 +4,7 @@ use Rattle.std.specs.Option.{option_and_then}
 use Rattle.recordings.specs.declared.recording_line.RecordedActor.{RecordedActor}
 use Rattle.recordings.specs.RecordingLine.{RecordedLine}
 use Rattle.recordings.specs.declared.paths.Paths.{Paths}
-use Rattle.recordings.specs.KeptPaths.{path_at}
+use Rattle.recordings.specs.StoredPaths.{path_at}
 use Rattle.recordings.specs.LastLine.{ended_by, last_path_of, last_path_in}
 use Rattle.recordings.specs.PathsOfLines.{live_path_of, IsPathsOf}
 

@@ -9,31 +9,31 @@ use Rattle.recordings.specs.LineParts.{begins_round, ends_round, finishes_job, s
 use Rattle.recordings.specs.Before.{is_begun, is_ended, is_done}
 use Rattle.recordings.proofs.Appended.{is_begun_more, is_ended_more, done_more}
 use Rattle.recordings.proofs.Keeping.{Keeps}
-use Rattle.recordings.specs.declared.deed.RecordedDeed.{RecordedDeed}
-use Rattle.recordings.specs.declared.deed.RecordedDeed.TheVariants as deed
+use Rattle.recordings.specs.declared.step.RecordedStep.{RecordedStep}
+use Rattle.recordings.specs.declared.step.RecordedStep.TheVariants as step
 use Rattle.recordings.specs.declared.paths.Paths.{Paths}
-use Rattle.recordings.specs.Act.{with_get, without_submit}
-use Rattle.recordings.specs.LineDeeds.{is_submitted, deed_by_line}
+use Rattle.recordings.specs.ActorPath.{with_get, without_submit}
+use Rattle.recordings.specs.LineSteps.{is_submitted, step_by_line}
 use Rattle.recordings.specs.Path.{path_of}
-use Rattle.recordings.specs.KeptPaths.{path_at, path_in}
-use Rattle.recordings.specs.PathChanges.{Change, Changes, change_of, no_change, at_actor, with_deed}
-use Rattle.recordings.specs.PathsOfLines.{KeepsRules, is_about, live_path_of, IsPathsOf}
+use Rattle.recordings.specs.StoredPaths.{path_at, path_in}
+use Rattle.recordings.specs.PathChanges.{Change, Changes, change_of, no_change, at_actor, with_step}
+use Rattle.recordings.specs.PathsOfLines.{KeepsRules, is_live, live_path_of, IsPathsOf}
 use Rattle.recordings.proofs.ByLast.{keeps_before, keeps_last}
-use Rattle.recordings.proofs.Fresh.{actor_past, next_job, next_round, known_actor, done_fresh, own_fresh, ended_fresh, round_fresh}
-use Rattle.recordings.proofs.LinesSay.{submitted_more, by_lines_none, other_more}
-use Rattle.recordings.proofs.Places.{same_self}
+use Rattle.recordings.proofs.LaterNumbers.{actor_past, next_job, next_round, known_actor, done_fresh, own_fresh, ended_fresh, round_fresh}
+use Rattle.recordings.proofs.StepsByLine.{submitted_more, by_lines_none, other_more}
+use Rattle.recordings.proofs.SubmitIndices.{same_self}
 use Rattle.recordings.proofs.PathAfter.{path_none, path_same, path_submit, path_get, path_refused}
 
 -- ---- the live actors
 and_not : (a b c d : Bool) → a ≡ c → b ≡ d → (a && not b) ≡ (c && not d)
 and_not a b c d h g = ap (λ x. x && not b) h ∙ ap (λ x. c && not x) g
 
-job_about : (before : List RecordedLine) (line : RecordedLine) (j : ℕ) → is_about (before ++ line ∷ []) (Job j) ≡ ((is_submitted before j || submits_job j line) && not (is_done before j || finishes_job j line))
-job_about before line j =
+job_live : (before : List RecordedLine) (line : RecordedLine) (j : ℕ) → is_live (before ++ line ∷ []) (Job j) ≡ ((is_submitted before j || submits_job j line) && not (is_done before j || finishes_job j line))
+job_live before line j =
     and_not (is_submitted (before ++ line ∷ []) j) (is_done (before ++ line ∷ []) j) (is_submitted before j || submits_job j line) (is_done before j || finishes_job j line) (submitted_more before line j) (done_more before line j)
 
-round_about : (before : List RecordedLine) (line : RecordedLine) (r : ℕ) → is_about (before ++ line ∷ []) (Round r) ≡ ((is_begun before r || begins_round r line) && not (is_ended before r || ends_round r line))
-round_about before line r =
+round_live : (before : List RecordedLine) (line : RecordedLine) (r : ℕ) → is_live (before ++ line ∷ []) (Round r) ≡ ((is_begun before r || begins_round r line) && not (is_ended before r || ends_round r line))
+round_live before line r =
     and_not (is_begun (before ++ line ∷ []) r) (is_ended (before ++ line ∷ []) r) (is_begun before r || begins_round r line) (is_ended before r || ends_round r line) (is_begun_more before line r) (is_ended_more before line r)
 
 -- the line adds the actor, or removes it
@@ -48,52 +48,52 @@ goes (Round r) line = ends_round r line
 still : (a b c d : Bool) → c ≡ false → d ≡ false → ((a || c) && not (b || d)) ≡ (a && not b)
 still a b c d h g = grind (arith, h, g)
 
-still_about : (before : List RecordedLine) (line : RecordedLine) (actor : RecordedActor) → comes actor line ≡ false → goes actor line ≡ false → is_about (before ++ line ∷ []) actor ≡ is_about before actor
-still_about before line (Job j) h g = job_about before line j ∙ still (is_submitted before j) (is_done before j) (submits_job j line) (finishes_job j line) h g
-still_about before line (Round r) h g = round_about before line r ∙ still (is_begun before r) (is_ended before r) (begins_round r line) (ends_round r line) h g
+still_live : (before : List RecordedLine) (line : RecordedLine) (actor : RecordedActor) → comes actor line ≡ false → goes actor line ≡ false → is_live (before ++ line ∷ []) actor ≡ is_live before actor
+still_live before line (Job j) h g = job_live before line j ∙ still (is_submitted before j) (is_done before j) (submits_job j line) (finishes_job j line) h g
+still_live before line (Round r) h g = round_live before line r ∙ still (is_begun before r) (is_ended before r) (begins_round r line) (ends_round r line) h g
 
 gone : (a b c d : Bool) → d ≡ true → ((a || c) && not (b || d)) ≡ false
 gone a b c d g = grind (arith, g)
 
-gone_about : (before : List RecordedLine) (line : RecordedLine) (actor : RecordedActor) → goes actor line ≡ true → is_about (before ++ line ∷ []) actor ≡ false
-gone_about before line (Job j) g = job_about before line j ∙ gone (is_submitted before j) (is_done before j) (submits_job j line) (finishes_job j line) g
-gone_about before line (Round r) g = round_about before line r ∙ gone (is_begun before r) (is_ended before r) (begins_round r line) (ends_round r line) g
+gone_live : (before : List RecordedLine) (line : RecordedLine) (actor : RecordedActor) → goes actor line ≡ true → is_live (before ++ line ∷ []) actor ≡ false
+gone_live before line (Job j) g = job_live before line j ∙ gone (is_submitted before j) (is_done before j) (submits_job j line) (finishes_job j line) g
+gone_live before line (Round r) g = round_live before line r ∙ gone (is_begun before r) (is_ended before r) (begins_round r line) (ends_round r line) g
 
 come : (a b c d : Bool) → b ≡ false → c ≡ true → d ≡ false → ((a || c) && not (b || d)) ≡ true
 come a b c d f h g = grind (arith, f, h, g)
 
 -- ---- the path of a live actor
-shown : (about about_then : Bool) (path path_then : List RecordedDeed) → about_then ≡ about → path_then ≡ path → (if about_then then Some path_then else None) ≡ (if about then Some path else None)
-shown about about_then path path_then h g = ap (λ (b : Bool). if b then Some path_then else None) h ∙ ap (λ p. if about then Some p else None) g
+shown : (live live_then : Bool) (path path_then : List RecordedStep) → live_then ≡ live → path_then ≡ path → (if live_then then Some path_then else None) ≡ (if live then Some path else None)
+shown live live_then path path_then h g = ap (λ (b : Bool). if b then Some path_then else None) h ∙ ap (λ p. if live then Some p else None) g
 
 -- the change if the line is a line of this actor
-done_if : (same about about_then : Bool) (act : List RecordedDeed → List RecordedDeed) (path path_then : List RecordedDeed) → about_then ≡ about → path_then ≡ (if same then act path else path)
-    → (if same then option_map act (if about then Some path else None) else (if about then Some path else None)) ≡ (if about_then then Some path_then else None)
-done_if true true about_then act path path_then h g = sym (shown true about_then (act path) path_then h g)
-done_if true false about_then act path path_then h g = sym (shown false about_then (act path) path_then h g)
-done_if false about about_then act path path_then h g = sym (shown about about_then path path_then h g)
+done_if : (same live live_then : Bool) (change_path : List RecordedStep → List RecordedStep) (path path_then : List RecordedStep) → live_then ≡ live → path_then ≡ (if same then change_path path else path)
+    → (if same then option_map change_path (if live then Some path else None) else (if live then Some path else None)) ≡ (if live_then then Some path_then else None)
+done_if true true live_then change_path path path_then h g = sym (shown true live_then (change_path path) path_then h g)
+done_if true false live_then change_path path path_then h g = sym (shown false live_then (change_path path) path_then h g)
+done_if false live live_then change_path path path_then h g = sym (shown live live_then path path_then h g)
 
 -- no change
-stays : (before : List RecordedLine) (line : RecordedLine) (actor : RecordedActor) → comes actor line ≡ false → goes actor line ≡ false → ((j : ℕ) → refuses_job j line ≡ false) → deed_by_line actor before line ≡ None
+stays : (before : List RecordedLine) (line : RecordedLine) (actor : RecordedActor) → comes actor line ≡ false → goes actor line ≡ false → ((j : ℕ) → refuses_job j line ≡ false) → step_by_line actor before line ≡ None
     → live_path_of before actor ≡ live_path_of (before ++ line ∷ []) actor
 stays before line actor h g unrefusing nothing =
-    sym (shown (is_about before actor) (is_about (before ++ line ∷ []) actor) (path_of before actor) (path_of (before ++ line ∷ []) actor) (still_about before line actor h g) (path_same before line actor unrefusing nothing))
+    sym (shown (is_live before actor) (is_live (before ++ line ∷ []) actor) (path_of before actor) (path_of (before ++ line ∷ []) actor) (still_live before line actor h g) (path_same before line actor unrefusing nothing))
 
 -- the actor ends
 leaves : (before : List RecordedLine) (line : RecordedLine) (actor : RecordedActor) → goes actor line ≡ true → None ≡ live_path_of (before ++ line ∷ []) actor
-leaves before line actor g = sym (ap (λ (b : Bool). if b then Some (path_of (before ++ line ∷ []) actor) else None) (gone_about before line actor g))
+leaves before line actor g = sym (ap (λ (b : Bool). if b then Some (path_of (before ++ line ∷ []) actor) else None) (gone_live before line actor g))
 
 -- the actor begins
-enters : (before : List RecordedLine) (line : RecordedLine) (actor : RecordedActor) → is_about (before ++ line ∷ []) actor ≡ true → is_of actor line ≡ false → list_any (is_of actor) before ≡ false → Some [] ≡ live_path_of (before ++ line ∷ []) actor
+enters : (before : List RecordedLine) (line : RecordedLine) (actor : RecordedActor) → is_live (before ++ line ∷ []) actor ≡ true → is_of actor line ≡ false → list_any (is_of actor) before ≡ false → Some [] ≡ live_path_of (before ++ line ∷ []) actor
 enters before line actor h other none =
-    sym (shown true (is_about (before ++ line ∷ []) actor) [] (path_of (before ++ line ∷ []) actor) h (path_none actor (before ++ line ∷ []) (other_more before line actor other ∙ by_lines_none actor before none)))
+    sym (shown true (is_live (before ++ line ∷ []) actor) [] (path_of (before ++ line ∷ []) actor) h (path_none actor (before ++ line ∷ []) (other_more before line actor other ∙ by_lines_none actor before none)))
 
 round_begins : (before : List RecordedLine) (round r : ℕ) (kind : List ℕ) → KeepsRules before → Keeps before (RoundBegins round kind) → (same : Bool) → (round == r) ≡ same
     → (if same then Some [] else live_path_of before (Round r)) ≡ live_path_of (before ++ RoundBegins round kind ∷ []) (Round r)
 round_begins before round r kind kept k true same =
     let past = next_round before round r kind k same in
     let line = RoundBegins round kind in
-    enters before line (Round r) (round_about before line r ∙ come (is_begun before r) (is_ended before r) (begins_round r line) (ends_round r line) (ended_fresh before kept r past) same refl) refl (round_fresh before kept r past)
+    enters before line (Round r) (round_live before line r ∙ come (is_begun before r) (is_ended before r) (begins_round r line) (ends_round r line) (ended_fresh before kept r past) same refl) refl (round_fresh before kept r past)
 round_begins before round r kind kept k false same = stays before (RoundBegins round kind) (Round r) same refl (λ j. refl) refl
 
 round_ends : (before : List RecordedLine) (round r : ℕ) (same : Bool) → (round == r) ≡ same → (if same then None else live_path_of before (Round r)) ≡ live_path_of (before ++ RoundEnds round ∷ []) (Round r)
@@ -111,32 +111,32 @@ job_throws before job j false same = stays before (JobThrew job) (Job j) refl sa
 -- a submit, by the actor or by another one
 submitted : (before : List RecordedLine) (submitter actor : RecordedActor) (job : ℕ) (class pool : List ℕ) → KeepsRules before → Keeps before (Submits submitter job class pool) → comes actor (Submits submitter job class pool) ≡ false
     → goes actor (Submits submitter job class pool) ≡ false
-    → at_actor submitter (with_deed (deed.Submits job)) actor (live_path_of before actor) ≡ live_path_of (before ++ Submits submitter job class pool ∷ []) actor
+    → at_actor submitter (with_step (step.Submits job)) actor (live_path_of before actor) ≡ live_path_of (before ++ Submits submitter job class pool ∷ []) actor
 submitted before submitter actor job class pool kept k h g =
     let line = Submits submitter job class pool in
-    done_if (is_same_actor submitter actor) (is_about before actor) (is_about (before ++ line ∷ []) actor) (with_deed (deed.Submits job)) (path_of before actor) (path_of (before ++ line ∷ []) actor) (still_about before line actor h g)
+    done_if (is_same_actor submitter actor) (is_live before actor) (is_live (before ++ line ∷ []) actor) (with_step (step.Submits job)) (path_of before actor) (path_of (before ++ line ∷ []) actor) (still_live before line actor h g)
     (path_submit before submitter actor job class pool kept (next_job before line job k (same_self job)))
 
 job_submitted : (before : List RecordedLine) (submitter : RecordedActor) (job j : ℕ) (class pool : List ℕ) → KeepsRules before → Keeps before (Submits submitter job class pool) → (same : Bool) → (job == j) ≡ same
-    → (if same then Some [] else at_actor submitter (with_deed (deed.Submits job)) (Job j) (live_path_of before (Job j))) ≡ live_path_of (before ++ Submits submitter job class pool ∷ []) (Job j)
+    → (if same then Some [] else at_actor submitter (with_step (step.Submits job)) (Job j) (live_path_of before (Job j))) ≡ live_path_of (before ++ Submits submitter job class pool ∷ []) (Job j)
 job_submitted before submitter job j class pool kept k true same =
     let line = Submits submitter job class pool in
     let past = next_job before line j k same in
-    enters before line (Job j) (job_about before line j ∙ come (is_submitted before j) (is_done before j) (submits_job j line) (finishes_job j line) (done_fresh before kept j past) same refl)
+    enters before line (Job j) (job_live before line j ∙ come (is_submitted before j) (is_done before j) (submits_job j line) (finishes_job j line) (done_fresh before kept j past) same refl)
     (actor_past before (Some submitter) j (known_actor before line k) past) (own_fresh before kept j past)
 job_submitted before submitter job j class pool kept k false same = submitted before submitter (Job j) job class pool kept k same refl
 
 refused : (before : List RecordedLine) (who actor : RecordedActor) (job : ℕ) → KeepsRules (before ++ Refused who job ∷ []) → comes actor (Refused who job) ≡ false → goes actor (Refused who job) ≡ false
     → at_actor who (without_submit job) actor (live_path_of before actor) ≡ live_path_of (before ++ Refused who job ∷ []) actor
 refused before who actor job kept h g =
-    done_if (is_same_actor who actor) (is_about before actor) (is_about (before ++ Refused who job ∷ []) actor) (without_submit job) (path_of before actor) (path_of (before ++ Refused who job ∷ []) actor)
-    (still_about before (Refused who job) actor h g) (path_refused before who actor job kept)
+    done_if (is_same_actor who actor) (is_live before actor) (is_live (before ++ Refused who job ∷ []) actor) (without_submit job) (path_of before actor) (path_of (before ++ Refused who job ∷ []) actor)
+    (still_live before (Refused who job) actor h g) (path_refused before who actor job kept)
 
 at_got : (before : List RecordedLine) (getter actor : RecordedActor) (job : ℕ) → KeepsRules before → comes actor (Got getter job) ≡ false → goes actor (Got getter job) ≡ false
     → at_actor getter (with_get job) actor (live_path_of before actor) ≡ live_path_of (before ++ Got getter job ∷ []) actor
 at_got before getter actor job kept h g =
-    done_if (is_same_actor getter actor) (is_about before actor) (is_about (before ++ Got getter job ∷ []) actor) (with_get job) (path_of before actor) (path_of (before ++ Got getter job ∷ []) actor)
-    (still_about before (Got getter job) actor h g) (path_get before getter actor job kept)
+    done_if (is_same_actor getter actor) (is_live before actor) (is_live (before ++ Got getter job ∷ []) actor) (with_get job) (path_of before actor) (path_of (before ++ Got getter job ∷ []) actor)
+    (still_live before (Got getter job) actor h g) (path_get before getter actor job kept)
 
 -- ---- each line
 path_after : (before : List RecordedLine) (line : RecordedLine) (actor : RecordedActor) → KeepsRules (before ++ line ∷ []) → KeepsRules before → Keeps before line → change_of line actor (live_path_of before actor) ≡ live_path_of (before ++ line ∷ []) actor
@@ -168,14 +168,14 @@ paths_after old new before line kept stand changed = record {
 pub paths_same : (old new : Paths) (before : List RecordedLine) → IsPathsOf old before → Changes old no_change new → IsPathsOf new before
 paths_same old new before stand same = record { kept = λ actor. at_each old new no_change same actor ∙ stand.kept actor }
 
-none_about : (actor : RecordedActor) → is_about [] actor ≡ false
+none_live : (actor : RecordedActor) → is_live [] actor ≡ false
 unfolding is_submitted is_begun is_done is_ended
-none_about (Job j) = refl
-none_about (Round r) = refl
+none_live (Job j) = refl
+none_live (Round r) = refl
 
 none_at : (paths : Paths) → ((r : ℕ) → path_in paths.rounds r ≡ None) → ((j : ℕ) → path_in paths.jobs j ≡ None) → (actor : RecordedActor) → path_at paths actor ≡ None
 none_at paths rounds jobs (Job j) = jobs j
 none_at paths rounds jobs (Round r) = rounds r
 
 pub paths_none : (paths : Paths) → ((r : ℕ) → path_in paths.rounds r ≡ None) → ((j : ℕ) → path_in paths.jobs j ≡ None) → IsPathsOf paths []
-paths_none paths rounds jobs = record { kept = λ actor. none_at paths rounds jobs actor ∙ sym (ap (λ (b : Bool). if b then Some (path_of [] actor) else None) (none_about actor)) }
+paths_none paths rounds jobs = record { kept = λ actor. none_at paths rounds jobs actor ∙ sym (ap (λ (b : Bool). if b then Some (path_of [] actor) else None) (none_live actor)) }

@@ -9,13 +9,13 @@ use Rattle.recordings.specs.LineParts.{is_same_actor, is_of, submits_job, refuse
 use Rattle.recordings.specs.Before.{just_submitted}
 use Rattle.recordings.proofs.Appended as rules
 use Rattle.recordings.proofs.Keeping.{Keeps}
-use Rattle.recordings.specs.LineDeeds.{submits_by, is_refused, has_submitted, JobDeed, SubmitOf, deed_by_line, deeds_by_lines}
+use Rattle.recordings.specs.LineSteps.{submits_by, is_refused, has_submitted, JobStep, SubmitOf, step_by_line, steps_by_lines}
 use Rattle.recordings.specs.PathsOfLines.{KeepsRules}
 use Rattle.recordings.proofs.Tests.{and_first, and_second, or_first, or_second, not_weaker}
 use Rattle.recordings.proofs.ByLast.{by_last, by_kept}
-use Rattle.recordings.proofs.Fresh.{next_job, submitted_fresh}
-use Rattle.recordings.proofs.Lawful.{is_deed_of, unsubmitted_none}
-use Rattle.recordings.proofs.LinesSay.{refused_more, has_submitted_more, by_lines_more, other_more, submits_by_lines, lawful_by_lines}
+use Rattle.recordings.proofs.LaterNumbers.{next_job, submitted_fresh}
+use Rattle.recordings.proofs.ValidSteps.{is_step_of, unsubmitted_none}
+use Rattle.recordings.proofs.StepsByLine.{refused_more, has_submitted_more, by_lines_more, other_more, submits_by_lines, lawful_by_lines}
 
 -- ---- actors
 pub same_actor : (a b : RecordedActor) → is_same_actor a b ≡ true → a ≡ b
@@ -33,16 +33,16 @@ just_at_none : (actor : RecordedActor) (j : ℕ) → just_submitted [] actor j �
 unfolding just_submitted
 just_at_none actor j = refl
 
-told_by : (own said before submitted by : Bool) → (if own then said else before) ≡ true → (own ≡ true → said ≡ true → by ≡ true) → (before ≡ true → submitted ≡ true) → (submitted || by) ≡ true
-told_by true said before submitted by h now known = grind (arith, now refl h)
-told_by false said before submitted by h now known = grind (arith, known h)
+reported_by : (own said before submitted by : Bool) → (if own then said else before) ≡ true → (own ≡ true → said ≡ true → by ≡ true) → (before ≡ true → submitted ≡ true) → (submitted || by) ≡ true
+reported_by true said before submitted by h now known = grind (arith, now refl h)
+reported_by false said before submitted by h now known = grind (arith, known h)
 
 pub just_has_submitted : (actor : RecordedActor) (j : ℕ) (lines : List RecordedLine) → just_submitted lines actor j ≡ true → has_submitted lines actor j ≡ true
 just_has_submitted actor j =
     by_last (λ lines. just_submitted lines actor j ≡ true → has_submitted lines actor j ≡ true) (λ h. grind (arith, h, just_at_none actor j))
     (λ before line known h.
     has_submitted_more before line actor j
-    ∙ told_by (is_of actor line && not (refuses_job j line)) (submits_job j line) (just_submitted before actor j) (has_submitted before actor j) (submits_by actor j line)
+    ∙ reported_by (is_of actor line && not (refuses_job j line)) (submits_job j line) (just_submitted before actor j) (has_submitted before actor j) (submits_by actor j line)
     (sym (rules.submitted_more before line actor j) ∙ h) (λ own same. by_its_actor actor line j (and_first _ _ own) same) known)
 
 by_submits : (actor : RecordedActor) (line : RecordedLine) (j : ℕ) → submits_by actor j line ≡ true → submits_job j line ≡ true
@@ -84,35 +84,35 @@ one_submitter a b j =
 
 -- ---- the last action
 -- the submit of the job comes after the other actions, none of which names the job
-pub record EndsBySubmit (deeds : List JobDeed) (j : ℕ) : Type 0 where
-  pub front : List JobDeed
-  pub whole : deeds ≡ front ++ SubmitOf j ∷ []
-  pub unnamed : list_any (is_deed_of j) front ≡ false
+pub record EndsBySubmit (steps : List JobStep) (j : ℕ) : Type 0 where
+  pub front : List JobStep
+  pub whole : steps ≡ front ++ SubmitOf j ∷ []
+  pub unnamed : list_any (is_step_of j) front ≡ false
 
-submit_said : (actor : RecordedActor) (before : List RecordedLine) (line : RecordedLine) (j : ℕ) → is_of actor line ≡ true → submits_job j line ≡ true → deed_by_line actor before line ≡ Some (SubmitOf j)
+submit_said : (actor : RecordedActor) (before : List RecordedLine) (line : RecordedLine) (j : ℕ) → is_of actor line ≡ true → submits_job j line ≡ true → step_by_line actor before line ≡ Some (SubmitOf j)
 submit_said actor before (Submits submitter job class pool) j own same = grind (arith, own, same)
 submit_said actor before line j own same = grind (arith, same)
 
 last_step : (actor : RecordedActor) (j : ℕ) (before : List RecordedLine) (line : RecordedLine) → KeepsRules before → Keeps before line
-    → (just_submitted before actor j ≡ true → is_refused before j ≡ false → EndsBySubmit (deeds_by_lines before actor) j)
+    → (just_submitted before actor j ≡ true → is_refused before j ≡ false → EndsBySubmit (steps_by_lines before actor) j)
     → (if is_of actor line && not (refuses_job j line) then submits_job j line else just_submitted before actor j) ≡ true
     → is_refused before j ≡ false → refuses_job j line ≡ false
-    → (own : Bool) → is_of actor line ≡ own → EndsBySubmit (deeds_by_lines (before ++ line ∷ []) actor) j
+    → (own : Bool) → is_of actor line ≡ own → EndsBySubmit (steps_by_lines (before ++ line ∷ []) actor) j
 last_step actor j before line kept k known h unrefused unrefusing true own =
     let now : submits_job j line ≡ true = grind (arith, h, own, unrefusing) in
     record {
-      front = deeds_by_lines before actor;
-      whole = by_lines_more before line actor ∙ ap (λ more. deeds_by_lines before actor ++ option_to_list more) (submit_said actor before line j own now);
-      unnamed = unsubmitted_none (deeds_by_lines before actor) (lawful_by_lines actor before kept) j (submits_by_lines actor j before ∙ submitted_fresh before kept actor j (next_job before line j k now));
+      front = steps_by_lines before actor;
+      whole = by_lines_more before line actor ∙ ap (λ more. steps_by_lines before actor ++ option_to_list more) (submit_said actor before line j own now);
+      unnamed = unsubmitted_none (steps_by_lines before actor) (lawful_by_lines actor before kept) j (submits_by_lines actor j before ∙ submitted_fresh before kept actor j (next_job before line j k now));
     }
 last_step actor j before line kept k known h unrefused unrefusing false own =
     let just : just_submitted before actor j ≡ true = grind (arith, h, own) in
     let last = known just unrefused in
     record { front = last.front; whole = other_more before line actor own ∙ last.whole; unnamed = last.unnamed }
 
-pub last_submitted : (actor : RecordedActor) (j : ℕ) (lines : List RecordedLine) → KeepsRules lines → just_submitted lines actor j ≡ true → is_refused lines j ≡ false → EndsBySubmit (deeds_by_lines lines actor) j
+pub last_submitted : (actor : RecordedActor) (j : ℕ) (lines : List RecordedLine) → KeepsRules lines → just_submitted lines actor j ≡ true → is_refused lines j ≡ false → EndsBySubmit (steps_by_lines lines actor) j
 last_submitted actor j =
-    by_kept (λ lines. just_submitted lines actor j ≡ true → is_refused lines j ≡ false → EndsBySubmit (deeds_by_lines lines actor) j) (λ h g. absurd (grind (arith, h, just_at_none actor j)))
+    by_kept (λ lines. just_submitted lines actor j ≡ true → is_refused lines j ≡ false → EndsBySubmit (steps_by_lines lines actor) j) (λ h g. absurd (grind (arith, h, just_at_none actor j)))
     (λ before line kept k known h unrefused.
     let split : (is_refused before j || refuses_job j line) ≡ false = sym (refused_more before line j) ∙ unrefused in
     last_step actor j before line kept k known (sym (rules.submitted_more before line actor j) ∙ h) (or_first _ _ split) (or_second _ _ split) (is_of actor line) refl)

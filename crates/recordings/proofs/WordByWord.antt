@@ -9,7 +9,7 @@ use Rattle.line_words.specs.Number.{number_of, is_valid_number}
 use Rattle.line_words.proofs.FirstSpace.{splits, split_parts}
 use Rattle.line_words.proofs.Splits.{has_no}
 use Rattle.line_words.proofs.WrittenNumbers.{number_read, number_written, decimal_has_no}
-use Rattle.recordings.specs.Words.{◌>>=◌, name_of, number_then, name_then, behind, number_behind}
+use Rattle.recordings.specs.Words.{◌>>=◌, name_of, parse_number, parse_name, strip_word, parse_word_and_number}
 use Rattle.recordings.proofs.Names.{name_has_no}
 
 -- ---- two parsers in sequence
@@ -40,8 +40,8 @@ unfolding name_of
 name_written name valid = cond-true _ _ _ valid
 
 -- ---- the first of several words
-pub number_then_read : (text : List ℕ) (read : ℕ × List ℕ) → number_then text ≡ Some read → (is_valid_number read.0 ≡ true) × (text ≡ decimal read.0 ++ 32 ∷ read.1)
-unfolding number_then
+pub number_then_read : (text : List ℕ) (read : ℕ × List ℕ) → parse_number text ≡ Some read → (is_valid_number read.0 ≡ true) × (text ≡ decimal read.0 ++ 32 ∷ read.1)
+unfolding parse_number
 number_then_read text read e =
     let words = bind_some (split_space text) (λ words. number_of words.0 >>= λ n. Some (n, words.1)) read e in
     let number = bind_some (number_of words.0.0) (λ n. Some (n, words.0.1)) read words.2 in
@@ -50,14 +50,14 @@ number_then_read text read e =
     subst (λ (r : ℕ × List ℕ). (is_valid_number r.0 ≡ true) × (text ≡ decimal r.0 ++ 32 ∷ r.1)) same
     (found.0, split_parts text words.0 words.1 ∙ ap (λ (w : List ℕ). w ++ 32 ∷ words.0.1) found.1)
 
-pub number_then_written : (n : ℕ) (rest : List ℕ) → is_valid_number n ≡ true → number_then (decimal n ++ 32 ∷ rest) ≡ Some (n, rest)
-unfolding number_then
+pub number_then_written : (n : ℕ) (rest : List ℕ) → is_valid_number n ≡ true → parse_number (decimal n ++ 32 ∷ rest) ≡ Some (n, rest)
+unfolding parse_number
 number_then_written n rest valid =
     ap (λ o. o >>= λ words. number_of words.0 >>= λ m. Some (m, words.1)) (splits (decimal n) rest (decimal_has_no 32 n (omega arith) valid))
     ∙ ap (λ o. o >>= λ m. Some (m, rest)) (number_written n valid)
 
-pub name_then_read : (text : List ℕ) (read : List ℕ × List ℕ) → name_then text ≡ Some read → (is_valid_name read.0 ≡ true) × (text ≡ read.0 ++ 32 ∷ read.1)
-unfolding name_then
+pub name_then_read : (text : List ℕ) (read : List ℕ × List ℕ) → parse_name text ≡ Some read → (is_valid_name read.0 ≡ true) × (text ≡ read.0 ++ 32 ∷ read.1)
+unfolding parse_name
 name_then_read text read e =
     let words = bind_some (split_space text) (λ words. name_of words.0 >>= λ name. Some (name, words.1)) read e in
     let name = bind_some (name_of words.0.0) (λ name. Some (name, words.0.1)) read words.2 in
@@ -66,34 +66,34 @@ name_then_read text read e =
     subst (λ (r : List ℕ × List ℕ). (is_valid_name r.0 ≡ true) × (text ≡ r.0 ++ 32 ∷ r.1)) same
     (found.0, split_parts text words.0 words.1 ∙ ap (λ (w : List ℕ). w ++ 32 ∷ words.0.1) found.1)
 
-pub name_then_written : (name rest : List ℕ) → is_valid_name name ≡ true → name_then (name ++ 32 ∷ rest) ≡ Some (name, rest)
-unfolding name_then
+pub name_then_written : (name rest : List ℕ) → is_valid_name name ≡ true → parse_name (name ++ 32 ∷ rest) ≡ Some (name, rest)
+unfolding parse_name
 name_then_written name rest valid =
     ap (λ o. o >>= λ words. name_of words.0 >>= λ m. Some (m, words.1)) (splits name rest (name_has_no 32 name (omega arith) valid))
     ∙ ap (λ o. o >>= λ m. Some (m, rest)) (name_written name valid)
 
 -- ---- after a word
-pub behind_read : (word text rest : List ℕ) → behind word text ≡ Some rest → text ≡ word ++ 32 ∷ rest
-unfolding behind
-behind_read word text rest e =
+pub after_read : (word text rest : List ℕ) → strip_word word text ≡ Some rest → text ≡ word ++ 32 ∷ rest
+unfolding after
+after_read word text rest e =
     let words = bind_some (split_space text) (λ words. cond (bytes_eq words.0 word) (Some words.1) None) rest e in
     let found = cond_some (bytes_eq words.0.0 word) words.0.1 rest words.2 in
     split_parts text words.0 words.1 ∙ ap₂ (λ (w r : List ℕ). w ++ 32 ∷ r) ((bytes_eq-Decides words.0.0 word).0 found.0) found.1
 
-pub behind_written : (word rest : List ℕ) → has_no 32 word ≡ true → behind word (word ++ 32 ∷ rest) ≡ Some rest
-unfolding behind
-behind_written word rest none =
+pub after_written : (word rest : List ℕ) → has_no 32 word ≡ true → strip_word word (word ++ 32 ∷ rest) ≡ Some rest
+unfolding after
+after_written word rest none =
     ap (λ o. o >>= λ words. cond (bytes_eq words.0 word) (Some words.1) None) (splits word rest none)
     ∙ cond-true _ _ _ ((bytes_eq-Decides word word).1 refl)
 
-pub number_behind_read : (word text : List ℕ) (read : ℕ × List ℕ) → number_behind word text ≡ Some read → (is_valid_number read.0 ≡ true) × (text ≡ word ++ 32 ∷ (decimal read.0 ++ 32 ∷ read.1))
-unfolding number_behind
-number_behind_read word text read e =
-    let rest = bind_some (behind word text) (λ rest. number_then rest) read e in
+pub number_after_read : (word text : List ℕ) (read : ℕ × List ℕ) → parse_word_and_number word text ≡ Some read → (is_valid_number read.0 ≡ true) × (text ≡ word ++ 32 ∷ (decimal read.0 ++ 32 ∷ read.1))
+unfolding parse_word_and_number
+number_after_read word text read e =
+    let rest = bind_some (strip_word word text) (λ rest. parse_number rest) read e in
     let number = number_then_read rest.0 read rest.2 in
-    (number.0, behind_read word text rest.0 rest.1 ∙ ap (λ (r : List ℕ). word ++ 32 ∷ r) number.1)
+    (number.0, after_read word text rest.0 rest.1 ∙ ap (λ (r : List ℕ). word ++ 32 ∷ r) number.1)
 
-pub number_behind_written : (word : List ℕ) (n : ℕ) (rest : List ℕ) → has_no 32 word ≡ true → is_valid_number n ≡ true → number_behind word (word ++ 32 ∷ (decimal n ++ 32 ∷ rest)) ≡ Some (n, rest)
-unfolding number_behind
-number_behind_written word n rest none valid =
-    ap (λ o. o >>= λ r. number_then r) (behind_written word (decimal n ++ 32 ∷ rest) none) ∙ number_then_written n rest valid
+pub number_after_written : (word : List ℕ) (n : ℕ) (rest : List ℕ) → has_no 32 word ≡ true → is_valid_number n ≡ true → parse_word_and_number word (word ++ 32 ∷ (decimal n ++ 32 ∷ rest)) ≡ Some (n, rest)
+unfolding parse_word_and_number
+number_after_written word n rest none valid =
+    ap (λ o. o >>= λ r. parse_number r) (after_written word (decimal n ++ 32 ∷ rest) none) ∙ number_then_written n rest valid

@@ -11,19 +11,19 @@ use Rattle.line_words.proofs.Splits.{has_no}
 use Rattle.line_words.proofs.WrittenNumbers.{number_read, number_written}
 use Rattle.recordings.specs.declared.recording_line.RecordedActor.{RecordedActor}
 use Rattle.recordings.specs.declared.recording_line.RecordedActor.TheVariants.{Job, Round}
-use Rattle.recordings.specs.Words.{◌>>=◌, name_of, number_then, name_then}
+use Rattle.recordings.specs.Words.{◌>>=◌, name_of, parse_number, parse_name}
 use Rattle.recordings.specs.PoolSizes.{pool_sizes_of}
-use Rattle.recordings.specs.RecordingLine.{RecordedLine, Head, Pool, RoundBegins, RoundEnds, Submits, Refused, JobStarts, JobEnds, JobThrew, Got, TimedOut, Interrupted, Cancels, InvokesAny, Removed, ShutDown, Unseen, End, deed_of, submit_of, act_of, job_line_of, round_line_of, other_line_of, line_of_words, line_of}
-use Rattle.recordings.specs.LineText.{sizes_words, actor_words, behind_actor, line_text, is_lawful_actor, has_lawful_numbers, is_lawful_line}
+use Rattle.recordings.specs.RecordingLine.{RecordedLine, Head, Pool, RoundBegins, RoundEnds, Submits, Refused, JobStarts, JobEnds, JobThrew, Got, TimedOut, Interrupted, Cancels, InvokesAny, Removed, ShutDown, Unseen, End, job_action_of, submit_of, action_of, job_line_of, round_line_of, other_line_of, line_of_words, line_of}
+use Rattle.recordings.specs.LineText.{sizes_words, actor_words, after_actor, line_text, is_valid_actor, has_valid_numbers, is_valid_line}
 use Rattle.recordings.specs.Laws.{RecordingLinesAreCanonical}
 use Rattle.recordings.proofs.WordByWord.{bind_some, bind_written, by_word, name_read, name_written, number_then_read, number_then_written, name_then_read, name_then_written}
 use Rattle.recordings.proofs.WrittenPools.{pool_sizes_read, pool_sizes_written}
-use Rattle.recordings.proofs.WrittenActs.{IsLine, behind_is, job_line_read, round_line_read}
+use Rattle.recordings.proofs.WrittenActions.{IsLine, after_is, job_line_read, round_line_read}
 
 -- ---- the parsed line
-pool_read : (rest : List ℕ) (line : RecordedLine) → (name_then rest >>= λ name. pool_sizes_of name.1 >>= λ sizes. Some (Pool name.0 sizes)) ≡ Some line → IsLine (codes "pool" ++ 32 ∷ rest) line
+pool_read : (rest : List ℕ) (line : RecordedLine) → (parse_name rest >>= λ name. pool_sizes_of name.1 >>= λ sizes. Some (Pool name.0 sizes)) ≡ Some line → IsLine (codes "pool" ++ 32 ∷ rest) line
 pool_read rest line read =
-    let name = bind_some (name_then rest) (λ name. pool_sizes_of name.1 >>= λ sizes. Some (Pool name.0 sizes)) line read in
+    let name = bind_some (parse_name rest) (λ name. pool_sizes_of name.1 >>= λ sizes. Some (Pool name.0 sizes)) line read in
     let sizes = bind_some (pool_sizes_of name.0.1) (λ sizes. Some (Pool name.0.0 sizes)) line name.2 in
     let front = name_then_read rest name.0 name.1 in
     let back = pool_sizes_read name.0.1 sizes.0 sizes.1 in
@@ -48,9 +48,9 @@ shut_down_read rest line read =
     let name = name_read rest pool.0 pool.1 in
     subst (λ (l : RecordedLine). IsLine (codes "shutdown" ++ 32 ∷ rest) l) (same_Some _ line pool.2) (name.0, ap (λ (r : List ℕ). codes "shutdown" ++ 32 ∷ r) name.1)
 
-unseen_read : (rest : List ℕ) (line : RecordedLine) → (name_then rest >>= λ pool. number_of pool.1 >>= λ jobs. Some (Unseen pool.0 jobs)) ≡ Some line → IsLine (codes "unseen" ++ 32 ∷ rest) line
+unseen_read : (rest : List ℕ) (line : RecordedLine) → (parse_name rest >>= λ pool. number_of pool.1 >>= λ jobs. Some (Unseen pool.0 jobs)) ≡ Some line → IsLine (codes "unseen" ++ 32 ∷ rest) line
 unseen_read rest line read =
-    let pool = bind_some (name_then rest) (λ pool. number_of pool.1 >>= λ jobs. Some (Unseen pool.0 jobs)) line read in
+    let pool = bind_some (parse_name rest) (λ pool. number_of pool.1 >>= λ jobs. Some (Unseen pool.0 jobs)) line read in
     let jobs = bind_some (number_of pool.0.1) (λ jobs. Some (Unseen pool.0.0 jobs)) line pool.2 in
     let front = name_then_read rest pool.0 pool.1 in
     let back = number_read pool.0.1 jobs.0 jobs.1 in
@@ -71,16 +71,16 @@ other_read word rest line read =
     (λ read. by_word word (codes "unseen") _ _ line read (λ is read. at_word word (codes "unseen") rest line is (unseen_read rest line read))
     (λ none. absurd (none-some line none))))))
 
-job_read : (rest : List ℕ) (line : RecordedLine) → (number_then rest >>= λ job. job_line_of job.0 job.1) ≡ Some line → IsLine (codes "job" ++ 32 ∷ rest) line
+job_read : (rest : List ℕ) (line : RecordedLine) → (parse_number rest >>= λ job. job_line_of job.0 job.1) ≡ Some line → IsLine (codes "job" ++ 32 ∷ rest) line
 job_read rest line read =
-    let job = bind_some (number_then rest) (λ job. job_line_of job.0 job.1) line read in
+    let job = bind_some (parse_number rest) (λ job. job_line_of job.0 job.1) line read in
     let number = number_then_read rest job.0 job.1 in
     let found = job_line_read job.0.0 job.0.1 line number.0 job.2 in
     (found.0, ap (λ (r : List ℕ). codes "job" ++ 32 ∷ r) number.1 ∙ found.1)
 
-round_read : (rest : List ℕ) (line : RecordedLine) → (number_then rest >>= λ round. round_line_of round.0 round.1) ≡ Some line → IsLine (codes "round" ++ 32 ∷ rest) line
+round_read : (rest : List ℕ) (line : RecordedLine) → (parse_number rest >>= λ round. round_line_of round.0 round.1) ≡ Some line → IsLine (codes "round" ++ 32 ∷ rest) line
 round_read rest line read =
-    let round = bind_some (number_then rest) (λ round. round_line_of round.0 round.1) line read in
+    let round = bind_some (parse_number rest) (λ round. round_line_of round.0 round.1) line read in
     let number = number_then_read rest round.0 round.1 in
     let found = round_line_read round.0.0 round.0.1 line number.0 round.2 in
     (found.0, ap (λ (r : List ℕ). codes "round" ++ 32 ∷ r) number.1 ∙ found.1)
@@ -127,31 +127,31 @@ IsAct word rest =
     (has_no 32 word ≡ true) × (bytes_eq (word ++ 32 ∷ rest) (codes "start") ≡ false) × (bytes_eq (word ++ 32 ∷ rest) (codes "end") ≡ false) × (bytes_eq (word ++ 32 ∷ rest) (codes "threw") ≡ false)
     × (bytes_eq word (codes "begin") ≡ false)
 
-acts : (actor : RecordedActor) (word rest : List ℕ) → is_lawful_actor actor ≡ true → IsAct word rest → line_of (behind_actor actor (word ++ 32 ∷ rest)) ≡ act_of actor word rest
+acts : (actor : RecordedActor) (word rest : List ℕ) → is_valid_actor actor ≡ true → IsAct word rest → line_of (after_actor actor (word ++ 32 ∷ rest)) ≡ action_of actor word rest
 unfolding job_line_of round_line_of
 acts (Job n) word rest valid is =
-    job_first n (word ++ 32 ∷ rest) valid ∙ rw (is.1, is.2, is.3) (ap (λ o. o >>= λ words. act_of (Job n) words.0 words.1) (splits word rest is.0))
+    job_first n (word ++ 32 ∷ rest) valid ∙ rw (is.1, is.2, is.3) (ap (λ o. o >>= λ words. action_of (Job n) words.0 words.1) (splits word rest is.0))
 acts (Round n) word rest valid is =
     round_first n (word ++ 32 ∷ rest) valid ∙ rw (is.2, splits word rest is.0, is.4) refl
 
 -- a line of an actor parses by the words after the actor
 by_actor : (actor : RecordedActor) (line said : RecordedLine) (word : List ℕ) (words : List (List ℕ)) → line_text line ≡ join_with_byte 32 (actor_words actor (word ∷ words))
-    → line_of (behind_actor actor (join_with_byte 32 (word ∷ words))) ≡ Some said → line_of (line_text line) ≡ Some said
-by_actor actor line said word words is read = ap line_of (is ∙ sym (behind_is actor word words)) ∙ read
+    → line_of (after_actor actor (join_with_byte 32 (word ∷ words))) ≡ Some said → line_of (line_text line) ≡ Some said
+by_actor actor line said word words is read = ap line_of (is ∙ sym (after_is actor word words)) ∙ read
 
 -- an action on a job
-deed_written : (actor : RecordedActor) (word : List ℕ) (job : ℕ) → is_lawful_actor actor && is_valid_number job ≡ true → IsAct word (decimal job) → bytes_eq word (codes "submit") ≡ false → bytes_eq word (codes "any") ≡ false
-    → line_of (behind_actor actor (word ++ 32 ∷ decimal job)) ≡ deed_of actor word job
-unfolding act_of
-deed_written actor word job valid is no_submit no_any =
-    let parts = and_parts (is_lawful_actor actor) (is_valid_number job) valid in
+step_written : (actor : RecordedActor) (word : List ℕ) (job : ℕ) → is_valid_actor actor && is_valid_number job ≡ true → IsAct word (decimal job) → bytes_eq word (codes "submit") ≡ false → bytes_eq word (codes "any") ≡ false
+    → line_of (after_actor actor (word ++ 32 ∷ decimal job)) ≡ job_action_of actor word job
+unfolding action_of
+step_written actor word job valid is no_submit no_any =
+    let parts = and_parts (is_valid_actor actor) (is_valid_number job) valid in
     acts actor word (decimal job) parts.0 is ∙ rw (no_submit, no_any, number_written job parts.1) refl
 
-text_reads_as_line : (line : RecordedLine) → is_lawful_line line ≡ true → line_of (line_text line) ≡ Some line
-unfolding line_of other_line_of job_line_of round_line_of act_of submit_of deed_of
+text_reads_as_line : (line : RecordedLine) → is_valid_line line ≡ true → line_of (line_text line) ≡ Some line
+unfolding line_of other_line_of job_line_of round_line_of action_of submit_of job_action_of
 text_reads_as_line Head valid = other_first (codes "recording") (codes "1") refl refl refl refl
 text_reads_as_line (Pool name sizes) valid =
-    let parts = and_parts (is_valid_name name) (has_lawful_numbers sizes) valid in
+    let parts = and_parts (is_valid_name name) (has_valid_numbers sizes) valid in
     let back : List ℕ = join_with_byte 32 (sizes_words sizes) in
     other_first (codes "pool") (name ++ 32 ∷ back) refl refl refl refl
     ∙ bind_written _ _ (name, back) (Pool name sizes) (name_then_written name back parts.0) (bind_written _ _ sizes (Pool name sizes) (pool_sizes_written sizes parts.1) refl)
@@ -160,27 +160,27 @@ text_reads_as_line (RoundBegins round kind) valid =
     round_first round (codes "begin" ++ 32 ∷ kind) parts.0 ∙ rw (splits (codes "begin") kind refl, name_written kind parts.1) refl
 text_reads_as_line (RoundEnds round) valid = round_first round (codes "end") valid
 text_reads_as_line (Submits actor job class pool) valid =
-    let last = and_parts (is_lawful_actor actor && is_valid_number job && is_valid_name class) (is_valid_name pool) valid in
-    let middle = and_parts (is_lawful_actor actor && is_valid_number job) (is_valid_name class) last.0 in
-    let first = and_parts (is_lawful_actor actor) (is_valid_number job) middle.0 in
+    let last = and_parts (is_valid_actor actor && is_valid_number job && is_valid_name class) (is_valid_name pool) valid in
+    let middle = and_parts (is_valid_actor actor && is_valid_number job) (is_valid_name class) last.0 in
+    let first = and_parts (is_valid_actor actor) (is_valid_number job) middle.0 in
     let rest : List ℕ = decimal job ++ 32 ∷ (class ++ 32 ∷ pool) in
     by_actor actor (Submits actor job class pool) (Submits actor job class pool) (codes "submit") (decimal job ∷ class ∷ pool ∷ []) refl (acts actor (codes "submit") rest first.0 (refl, refl, refl, refl, refl)
     ∙ rw (number_then_written job (class ++ 32 ∷ pool) first.1, name_then_written class pool middle.1, name_written pool last.1) refl)
 text_reads_as_line (Refused actor job) valid =
-    by_actor actor (Refused actor job) (Refused actor job) (codes "refused") (decimal job ∷ []) refl (deed_written actor (codes "refused") job valid (refl, refl, refl, refl, refl) refl refl)
+    by_actor actor (Refused actor job) (Refused actor job) (codes "refused") (decimal job ∷ []) refl (step_written actor (codes "refused") job valid (refl, refl, refl, refl, refl) refl refl)
 text_reads_as_line (JobStarts job) valid = job_first job (codes "start") valid
 text_reads_as_line (JobEnds job) valid = job_first job (codes "end") valid
 text_reads_as_line (JobThrew job) valid = job_first job (codes "threw") valid
 text_reads_as_line (Got actor job) valid =
-    by_actor actor (Got actor job) (Got actor job) (codes "got") (decimal job ∷ []) refl (deed_written actor (codes "got") job valid (refl, refl, refl, refl, refl) refl refl)
+    by_actor actor (Got actor job) (Got actor job) (codes "got") (decimal job ∷ []) refl (step_written actor (codes "got") job valid (refl, refl, refl, refl, refl) refl refl)
 text_reads_as_line (TimedOut actor job) valid =
-    by_actor actor (TimedOut actor job) (TimedOut actor job) (codes "timeout") (decimal job ∷ []) refl (deed_written actor (codes "timeout") job valid (refl, refl, refl, refl, refl) refl refl)
+    by_actor actor (TimedOut actor job) (TimedOut actor job) (codes "timeout") (decimal job ∷ []) refl (step_written actor (codes "timeout") job valid (refl, refl, refl, refl, refl) refl refl)
 text_reads_as_line (Interrupted actor job) valid =
-    by_actor actor (Interrupted actor job) (Interrupted actor job) (codes "interrupted") (decimal job ∷ []) refl (deed_written actor (codes "interrupted") job valid (refl, refl, refl, refl, refl) refl refl)
+    by_actor actor (Interrupted actor job) (Interrupted actor job) (codes "interrupted") (decimal job ∷ []) refl (step_written actor (codes "interrupted") job valid (refl, refl, refl, refl, refl) refl refl)
 text_reads_as_line (Cancels actor job) valid =
-    by_actor actor (Cancels actor job) (Cancels actor job) (codes "cancel") (decimal job ∷ []) refl (deed_written actor (codes "cancel") job valid (refl, refl, refl, refl, refl) refl refl)
+    by_actor actor (Cancels actor job) (Cancels actor job) (codes "cancel") (decimal job ∷ []) refl (step_written actor (codes "cancel") job valid (refl, refl, refl, refl, refl) refl refl)
 text_reads_as_line (InvokesAny actor pool) valid =
-    let parts = and_parts (is_lawful_actor actor) (is_valid_name pool) valid in
+    let parts = and_parts (is_valid_actor actor) (is_valid_name pool) valid in
     by_actor actor (InvokesAny actor pool) (InvokesAny actor pool) (codes "any") (pool ∷ []) refl (acts actor (codes "any") pool parts.0 (refl, refl, refl, refl, refl) ∙ rw (name_written pool parts.1) refl)
 text_reads_as_line (Removed job) valid = other_first (codes "removed") (decimal job) refl refl refl refl ∙ rw (number_written job valid) refl
 text_reads_as_line (ShutDown pool) valid = other_first (codes "shutdown") pool refl refl refl refl ∙ rw (name_written pool valid) refl

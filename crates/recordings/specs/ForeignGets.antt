@@ -4,7 +4,7 @@ use Rattle.std.specs.List.{list_any, filter_map, slice_get}
 use Rattle.recordings.specs.declared.recording_line.RecordedActor.{RecordedActor}
 use Rattle.recordings.specs.RecordingLine.{RecordedLine, Submits, Got}
 use Rattle.recordings.specs.LineParts.{is_same_actor, is_actor}
-use Rattle.recordings.specs.LineDeeds.{with_lines_before}
+use Rattle.recordings.specs.LineSteps.{with_lines_before}
 use Rattle.recordings.specs.declared.foreign_get.ForeignGet.{ForeignGet}
 
 -- The actor that submits the job with this line.
@@ -25,14 +25,14 @@ unfoldable pub is_got_by_own : List RecordedLine → ℕ → Bool
 is_got_by_own lines job = list_any (λ (before, line). is_own_get job before line) (with_lines_before lines)
 
 -- ---- gets by another actor
-abbrev pub is_another : Option RecordedActor → RecordedActor → Bool
-is_another None actor = false
-is_another (Some submitter) actor = not (is_same_actor submitter actor)
+abbrev pub is_foreign : Option RecordedActor → RecordedActor → Bool
+is_foreign None actor = false
+is_foreign (Some submitter) actor = not (is_same_actor submitter actor)
 
 -- The get by this line, if another actor submitted the job and has not got it.
 abbrev pub foreign_get_of : List RecordedLine → RecordedLine → Option ForeignGet
 foreign_get_of before (Got actor job) =
-    if is_another (submitter_of before job) actor && not (is_got_by_own before job) then Some (record { line = length before + 1; actor = actor; job = job }) else None
+    if is_foreign (submitter_of before job) actor && not (is_got_by_own before job) then Some (record { line = length before + 1; actor = actor; job = job }) else None
 foreign_get_of before line = None
 
 unfoldable pub foreign_gets : List RecordedLine → List ForeignGet

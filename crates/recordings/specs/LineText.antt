@@ -42,9 +42,9 @@ actor_words (Job n) words = codes "job" ∷ decimal n ∷ words
 actor_words (Round n) words = codes "round" ∷ decimal n ∷ words
 
 -- an actor, followed by a text
-abbrev pub behind_actor : RecordedActor → List ℕ → List ℕ
-behind_actor (Job n) text = codes "job" ++ 32 ∷ (decimal n ++ 32 ∷ text)
-behind_actor (Round n) text = codes "round" ++ 32 ∷ (decimal n ++ 32 ∷ text)
+abbrev pub after_actor : RecordedActor → List ℕ → List ℕ
+after_actor (Job n) text = codes "job" ++ 32 ∷ (decimal n ++ 32 ∷ text)
+after_actor (Round n) text = codes "round" ++ 32 ∷ (decimal n ++ 32 ∷ text)
 
 abbrev pub line_words : RecordedLine → List (List ℕ)
 line_words Head = codes "recording" ∷ codes "1" ∷ []
@@ -71,30 +71,30 @@ abbrev pub line_text : RecordedLine → List ℕ
 line_text line = join_with_byte 32 (line_words line)
 
 -- ---- valid lines
-abbrev pub is_lawful_actor : RecordedActor → Bool
-is_lawful_actor (Job n) = is_valid_number n
-is_lawful_actor (Round n) = is_valid_number n
+abbrev pub is_valid_actor : RecordedActor → Bool
+is_valid_actor (Job n) = is_valid_number n
+is_valid_actor (Round n) = is_valid_number n
 
-abbrev pub has_lawful_numbers : PoolSizes → Bool
-has_lawful_numbers sizes = is_valid_number sizes.core && is_valid_number sizes.max && is_valid_number sizes.capacity && is_valid_number sizes.prestarted
+abbrev pub has_valid_numbers : PoolSizes → Bool
+has_valid_numbers sizes = is_valid_number sizes.core && is_valid_number sizes.max && is_valid_number sizes.capacity && is_valid_number sizes.prestarted
 
 -- each number is within the limit, and each name is valid
-abbrev pub is_lawful_line : RecordedLine → Bool
-is_lawful_line Head = true
-is_lawful_line (Pool name sizes) = is_valid_name name && has_lawful_numbers sizes
-is_lawful_line (RoundBegins round kind) = is_valid_number round && is_valid_name kind
-is_lawful_line (RoundEnds round) = is_valid_number round
-is_lawful_line (Submits actor job class pool) = is_lawful_actor actor && is_valid_number job && is_valid_name class && is_valid_name pool
-is_lawful_line (Refused actor job) = is_lawful_actor actor && is_valid_number job
-is_lawful_line (JobStarts job) = is_valid_number job
-is_lawful_line (JobEnds job) = is_valid_number job
-is_lawful_line (JobThrew job) = is_valid_number job
-is_lawful_line (Got actor job) = is_lawful_actor actor && is_valid_number job
-is_lawful_line (TimedOut actor job) = is_lawful_actor actor && is_valid_number job
-is_lawful_line (Interrupted actor job) = is_lawful_actor actor && is_valid_number job
-is_lawful_line (Cancels actor job) = is_lawful_actor actor && is_valid_number job
-is_lawful_line (InvokesAny actor pool) = is_lawful_actor actor && is_valid_name pool
-is_lawful_line (Removed job) = is_valid_number job
-is_lawful_line (ShutDown pool) = is_valid_name pool
-is_lawful_line (Unseen pool jobs) = is_valid_name pool && is_valid_number jobs
-is_lawful_line End = true
+abbrev pub is_valid_line : RecordedLine → Bool
+is_valid_line Head = true
+is_valid_line (Pool name sizes) = is_valid_name name && has_valid_numbers sizes
+is_valid_line (RoundBegins round kind) = is_valid_number round && is_valid_name kind
+is_valid_line (RoundEnds round) = is_valid_number round
+is_valid_line (Submits actor job class pool) = is_valid_actor actor && is_valid_number job && is_valid_name class && is_valid_name pool
+is_valid_line (Refused actor job) = is_valid_actor actor && is_valid_number job
+is_valid_line (JobStarts job) = is_valid_number job
+is_valid_line (JobEnds job) = is_valid_number job
+is_valid_line (JobThrew job) = is_valid_number job
+is_valid_line (Got actor job) = is_valid_actor actor && is_valid_number job
+is_valid_line (TimedOut actor job) = is_valid_actor actor && is_valid_number job
+is_valid_line (Interrupted actor job) = is_valid_actor actor && is_valid_number job
+is_valid_line (Cancels actor job) = is_valid_actor actor && is_valid_number job
+is_valid_line (InvokesAny actor pool) = is_valid_actor actor && is_valid_name pool
+is_valid_line (Removed job) = is_valid_number job
+is_valid_line (ShutDown pool) = is_valid_name pool
+is_valid_line (Unseen pool jobs) = is_valid_name pool && is_valid_number jobs
+is_valid_line End = true

@@ -3,10 +3,10 @@ use Rattle.std.specs.Prelude.{◌≡◌, ℕ, false, if◌then◌else◌, List, 
 use Rattle.recordings.specs.RecordingLine.{RecordedLine}
 use Rattle.recordings.specs.declared.notes.RecordedNotes.{RecordedNotes}
 use Rattle.recordings.specs.ForeignGets.{submitter_of, is_got_by_own, first_foreign_get}
-use Rattle.recordings.specs.Noted.{noted_from, IsEnough}
-use Rattle.recordings.specs.Ungot.{submitter_in}
+use Rattle.recordings.specs.InvalidationList.{entries_from, IsEnough}
+use Rattle.recordings.specs.UnclaimedJobs.{submitter_in}
 
 pub record IsNotesOf (notes : RecordedNotes) (lines : List RecordedLine) : Type 0 where
-  pub voids : IsEnough (λ word. false) notes.voids.kept.items (noted_from 1 lines)
+  pub invalidations : IsEnough (λ word. false) notes.invalidations.kept.items (entries_from 1 lines)
   pub foreign : notes.foreign ≡ first_foreign_get lines
-  pub ungot : (job : ℕ) → submitter_in notes.ungot job ≡ (if is_got_by_own lines job then None else submitter_of lines job)
+  pub unclaimed : (job : ℕ) → submitter_in notes.unclaimed job ≡ (if is_got_by_own lines job then None else submitter_of lines job)

@@ -5,15 +5,15 @@ use Rattle.recordings.specs.declared.recording_line.RecordedActor.{RecordedActor
 use Rattle.recordings.specs.declared.recording_line.RecordedActor.TheVariants.{Job, Round}
 use Rattle.recordings.specs.RecordingLine.{RecordedLine, RoundBegins, RoundEnds, Submits, Refused, JobEnds, JobThrew, Got}
 use Rattle.recordings.specs.LineParts.{is_same_actor}
-use Rattle.recordings.specs.declared.deed.RecordedDeed.{RecordedDeed}
-use Rattle.recordings.specs.declared.deed.RecordedDeed.TheVariants as deed
+use Rattle.recordings.specs.declared.step.RecordedStep.{RecordedStep}
+use Rattle.recordings.specs.declared.step.RecordedStep.TheVariants as step
 use Rattle.recordings.specs.declared.paths.Paths.{Paths}
-use Rattle.recordings.specs.Act.{with_get, without_submit}
-use Rattle.recordings.specs.KeptPaths.{path_in}
+use Rattle.recordings.specs.ActorPath.{with_get, without_submit}
+use Rattle.recordings.specs.StoredPaths.{path_in}
 
 -- the path of an actor, or None, as a function of the actor and its old path
 abbrev pub Change : Type 0
-Change = RecordedActor → Option (List RecordedDeed) → Option (List RecordedDeed)
+Change = RecordedActor → Option (List RecordedStep) → Option (List RecordedStep)
 
 -- each path of new is the changed path of old
 pub record Changes (old : Paths) (change : Change) (new : Paths) : Type 0 where
@@ -24,29 +24,29 @@ abbrev pub no_change : Change
 no_change one there = there
 
 -- applies a function to the path of this actor, if it is live
-abbrev pub at_actor : RecordedActor → (List RecordedDeed → List RecordedDeed) → Change
-at_actor actor act one there = if is_same_actor actor one then option_map act there else there
+abbrev pub at_actor : RecordedActor → (List RecordedStep → List RecordedStep) → Change
+at_actor actor change_path one there = if is_same_actor actor one then option_map change_path there else there
 
 -- adds the actor with an empty path, or removes it
-abbrev pub actor_comes : RecordedActor → Change
-actor_comes actor one there = if is_same_actor actor one then Some [] else there
+abbrev pub adds_actor : RecordedActor → Change
+adds_actor actor one there = if is_same_actor actor one then Some [] else there
 
-abbrev pub actor_goes : RecordedActor → Change
-actor_goes actor one there = if is_same_actor actor one then None else there
+abbrev pub removes_actor : RecordedActor → Change
+removes_actor actor one there = if is_same_actor actor one then None else there
 
-abbrev pub with_deed : RecordedDeed → List RecordedDeed → List RecordedDeed
-with_deed deed path = path ++ deed ∷ []
+abbrev pub with_step : RecordedStep → List RecordedStep → List RecordedStep
+with_step step path = path ++ step ∷ []
 
 -- appends the submit to the path of its actor, and adds the job
 abbrev pub actor_submits : RecordedActor → ℕ → Change
-actor_submits actor job one there = actor_comes (Job job) one (at_actor actor (with_deed (deed.Submits job)) one there)
+actor_submits actor job one there = adds_actor (Job job) one (at_actor actor (with_step (step.Submits job)) one there)
 
 abbrev pub change_of : RecordedLine → Change
-change_of (RoundBegins round kind) = actor_comes (Round round)
-change_of (RoundEnds round) = actor_goes (Round round)
+change_of (RoundBegins round kind) = adds_actor (Round round)
+change_of (RoundEnds round) = removes_actor (Round round)
 change_of (Submits actor job class pool) = actor_submits actor job
 change_of (Refused actor job) = at_actor actor (without_submit job)
-change_of (JobEnds job) = actor_goes (Job job)
-change_of (JobThrew job) = actor_goes (Job job)
+change_of (JobEnds job) = removes_actor (Job job)
+change_of (JobThrew job) = removes_actor (Job job)
 change_of (Got actor job) = at_actor actor (with_get job)
 change_of line = no_change

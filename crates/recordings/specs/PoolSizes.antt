@@ -7,7 +7,7 @@ use Rattle.recordings.specs.declared.pool_sizes.QueueKind.{QueueKind}
 use Rattle.recordings.specs.declared.pool_sizes.QueueKind.TheVariants as queue
 use Rattle.recordings.specs.declared.pool_sizes.HandlerKind.{HandlerKind}
 use Rattle.recordings.specs.declared.pool_sizes.HandlerKind.TheVariants as handler
-use Rattle.recordings.specs.Words.{◌>>=◌, number_then, behind, number_behind}
+use Rattle.recordings.specs.Words.{◌>>=◌, parse_number, strip_word, parse_word_and_number}
 
 -- the kind of queue with this name
 unfoldable pub queue_kind_of : List ℕ → Option QueueKind
@@ -34,21 +34,21 @@ unfoldable pub yes_or_no : List ℕ → Option Bool
 yes_or_no word = if bytes_eq word (codes "yes") then Some true else (if bytes_eq word (codes "no") then Some false else None)
 
 -- `queue KIND`, and the other words
-unfoldable pub queue_then : List ℕ → Option (QueueKind × List ℕ)
-queue_then text = behind (codes "queue") text >>= λ rest. split_space rest >>= λ words. queue_kind_of words.0 >>= λ kind. Some (kind, words.1)
+unfoldable pub parse_queue : List ℕ → Option (QueueKind × List ℕ)
+parse_queue text = strip_word (codes "queue") text >>= λ rest. split_space rest >>= λ words. queue_kind_of words.0 >>= λ kind. Some (kind, words.1)
 
 -- `timeout WORD`, and the other words
-unfoldable pub timeout_then : List ℕ → Option (Bool × List ℕ)
-timeout_then text = behind (codes "timeout") text >>= λ rest. split_space rest >>= λ words. yes_or_no words.0 >>= λ timeout. Some (timeout, words.1)
+unfoldable pub parse_timeout : List ℕ → Option (Bool × List ℕ)
+parse_timeout text = strip_word (codes "timeout") text >>= λ rest. split_space rest >>= λ words. yes_or_no words.0 >>= λ timeout. Some (timeout, words.1)
 
 -- `handler KIND`
 unfoldable pub handler_of : List ℕ → Option HandlerKind
-handler_of text = behind (codes "handler") text >>= λ word. handler_kind_of word
+handler_of text = strip_word (codes "handler") text >>= λ word. handler_kind_of word
 
 -- `core C max C queue KIND C timeout WORD prestarted C handler KIND`
 unfoldable pub pool_sizes_of : List ℕ → Option PoolSizes
 pool_sizes_of text =
-    number_behind (codes "core") text >>= λ core. number_behind (codes "max") core.1 >>= λ max. queue_then max.1 >>= λ queue.
-    number_then queue.1 >>= λ capacity. timeout_then capacity.1 >>= λ timeout. number_behind (codes "prestarted") timeout.1 >>= λ prestarted.
+    parse_word_and_number (codes "core") text >>= λ core. parse_word_and_number (codes "max") core.1 >>= λ max. parse_queue max.1 >>= λ queue.
+    parse_number queue.1 >>= λ capacity. parse_timeout capacity.1 >>= λ timeout. parse_word_and_number (codes "prestarted") timeout.1 >>= λ prestarted.
     handler_of prestarted.1 >>= λ handler.
     Some (record { core = core.0; max = max.0; queue = queue.0; capacity = capacity.0; timeout = timeout.0; prestarted = prestarted.0; handler = handler })

@@ -9,7 +9,7 @@ use Rattle.recordings.specs.declared.recording_line.Line.{Line}
 use Rattle.recordings.specs.declared.recording_line.Line.TheVariants as code
 use Rattle.recordings.specs.declared.lines.BadLine.{BadLine}
 use Rattle.recordings.specs.declared.pool_sizes.PoolSizes.{PoolSizes}
-use Rattle.recordings.specs.Words.{◌>>=◌, name_of, number_then, name_then}
+use Rattle.recordings.specs.Words.{◌>>=◌, name_of, parse_number, parse_name}
 use Rattle.recordings.specs.PoolSizes.{pool_sizes_of}
 use Rattle.recordings.specs.WholeLines.{whole_lines}
 
@@ -35,30 +35,30 @@ pub data RecordedLine : Type 0 where
   End : RecordedLine
 
 -- the specification's view of a line
-abbrev pub line_seen : Line → RecordedLine
-line_seen code.Head = Head
-line_seen (code.Pool name sizes) = Pool name.now sizes
-line_seen (code.RoundBegins round kind) = RoundBegins round kind.now
-line_seen (code.RoundEnds round) = RoundEnds round
-line_seen (code.Submits actor job class pool) = Submits actor job class.now pool.now
-line_seen (code.Refused actor job) = Refused actor job
-line_seen (code.JobStarts job) = JobStarts job
-line_seen (code.JobEnds job) = JobEnds job
-line_seen (code.JobThrew job) = JobThrew job
-line_seen (code.Got actor job) = Got actor job
-line_seen (code.TimedOut actor job) = TimedOut actor job
-line_seen (code.Interrupted actor job) = Interrupted actor job
-line_seen (code.Cancels actor job) = Cancels actor job
-line_seen (code.InvokesAny actor pool) = InvokesAny actor pool.now
-line_seen (code.Removed job) = Removed job
-line_seen (code.ShutDown pool) = ShutDown pool.now
-line_seen (code.Unseen pool jobs) = Unseen pool.now jobs
-line_seen code.End = End
+abbrev pub line_view : Line → RecordedLine
+line_view code.Head = Head
+line_view (code.Pool name sizes) = Pool name.now sizes
+line_view (code.RoundBegins round kind) = RoundBegins round kind.now
+line_view (code.RoundEnds round) = RoundEnds round
+line_view (code.Submits actor job class pool) = Submits actor job class.now pool.now
+line_view (code.Refused actor job) = Refused actor job
+line_view (code.JobStarts job) = JobStarts job
+line_view (code.JobEnds job) = JobEnds job
+line_view (code.JobThrew job) = JobThrew job
+line_view (code.Got actor job) = Got actor job
+line_view (code.TimedOut actor job) = TimedOut actor job
+line_view (code.Interrupted actor job) = Interrupted actor job
+line_view (code.Cancels actor job) = Cancels actor job
+line_view (code.InvokesAny actor pool) = InvokesAny actor pool.now
+line_view (code.Removed job) = Removed job
+line_view (code.ShutDown pool) = ShutDown pool.now
+line_view (code.Unseen pool jobs) = Unseen pool.now jobs
+line_view code.End = End
 
 -- ---- lines of actors
 -- an action on a job, from the word before the job's number
-unfoldable pub deed_of : RecordedActor → List ℕ → ℕ → Option RecordedLine
-deed_of actor word job =
+unfoldable pub job_action_of : RecordedActor → List ℕ → ℕ → Option RecordedLine
+job_action_of actor word job =
     if bytes_eq word (codes "got") then Some (Got actor job)
     else (if bytes_eq word (codes "refused") then Some (Refused actor job)
     else (if bytes_eq word (codes "timeout") then Some (TimedOut actor job)
@@ -68,14 +68,14 @@ deed_of actor word job =
 
 -- `J CLASS POOL` after `submit`
 unfoldable pub submit_of : RecordedActor → List ℕ → Option RecordedLine
-submit_of actor text = number_then text >>= λ job. name_then job.1 >>= λ class. name_of class.1 >>= λ pool. Some (Submits actor job.0 class.0 pool)
+submit_of actor text = parse_number text >>= λ job. parse_name job.1 >>= λ class. name_of class.1 >>= λ pool. Some (Submits actor job.0 class.0 pool)
 
 -- an action of an actor, from the first word after its number and the rest
-unfoldable pub act_of : RecordedActor → List ℕ → List ℕ → Option RecordedLine
-act_of actor word rest =
+unfoldable pub action_of : RecordedActor → List ℕ → List ℕ → Option RecordedLine
+action_of actor word rest =
     if bytes_eq word (codes "submit") then submit_of actor rest
     else (if bytes_eq word (codes "any") then (name_of rest >>= λ pool. Some (InvokesAny actor pool))
-    else (number_of rest >>= λ job. deed_of actor word job))
+    else (number_of rest >>= λ job. job_action_of actor word job))
 
 -- the words after `job N`
 unfoldable pub job_line_of : ℕ → List ℕ → Option RecordedLine
@@ -83,31 +83,31 @@ job_line_of job text =
     if bytes_eq text (codes "start") then Some (JobStarts job)
     else (if bytes_eq text (codes "end") then Some (JobEnds job)
     else (if bytes_eq text (codes "threw") then Some (JobThrew job)
-    else (split_space text >>= λ words. act_of (actor.Job job) words.0 words.1)))
+    else (split_space text >>= λ words. action_of (actor.Job job) words.0 words.1)))
 
 -- the words after `round N`
 unfoldable pub round_line_of : ℕ → List ℕ → Option RecordedLine
 round_line_of round text =
     if bytes_eq text (codes "end") then Some (RoundEnds round)
     else (split_space text >>= λ words.
-    if bytes_eq words.0 (codes "begin") then (name_of words.1 >>= λ kind. Some (RoundBegins round kind)) else act_of (actor.Round round) words.0 words.1)
+    if bytes_eq words.0 (codes "begin") then (name_of words.1 >>= λ kind. Some (RoundBegins round kind)) else action_of (actor.Round round) words.0 words.1)
 
 -- ---- lines
 -- a line without an actor
 unfoldable pub other_line_of : List ℕ → List ℕ → Option RecordedLine
 other_line_of word rest =
-    if bytes_eq word (codes "pool") then (name_then rest >>= λ name. pool_sizes_of name.1 >>= λ sizes. Some (Pool name.0 sizes))
+    if bytes_eq word (codes "pool") then (parse_name rest >>= λ name. pool_sizes_of name.1 >>= λ sizes. Some (Pool name.0 sizes))
     else (if bytes_eq word (codes "recording") then (if bytes_eq rest (codes "1") then Some Head else None)
     else (if bytes_eq word (codes "removed") then (number_of rest >>= λ job. Some (Removed job))
     else (if bytes_eq word (codes "shutdown") then (name_of rest >>= λ pool. Some (ShutDown pool))
-    else (if bytes_eq word (codes "unseen") then (name_then rest >>= λ pool. number_of pool.1 >>= λ jobs. Some (Unseen pool.0 jobs))
+    else (if bytes_eq word (codes "unseen") then (parse_name rest >>= λ pool. number_of pool.1 >>= λ jobs. Some (Unseen pool.0 jobs))
     else None))))
 
 -- a line of several words, from the first word and the rest
 unfoldable pub line_of_words : List ℕ → List ℕ → Option RecordedLine
 line_of_words word rest =
-    if bytes_eq word (codes "job") then (number_then rest >>= λ job. job_line_of job.0 job.1)
-    else (if bytes_eq word (codes "round") then (number_then rest >>= λ round. round_line_of round.0 round.1)
+    if bytes_eq word (codes "job") then (parse_number rest >>= λ job. job_line_of job.0 job.1)
+    else (if bytes_eq word (codes "round") then (parse_number rest >>= λ round. round_line_of round.0 round.1)
     else other_line_of word rest)
 
 -- the line of a text
@@ -117,7 +117,7 @@ line_of text = if bytes_eq text (codes "end") then Some End else (split_space te
 -- ---- the lines of a text
 -- the specification's view of a parsed line, None for a bad line
 abbrev pub line_read : Result Line BadLine → Option RecordedLine
-line_read (Ok line) = Some (line_seen line)
+line_read (Ok line) = Some (line_view line)
 line_read (Err bad) = None
 
 -- the parsed lines of a text, None for a bad line

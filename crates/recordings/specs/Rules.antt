@@ -72,8 +72,8 @@ keeps_gets before (Got actor job) = is_done before job || is_cancelled before jo
 keeps_gets before line = true
 
 -- the first rule, in order, that the line breaks
-abbrev pub broken_of : List RecordedLine → RecordedLine → Option LineRule
-broken_of before line =
+abbrev pub first_broken_rule : List RecordedLine → RecordedLine → Option LineRule
+first_broken_rule before line =
     if not (keeps_frame before line) then Some Frame
     else (if not (keeps_pools before line) then Some Pools
     else (if not (keeps_numbers before line) then Some Numbers

@@ -4,23 +4,23 @@ use Rattle.recordings.specs.declared.recording_line.RecordedActor.{RecordedActor
 use Rattle.recordings.specs.declared.recording_line.RecordedActor.TheVariants.{Job, Round}
 use Rattle.recordings.specs.RecordingLine.{RecordedLine}
 use Rattle.recordings.specs.declared.rule.LineRule.{LineRule}
-use Rattle.recordings.specs.declared.lines_so_far.LinesSoFar.{LinesSoFar}
+use Rattle.recordings.specs.declared.trace_validator.TraceValidator.{TraceValidator}
 use Rattle.recordings.specs.Before as said
-use Rattle.recordings.specs.Rules.{broken_of}
+use Rattle.recordings.specs.Rules.{first_broken_rule}
 use Rattle.recordings.specs.Pools.{has_name}
-use Rattle.recordings.specs.KeptState.{round_at, offered_there, job_at, offered_by, has_started, is_done, is_settled}
+use Rattle.recordings.specs.StoredState.{round_at, last_submit_of_round, job_at, last_submit_in, has_started, is_done, is_settled}
 
 -- the job that the actor submitted in its last line
-abbrev pub offered_of : LinesSoFar → RecordedActor → Option ℕ
-offered_of lines (Job j) = offered_by (job_at lines.jobs j)
-offered_of lines (Round r) = offered_there (round_at lines.rounds r)
+abbrev pub last_submit_of : TraceValidator → RecordedActor → Option ℕ
+last_submit_of lines (Job j) = last_submit_in (job_at lines.jobs j)
+last_submit_of lines (Round r) = last_submit_of_round (round_at lines.rounds r)
 
 abbrev pub is_at : ℕ → Option ℕ → Bool
 is_at j None = false
-is_at j (Some offered) = offered == j
+is_at j (Some last_submit) = last_submit == j
 
 -- the state of each pool, round and job is what the lines say
-pub record StandsFor (lines : LinesSoFar) (before : List RecordedLine) : Type 0 where
+pub record Represents (lines : TraceValidator) (before : List RecordedLine) : Type 0 where
   pub begun : lines.begun ≡ said.has_begun before
   pub closed : lines.closed ≡ said.is_closed before
   pub pools : (pool : List ℕ) → has_name lines.pools pool ≡ said.has_pool before pool
@@ -32,7 +32,7 @@ pub record StandsFor (lines : LinesSoFar) (before : List RecordedLine) : Type 0 
   pub started : (job : ℕ) → has_started lines.jobs job ≡ said.has_started before job
   pub done : (job : ℕ) → is_done lines.jobs job ≡ said.is_done before job
   pub settled : (job : ℕ) → is_settled lines.jobs job ≡ (said.is_done before job || said.is_cancelled before job)
-  pub offered : (actor : RecordedActor) (job : ℕ) → is_at job (offered_of lines actor) ≡ said.just_submitted before actor job
+  pub last_submit : (actor : RecordedActor) (job : ℕ) → is_at job (last_submit_of lines actor) ≡ said.just_submitted before actor job
   pub unsubmitted : (job : ℕ) → lines.jobs.submitted ≤ job → job_at lines.jobs job ≡ None
 
 -- the lines so far, with the line appended if it breaks no rule
@@ -40,6 +40,6 @@ abbrev pub with_line : Option LineRule → List RecordedLine → RecordedLine �
 with_line None before line = before ++ line ∷ []
 with_line (Some rule) before line = before
 
-abbrev pub IsTaken : {E : Type 0} → Result (Option LineRule) E → List RecordedLine → RecordedLine → LinesSoFar → Type 0
-IsTaken (Ok broken) before line new = (broken ≡ broken_of before line) × StandsFor new (with_line broken before line)
-IsTaken (Err error) before line new = (broken_of before line ≡ None) × StandsFor new before
+abbrev pub IsAccepted : {E : Type 0} → Result (Option LineRule) E → List RecordedLine → RecordedLine → TraceValidator → Type 0
+IsAccepted (Ok broken) before line new = (broken ≡ first_broken_rule before line) × Represents new (with_line broken before line)
+IsAccepted (Err error) before line new = (first_broken_rule before line ≡ None) × Represents new before

@@ -16,17 +16,17 @@ unfoldable pub name_of : List ℕ → Option (List ℕ)
 name_of word = if is_valid_name word then Some word else None
 
 -- the first word as a number, and the other words
-unfoldable pub number_then : List ℕ → Option (ℕ × List ℕ)
-number_then text = split_space text >>= λ words. number_of words.0 >>= λ n. Some (n, words.1)
+unfoldable pub parse_number : List ℕ → Option (ℕ × List ℕ)
+parse_number text = split_space text >>= λ words. number_of words.0 >>= λ n. Some (n, words.1)
 
 -- the first word as a name, and the other words
-unfoldable pub name_then : List ℕ → Option (List ℕ × List ℕ)
-name_then text = split_space text >>= λ words. name_of words.0 >>= λ name. Some (name, words.1)
+unfoldable pub parse_name : List ℕ → Option (List ℕ × List ℕ)
+parse_name text = split_space text >>= λ words. name_of words.0 >>= λ name. Some (name, words.1)
 
 -- the other words if the first word is this word
-unfoldable pub behind : List ℕ → List ℕ → Option (List ℕ)
-behind word text = split_space text >>= λ words. if bytes_eq words.0 word then Some words.1 else None
+unfoldable pub strip_word : List ℕ → List ℕ → Option (List ℕ)
+strip_word word text = split_space text >>= λ words. if bytes_eq words.0 word then Some words.1 else None
 
 -- this word and a number after it, and the other words
-unfoldable pub number_behind : List ℕ → List ℕ → Option (ℕ × List ℕ)
-number_behind word text = behind word text >>= λ rest. number_then rest
+unfoldable pub parse_word_and_number : List ℕ → List ℕ → Option (ℕ × List ℕ)
+parse_word_and_number word text = strip_word word text >>= λ rest. parse_number rest

@@ -1,14 +1,14 @@
 //! Bad lines of a recording.
 
 ghost use Rattle.std.specs.Prelude.{Some};
-ghost use Rattle.recordings.specs.FaultText.{breach_text, fault_text};
+ghost use Rattle.recordings.specs.FaultText.{reason_text, fault_text};
 
 use crate::rule::LineRule;
 use std::fmt;
 
 /// The reason why a line is bad.
 #[derive(Clone, Copy, PartialEq, Eq)]
-pub enum Breach {
+pub enum FaultReason {
     /// The line has none of the forms of a line.
     Form,
     /// The line has a form, and breaks this rule.
@@ -16,13 +16,13 @@ pub enum Breach {
 }
 
 /// Formats what the line should be.
-impl fmt::Display for Breach {
-    ghost output = { λ breach. Some (breach_text breach) };
+impl fmt::Display for FaultReason {
+    ghost output = { λ reason. Some (reason_text reason) };
 
     fn fmt<W: fmt::Write>(&self, f: &mut fmt::Formatter<W>) -> fmt::Result {
         match self {
-            Breach::Form => f.write_str("it has none of the forms of a line"),
-            Breach::LineRule(rule) => write!(f, "{rule}"),
+            FaultReason::Form => f.write_str("it has none of the forms of a line"),
+            FaultReason::LineRule(rule) => write!(f, "{rule}"),
         }
     }
 }
@@ -32,7 +32,7 @@ impl fmt::Display for Breach {
 pub struct RecordingFault {
     /// The line number, from 1.
     pub line: usize,
-    pub breach: Breach,
+    pub reason: FaultReason,
 }
 
 /// Formats the line number and what the line should be, such as `line 3: O2: a pool that a line
@@ -42,7 +42,7 @@ impl fmt::Display for RecordingFault {
 
     fn fmt<W: fmt::Write>(&self, f: &mut fmt::Formatter<W>) -> fmt::Result {
         let line = self.line;
-        let breach = self.breach;
-        write!(f, "line {line}: {breach}")
+        let reason = self.reason;
+        write!(f, "line {line}: {reason}")
     }
 }

@@ -8,8 +8,8 @@ ghost use Rattle.std.specs.Prelude.{◌≡◌, ◌≤◌, ◌<◌, ◌+◌, ◌+
 ghost use Rattle.std.specs.List.{list_all};
 ghost use Rattle.job_bodies.specs.WellFormed.{is_name_byte, is_valid_name};
 ghost use Rattle.line_words.specs.Number.{is_valid_number};
-ghost use Rattle.recordings.specs.RecordingLine.{line_seen, lines_read};
-ghost use Rattle.recordings.specs.LineText.{behind_actor, is_lawful_actor};
+ghost use Rattle.recordings.specs.RecordingLine.{line_view, lines_read};
+ghost use Rattle.recordings.specs.LineText.{after_actor, is_valid_actor};
 ghost use Rattle.recordings.specs.declared.recording_line.RecordedActor.TheVariants.{Job, Round};
 
 use crate::recording_line::{Line, RecordedActor};
@@ -23,7 +23,7 @@ const MOST_DIGITS: usize = 9;
 #[inline(always)]
 pub(crate) fn split_frequent_line(text: &[u8]) -> Option<(Line<'_>, &[u8])>
     ensures { IfSome result
-        (λ read. lines_read text.now ≡ Some (line_seen read.0) ∷ lines_read read.1.now) }
+        (λ read. lines_read text.now ≡ Some (line_view read.0) ∷ lines_read read.1.now) }
 {
     match text {
         [b'j', b'o', b'b', b' ', words @ ..] => {
@@ -43,16 +43,16 @@ pub(crate) fn split_frequent_line(text: &[u8]) -> Option<(Line<'_>, &[u8])>
 fn split_job_line(job: usize, words: &[u8]) -> Option<(Line<'_>, &[u8])>
     requires { is_valid_number job ≡ true }
     ensures { IfSome result (λ read.
-        lines_read (behind_actor (Job job) words.now)
-        ≡ Some (line_seen read.0) ∷ lines_read read.1.now) }
+        lines_read (after_actor (Job job) words.now)
+        ≡ Some (line_view read.0) ∷ lines_read read.1.now) }
 {
-    if let [b's', b't', b'a', b'r', b't', b'\n', behind @ ..] = words {
-        return Some((Line::JobStarts { job }, behind));
+    if let [b's', b't', b'a', b'r', b't', b'\n', after @ ..] = words {
+        return Some((Line::JobStarts { job }, after));
     }
-    if let [b'e', b'n', b'd', b'\n', behind @ ..] = words {
-        return Some((Line::JobEnds { job }, behind));
+    if let [b'e', b'n', b'd', b'\n', after @ ..] = words {
+        return Some((Line::JobEnds { job }, after));
     }
-    split_act(RecordedActor::Job(job), words)
+    split_action(RecordedActor::Job(job), words)
 }
 
 /// Parses the rest of a line after `round N`.
@@ -60,30 +60,30 @@ fn split_job_line(job: usize, words: &[u8]) -> Option<(Line<'_>, &[u8])>
 fn split_round_line(round: usize, words: &[u8]) -> Option<(Line<'_>, &[u8])>
     requires { is_valid_number round ≡ true }
     ensures { IfSome result (λ read.
-        lines_read (behind_actor (Round round) words.now)
-        ≡ Some (line_seen read.0) ∷ lines_read read.1.now) }
+        lines_read (after_actor (Round round) words.now)
+        ≡ Some (line_view read.0) ∷ lines_read read.1.now) }
 {
     if let [b'b', b'e', b'g', b'i', b'n', b' ', kind @ ..] = words {
-        let (kind, behind) = split_name(kind, b'\n')?;
-        return Some((Line::RoundBegins { round, kind }, behind));
+        let (kind, after) = split_name(kind, b'\n')?;
+        return Some((Line::RoundBegins { round, kind }, after));
     }
-    if let [b'e', b'n', b'd', b'\n', behind @ ..] = words {
-        return Some((Line::RoundEnds { round }, behind));
+    if let [b'e', b'n', b'd', b'\n', after @ ..] = words {
+        return Some((Line::RoundEnds { round }, after));
     }
-    split_act(RecordedActor::Round(round), words)
+    split_action(RecordedActor::Round(round), words)
 }
 
 /// Parses the rest of a line after an actor.
 #[inline(always)]
-fn split_act(actor: RecordedActor, words: &[u8]) -> Option<(Line<'_>, &[u8])>
-    requires { is_lawful_actor actor ≡ true }
+fn split_action(actor: RecordedActor, words: &[u8]) -> Option<(Line<'_>, &[u8])>
+    requires { is_valid_actor actor ≡ true }
     ensures { IfSome result (λ read.
-        lines_read (behind_actor actor words.now)
-        ≡ Some (line_seen read.0) ∷ lines_read read.1.now) }
+        lines_read (after_actor actor words.now)
+        ≡ Some (line_view read.0) ∷ lines_read read.1.now) }
 {
     if let [b'g', b'o', b't', b' ', job @ ..] = words {
-        let (job, behind) = split_number(job, b'\n')?;
-        return Some((Line::Got { actor, job }, behind));
+        let (job, after) = split_number(job, b'\n')?;
+        return Some((Line::Got { actor, job }, after));
     }
     let [b's', b'u', b'b', b'm', b'i', b't', b' ', words @ ..] = words else {
         return None;
@@ -94,21 +94,21 @@ fn split_act(actor: RecordedActor, words: &[u8]) -> Option<(Line<'_>, &[u8])>
 /// Parses the rest of a line after `submit`: `J CLASS POOL`.
 #[inline(always)]
 fn split_submit(actor: RecordedActor, words: &[u8]) -> Option<(Line<'_>, &[u8])>
-    requires { is_lawful_actor actor ≡ true }
+    requires { is_valid_actor actor ≡ true }
     ensures { IfSome result (λ read.
-        lines_read (behind_actor actor (codes "submit" ++ 32 ∷ words.now))
-        ≡ Some (line_seen read.0) ∷ lines_read read.1.now) }
+        lines_read (after_actor actor (codes "submit" ++ 32 ∷ words.now))
+        ≡ Some (line_view read.0) ∷ lines_read read.1.now) }
 {
     let (job, words) = split_number(words, b' ')?;
     let (class, words) = split_name(words, b' ')?;
-    let (pool, behind) = split_name(words, b'\n')?;
+    let (pool, after) = split_name(words, b'\n')?;
     let line = Line::Submits {
         actor,
         job,
         class,
         pool,
     };
-    Some((line, behind))
+    Some((line, after))
 }
 
 /// Parses a number before the byte `end`, and returns it with the text after that byte.
@@ -131,7 +131,7 @@ fn split_number(text: &[u8], end: u8) -> Option<(usize, &[u8])>
         number = number * 10 + digit;
         count += 1;
     }
-    Some((number, behind_byte(&text[count..], end)?))
+    Some((number, strip_byte(&text[count..], end)?))
 }
 
 /// Returns the value of a digit, and a value above 9 for any other byte.
@@ -149,14 +149,14 @@ fn split_name(text: &[u8], end: u8) -> Option<(&str, &[u8])>
     ensures { IfSome result
         (λ read. (is_valid_name read.0.now ≡ true) × (text.now ≡ read.0.now ++ end ∷ read.1.now)) }
 {
-    let (name, behind) = text.split_at(count_name_bytes(text));
+    let (name, after) = text.split_at(count_name_bytes(text));
     let [b'a'..=b'z', ..] = name else {
         return None;
     };
     if name.len() > MAX_NAME_BYTES {
         return None;
     }
-    Some((name_text(name), behind_byte(behind, end)?))
+    Some((name_text(name), strip_byte(after, end)?))
 }
 
 /// Returns the length of the longest prefix of name bytes.
@@ -190,11 +190,11 @@ fn name_text(name: &[u8]) -> &str
 
 /// Strips the first byte if it is `byte`, and returns the rest.
 #[inline(always)]
-fn behind_byte(text: &[u8], byte: u8) -> Option<&[u8]>
-    ensures { IfSome result (λ behind. text.now ≡ byte ∷ behind.now) }
+fn strip_byte(text: &[u8], byte: u8) -> Option<&[u8]>
+    ensures { IfSome result (λ after. text.now ≡ byte ∷ after.now) }
 {
     match text {
-        [first, behind @ ..] if *first == byte => Some(behind),
+        [first, after @ ..] if *first == byte => Some(after),
         _ => None,
     }
 }

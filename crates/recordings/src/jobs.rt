@@ -2,7 +2,7 @@
 
 ghost use Rattle.std.specs.Prelude.{◌≡◌, ◌+◌, ◌&&◌, not, ℕ, OnOk, OnErr, None, Some, is_some, if◌then◌else◌, ◌==◌};
 ghost use Rattle.std.specs.Option.{option_map};
-ghost use Rattle.recordings.specs.KeptState.{job_at, has_started, is_done, is_settled, offered_by, new_job, with_start, with_cancel, with_offered};
+ghost use Rattle.recordings.specs.StoredState.{job_at, has_started, is_done, is_settled, last_submit_in, new_job, with_start, with_cancel, with_last_submit};
 
 use std::alloc::{AllocError, Global};
 use support::IdMap;
@@ -13,7 +13,7 @@ pub(crate) struct JobState {
     started: bool,
     cancelled: bool,
     /// The job that this job submitted in its last line.
-    offered: Option<usize>,
+    last_submit: Option<usize>,
 }
 
 /// The jobs of the lines so far: the number of submitted jobs, and the state of each job that is
@@ -63,10 +63,10 @@ impl Jobs {
     }
 
     /// Returns the job that this job submitted in its last line.
-    pub(crate) fn offered(&self, job: usize) -> Option<usize>
-        ensures { result ≡ offered_by (job_at self.now job) }
+    pub(crate) fn last_submit(&self, job: usize) -> Option<usize>
+        ensures { result ≡ last_submit_in (job_at self.now job) }
     {
-        self.get(job)?.offered
+        self.get(job)?.last_submit
     }
 
     /// Adds a submitted job.
@@ -86,7 +86,7 @@ impl Jobs {
         let state = JobState {
             started: false,
             cancelled: false,
-            offered: None,
+            last_submit: None,
         };
         self.unfinished.insert(job, state)?;
         self.submitted = submitted;
@@ -119,15 +119,15 @@ impl Jobs {
 
     /// Sets the job that this job submitted in its last line, if any. Has no effect if this job is
     /// done.
-    pub(crate) fn set_offered(&mut self, job: usize, offered: Option<usize>)
+    pub(crate) fn set_last_submit(&mut self, job: usize, last_submit: Option<usize>)
         ensures submitted { self.new.submitted ≡ self.old.submitted }
         ensures unfinished { (j : ℕ)
             → job_at self.new j
-            ≡ (if job == j then option_map (with_offered offered) (job_at self.old j) else job_at
+            ≡ (if job == j then option_map (with_last_submit last_submit) (job_at self.old j) else job_at
             self.old j) }
     {
         if let Some(state) = self.unfinished.get_mut(job) {
-            state.offered = offered;
+            state.last_submit = last_submit;
         }
     }
 

@@ -1,24 +1,24 @@
 //! Recordings of test runs: their lines, the rules that the lines keep, and the path of each job and client.
 //!
-//! [`RuledLines`] reads the lines and stops at the first that breaks a rule. [`Paths`] and [`RecordedNotes`] keep what the
+//! [`CheckedLines`] reads the lines and stops at the first that breaks a rule. [`Paths`] and [`RecordedNotes`] keep what the
 //! later comparison with a plan needs.
 #![tactic(auto)]
 
-mod act;
-mod deed;
+mod change_path;
+mod step;
 mod fault;
 mod foreign_get;
 mod frequent_lines;
 mod jobs;
-mod kept_rules;
+mod rule_check;
 mod laws;
 mod line_forms;
 mod line_parts;
-mod line_void;
+mod invalidation_entry;
 mod lines;
-mod lines_so_far;
-mod noted_lines;
-mod noted_voids;
+mod trace_validator;
+mod state_update;
+mod invalidation_list;
 mod notes;
 mod path_table;
 mod paths;
@@ -27,23 +27,23 @@ mod pools;
 mod recording_line;
 mod rounds;
 mod rule;
-mod ruled_lines;
-mod ungot;
-mod voiding;
+mod checked_lines;
+mod unclaimed;
+mod invalidation;
 mod whole_text;
 mod words;
 
-pub use deed::RecordedDeed;
-pub use fault::{Breach, RecordingFault};
+pub use step::RecordedStep;
+pub use fault::{FaultReason, RecordingFault};
 pub use foreign_get::ForeignGet;
 pub use laws::recording_lines_are_canonical;
 pub use lines::{BadLine, RecordingLines};
-pub use lines_so_far::LinesSoFar;
+pub use trace_validator::TraceValidator;
 pub use notes::RecordedNotes;
 pub use paths::Paths;
 pub use pool_sizes::{HandlerKind, PoolSizes, QueueKind};
 pub use recording_line::{Line, RecordedActor};
 pub use rule::LineRule;
-pub use ruled_lines::RuledLines;
-pub use voiding::{Void, Voiding};
+pub use checked_lines::CheckedLines;
+pub use invalidation::{Invalidation, InvalidatingEvent};
 pub use whole_text::first_fault;

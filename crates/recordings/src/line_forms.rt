@@ -1,12 +1,12 @@
 //! The forms of the lines of a recording.
 
 ghost use Rattle.std.specs.Prelude.{◌≡◌, option_map};
-ghost use Rattle.recordings.specs.RecordingLine.{line_seen};
+ghost use Rattle.recordings.specs.RecordingLine.{line_view};
 ghost use Rattle.recordings.specs.RecordingLine as spec;
 
 use crate::pool_sizes::pool_sizes_of;
 use crate::recording_line::{Line, RecordedActor};
-use crate::words::{is_word, name_of, name_then, number_then};
+use crate::words::{is_word, name_of, parse_name, parse_number};
 use line_words::{number_of, split_space};
 
 /// Parses any line. Most lines never get here, since [`split_frequent_line`](crate::frequent_lines)
@@ -15,18 +15,18 @@ use line_words::{number_of, split_space};
 #[inline(never)]
 #[tactic(auto, unfolding(crate::specs::RecordingLine::line_of, crate::specs::RecordingLine::line_of_words))]
 pub(crate) fn line_of(text: &[u8]) -> Option<Line<'_>>
-    ensures { option_map line_seen result ≡ spec.line_of text.now }
+    ensures { option_map line_view result ≡ spec.line_of text.now }
 {
     if is_word(text, "end") {
         return Some(Line::End);
     }
     let (word, rest) = split_space(text)?;
     if is_word(word, "job") {
-        let (job, rest) = number_then(rest)?;
+        let (job, rest) = parse_number(rest)?;
         return job_line_of(job, rest);
     }
     if is_word(word, "round") {
-        let (round, rest) = number_then(rest)?;
+        let (round, rest) = parse_number(rest)?;
         return round_line_of(round, rest);
     }
     other_line_of(word, rest)
@@ -37,7 +37,7 @@ pub(crate) fn line_of(text: &[u8]) -> Option<Line<'_>>
 /// Parses the rest of a line after `job N`.
 #[tactic(auto, unfolding(crate::specs::RecordingLine::job_line_of))]
 fn job_line_of(job: usize, text: &[u8]) -> Option<Line<'_>>
-    ensures { option_map line_seen result ≡ spec.job_line_of job text.now }
+    ensures { option_map line_view result ≡ spec.job_line_of job text.now }
 {
     if is_word(text, "start") {
         return Some(Line::JobStarts { job });
@@ -49,13 +49,13 @@ fn job_line_of(job: usize, text: &[u8]) -> Option<Line<'_>>
         return Some(Line::JobThrew { job });
     }
     let (word, rest) = split_space(text)?;
-    act_of(RecordedActor::Job(job), word, rest)
+    action_of(RecordedActor::Job(job), word, rest)
 }
 
 /// Parses the rest of a line after `round N`.
 #[tactic(auto, unfolding(crate::specs::RecordingLine::round_line_of))]
 fn round_line_of(round: usize, text: &[u8]) -> Option<Line<'_>>
-    ensures { option_map line_seen result ≡ spec.round_line_of round text.now }
+    ensures { option_map line_view result ≡ spec.round_line_of round text.now }
 {
     if is_word(text, "end") {
         return Some(Line::RoundEnds { round });
@@ -65,13 +65,13 @@ fn round_line_of(round: usize, text: &[u8]) -> Option<Line<'_>>
         let kind = name_of(rest)?;
         return Some(Line::RoundBegins { round, kind });
     }
-    act_of(RecordedActor::Round(round), word, rest)
+    action_of(RecordedActor::Round(round), word, rest)
 }
 
 /// Parses an action of an actor, from the first word after its number and the rest.
-#[tactic(auto, unfolding(crate::specs::RecordingLine::act_of))]
-fn act_of<'a>(actor: RecordedActor, word: &[u8], rest: &'a [u8]) -> Option<Line<'a>>
-    ensures { option_map line_seen result ≡ spec.act_of actor word.now rest.now }
+#[tactic(auto, unfolding(crate::specs::RecordingLine::action_of))]
+fn action_of<'a>(actor: RecordedActor, word: &[u8], rest: &'a [u8]) -> Option<Line<'a>>
+    ensures { option_map line_view result ≡ spec.action_of actor word.now rest.now }
 {
     if is_word(word, "submit") {
         return submit_of(actor, rest);
@@ -81,16 +81,16 @@ fn act_of<'a>(actor: RecordedActor, word: &[u8], rest: &'a [u8]) -> Option<Line<
         return Some(Line::InvokesAny { actor, pool });
     }
     let job = number_of(rest)?;
-    deed_of(actor, word, job)
+    job_action_of(actor, word, job)
 }
 
 /// Parses `J CLASS POOL` after `submit`.
 #[tactic(auto, unfolding(crate::specs::RecordingLine::submit_of))]
 fn submit_of(actor: RecordedActor, text: &[u8]) -> Option<Line<'_>>
-    ensures { option_map line_seen result ≡ spec.submit_of actor text.now }
+    ensures { option_map line_view result ≡ spec.submit_of actor text.now }
 {
-    let (job, rest) = number_then(text)?;
-    let (class, rest) = name_then(rest)?;
+    let (job, rest) = parse_number(text)?;
+    let (class, rest) = parse_name(rest)?;
     let pool = name_of(rest)?;
     Some(Line::Submits {
         actor,
@@ -101,9 +101,9 @@ fn submit_of(actor: RecordedActor, text: &[u8]) -> Option<Line<'_>>
 }
 
 /// Parses an action on a job, from the word before the job's number.
-#[tactic(auto, unfolding(crate::specs::RecordingLine::deed_of))]
-fn deed_of<'a>(actor: RecordedActor, word: &[u8], job: usize) -> Option<Line<'a>>
-    ensures { option_map line_seen result ≡ spec.deed_of actor word.now job }
+#[tactic(auto, unfolding(crate::specs::RecordingLine::job_action_of))]
+fn job_action_of<'a>(actor: RecordedActor, word: &[u8], job: usize) -> Option<Line<'a>>
+    ensures { option_map line_view result ≡ spec.job_action_of actor word.now job }
 {
     if is_word(word, "got") {
         Some(Line::Got { actor, job })
@@ -125,10 +125,10 @@ fn deed_of<'a>(actor: RecordedActor, word: &[u8], job: usize) -> Option<Line<'a>
 /// Parses a line without an actor.
 #[tactic(auto, unfolding(crate::specs::RecordingLine::other_line_of))]
 fn other_line_of<'a>(word: &[u8], rest: &'a [u8]) -> Option<Line<'a>>
-    ensures { option_map line_seen result ≡ spec.other_line_of word.now rest.now }
+    ensures { option_map line_view result ≡ spec.other_line_of word.now rest.now }
 {
     if is_word(word, "pool") {
-        let (name, rest) = name_then(rest)?;
+        let (name, rest) = parse_name(rest)?;
         let sizes = pool_sizes_of(rest)?;
         return Some(Line::Pool { name, sizes });
     }
@@ -148,7 +148,7 @@ fn other_line_of<'a>(word: &[u8], rest: &'a [u8]) -> Option<Line<'a>>
         return Some(Line::ShutDown { pool });
     }
     if is_word(word, "unseen") {
-        let (pool, rest) = name_then(rest)?;
+        let (pool, rest) = parse_name(rest)?;
         let jobs = number_of(rest)?;
         return Some(Line::Unseen { pool, jobs });
     }

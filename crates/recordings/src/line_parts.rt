@@ -2,7 +2,7 @@
 
 ghost use Rattle.std.specs.Prelude.{◌≡◌};
 ghost use Rattle.std.specs.Option.{option_map};
-ghost use Rattle.recordings.specs.RecordingLine.{line_seen};
+ghost use Rattle.recordings.specs.RecordingLine.{line_view};
 ghost use Rattle.recordings.specs.LineParts as spec;
 
 use crate::{Line, RecordedActor};
@@ -10,7 +10,7 @@ use crate::{Line, RecordedActor};
 /// Returns the actor whose line this is. Returns `None` for the line that begins a round or starts
 /// a job, and for a line without an actor.
 pub(crate) fn actor_of(line: &Line<'_>) -> Option<RecordedActor>
-    ensures { result ≡ spec.actor_of (line_seen line.now) }
+    ensures { result ≡ spec.actor_of (line_view line.now) }
 {
     match *line {
         Line::RoundEnds { round } => Some(RecordedActor::Round(round)),
@@ -35,7 +35,7 @@ pub(crate) fn actor_of(line: &Line<'_>) -> Option<RecordedActor>
 
 /// Returns the job that the line names, other than its actor and a job that it submits.
 pub(crate) fn job_of(line: &Line<'_>) -> Option<usize>
-    ensures { result ≡ spec.job_of (line_seen line.now) }
+    ensures { result ≡ spec.job_of (line_view line.now) }
 {
     match *line {
         Line::Refused { job, .. }
@@ -51,7 +51,7 @@ pub(crate) fn job_of(line: &Line<'_>) -> Option<usize>
 
 /// Returns the pool that the line names, unless it is a `pool` line.
 pub(crate) fn pool_of<'a>(line: &Line<'a>) -> Option<&'a str>
-    ensures { option_map (λ pool. pool.now) result ≡ spec.pool_of (line_seen line.now) }
+    ensures { option_map (λ pool. pool.now) result ≡ spec.pool_of (line_view line.now) }
 {
     match *line {
         Line::Submits { pool, .. }
@@ -63,13 +63,13 @@ pub(crate) fn pool_of<'a>(line: &Line<'a>) -> Option<&'a str>
 }
 
 pub(crate) fn is_head(line: &Line<'_>) -> bool
-    ensures { result ≡ spec.is_head (line_seen line.now) }
+    ensures { result ≡ spec.is_head (line_view line.now) }
 {
     matches!(*line, Line::Head)
 }
 
 pub(crate) fn is_end(line: &Line<'_>) -> bool
-    ensures { result ≡ spec.is_end (line_seen line.now) }
+    ensures { result ≡ spec.is_end (line_view line.now) }
 {
     matches!(*line, Line::End)
 }

@@ -52,11 +52,11 @@ impl<'a> RecordingLines<'a> {
         ensures { MatchOption result ((self.old ≡ []) × (self.new ≡ []))
             (λ line. self.old ≡ line_read line ∷ self.new) }
     {
-        let (line, behind) = match split_frequent_line(self.rest) {
-            Some((line, behind)) => (Ok(line), behind),
+        let (line, after) = match split_frequent_line(self.rest) {
+            Some((line, after)) => (Ok(line), after),
             None => split_line(self.rest)?,
         };
-        self.rest = behind;
+        self.rest = after;
         Some(line)
     }
 }
@@ -71,10 +71,10 @@ fn split_line(text: &[u8]) -> Option<(Result<Line<'_>, BadLine>, &[u8])>
     ensures { MatchOption result (lines_read text.now ≡ [])
         (λ read. lines_read text.now ≡ line_read read.0 ∷ lines_read read.1.now) }
 {
-    let (line, behind) = split_whole_line(text)?;
+    let (line, after) = split_whole_line(text)?;
     match line_of(line) {
-        Some(line) => Some((Ok(line), behind)),
-        None => Some((Err(BadLine), behind)),
+        Some(line) => Some((Ok(line), after)),
+        None => Some((Err(BadLine), after)),
     }
 }
 

@@ -1,26 +1,26 @@
 //! Notes on the lines of a recording.
 
 ghost use Rattle.std.specs.Prelude.{◌≡◌, ◌+◌, ◌++◌, ◌∷◌, [], List, OnOk, IfOk, length};
-ghost use Rattle.recordings.specs.RecordingLine.{RecordedLine, line_seen};
+ghost use Rattle.recordings.specs.RecordingLine.{RecordedLine, line_view};
 ghost use Rattle.recordings.specs.PathsOfLines.{KeepsRules};
-ghost use Rattle.recordings.specs.Voids.{voids_of};
+ghost use Rattle.recordings.specs.Invalidations.{invalidations_of};
 ghost use Rattle.recordings.specs.ForeignGets.{first_foreign_get};
-ghost use Rattle.recordings.specs.Ungot.{with_foreign};
+ghost use Rattle.recordings.specs.UnclaimedJobs.{with_foreign};
 ghost use Rattle.recordings.specs.NotesOfLines.{IsNotesOf};
 
 use crate::Line;
 use crate::foreign_get::ForeignGet;
-use crate::noted_voids::NotedVoids;
-use crate::ungot::Ungot;
-use crate::voiding::Void;
+use crate::invalidation_list::InvalidationList;
+use crate::unclaimed::UnclaimedJobs;
+use crate::invalidation::Invalidation;
 use std::alloc::{AllocError, Global};
 
 /// The events that invalidate a SAFE answer, and the first get of a job by an actor that did not
 /// submit it, for the lines read so far.
 #[derive(Drop)]
 pub struct RecordedNotes {
-    pub(crate) voids: NotedVoids,
-    pub(crate) ungot: Ungot,
+    pub(crate) invalidations: InvalidationList,
+    pub(crate) unclaimed: UnclaimedJobs,
     pub(crate) foreign: Option<ForeignGet>,
 }
 
@@ -30,8 +30,8 @@ impl RecordedNotes {
         ensures { IsNotesOf result [] }
     {
         RecordedNotes {
-            voids: NotedVoids::new(alloc),
-            ungot: Ungot::new(alloc),
+            invalidations: InvalidationList::new(alloc),
+            unclaimed: UnclaimedJobs::new(alloc),
             foreign: None,
         }
     }
@@ -43,14 +43,14 @@ impl RecordedNotes {
     /// Returns `AllocError` if memory runs out. The notes must not be used after that.
     pub fn take(&mut self, number: usize, line: &Line<'_>) -> Result<(), AllocError>
         ensures { (before : List RecordedLine)
-            → KeepsRules (before ++ line_seen line.now ∷ [])
+            → KeepsRules (before ++ line_view line.now ∷ [])
             → number ≡ length before + 1
             → IsNotesOf self.old before
-            → OnOk result (IsNotesOf self.new (before ++ line_seen line.now ∷ [])) }
+            → OnOk result (IsNotesOf self.new (before ++ line_view line.now ∷ [])) }
     {
-        self.voids.take(number, line)?;
+        self.invalidations.take(number, line)?;
         self.note_foreign_get(number, line);
-        self.ungot.take(line)
+        self.unclaimed.take(line)
     }
 
     /// Returns the first line of each invalidating event type, in the order of the lines. A
@@ -60,12 +60,12 @@ impl RecordedNotes {
     /// # Errors
     ///
     /// Returns `AllocError` if memory runs out.
-    pub fn voids(&self, alloc: Global) -> Result<Vec<Void>, AllocError>
+    pub fn invalidations(&self, alloc: Global) -> Result<Vec<Invalidation>, AllocError>
         ensures { (lines : List RecordedLine)
             → IsNotesOf self.now lines
-            → IfOk result (λ voids. voids.items ≡ voids_of lines) }
+            → IfOk result (λ invalidations. invalidations.items ≡ invalidations_of lines) }
     {
-        self.voids.firsts(alloc)
+        self.invalidations.firsts(alloc)
     }
 
     /// Returns the first get of a job by an actor that did not submit it, before its submitter got
@@ -80,13 +80,13 @@ impl RecordedNotes {
 
     fn note_foreign_get(&mut self, number: usize, line: &Line<'_>)
         ensures foreign { self.new.foreign
-            ≡ with_foreign self.old.ungot number (line_seen line.now) self.old.foreign }
-        ensures voids { self.new.voids ≡ self.old.voids }
-        ensures ungot { self.new.ungot ≡ self.old.ungot }
+            ≡ with_foreign self.old.unclaimed number (line_view line.now) self.old.foreign }
+        ensures invalidations { self.new.invalidations ≡ self.old.invalidations }
+        ensures unclaimed { self.new.unclaimed ≡ self.old.unclaimed }
     {
         if self.foreign.is_none() {
             if let Line::Got { actor, job } = *line {
-                if self.ungot.is_anothers(job, actor) {
+                if self.unclaimed.is_foreign(job, actor) {
                     self.foreign = Some(ForeignGet {
                         line: number,
                         actor,

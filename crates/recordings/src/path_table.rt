@@ -2,19 +2,19 @@
 
 ghost use Rattle.std.specs.Prelude.{◌≡◌, ℕ, [], OnOk, OnErr, None, Some, if◌then◌else◌, ◌==◌};
 ghost use Rattle.std.specs.Option.{option_map};
-ghost use Rattle.recordings.specs.Act.{with_get, without_submit};
-ghost use Rattle.recordings.specs.PathChanges.{with_deed};
-ghost use Rattle.recordings.specs.KeptPaths.{path_in};
+ghost use Rattle.recordings.specs.ActorPath.{with_get, without_submit};
+ghost use Rattle.recordings.specs.PathChanges.{with_step};
+ghost use Rattle.recordings.specs.StoredPaths.{path_in};
 
-use crate::act::{drop_submit, note_get};
-use crate::deed::RecordedDeed;
+use crate::change_path::{drop_submit, push_get};
+use crate::step::RecordedStep;
 use std::alloc::{AllocError, Global};
 use support::IdMap;
 
 /// A map from the numbers of the live rounds, or of the live jobs, to their paths.
 #[derive(Drop)]
 pub(crate) struct PathTable {
-    paths: IdMap<Vec<RecordedDeed>>,
+    paths: IdMap<Vec<RecordedStep>>,
     alloc: Global,
 }
 
@@ -29,7 +29,7 @@ impl PathTable {
         }
     }
 
-    pub(crate) fn path(&self, number: usize) -> Option<&[RecordedDeed]>
+    pub(crate) fn path(&self, number: usize) -> Option<&[RecordedStep]>
         ensures { option_map (λ path. path.now) result ≡ path_in self.now number }
     {
         match self.paths.get(number) {
@@ -52,7 +52,7 @@ impl PathTable {
     }
 
     /// Removes an actor and returns its path.
-    pub(crate) fn end(&mut self, number: usize) -> Option<Vec<RecordedDeed>>
+    pub(crate) fn end(&mut self, number: usize) -> Option<Vec<RecordedStep>>
         ensures path { option_map (λ path. path.items) result ≡ path_in self.old number }
         ensures gone { (n : ℕ)
             → path_in self.new n ≡ (if number == n then None else path_in self.old n) }
@@ -65,16 +65,16 @@ impl PathTable {
     /// # Errors
     ///
     /// Returns `AllocError` if memory runs out. The paths are then unchanged.
-    pub(crate) fn push(&mut self, number: usize, deed: RecordedDeed) -> Result<(), AllocError>
+    pub(crate) fn push(&mut self, number: usize, step: RecordedStep) -> Result<(), AllocError>
         ensures done { OnOk result
             ((n : ℕ)
             → path_in self.new n
-            ≡ (if number == n then option_map (with_deed deed) (path_in self.old n) else path_in
+            ≡ (if number == n then option_map (with_step step) (path_in self.old n) else path_in
             self.old n)) }
         ensures same { OnErr result ((n : ℕ) → path_in self.new n ≡ path_in self.old n) }
     {
         if let Some(path) = self.paths.get_mut(number) {
-            path.push(deed)?;
+            path.push(step)?;
         }
         Ok(())
     }
@@ -84,7 +84,7 @@ impl PathTable {
     /// # Errors
     ///
     /// Returns `AllocError` if memory runs out. The paths are then unchanged.
-    pub(crate) fn note_get(&mut self, number: usize, job: usize) -> Result<(), AllocError>
+    pub(crate) fn push_get(&mut self, number: usize, job: usize) -> Result<(), AllocError>
         ensures got { OnOk result
             ((n : ℕ)
             → path_in self.new n
@@ -93,7 +93,7 @@ impl PathTable {
         ensures same { OnErr result ((n : ℕ) → path_in self.new n ≡ path_in self.old n) }
     {
         if let Some(path) = self.paths.get_mut(number) {
-            note_get(path, job)?;
+            push_get(path, job)?;
         }
         Ok(())
     }

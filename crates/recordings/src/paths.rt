@@ -2,13 +2,13 @@
 
 ghost use Rattle.std.specs.Prelude.{◌≡◌, ◌++◌, ◌∷◌, [], List, OnOk, OnErr, IfOk};
 ghost use Rattle.std.specs.Option.{option_map};
-ghost use Rattle.recordings.specs.RecordingLine.{RecordedLine, line_seen};
-ghost use Rattle.recordings.specs.Act.{with_get, without_submit};
-ghost use Rattle.recordings.specs.PathChanges.{Changes, change_of, no_change, at_actor, actor_submits, with_deed};
+ghost use Rattle.recordings.specs.RecordingLine.{RecordedLine, line_view};
+ghost use Rattle.recordings.specs.ActorPath.{with_get, without_submit};
+ghost use Rattle.recordings.specs.PathChanges.{Changes, change_of, no_change, at_actor, actor_submits, with_step};
 ghost use Rattle.recordings.specs.LastLine.{last_path_of, last_path_in};
 ghost use Rattle.recordings.specs.PathsOfLines.{KeepsRules, IsPathsOf, live_path_of};
 
-use crate::deed::RecordedDeed;
+use crate::step::RecordedStep;
 use crate::path_table::PathTable;
 use crate::{Line, RecordedActor};
 use std::alloc::{AllocError, Global};
@@ -39,14 +39,14 @@ impl Paths {
     /// Returns `AllocError` if memory runs out. The paths are then unchanged.
     pub fn take(&mut self, line: &Line<'_>) -> Result<(), AllocError>
         ensures taken { (before : List RecordedLine)
-            → KeepsRules (before ++ line_seen line.now ∷ [])
+            → KeepsRules (before ++ line_view line.now ∷ [])
             → IsPathsOf self.old before
-            → OnOk result (IsPathsOf self.new (before ++ line_seen line.now ∷ [])) }
+            → OnOk result (IsPathsOf self.new (before ++ line_view line.now ∷ [])) }
         ensures same { (before : List RecordedLine)
             → IsPathsOf self.old before
             → OnErr result (IsPathsOf self.new before) }
     {
-        self.note(line)?;
+        self.apply_line(line)?;
         Ok(())
     }
 
@@ -59,24 +59,24 @@ impl Paths {
     pub fn take_last_path(
         &mut self,
         line: &Line<'_>,
-    ) -> Result<Option<Vec<RecordedDeed>>, AllocError>
+    ) -> Result<Option<Vec<RecordedStep>>, AllocError>
         ensures taken { (before : List RecordedLine)
-            → KeepsRules (before ++ line_seen line.now ∷ [])
+            → KeepsRules (before ++ line_view line.now ∷ [])
             → IsPathsOf self.old before
-            → OnOk result (IsPathsOf self.new (before ++ line_seen line.now ∷ [])) }
+            → OnOk result (IsPathsOf self.new (before ++ line_view line.now ∷ [])) }
         ensures path { (before : List RecordedLine)
             → IsPathsOf self.old before
             → IfOk result (λ given.
-            option_map (λ path. path.items) given ≡ last_path_of before (line_seen line.now)) }
+            option_map (λ path. path.items) given ≡ last_path_of before (line_view line.now)) }
         ensures same { (before : List RecordedLine)
             → IsPathsOf self.old before
             → OnErr result (IsPathsOf self.new before) }
     {
-        self.note(line)
+        self.apply_line(line)
     }
 
     /// Returns the path of the actor if it is live.
-    pub fn path(&self, actor: RecordedActor) -> Option<&[RecordedDeed]>
+    pub fn path(&self, actor: RecordedActor) -> Option<&[RecordedStep]>
         ensures { (before : List RecordedLine)
             → IsPathsOf self.now before
             → option_map (λ path. path.now) result ≡ live_path_of before actor }
@@ -88,10 +88,10 @@ impl Paths {
     }
 
     // Returns the path of the actor that the line ends.
-    fn note(&mut self, line: &Line<'_>) -> Result<Option<Vec<RecordedDeed>>, AllocError>
-        ensures noted { OnOk result (Changes self.old (change_of (line_seen line.now)) self.new) }
+    fn apply_line(&mut self, line: &Line<'_>) -> Result<Option<Vec<RecordedStep>>, AllocError>
+        ensures stored { OnOk result (Changes self.old (change_of (line_view line.now)) self.new) }
         ensures path { IfOk result (λ given.
-            option_map (λ path. path.items) given ≡ last_path_in self.old (line_seen line.now)) }
+            option_map (λ path. path.items) given ≡ last_path_in self.old (line_view line.now)) }
         ensures same { OnErr result (Changes self.old no_change self.new) }
     {
         match *line {
@@ -109,7 +109,7 @@ impl Paths {
                 Ok(None)
             }
             Line::Got { actor, job } => {
-                self.note_get(actor, job)?;
+                self.push_get(actor, job)?;
                 Ok(None)
             }
             Line::JobEnds { job } | Line::JobThrew { job } => Ok(self.jobs.end(job)),
@@ -119,10 +119,10 @@ impl Paths {
 
     // Adds the job, and appends its submit to the path of its actor.
     fn submit(&mut self, actor: RecordedActor, job: usize) -> Result<(), AllocError>
-        ensures noted { OnOk result (Changes self.old (actor_submits actor job) self.new) }
+        ensures stored { OnOk result (Changes self.old (actor_submits actor job) self.new) }
         ensures same { OnErr result (Changes self.old no_change self.new) }
     {
-        self.push(actor, RecordedDeed::Submits(job))?;
+        self.push(actor, RecordedStep::Submits(job))?;
         if let Err(error) = self.jobs.begin(job) {
             self.drop_submit(actor, job);
             return Err(error);
@@ -130,23 +130,23 @@ impl Paths {
         Ok(())
     }
 
-    fn push(&mut self, actor: RecordedActor, deed: RecordedDeed) -> Result<(), AllocError>
-        ensures noted { OnOk result (Changes self.old (at_actor actor (with_deed deed)) self.new) }
+    fn push(&mut self, actor: RecordedActor, step: RecordedStep) -> Result<(), AllocError>
+        ensures stored { OnOk result (Changes self.old (at_actor actor (with_step step)) self.new) }
         ensures same { OnErr result (Changes self.old no_change self.new) }
     {
         match actor {
-            RecordedActor::Job(number) => self.jobs.push(number, deed),
-            RecordedActor::Round(number) => self.rounds.push(number, deed),
+            RecordedActor::Job(number) => self.jobs.push(number, step),
+            RecordedActor::Round(number) => self.rounds.push(number, step),
         }
     }
 
-    fn note_get(&mut self, actor: RecordedActor, job: usize) -> Result<(), AllocError>
-        ensures noted { OnOk result (Changes self.old (at_actor actor (with_get job)) self.new) }
+    fn push_get(&mut self, actor: RecordedActor, job: usize) -> Result<(), AllocError>
+        ensures stored { OnOk result (Changes self.old (at_actor actor (with_get job)) self.new) }
         ensures same { OnErr result (Changes self.old no_change self.new) }
     {
         match actor {
-            RecordedActor::Job(number) => self.jobs.note_get(number, job),
-            RecordedActor::Round(number) => self.rounds.note_get(number, job),
+            RecordedActor::Job(number) => self.jobs.push_get(number, job),
+            RecordedActor::Round(number) => self.rounds.push_get(number, job),
         }
     }
 

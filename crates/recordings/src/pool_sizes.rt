@@ -3,7 +3,7 @@
 ghost use Rattle.std.specs.Prelude.{◌≡◌, option_map};
 ghost use Rattle.recordings.specs.PoolSizes as spec;
 
-use crate::words::{behind, is_word, number_behind, number_then};
+use crate::words::{strip_word, is_word, parse_word_and_number, parse_number};
 use line_words::split_space;
 
 /// The configuration of a pool. A value above the maximum of a line's number is stored as that
@@ -94,20 +94,20 @@ fn yes_or_no(word: &[u8]) -> Option<bool>
 }
 
 /// Parses `queue KIND`, and returns the kind with the rest.
-#[tactic(auto, unfolding(crate::specs::PoolSizes::queue_then))]
-fn queue_then(text: &[u8]) -> Option<(QueueKind, &[u8])>
-    ensures { option_map (λ read. (read.0, read.1.now)) result ≡ spec.queue_then text.now }
+#[tactic(auto, unfolding(crate::specs::PoolSizes::parse_queue))]
+fn parse_queue(text: &[u8]) -> Option<(QueueKind, &[u8])>
+    ensures { option_map (λ read. (read.0, read.1.now)) result ≡ spec.parse_queue text.now }
 {
-    let (word, rest) = split_space(behind("queue", text)?)?;
+    let (word, rest) = split_space(strip_word("queue", text)?)?;
     Some((queue_kind_of(word)?, rest))
 }
 
 /// Parses `timeout WORD`, and returns whether the word is `yes` with the rest.
-#[tactic(auto, unfolding(crate::specs::PoolSizes::timeout_then))]
-fn timeout_then(text: &[u8]) -> Option<(bool, &[u8])>
-    ensures { option_map (λ read. (read.0, read.1.now)) result ≡ spec.timeout_then text.now }
+#[tactic(auto, unfolding(crate::specs::PoolSizes::parse_timeout))]
+fn parse_timeout(text: &[u8]) -> Option<(bool, &[u8])>
+    ensures { option_map (λ read. (read.0, read.1.now)) result ≡ spec.parse_timeout text.now }
 {
-    let (word, rest) = split_space(behind("timeout", text)?)?;
+    let (word, rest) = split_space(strip_word("timeout", text)?)?;
     Some((yes_or_no(word)?, rest))
 }
 
@@ -116,7 +116,7 @@ fn timeout_then(text: &[u8]) -> Option<(bool, &[u8])>
 fn handler_of(text: &[u8]) -> Option<HandlerKind>
     ensures { result ≡ spec.handler_of text.now }
 {
-    handler_kind_of(behind("handler", text)?)
+    handler_kind_of(strip_word("handler", text)?)
 }
 
 /// Parses `core C max C queue KIND C timeout WORD prestarted C handler KIND`.
@@ -124,12 +124,12 @@ fn handler_of(text: &[u8]) -> Option<HandlerKind>
 pub(crate) fn pool_sizes_of(text: &[u8]) -> Option<PoolSizes>
     ensures { result ≡ spec.pool_sizes_of text.now }
 {
-    let (core, rest) = number_behind("core", text)?;
-    let (max, rest) = number_behind("max", rest)?;
-    let (queue, rest) = queue_then(rest)?;
-    let (capacity, rest) = number_then(rest)?;
-    let (timeout, rest) = timeout_then(rest)?;
-    let (prestarted, rest) = number_behind("prestarted", rest)?;
+    let (core, rest) = parse_word_and_number("core", text)?;
+    let (max, rest) = parse_word_and_number("max", rest)?;
+    let (queue, rest) = parse_queue(rest)?;
+    let (capacity, rest) = parse_number(rest)?;
+    let (timeout, rest) = parse_timeout(rest)?;
+    let (prestarted, rest) = parse_word_and_number("prestarted", rest)?;
     let handler = handler_of(rest)?;
     Some(PoolSizes {
         core,

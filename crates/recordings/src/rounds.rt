@@ -2,7 +2,7 @@
 
 ghost use Rattle.std.specs.Prelude.{◌≡◌, ◌+◌, ℕ, OnOk, OnErr, None, Some, is_some, if◌then◌else◌, ◌==◌};
 ghost use Rattle.std.specs.Option.{option_map};
-ghost use Rattle.recordings.specs.KeptState.{round_at, offered_there};
+ghost use Rattle.recordings.specs.StoredState.{round_at, last_submit_of_round};
 
 use std::alloc::{AllocError, Global};
 use support::IdMap;
@@ -35,8 +35,8 @@ impl Rounds {
     }
 
     /// Returns the job that the round submitted in its last line.
-    pub(crate) fn offered(&self, round: usize) -> Option<usize>
-        ensures { result ≡ offered_there (round_at self.now round) }
+    pub(crate) fn last_submit(&self, round: usize) -> Option<usize>
+        ensures { result ≡ last_submit_of_round (round_at self.now round) }
     {
         *self.open.get(round)?
     }
@@ -72,15 +72,15 @@ impl Rounds {
 
     /// Sets the job that this round submitted in its last line, if any. Has no effect if the round
     /// is not open.
-    pub(crate) fn set_offered(&mut self, round: usize, offered: Option<usize>)
+    pub(crate) fn set_last_submit(&mut self, round: usize, last_submit: Option<usize>)
         ensures begun { self.new.begun ≡ self.old.begun }
         ensures going { (r : ℕ)
             → round_at self.new r
-            ≡ (if round == r then option_map (λ _. offered) (round_at self.old r) else round_at
+            ≡ (if round == r then option_map (λ _. last_submit) (round_at self.old r) else round_at
             self.old r) }
     {
         if let Some(there) = self.open.get_mut(round) {
-            *there = offered;
+            *there = last_submit;
         }
     }
 }

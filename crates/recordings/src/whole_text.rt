@@ -5,7 +5,7 @@ ghost use Rattle.recordings.specs.RecordingLine.{lines_read};
 ghost use Rattle.recordings.specs.Faults.{IsFirstFault};
 
 use crate::fault::RecordingFault;
-use crate::ruled_lines::RuledLines;
+use crate::checked_lines::CheckedLines;
 use std::alloc::{AllocError, Global};
 
 /// Returns the first bad line of a recording, or `None` if it has none. Ignores the text after the
@@ -18,7 +18,7 @@ use std::alloc::{AllocError, Global};
 pub fn first_fault(alloc: Global, text: &[u8]) -> Result<Option<RecordingFault>, AllocError>
     ensures { IfOk result (IsFirstFault (lines_read text.now)) }
 {
-    let mut lines = RuledLines::new(alloc, text);
+    let mut lines = CheckedLines::new(alloc, text);
     while let Some(line) = lines.next()? {
         if let Err(fault) = line {
             return Ok(Some(fault));

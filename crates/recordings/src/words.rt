@@ -32,26 +32,26 @@ pub(crate) fn name_of(text: &[u8]) -> Option<&str>
 }
 
 /// Parses the first word as a number, and returns it with the other words.
-pub(crate) fn number_then(text: &[u8]) -> Option<(usize, &[u8])>
-    ensures { option_map (λ read. (read.0, read.1.now)) result ≡ spec.number_then text.now }
+pub(crate) fn parse_number(text: &[u8]) -> Option<(usize, &[u8])>
+    ensures { option_map (λ read. (read.0, read.1.now)) result ≡ spec.parse_number text.now }
 {
-    let (number, behind) = leading_number(text)?;
-    Some((number, behind.strip_prefix(b" ")?))
+    let (number, after) = leading_number(text)?;
+    Some((number, after.strip_prefix(b" ")?))
 }
 
 /// Parses the first word as a name, and returns it with the other words.
-#[tactic(auto, unfolding(crate::specs::Words::name_then))]
-pub(crate) fn name_then(text: &[u8]) -> Option<(&str, &[u8])>
-    ensures { option_map (λ read. (read.0.now, read.1.now)) result ≡ spec.name_then text.now }
+#[tactic(auto, unfolding(crate::specs::Words::parse_name))]
+pub(crate) fn parse_name(text: &[u8]) -> Option<(&str, &[u8])>
+    ensures { option_map (λ read. (read.0.now, read.1.now)) result ≡ spec.parse_name text.now }
 {
     let (word, rest) = split_space(text)?;
     Some((name_of(word)?, rest))
 }
 
 /// Strips the first word if it is this word, and returns the other words.
-#[tactic(auto, unfolding(crate::specs::Words::behind))]
-pub(crate) fn behind<'a>(word: &str, text: &'a [u8]) -> Option<&'a [u8]>
-    ensures { option_map (λ rest. rest.now) result ≡ spec.behind word.now text.now }
+#[tactic(auto, unfolding(crate::specs::Words::strip_word))]
+pub(crate) fn strip_word<'a>(word: &str, text: &'a [u8]) -> Option<&'a [u8]>
+    ensures { option_map (λ rest. rest.now) result ≡ spec.strip_word word.now text.now }
 {
     let (first, rest) = split_space(text)?;
     if is_word(first, word) {
@@ -62,10 +62,10 @@ pub(crate) fn behind<'a>(word: &str, text: &'a [u8]) -> Option<&'a [u8]>
 }
 
 /// Parses this word and a number after it, and returns the number with the other words.
-#[tactic(auto, unfolding(crate::specs::Words::number_behind))]
-pub(crate) fn number_behind<'a>(word: &str, text: &'a [u8]) -> Option<(usize, &'a [u8])>
+#[tactic(auto, unfolding(crate::specs::Words::parse_word_and_number))]
+pub(crate) fn parse_word_and_number<'a>(word: &str, text: &'a [u8]) -> Option<(usize, &'a [u8])>
     ensures { option_map (λ read. (read.0, read.1.now)) result
-        ≡ spec.number_behind word.now text.now }
+        ≡ spec.parse_word_and_number word.now text.now }
 {
-    number_then(behind(word, text)?)
+    parse_number(strip_word(word, text)?)
 }

@@ -8,7 +8,7 @@ use Rattle.job_bodies.specs.Plan.{Plan}
 use Rattle.job_bodies.specs.declared.fault.PlanFault.{PlanFault}
 use Rattle.plan_text.specs.PlanOf.{plan_of}
 use Rattle.conformance.specs.declared.comparison.Conformance.{Conformance}
-use Rattle.conformance.specs.declared.comparison.Conformance.TheVariants.{Bad, Compared}
+use Rattle.conformance.specs.declared.comparison.Conformance.TheVariants.{Invalid, Compared}
 use Rattle.conformance.specs.declared.finding.Finding.{Finding}
 use Rattle.job_bodies.specs.declared.limits.TheConstants.{MAX_RECORDED_BYTES}
 use Rattle.sizing_cli.specs.declared.status.Status.TheVariants.{Done, Refused, BadText, Undecided}
@@ -30,7 +30,7 @@ done_of_no_findings findings done = by_length (length findings == 0) refl done
 
 with_said : (input : List ℕ) (bundle : Bundle) (plan : Plan) → bundle_of input ≡ Some bundle → plan_of bundle.plan ≡ Ok plan → (said : Conformance)
     → IsSaidOf plan bundle.second said → (answer_of plan said).status ≡ Done → IsConformingInput input
-with_said input bundle plan is_bundle is_plan (Bad fault) said done = absurd cc
+with_said input bundle plan is_bundle is_plan (Invalid fault) said done = absurd cc
 with_said input bundle plan is_bundle is_plan (Compared findings) said done =
     let all = said.conforms (done_of_no_findings findings.items done) in
     record { bundle = bundle; is_bundle = is_bundle; plan = plan; is_plan = is_plan; no_fault = said.bad; conforms = all.0; valid = all.1 }

@@ -13,10 +13,10 @@ use Rattle.recordings.specs.Faults.{IsFirstFault}
 use Rattle.recordings.specs.FaultText.{fault_text}
 use Rattle.recordings.specs.declared.fault.RecordingFault.{RecordingFault}
 use Rattle.conformance.specs.declared.comparison.Conformance.{Conformance}
-use Rattle.conformance.specs.declared.comparison.Conformance.TheVariants.{Bad, Compared}
+use Rattle.conformance.specs.declared.comparison.Conformance.TheVariants.{Invalid, Compared}
 use Rattle.conformance.specs.declared.finding.Finding.{Finding}
 use Rattle.conformance.specs.declared.finding.Finding.TheVariants as finding
-use Rattle.conformance.specs.Conforms.{Conforms, IsNotVoid}
+use Rattle.conformance.specs.Conforms.{Conforms, HasNoInvalidation}
 use Rattle.conformance.specs.Findings.{AreFindingsOf}
 use Rattle.conformance.specs.FindingText.{findings_text}
 use Rattle.conformance.specs.Lines.{lines_of}
@@ -36,10 +36,10 @@ abbrev pub is_undecided : Finding → Bool
 is_undecided (finding.NotDecided actor name) = true
 is_undecided (finding.Pool deviation) = false
 is_undecided (finding.NotPlanned name) = false
-is_undecided (finding.Strays line stray) = false
+is_undecided (finding.PathMismatch line mismatch) = false
 is_undecided (finding.TooMany excess) = false
 is_undecided (finding.ForeignGet get name) = false
-is_undecided (finding.Void void) = false
+is_undecided (finding.Invalidation void) = false
 
 -- the status is a no if any finding is more than undecided
 abbrev pub status_of : List Finding → Status
@@ -52,13 +52,13 @@ abbrev pub findings_answer : Plan → List Finding → Answer
 findings_answer plan findings = record { text = told_text plan findings; status = status_of findings }
 
 abbrev pub answer_of : Plan → Conformance → Answer
-answer_of plan (Bad found) = bad_recording found
+answer_of plan (Invalid found) = bad_recording found
 answer_of plan (Compared findings) = findings_answer plan findings.items
 
 -- ---- the findings
 -- if there are no findings, the recording conforms and no line of it invalidates that result
 abbrev pub AreAllFindings : Plan → List ℕ → List Finding → Type 0
-AreAllFindings plan recording findings = findings ≡ [] → Conforms plan (lines_of recording) × IsNotVoid (lines_of recording)
+AreAllFindings plan recording findings = findings ≡ [] → Conforms plan (lines_of recording) × HasNoInvalidation (lines_of recording)
 
 -- either the recording's first malformed line; or, if it has none, all findings, each once, in the order of the lines
 pub record IsSaidOf (plan : Plan) (recording : List ℕ) (said : Conformance) : Type 0 where
@@ -94,4 +94,4 @@ pub record IsConformingInput (input : List ℕ) : Type 0 where
   pub is_plan : plan_of bundle.plan ≡ Ok plan
   pub no_fault : IsFirstFault (lines_read bundle.second) None
   pub conforms : Conforms plan (lines_of bundle.second)
-  pub valid : IsNotVoid (lines_of bundle.second)
+  pub valid : HasNoInvalidation (lines_of bundle.second)

@@ -15,13 +15,13 @@ use Rattle.conformance.specs.FindingText.{finding_line}
 use Rattle.conformance.specs.Lines.{lines_of}
 use Rattle.conformance.specs.Outcome.{AreInOrder}
 use Rattle.learning.specs.Counts.{AreCounted}
-use Rattle.learning.specs.Pools.{pools_seen}
+use Rattle.learning.specs.Pools.{recorded_pools}
 use Rattle.learning.specs.Names.{IsNamedClass, IsNamedClient}
-use Rattle.learning.specs.TooMuch.{IsReason, too_much_text}
+use Rattle.learning.specs.InferenceLimit.{IsReason, inference_limit_text}
 use Rattle.learning.specs.Unfinished.{unfinished_rounds, unfinished_jobs}
-use Rattle.learning.specs.declared.learned.SeenPlan.{SeenPlan}
-use Rattle.learning.specs.declared.too_much.TooMuch.{TooMuch}
-use Rattle.learning.specs.declared.too_much.TooMuch.TheVariants.{Paths, Text}
+use Rattle.learning.specs.declared.inference_result.InferredPlan.{InferredPlan}
+use Rattle.learning.specs.declared.inference_limit.InferenceLimit.{InferenceLimit}
+use Rattle.learning.specs.declared.inference_limit.InferenceLimit.TheVariants.{Paths, Text}
 use Rattle.job_bodies.specs.declared.limits.TheConstants.{MAX_PATH_STEPS, MAX_RECORDED_BYTES}
 use Rattle.sizing_cli.specs.declared.status.Status.TheVariants.{Done, Refused}
 use Rattle.sizing_cli.specs.Answer.{Answer, input_too_long}
@@ -42,7 +42,7 @@ unfinished_comment rounds jobs =
     if nat_eq rounds 0 && nat_eq jobs 0 then [] else
     (codes "# Not at their ends yet. Rounds: " ++ (decimal rounds ++ (codes ". Jobs: " ++ (decimal jobs ++ (codes ". What they wait for, and what comes behind it, is not here." ++ 10 ∷ [])))))
 
-abbrev pub head_comment : SeenPlan → List ℕ
+abbrev pub head_comment : InferredPlan → List ℕ
 head_comment seen = seen_comment seen.rounds seen.jobs ++ (not_taken_comment ++ unfinished_comment seen.unfinished_rounds seen.unfinished_jobs)
 
 -- the comment for a finding that the recording has and the plan does not contain
@@ -55,8 +55,8 @@ comments plan findings = flat_map (comment_line plan) findings
 -- ---- the answers
 -- the plan's pools and client counts are those of the lines, and these are the numbers of rounds and jobs, and of the
 -- unfinished ones
-pub record IsSeen (lines : List RecordedLine) (seen : SeenPlan) : Type 0 where
-  pub pools : seen.plan.pools ≡ pools_seen lines
+pub record IsSeen (lines : List RecordedLine) (seen : InferredPlan) : Type 0 where
+  pub pools : seen.plan.pools ≡ recorded_pools lines
   pub counts : AreCounted lines seen.plan.clients
   pub classes : All (IsNamedClass lines) seen.plan.classes
   pub clients : All (IsNamedClient lines) seen.plan.clients
@@ -66,7 +66,7 @@ pub record IsSeen (lines : List RecordedLine) (seen : SeenPlan) : Type 0 where
   pub unfinished_jobs : seen.unfinished_jobs ≡ unfinished_jobs lines
 
 -- The text is this plan's. Comments at its head give the extent of the recording and each finding.
-pub record IsTextOf (seen : SeenPlan) (findings : List Finding) (text : List ℕ) : Type 0 where
+pub record IsTextOf (seen : InferredPlan) (findings : List Finding) (text : List ℕ) : Type 0 where
   pub is_plan : plan_of text ≡ Ok seen.plan
   pub written : List ℕ
   pub is_written : IsPlanText seen.plan written
@@ -76,7 +76,7 @@ pub record IsTextOf (seen : SeenPlan) (findings : List Finding) (text : List ℕ
 -- seen at once. The jobs and the rounds follow its bodies, and it has enough clients. Every other finding is in a comment at
 -- its head, in the order of the recording's lines. If there is none, the recording conforms to the plan.
 pub record IsLearnedText (recording text : List ℕ) : Type 0 where
-  pub seen : SeenPlan
+  pub seen : InferredPlan
   pub is_seen : IsSeen (lines_of recording) seen
   pub findings : List Finding
   pub found : AreFindingsOf seen.plan MAX_PATH_STEPS (lines_of recording) findings
@@ -91,14 +91,14 @@ pub record IsLearned (recording : List ℕ) (answer : Answer) : Type 0 where
   pub learned : IsLearnedText recording answer.text
   pub status : answer.status ≡ Done
 
-abbrev pub not_learned : TooMuch → Answer
-not_learned reason = record { text = codes "no plan was learned: " ++ too_much_text reason ++ 10 ∷ []; status = Refused }
+abbrev pub not_learned : InferenceLimit → Answer
+not_learned reason = record { text = codes "no plan was learned: " ++ inference_limit_text reason ++ 10 ∷ []; status = Refused }
 
 -- no conforming plan was found: for a reason that the lines give, or because the inferred plan does not conform, or because
 -- the plan's text is too long
 pub record IsNotLearned (recording : List ℕ) (answer : Answer) : Type 0 where
   pub no_fault : IsFirstFault (lines_read recording) None
-  pub reason : TooMuch
+  pub reason : InferenceLimit
   pub because : (reason ≡ Text) ⊎ ((reason ≡ Paths) ⊎ IsReason (lines_of recording) reason)
   pub answer_is : answer ≡ not_learned reason
 

@@ -38,7 +38,7 @@ fn compared(alloc: Global, plan: &Plan, recording: &[u8]) -> Result<Answer, Allo
     ensures { IfOk result (spec.AnswersRecording plan.now recording.now) }
 {
     match conform(alloc, plan, recording, MAX_PATH_STEPS)? {
-        Conformance::Bad(fault) => bad_recording(alloc, fault),
+        Conformance::Invalid(fault) => bad_recording(alloc, fault),
         Conformance::Compared(findings) => findings_told(alloc, plan, &findings),
     }
 }

@@ -16,7 +16,7 @@ use crate::answer::{Answer, bad_recording, input_too_long};
 use crate::texts::plan_in;
 use conformance::{Conformance, Finding, conform, push_finding};
 use job_bodies::{MAX_PATH_STEPS, MAX_PLAN_BYTES, MAX_RECORDED_BYTES, Plan};
-use learning::{Extent, Learned, START_BYTES, SeenPlan, TooMuch, learn};
+use learning::{Extent, InferenceResult, START_BYTES, InferredPlan, InferenceLimit, learn};
 use plan_text::write_plan;
 use std::alloc::{AllocError, Global};
 
@@ -48,9 +48,9 @@ fn told_by_start(alloc: Global, recording: &[u8]) -> Result<Option<Answer>, Allo
     ensures { IfOk result (λ found. IfSome found (spec.AnswersLines recording.now)) }
 {
     match learn(alloc, recording, Extent::Start, MAX_PATH_STEPS)? {
-        Learned::Bad(fault) => Ok(Some(bad_recording(alloc, fault)?)),
-        Learned::TooMuch(_) => Ok(None),
-        Learned::Seen(seen) => seen_told(alloc, recording, &seen),
+        InferenceResult::Invalid(fault) => Ok(Some(bad_recording(alloc, fault)?)),
+        InferenceResult::InferenceLimit(_) => Ok(None),
+        InferenceResult::Inferred(seen) => seen_told(alloc, recording, &seen),
     }
 }
 
@@ -59,11 +59,11 @@ fn told_by_all(alloc: Global, recording: &[u8]) -> Result<Answer, AllocError>
     ensures { IfOk result (spec.AnswersLines recording.now) }
 {
     match learn(alloc, recording, Extent::Whole, MAX_PATH_STEPS)? {
-        Learned::Bad(fault) => bad_recording(alloc, fault),
-        Learned::TooMuch(reason) => not_learned(alloc, reason),
-        Learned::Seen(seen) => match seen_told(alloc, recording, &seen)? {
+        InferenceResult::Invalid(fault) => bad_recording(alloc, fault),
+        InferenceResult::InferenceLimit(reason) => not_learned(alloc, reason),
+        InferenceResult::Inferred(seen) => match seen_told(alloc, recording, &seen)? {
             Some(answer) => Ok(answer),
-            None => not_learned(alloc, TooMuch::Paths),
+            None => not_learned(alloc, InferenceLimit::Paths),
         },
     }
 }
@@ -71,7 +71,7 @@ fn told_by_all(alloc: Global, recording: &[u8]) -> Result<Answer, AllocError>
 /// Writes the inferred plan. Comments at its head list what the recording shows beyond it. Returns
 /// `None` if a job or a round did not follow its body, or if there are more rounds of a kind than
 /// the plan allows.
-fn seen_told(alloc: Global, recording: &[u8], seen: &SeenPlan) -> Result<Option<Answer>, AllocError>
+fn seen_told(alloc: Global, recording: &[u8], seen: &InferredPlan) -> Result<Option<Answer>, AllocError>
     requires no_fault { IsFirstFault (lines_read recording.now) None }
     requires seen { spec.IsSeen (lines_of recording.now) seen.now }
     ensures { IfOk result (λ found. IfSome found (spec.AnswersLines recording.now)) }
@@ -88,7 +88,7 @@ fn seen_told(alloc: Global, recording: &[u8], seen: &SeenPlan) -> Result<Option<
             text,
             status: Status::Done,
         })),
-        None => Ok(Some(not_learned(alloc, TooMuch::Text)?)),
+        None => Ok(Some(not_learned(alloc, InferenceLimit::Text)?)),
     }
 }
 
@@ -96,7 +96,7 @@ fn seen_told(alloc: Global, recording: &[u8], seen: &SeenPlan) -> Result<Option<
 /// Returns `None` if that text is too long or does not read back as the plan.
 fn seen_text(
     alloc: Global,
-    seen: &SeenPlan,
+    seen: &InferredPlan,
     findings: &[Finding],
 ) -> Result<Option<String>, AllocError>
     ensures { IfOk result
@@ -129,7 +129,7 @@ fn reads_as(alloc: Global, text: &[u8], written: &[u8]) -> Result<bool, AllocErr
 }
 
 /// Returns the comments at the head of a plan.
-fn head_of(alloc: Global, seen: &SeenPlan, findings: &[Finding]) -> Result<String, AllocError>
+fn head_of(alloc: Global, seen: &InferredPlan, findings: &[Finding]) -> Result<String, AllocError>
     ensures { IfOk result (λ text.
         string_bytes text
         ≡ spec.head_comment seen.now ++ spec.comments seen.now.plan findings.now) }
@@ -141,7 +141,7 @@ fn head_of(alloc: Global, seen: &SeenPlan, findings: &[Finding]) -> Result<Strin
 }
 
 /// Appends the comments about the extent of the recording and about what the plan does not contain.
-fn push_head(text: &mut String, seen: &SeenPlan) -> Result<(), AllocError>
+fn push_head(text: &mut String, seen: &InferredPlan) -> Result<(), AllocError>
     ensures { Pushes result text.old text.new (spec.head_comment seen.now) }
 {
     push_seen(text, seen.rounds, seen.jobs)?;
@@ -205,11 +205,11 @@ fn is_of_actors(finding: &Finding) -> bool
 {
     !matches!(
         finding,
-        Finding::Pool(_) | Finding::ForeignGet { .. } | Finding::Void(_)
+        Finding::Pool(_) | Finding::ForeignGet { .. } | Finding::Invalidation(_)
     )
 }
 
-fn not_learned(alloc: Global, reason: TooMuch) -> Result<Answer, AllocError>
+fn not_learned(alloc: Global, reason: InferenceLimit) -> Result<Answer, AllocError>
     ensures { IfOk result (λ answer. (answer ≡ spec.not_learned reason)) }
 {
     Ok(Answer {

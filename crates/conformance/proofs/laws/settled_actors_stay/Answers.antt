@@ -1,6 +1,6 @@
-use Rattle.conformance.proofs.Later.{jobs_are_later}
-use Rattle.conformance.proofs.Through.{stays}
-use Rattle.conformance.proofs.Stays.{classes_stay, kinds_stay}
+use Rattle.conformance.proofs.LaterJobs.{jobs_are_later}
+use Rattle.conformance.proofs.EndedActors.{stays}
+use Rattle.conformance.proofs.SettledClassesStay.{classes_stay, kinds_stay}
 use Rattle.conformance.proofs.laws.settled_actors_stay.Goals as goal
 
 pub returns-clause-paths : goal.returns-clause-paths

@@ -1,7 +1,7 @@
 use Rattle.std.proofs.Common.{map, string_bytes, arith}
 use Rattle.std.proofs.lemmas.List.{length-map}
 use Rattle.learning.specs.declared.entries.Entry.{Entry}
-use Rattle.learning.specs.Kept.{names_of}
+use Rattle.learning.specs.LearningState.{names_of}
 use Rattle.learning.proofs.LabelRounds.{same_lists}
 use Rattle.learning.proofs.label_rounds.are_named.Goals as goal
 

@@ -1,5 +1,5 @@
 use Rattle.std.proofs.Common.{◌≡◌, ◌<◌, ℕ, map, slice_get, string_bytes}
-use Rattle.learning.specs.Kept.{names_of}
+use Rattle.learning.specs.LearningState.{names_of}
 use Rattle.learning.proofs.label_rounds.are_named.Given as goal
 
 abbrev pub invariant-loop-number : goal.invariant-loop-number

@@ -10,6 +10,6 @@ returns c =
     lawful_name name (omega arith) c.if-name-gt-MAX_NAME_BYTES.false (omega arith) (omega arith) (rw c.split_at.ensures.front c.count_name_bytes.ensures.names)
     in (
       rw c.name_text.ensures good,
-      name_there c.args.text.now c.name_text.result.now c.in_ok-behind_byte.field-0.now c.count_name_bytes.result c.args.end (c.name_text.ensures ∙ c.split_at.ensures.front)
-          (sym c.split_at.ensures.back ∙ c.in_ok-behind_byte.ensures),
+      name_there c.args.text.now c.name_text.result.now c.in_ok-strip_byte.field-0.now c.count_name_bytes.result c.args.end (c.name_text.ensures ∙ c.split_at.ensures.front)
+          (sym c.split_at.ensures.back ∙ c.in_ok-strip_byte.ensures),
     )

@@ -27,5 +27,5 @@ returns c =
     let first : (get_or text 0 0 == 48) ≡ false = grind (arith, nat_tests) in
     let inside : count ≤ length text = omega arith in
     let few : count ≤ 9 = omega arith in
-    number_there text count c.loop-count.number c.args.end c.in_ok-behind_byte.field-0.now c.loop-count.invariant.some inside few first c.loop-count.invariant.digits c.loop-count.invariant.read
-    c.loop-count.invariant.small (sym (take_rest text count) ∙ c.in_ok-behind_byte.ensures)
+    number_there text count c.loop-count.number c.args.end c.in_ok-strip_byte.field-0.now c.loop-count.invariant.some inside few first c.loop-count.invariant.digits c.loop-count.invariant.read
+    c.loop-count.invariant.small (sym (take_rest text count) ∙ c.in_ok-strip_byte.ensures)

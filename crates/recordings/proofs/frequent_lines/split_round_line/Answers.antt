@@ -7,7 +7,7 @@ returns-in-98 c =
     let words = c.args.words.now in
     let rest : List ℕ = take (length words - 6) (drop 6 words) in
     let is : words ≡ codes "begin" ++ 32 ∷ rest = begins_with words (codes "begin" ++ 32 ∷ []) c.in-98.len_at_least (search rules) in
-    round_begins c.args.round words rest c.in_ok-kind.kind.now c.in_ok-kind.behind.now c.requires is c.in_ok-kind.ensures.0 c.in_ok-kind.ensures.1
+    round_begins c.args.round words rest c.in_ok-kind.kind.now c.in_ok-kind.after.now c.requires is c.in_ok-kind.ensures.0 c.in_ok-kind.ensures.1
 
 pub returns-in-101 : goal.returns-in-101
 returns-in-101 c =

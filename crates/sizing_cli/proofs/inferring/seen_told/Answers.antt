@@ -1,5 +1,5 @@
 use Rattle.std.proofs.Common.{inl, inr, refl}
-use Rattle.learning.specs.declared.too_much.TooMuch.TheVariants.{Text}
+use Rattle.learning.specs.declared.inference_limit.InferenceLimit.TheVariants.{Text}
 use Rattle.sizing_cli.proofs.inferring.seen_told.Goals as goal
 
 pub returns : goal.returns

@@ -1,9 +1,9 @@
 use Rattle.std.proofs.Common.{◌≡◌, inl, inr, refl, subst, None}
 use Rattle.recordings.specs.RecordingLine.{lines_read}
 use Rattle.recordings.specs.Faults.{IsFirstFault}
-use Rattle.learning.specs.declared.learned.Learned.{Learned}
-use Rattle.learning.specs.declared.too_much.TooMuch.TheVariants.{Paths}
-use Rattle.learning.specs.Learned.{fault_of}
+use Rattle.learning.specs.declared.inference_result.InferenceResult.{InferenceResult}
+use Rattle.learning.specs.declared.inference_limit.InferenceLimit.TheVariants.{Paths}
+use Rattle.learning.specs.InferenceResult.{fault_of}
 use Rattle.sizing_cli.specs.Answer.{Answer}
 use Rattle.sizing_cli.specs.Learn.{AnswersLines, not_learned}
 use Rattle.sizing_cli.proofs.Answering.{if_ok_map}
@@ -12,6 +12,6 @@ use Rattle.sizing_cli.proofs.inferring.told_by_all.Goals as goal
 pub returns : goal.returns
 returns c =
     let lines = lines_read c.args.recording.now in
-    let no_fault : IsFirstFault lines None = subst (λ (told : Learned). IsFirstFault lines (fault_of told)) c.in-Seen.is c.in_ok-fault.ensures.bad in
+    let no_fault : IsFirstFault lines None = subst (λ (told : InferenceResult). IsFirstFault lines (fault_of told)) c.in-Inferred.is c.in_ok-fault.ensures.bad in
     if_ok_map c.not_learned-in-None.result (λ (answer : Answer). answer ≡ not_learned Paths) (AnswersLines c.args.recording.now)
     (λ answer is. inr (inl (record { no_fault = no_fault; reason = Paths; because = inr (inl refl); answer_is = is }))) c.not_learned-in-None.ensures

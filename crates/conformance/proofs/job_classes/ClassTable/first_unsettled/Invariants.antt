@@ -1,5 +1,5 @@
 use Rattle.std.proofs.Common.{length, ◌-◌, ◌≤◌}
-use Rattle.conformance.specs.Kept.{AreSettledBefore}
+use Rattle.conformance.specs.ActorTables.{AreSettledBefore}
 use Rattle.conformance.proofs.job_classes.ClassTable.first_unsettled.Given as goal
 
 abbrev pub invariant-loop-place : goal.invariant-loop-place

@@ -1,4 +1,4 @@
-use Rattle.conformance.proofs.OtherKindsTold.{none_other}
+use Rattle.conformance.proofs.OtherKindResults.{none_other}
 use Rattle.conformance.proofs.other_kinds.OtherKinds.new.Goals as goal
 
 pub returns : goal.returns

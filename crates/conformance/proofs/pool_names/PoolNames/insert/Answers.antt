@@ -7,5 +7,5 @@ use Rattle.conformance.proofs.pool_names.PoolNames.insert.Goals as goal
 pub returns-in_ok-insert : goal.returns-in_ok-insert
 returns-in_ok-insert c = λ q.
     let key = c.in_ok-name.name in
-    let told = hash_set_updates_text (string_bytes key) c.args.self.now.names c.insert.new.self true c.in_ok-insert.ensures.updates q in
+    let reported = hash_set_updates_text (string_bytes key) c.args.self.now.names c.insert.new.self true c.in_ok-insert.ensures.updates q in
     grind (arith, common_steps)

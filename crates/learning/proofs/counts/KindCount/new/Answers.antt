@@ -1,4 +1,4 @@
-use Rattle.learning.proofs.Tallies.{none_counted}
+use Rattle.learning.proofs.RoundCounts.{none_counted}
 use Rattle.learning.proofs.counts.KindCount.new.Goals as goal
 
 pub returns : goal.returns

@@ -3,8 +3,8 @@ use Rattle.std.specs.List.{All}
 use Rattle.std.proofs.lemmas.List.Elements.{All-push}
 use Rattle.job_bodies.specs.declared.limits.TheConstants.{MAX_CLASSES}
 use Rattle.conformance.specs.Family.{IsOfFamily}
-use Rattle.learning.specs.Kept.{IsEntryOf, IsGiven}
-use Rattle.learning.proofs.Entered.{no_name, still_stops}
+use Rattle.learning.specs.LearningState.{IsEntryOf, IsGiven}
+use Rattle.learning.proofs.LabelEntries.{no_name, still_stops}
 use Rattle.learning.proofs.entries.Entries.add.Goals as goal
 
 pub returns-in_err-name-clause-err : goal.returns-in_err-name-clause-err
@@ -21,5 +21,5 @@ returns-clause-ok c = λ lines beyond given entries.
         named = subst (λ label. IsOfFamily label (string_bytes c.in_ok-name.name)) (sym c.in_ok-label.ensures.ok) (c.in_ok-name.ensures.ok few);
       }));
       few = grind (arith, c.in_ok-push.ensures.limit, entries.few);
-      told = grind (arith, c.in_ok-push.ensures.beyond, entries.told);
+      reported = grind (arith, c.in_ok-push.ensures.beyond, entries.reported);
     }

@@ -5,7 +5,7 @@ pub returns : goal.returns
 returns c = record {
   kinds = [];
   begun = refl;
-  about = λ round kind there. absurd (grind (arith, there, c.new-2.ensures.values round));
+  open_labels = λ round kind there. absurd (grind (arith, there, c.new-2.ensures.values round));
   counts = λ more. c.in_ok-counts.ensures (slice_get more);
   of_kinds = λ more names. search rules;
 }

@@ -12,5 +12,5 @@ pub returns-in_ok-insert-clause-added : goal.returns-in_ok-insert-clause-added
 returns-in_ok-insert-clause-added c = λ q.
     let old = c.args.self.now in
     let kept = c.in_ok-kept.kept in
-    let told = hash_set_updates_text (string_bytes kept) old.others c.insert.new.self true c.in_ok-insert.ensures.updates q in
-    named_other (is_name q (value_at old.firsts (number_of q))) (contains_text old.others q) (bytes_eq c.args.name.now q) (contains_text c.insert.new.self q) (told ∙ ap (λ (bs : _). cond (bytes_eq bs q) true (contains_text old.others q)) c.in_ok-kept.ensures.ok)
+    let reported = hash_set_updates_text (string_bytes kept) old.others c.insert.new.self true c.in_ok-insert.ensures.updates q in
+    named_other (is_name q (value_at old.firsts (number_of q))) (contains_text old.others q) (bytes_eq c.args.name.now q) (contains_text c.insert.new.self q) (reported ∙ ap (λ (bs : _). cond (bytes_eq bs q) true (contains_text old.others q)) c.in_ok-kept.ensures.ok)

@@ -1,0 +1,24 @@
+use Rattle.std.proofs.Common.{◌++◌, List, map, filter, ap, ◌∙◌}
+use Rattle.conformance.specs.declared.round_comparison.RoundExcess.{RoundExcess}
+use Rattle.recordings.specs.Invalidations.{invalidations_of}
+use Rattle.conformance.specs.declared.finding.Finding.{Finding}
+use Rattle.conformance.specs.declared.finding.Finding.TheVariants as finding
+use Rattle.conformance.specs.CollectedFindings as made
+use Rattle.conformance.specs.Lines.{lines_of}
+use Rattle.conformance.proofs.collect_findings.collect_findings.Goals as goal
+
+pub returns : goal.returns
+returns c = λ so.
+    let survey = c.args.survey in
+    let actor_survey = c.in_ok-push_actor_survey.ensures in
+    let noted = c.in_ok-push_notes.ensures so in
+    let a1 = c.in_ok-push_plan_differences.ensures ∙ ap (λ (xs : List Finding). xs ++ map finding.Pool survey.line_survey.deviations.items ++ map finding.NotPlanned survey.line_survey.unplanned.found.items) c.new-findings.ensures.items in
+    let a2 = actor_survey.after ∙ ap (λ (xs : List Finding). xs ++ actor_survey.mismatches ++ map made.not_decided survey.actor_survey.verdicts.undecided.actors.items) a1 in
+    let a3 = c.in_ok-push_excesses.ensures ∙ (ap (λ (xs : List RoundExcess). c.push_actor_survey.new.findings.items ++ map finding.TooMany xs) c.deref.ensures.value ∙ ap (λ (xs : List Finding). xs ++ map finding.TooMany c.args.excesses.items) a2) in
+    record {
+      mismatches = actor_survey.mismatches;
+      foreign = noted.foreign;
+      mismatches_so = actor_survey.mismatches_so;
+      foreign_so = noted.foreign_so;
+      all = noted.after ∙ ap (λ (xs : List Finding). xs ++ noted.foreign ++ map finding.Invalidation (filter made.is_path_independent (invalidations_of (lines_of c.args.recording.now)))) a3;
+    }

@@ -1,0 +1,6 @@
+use Rattle.std.proofs.Common.{◌≡◌, ◌++◌, map}
+use Rattle.conformance.specs.CollectedFindings as spec
+use Rattle.conformance.proofs.collect_findings.push_undecided.Given as goal
+
+abbrev pub invariant-loop-reported : goal.invariant-loop-reported
+invariant-loop-reported l = l.findings.items ≡ l.initial.findings.items ++ map spec.not_decided l.yielded

@@ -1,0 +1,83 @@
+-- The first deviating step of an actor.
+use Rattle.std.specs.Prelude.{◌≡◌, ℕ, zero, suc, Bool, true, false, List, slice_get, string_bytes, option_map, Option, Some, None}
+use Rattle.std.specs.Option.{option_and_then}
+use Rattle.std.specs.declared.alloc.Global.{Global}
+use Rattle.std.specs.declared.string.String.{String}
+use Rattle.recordings.specs.RecordingLine.{RecordedLine}
+use Rattle.recordings.specs.declared.recording_line.RecordedActor.TheVariants.{Job}
+use Rattle.recordings.specs.declared.recording_line.RecordedActor.{RecordedActor}
+use Rattle.recordings.specs.declared.step.RecordedStep.{RecordedStep}
+use Rattle.recordings.specs.declared.step.RecordedStep.TheVariants as recorded
+use Rattle.conformance.specs.declared.classified_actor.ClassifiedActor.{ClassifiedActor}
+use Rattle.conformance.specs.declared.describe_mismatch.JobStep.{JobStep}
+use Rattle.conformance.specs.declared.describe_mismatch.JobStep.TheVariants as step
+use Rattle.conformance.specs.declared.mismatch.NamedStep.{NamedStep}
+use Rattle.conformance.specs.declared.mismatch.NamedStep.TheVariants as named
+use Rattle.conformance.specs.declared.mismatch.PathMismatch.{PathMismatch}
+use Rattle.conformance.specs.declared.mismatch.DeviatingStep.{DeviatingStep}
+use Rattle.conformance.specs.declared.mismatch.DeviatingStep.TheVariants as mismatch
+use Rattle.conformance.specs.declared.line_query.LineQuery.{LineQuery}
+use Rattle.conformance.specs.declared.line_query.LineQuery.TheVariants as line_query
+use Rattle.conformance.specs.LineQuery.{IsFirstLine, IsLabelOf}
+
+-- ---- one step of a path
+abbrev pub got_by : RecordedStep → Option JobStep
+got_by (recorded.Submits job) = Some (step.Gets job)
+got_by (recorded.Gets place) = None
+
+-- The get of the job that the submit at this index made.
+abbrev pub got_at : List RecordedStep → ℕ → Option JobStep
+got_at path submit = option_and_then got_by (slice_get path submit)
+
+abbrev pub job_step_of : List RecordedStep → RecordedStep → Option JobStep
+job_step_of path (recorded.Submits job) = Some (step.Submits job)
+job_step_of path (recorded.Gets submit) = got_at path submit
+
+-- The step at an index, or `None` past the end.
+abbrev pub step_at : List RecordedStep → ℕ → Option JobStep
+step_at path place = option_and_then (job_step_of path) (slice_get path place)
+
+-- The line of the step or, without a step, that of the actor's end.
+abbrev pub line_query_of : RecordedActor → Option JobStep → LineQuery
+line_query_of actor None = line_query.Last actor
+line_query_of actor (Some (step.Submits job)) = line_query.Submit job
+line_query_of actor (Some (step.Gets job)) = line_query.Got actor job
+
+-- The step before an index, or `None` at the start.
+abbrev pub step_before : List RecordedStep → ℕ → Option JobStep
+step_before path zero = None
+step_before path (suc place) = step_at path place
+
+-- ---- what is reported
+-- The step, with the class that the submit of its job names.
+pub data IsNamedStep (lines : List RecordedLine) : JobStep → NamedStep → Type 0 where
+  submitted : (job : ℕ) (class : String Global) → IsLabelOf lines (Job job) (string_bytes class) → IsNamedStep lines (step.Submits job) (named.Submits class)
+  got : (job : ℕ) (class : String Global) → IsLabelOf lines (Job job) (string_bytes class) → IsNamedStep lines (step.Gets job) (named.Gets class)
+
+pub data IsNamed (lines : List RecordedLine) : Option JobStep → Option NamedStep → Type 0 where
+  nothing : IsNamed lines None None
+  something : (did : JobStep) (name : NamedStep) → IsNamedStep lines did name → IsNamed lines (Some did) (Some name)
+
+-- The first deviating step: the actor's end, the submit of a job whose own path matches no class, or any other step.
+pub data IsDeviatingStep (lines : List RecordedLine) (is_classless : ℕ → Bool) : Option JobStep → DeviatingStep → Type 0 where
+  ends : IsDeviatingStep lines is_classless None mismatch.Ends
+  submits_mismatch : (job : ℕ) (class : String Global) → is_classless job ≡ true → IsLabelOf lines (Job job) (string_bytes class)
+      → IsDeviatingStep lines is_classless (Some (step.Submits job)) (mismatch.SubmitsMismatched job class)
+  submits : (job : ℕ) (name : NamedStep) → is_classless job ≡ false → IsNamedStep lines (step.Submits job) name
+      → IsDeviatingStep lines is_classless (Some (step.Submits job)) (mismatch.PathStep name)
+  gets : (job : ℕ) (name : NamedStep) → IsNamedStep lines (step.Gets job) name
+      → IsDeviatingStep lines is_classless (Some (step.Gets job)) (mismatch.PathStep name)
+
+abbrev pub number_seen : Option (ℕ × RecordedLine) → Option ℕ
+number_seen found = option_map (λ (number, line). number) found
+
+-- The description of an actor: its label, the step after the longest prefix of its path that a body explains, the line of
+-- that step, and the last step of the prefix.
+pub record IsDescriptionOf (lines : List RecordedLine) (is_classless : ℕ → Bool) (reported : ClassifiedActor) (number : Option ℕ) (found : PathMismatch) : Type 0 where
+  pub actor_is : found.actor ≡ reported.actor
+  pub label_is : string_bytes found.label ≡ string_bytes reported.label
+  pub line : Option (ℕ × RecordedLine)
+  pub first : IsFirstLine lines (line_query_of reported.actor (step_at reported.path.items reported.family.explained)) line
+  pub number_is : number ≡ number_seen line
+  pub did : IsDeviatingStep lines is_classless (step_at reported.path.items reported.family.explained) found.step
+  pub after : IsNamed lines (step_before reported.path.items reported.family.explained) found.after

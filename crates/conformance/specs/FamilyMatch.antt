@@ -1,0 +1,50 @@
+-- The members of a family whose bodies a path matches, and how much of the path the bodies explain.
+use Rattle.std.specs.Prelude.{◌≡◌, ◌≤◌, ◌<◌, ◌↔◌, ℕ, ◌+◌, ◌*◌, ◌^◌, List, length, take, map, All, Any, Contains}
+use Rattle.job_bodies.specs.declared.action.Action.{Action}
+use Rattle.job_bodies.specs.Plan.{Plan, class_at, client_at}
+use Rattle.conformance.specs.declared.step.PathStep.{PathStep}
+use Rattle.conformance.specs.declared.step.PathState.{PathState}
+use Rattle.conformance.specs.declared.step.PathState.TheVariants.{Prefix}
+use Rattle.conformance.specs.Path.{IsPathOf}
+use Rattle.conformance.specs.StepBudget.{submit_count}
+use Rattle.conformance.specs.Family.{class_family, client_family}
+
+-- ---- one class, or one client kind
+abbrev pub class_body : Plan → ℕ → List Action
+class_body plan class = (class_at plan class).body
+
+abbrev pub client_body : Plan → ℕ → List Action
+client_body plan client = (client_at plan client).body
+
+-- The class is of the family, and the path matches its body.
+pub record IsClassOf (plan : Plan) (label pool : List ℕ) (path_state : PathState) (path : List PathStep) (class : ℕ) : Type 0 where
+  pub among : Contains (class_family plan label pool) class
+  pub path_of : IsPathOf path_state (class_body plan class) path
+
+-- The kind is of the family, and the path matches its body.
+pub record IsKindOf (plan : Plan) (label : List ℕ) (path_state : PathState) (path : List PathStep) (kind : ℕ) : Type 0 where
+  pub among : Contains (client_family plan label) kind
+  pub path_of : IsPathOf path_state (client_body plan kind) path
+
+-- The list has exactly the numbers that satisfy `IsOne`.
+abbrev pub AreExactly : (ℕ → Type 0) → List ℕ → Type 0
+AreExactly IsOne numbers = (n : ℕ) → Contains numbers n ↔ IsOne n
+
+-- ---- all bodies of a family
+abbrev pub class_bodies : Plan → List ℕ → List ℕ → List (List Action)
+class_bodies plan label pool = map (class_body plan) (class_family plan label pool)
+
+abbrev pub client_bodies : Plan → List ℕ → List (List Action)
+client_bodies plan label = map (client_body plan) (client_family plan label)
+
+-- `explained` is the length of the longest prefix of the path that begins a path of one of these bodies, or 0 if there are
+-- no bodies.
+pub record IsMostExplained (bodies : List (List Action)) (path : List PathStep) (explained : ℕ) : Type 0 where
+  pub within : explained ≤ length path
+  pub front : 0 < length bodies → Any (λ body. IsPathOf Prefix body (take explained path)) bodies
+  pub longest : (more : ℕ) → explained < more → more ≤ length path → All (λ body. ¬ IsPathOf Prefix body (take more path)) bodies
+  pub none : length bodies ≡ 0 → explained ≡ 0
+
+-- The budget is enough for any path, as for `match_path`.
+abbrev pub IsEnoughFor : ℕ → List Action → Type 0
+IsEnoughFor budget body = (length body + 1) * 2 ^ submit_count body ≤ budget

@@ -1,0 +1,70 @@
+-- A search for the first line of a recording that meets a condition.
+use Rattle.std.specs.Prelude.{◌≡◌, ◌+◌, ℕ, Bool, false, true, List, [], slice_get, take, Option, Some, None}
+use Rattle.std.specs.List.{list_any}
+use Rattle.recordings.specs.declared.recording_line.RecordedActor.{RecordedActor}
+use Rattle.recordings.specs.declared.recording_line.RecordedActor.TheVariants.{Job, Round}
+use Rattle.recordings.specs.declared.recording_line.Line.{Line}
+use Rattle.recordings.specs.RecordingLine.{RecordedLine, Submits, RoundBegins, line_view}
+use Rattle.recordings.specs.LineParts as parts
+use Rattle.recordings.specs.LineParts.{submits_job, begins_round, ends_round, finishes_job}
+use Rattle.recordings.specs.LineSteps.{gets_by}
+use Rattle.conformance.specs.declared.line_query.LineQuery.{LineQuery}
+use Rattle.conformance.specs.declared.line_query.LineQuery.TheVariants as line_query
+
+abbrev pub is_same_actor : RecordedActor → RecordedActor → Bool
+is_same_actor one other = parts.is_same_actor one other
+
+-- The last line of the actor.
+abbrev pub is_last : RecordedActor → RecordedLine → Bool
+is_last (Job job) line = finishes_job job line
+is_last (Round round) line = ends_round round line
+
+abbrev pub is_match : LineQuery → RecordedLine → Bool
+is_match (line_query.Submit job) line = submits_job job line
+is_match (line_query.Begin round) line = begins_round round line
+is_match (line_query.Got actor job) line = gets_by actor job line
+is_match (line_query.Last actor) line = is_last actor line
+
+-- The condition for the line that gives the actor its label.
+abbrev pub label_line : RecordedActor → LineQuery
+label_line (Job job) = line_query.Submit job
+label_line (Round round) = line_query.Begin round
+
+-- The class of a job, or the kind of a round.
+abbrev pub label_in : RecordedLine → List ℕ
+label_in (Submits actor job class pool) = class
+label_in (RoundBegins round kind) = kind
+label_in line = []
+
+-- A line with its number.
+abbrev pub found_seen : Option (ℕ × Line) → Option (ℕ × RecordedLine)
+found_seen None = None
+found_seen (Some (number, line)) = Some (number, line_view line)
+
+-- The line with this number, from 1.
+abbrev pub IsLine : List RecordedLine → ℕ → RecordedLine → Type 0
+IsLine lines number line = (i : ℕ) × (number ≡ i + 1) × (slice_get lines i ≡ Some line)
+
+-- The line with this number meets the condition, and no earlier one does.
+pub record IsFirstAt (lines : List RecordedLine) (query : LineQuery) (number : ℕ) (line : RecordedLine) : Type 0 where
+  pub before : ℕ
+  pub number_is : number ≡ before + 1
+  pub there : slice_get lines before ≡ Some line
+  pub is : is_match query line ≡ true
+  pub none_before : list_any (is_match query) (take before lines) ≡ false
+
+-- The first line that meets the condition, or `None` if there is none.
+abbrev pub IsFirstLine : List RecordedLine → LineQuery → Option (ℕ × RecordedLine) → Type 0
+IsFirstLine lines query None = list_any (is_match query) lines ≡ false
+IsFirstLine lines query (Some (number, line)) = IsFirstAt lines query number line
+
+-- The label that a line gives an actor, if there is a line.
+abbrev pub label_seen : Option (ℕ × RecordedLine) → List ℕ
+label_seen None = []
+label_seen (Some (number, line)) = label_in line
+
+-- The label of the actor, by its submit or its begin. It is empty if there is no such line.
+pub record IsLabelOf (lines : List RecordedLine) (actor : RecordedActor) (label : List ℕ) : Type 0 where
+  pub found : Option (ℕ × RecordedLine)
+  pub first : IsFirstLine lines (label_line actor) found
+  pub label_is : label ≡ label_seen found

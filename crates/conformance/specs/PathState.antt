@@ -1,0 +1,17 @@
+-- Whether an actor has ended.
+use Rattle.std.specs.Prelude.{Bool, if◌then◌else◌, List}
+use Rattle.recordings.specs.declared.recording_line.RecordedActor.{RecordedActor}
+use Rattle.recordings.specs.declared.recording_line.RecordedActor.TheVariants.{Job, Round}
+use Rattle.recordings.specs.RecordingLine.{RecordedLine}
+use Rattle.recordings.specs.Before.{is_ended, is_done}
+use Rattle.conformance.specs.declared.step.PathState.{PathState}
+use Rattle.conformance.specs.declared.step.PathState.TheVariants.{Whole, Prefix}
+
+-- The last line of the actor is among the lines.
+abbrev pub has_ended : List RecordedLine → RecordedActor → Bool
+has_ended lines (Job job) = is_done lines job
+has_ended lines (Round round) = is_ended lines round
+
+-- The path of the actor is whole, or only begun.
+abbrev pub path_state_of : List RecordedLine → RecordedActor → PathState
+path_state_of lines actor = if has_ended lines actor then Whole else Prefix

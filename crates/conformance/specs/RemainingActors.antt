@@ -1,0 +1,58 @@
+-- The tables at the end of the lines, while the remaining actors are classified.
+use Rattle.std.specs.Prelude.{◌≡◌, ◌<◌, ◌⊎◌, ℕ, nat_eq, true, false, List, is_some, Option, Some, None}
+use Rattle.std.specs.Set.{is_member}
+use Rattle.recordings.specs.declared.recording_line.RecordedActor.{RecordedActor}
+use Rattle.recordings.specs.declared.recording_line.RecordedActor.TheVariants.{Job, Round}
+use Rattle.recordings.specs.RecordingLine.{RecordedLine}
+use Rattle.recordings.specs.LineSteps.{has_submitted, is_refused}
+use Rattle.recordings.specs.Path.{path_of}
+use Rattle.recordings.specs.PathsOfLines.{is_live}
+use Rattle.job_bodies.specs.Plan.{Plan}
+use Rattle.conformance.specs.declared.actor_table.ActorTable.{ActorTable}
+use Rattle.conformance.specs.declared.actor_table.UnsettledActor.{UnsettledActor}
+use Rattle.conformance.specs.declared.actor_table.EndedPath.{EndedPath}
+use Rattle.conformance.specs.declared.actor_path.ActorPath.{ActorPath}
+use Rattle.conformance.specs.declared.job_classes.ClassTable.{ClassTable}
+use Rattle.conformance.specs.PlanBudget.{IsEnoughForPlan}
+use Rattle.conformance.specs.PathState.{has_ended, path_state_of}
+use Rattle.conformance.specs.ActorTables.{in_table, classes_in, AreClassesIn, AreDecidedIn}
+use Rattle.conformance.specs.Represents.{IsNamed}
+
+-- The actor has ended with this path, or it is open.
+abbrev pub IsAt : List RecordedLine → RecordedActor → Option EndedPath → Type 0
+IsAt lines actor (Some ended_path) = (has_ended lines actor ≡ true) × (ended_path.path.items ≡ path_of lines actor)
+IsAt lines actor None = is_live lines actor ≡ true
+
+-- The path of the actor.
+pub record IsActorPathOf (lines : List RecordedLine) (actor : RecordedActor) (actor_path : ActorPath) : Type 0 where
+  pub path : actor_path.path.items ≡ path_of lines actor
+  pub path_state : actor_path.path_state ≡ path_state_of lines actor
+
+-- The actors that are not yet classified are in the table. Of the classified jobs, the classes of those whose submitters are
+-- in the table are stored.
+pub record IsStateAtEnd (plan : Plan) (budget : ℕ) (lines : List RecordedLine) (actors : ActorTable) (known : ClassTable) : Type 0 where
+  pub named : (actor : RecordedActor) (kept : UnsettledActor) → in_table actors actor ≡ Some kept → IsNamed lines actor kept
+  pub at : (actor : RecordedActor) (kept : UnsettledActor) → in_table actors actor ≡ Some kept → IsAt lines actor kept.ended_path
+  pub classes : AreClassesIn plan lines known
+  pub decided : IsEnoughForPlan budget plan → AreDecidedIn known
+  pub below : (actor : RecordedActor) (job : ℕ) → is_some (in_table actors actor) ≡ true → has_submitted lines actor job ≡ true → is_refused lines job ≡ false
+      → (is_some (in_table actors (Job job)) ≡ true) ⊎ (is_some (classes_in known job) ≡ true)
+  pub submitter : (actor : RecordedActor) (job : ℕ) (kept : UnsettledActor) → in_table actors (Job job) ≡ Some kept → has_submitted lines actor job ≡ true → is_refused lines job ≡ false → kept.submitter ≡ Some actor
+
+-- The table has no job that the actor may have submitted: a job submits only jobs with larger numbers.
+abbrev pub AreNoneBelow : ActorTable → RecordedActor → Type 0
+AreNoneBelow actors (Job job) = (one : ℕ) → job < one → in_table actors (Job one) ≡ None
+AreNoneBelow actors (Round round) = (one : ℕ) → in_table actors (Job one) ≡ None
+
+-- The list has the number of each job in the table.
+abbrev pub AreJobsAmong : ActorTable → List ℕ → Type 0
+AreJobsAmong actors numbers = (job : ℕ) → is_some (in_table actors (Job job)) ≡ true → is_member nat_eq numbers job ≡ true
+
+abbrev pub AreRoundsAmong : ActorTable → List ℕ → Type 0
+AreRoundsAmong actors numbers = (round : ℕ) → is_some (in_table actors (Round round)) ≡ true → is_member nat_eq numbers round ≡ true
+
+abbrev pub HasNoJobs : ActorTable → Type 0
+HasNoJobs actors = (job : ℕ) → in_table actors (Job job) ≡ None
+
+abbrev pub HasNoRounds : ActorTable → Type 0
+HasNoRounds actors = (round : ℕ) → in_table actors (Round round) ≡ None

@@ -1,0 +1,224 @@
+//! All findings, collected from the parts of a survey.
+
+ghost use Rattle.std.specs.Prelude.{◌≡◌, ◌++◌, ◌∷◌, [], ℕ, List, All, map, filter, OnOk, IfOk};
+ghost use Rattle.recordings.specs.RecordingLine.{RecordedLine};
+ghost use Rattle.recordings.specs.NotesOfLines.{IsNotesOf};
+ghost use Rattle.recordings.specs.ForeignGets.{first_foreign_get};
+ghost use Rattle.recordings.specs.Invalidations.{invalidations_of};
+ghost use Rattle.conformance.specs.CollectedFindings as spec;
+ghost use Rattle.conformance.specs.JobSet.{has_job};
+ghost use Rattle.conformance.specs.Lines.{lines_of};
+ghost use Rattle.conformance.specs.declared.finding.Finding.TheVariants as kinds;
+
+use crate::describe_mismatch::{describe_mismatch, label_of};
+use crate::finding::Finding;
+use crate::job_set::JobSet;
+use crate::survey::{ActorSurvey, Survey, LineSurvey};
+use crate::unplanned::{NotPlanned, UnplannedLabels};
+use crate::verdicts::Verdicts;
+use crate::{PoolDeviation, RoundExcess, ClassifiedActor};
+use recordings::{RecordedNotes, Invalidation, InvalidatingEvent};
+use std::alloc::{AllocError, Global};
+
+/// Returns all findings, unsorted.
+///
+/// # Errors
+///
+/// Returns `AllocError` if memory runs out.
+pub(crate) fn collect_findings(
+    alloc: Global,
+    recording: &[u8],
+    survey: Survey,
+    excesses: Vec<RoundExcess>,
+) -> Result<Vec<Finding>, AllocError>
+    ensures { IsNotesOf survey.line_survey.notes (lines_of recording.now)
+        → IfOk result
+        (λ found. spec.AreCollected (lines_of recording.now) survey excesses.items found.items) }
+{
+    let Survey {
+        line_survey,
+        actor_survey,
+        ..
+    } = survey;
+    let LineSurvey {
+        deviations,
+        notes,
+        unplanned,
+        ..
+    } = line_survey;
+    let mut findings = Vec::new(alloc);
+    push_plan_differences(&mut findings, deviations, unplanned)?;
+    push_actor_survey(&mut findings, alloc, recording, actor_survey)?;
+    push_excesses(&mut findings, &excesses)?;
+    push_notes(&mut findings, alloc, recording, &notes)?;
+    Ok(findings)
+}
+
+// Appends the pools that differ from the plan, and the labels that are not in it.
+fn push_plan_differences(
+    findings: &mut Vec<Finding>,
+    deviations: Vec<PoolDeviation>,
+    unplanned: UnplannedLabels,
+) -> Result<(), AllocError>
+    ensures { OnOk result
+        (findings.new.items
+        ≡ findings.old.items ++ map kinds.Pool deviations.items ++ map kinds.NotPlanned unplanned.found.items) }
+{
+    let UnplannedLabels { found, .. } = unplanned;
+    push_pools(findings, deviations)?;
+    push_labels(findings, found)
+}
+
+// Appends the actors whose path matches no body, and those for which this is undecided.
+fn push_actor_survey(
+    findings: &mut Vec<Finding>,
+    alloc: Global,
+    recording: &[u8],
+    actor_survey: ActorSurvey,
+) -> Result<(), AllocError>
+    ensures { OnOk result
+        (spec.AddsActorSurvey (lines_of recording.now) actor_survey.verdicts findings.old.items
+        findings.new.items) }
+{
+    let ActorSurvey { verdicts, .. } = actor_survey;
+    let Verdicts {
+        mismatches,
+        undecided,
+        classless,
+        ..
+    } = verdicts;
+    push_mismatches(findings, alloc, recording, &classless, &mismatches.actors)?;
+    push_undecided(findings, undecided.actors)
+}
+
+// Appends the first get of another actor's job, and the events that invalidate a SAFE answer.
+fn push_notes(
+    findings: &mut Vec<Finding>,
+    alloc: Global,
+    recording: &[u8],
+    notes: &RecordedNotes,
+) -> Result<(), AllocError>
+    ensures { IsNotesOf notes.now (lines_of recording.now)
+        → OnOk result
+        (spec.AddsNotes (lines_of recording.now) findings.old.items findings.new.items) }
+{
+    push_foreign_get(findings, alloc, recording, notes)?;
+    push_invalidations(findings, alloc, notes)
+}
+
+fn push_pools(findings: &mut Vec<Finding>, deviations: Vec<PoolDeviation>) -> Result<(), AllocError>
+    ensures { OnOk result
+        (findings.new.items ≡ findings.old.items ++ map kinds.Pool deviations.items) }
+{
+    for deviation in deviations {
+        findings.push(Finding::Pool(deviation))?;
+    }
+    Ok(())
+}
+
+fn push_labels(findings: &mut Vec<Finding>, labels: Vec<NotPlanned>) -> Result<(), AllocError>
+    ensures { OnOk result
+        (findings.new.items ≡ findings.old.items ++ map kinds.NotPlanned labels.items) }
+{
+    for label in labels {
+        findings.push(Finding::NotPlanned(label))?;
+    }
+    Ok(())
+}
+
+fn push_mismatches(
+    findings: &mut Vec<Finding>,
+    alloc: Global,
+    recording: &[u8],
+    classless: &JobSet,
+    mismatches: &[ClassifiedActor],
+) -> Result<(), AllocError>
+    ensures { OnOk result
+        (spec.Adds findings.old.items
+        (spec.AreMismatchesOf (lines_of recording.now) (has_job classless.now) mismatches.now)
+        findings.new.items) }
+{
+    for reported in mismatches {
+        let (line, mismatch) = describe_mismatch(alloc, recording, classless, reported)?;
+        findings.push(Finding::PathMismatch { line, mismatch })?;
+    }
+    Ok(())
+}
+
+fn push_undecided(findings: &mut Vec<Finding>, undecided: Vec<ClassifiedActor>) -> Result<(), AllocError>
+    ensures { OnOk result
+        (findings.new.items ≡ findings.old.items ++ map spec.not_decided undecided.items) }
+{
+    for reported in undecided {
+        let ClassifiedActor { actor, label, .. } = reported;
+        findings.push(Finding::NotDecided { actor, label })?;
+    }
+    Ok(())
+}
+
+fn push_excesses(findings: &mut Vec<Finding>, excesses: &[RoundExcess]) -> Result<(), AllocError>
+    ensures { OnOk result
+        (findings.new.items ≡ findings.old.items ++ map kinds.TooMany excesses.now) }
+{
+    for excess in excesses {
+        findings.push(Finding::TooMany(*excess))?;
+    }
+    Ok(())
+}
+
+fn push_foreign_get(
+    findings: &mut Vec<Finding>,
+    alloc: Global,
+    recording: &[u8],
+    notes: &RecordedNotes,
+) -> Result<(), AllocError>
+    ensures { IsNotesOf notes.now (lines_of recording.now)
+        → OnOk result
+        (spec.Adds findings.old.items
+        (spec.AreForeign (lines_of recording.now) (first_foreign_get (lines_of recording.now)))
+        findings.new.items) }
+{
+    if let Some(get) = notes.foreign_get() {
+        let label = label_of(alloc, recording, get.actor)?;
+        findings.push(Finding::ForeignGet { get, label })?;
+    }
+    Ok(())
+}
+
+fn push_invalidations(
+    findings: &mut Vec<Finding>,
+    alloc: Global,
+    notes: &RecordedNotes,
+) -> Result<(), AllocError>
+    ensures { (lines : List RecordedLine)
+        → IsNotesOf notes.now lines
+        → OnOk result
+        (findings.new.items
+        ≡ findings.old.items ++ map kinds.Invalidation (filter spec.is_path_independent (invalidations_of lines))) }
+{
+    let invalidations = notes.invalidations(alloc)?;
+    push_path_independent(findings, &invalidations)
+}
+
+fn push_path_independent(findings: &mut Vec<Finding>, invalidations: &[Invalidation]) -> Result<(), AllocError>
+    ensures { OnOk result
+        (findings.new.items
+        ≡ findings.old.items ++ map kinds.Invalidation (filter spec.is_path_independent invalidations.now)) }
+{
+    for invalidation in invalidations {
+        if is_path_independent(*invalidation) {
+            findings.push(Finding::Invalidation(*invalidation))?;
+        }
+    }
+    Ok(())
+}
+
+/// Returns true if the event invalidates a SAFE answer even if the actor's path matches a body.
+fn is_path_independent(invalidation: Invalidation) -> bool
+    ensures { result ≡ spec.is_path_independent invalidation }
+{
+    !matches!(
+        invalidation.event,
+        InvalidatingEvent::TimedOut { .. } | InvalidatingEvent::Interrupted { .. }
+    )
+}

@@ -1,0 +1,94 @@
+//! A search for the first line of a recording that meets a condition.
+
+ghost use Rattle.std.specs.Prelude.{◌≡◌};
+ghost use Rattle.recordings.specs.RecordingLine.{line_view};
+ghost use Rattle.conformance.specs.Lines.{lines_of};
+ghost use Rattle.conformance.specs.LineQuery as spec;
+
+use crate::well_formed_lines::WellFormedLines;
+use recordings::{Line, RecordedActor};
+
+/// The condition of a search.
+#[derive(Clone, Copy)]
+pub(crate) enum LineQuery {
+    /// The line that submits this job.
+    Submit(usize),
+    /// The line that begins this round.
+    Begin(usize),
+    /// A line with which the actor got this job.
+    Got { actor: RecordedActor, job: usize },
+    /// The last line of the actor.
+    Last(RecordedActor),
+}
+
+impl LineQuery {
+    /// Returns the condition for the line that gives the actor its label.
+    pub(crate) fn label_of(actor: RecordedActor) -> LineQuery
+        ensures { result ≡ spec.label_line actor }
+    {
+        match actor {
+            RecordedActor::Job(job) => LineQuery::Submit(job),
+            RecordedActor::Round(round) => LineQuery::Begin(round),
+        }
+    }
+
+    pub(crate) fn matches(self, line: &Line<'_>) -> bool
+        ensures { result ≡ spec.is_match self (line_view line.now) }
+    {
+        match (self, *line) {
+            (LineQuery::Submit(job), Line::Submits { job: one, .. }) => one == job,
+            (LineQuery::Begin(round), Line::RoundBegins { round: one, .. }) => one == round,
+            (
+                LineQuery::Got { actor, job },
+                Line::Got {
+                    actor: who,
+                    job: one,
+                },
+            ) => is_same_actor(who, actor) && one == job,
+            (LineQuery::Last(actor), Line::RoundEnds { round }) => {
+                is_same_actor(RecordedActor::Round(round), actor)
+            }
+            (LineQuery::Last(actor), Line::JobEnds { job } | Line::JobThrew { job }) => {
+                is_same_actor(RecordedActor::Job(job), actor)
+            }
+            _ => false,
+        }
+    }
+}
+
+fn is_same_actor(one: RecordedActor, other: RecordedActor) -> bool
+    ensures { result ≡ spec.is_same_actor one other }
+{
+    match (one, other) {
+        (RecordedActor::Job(n), RecordedActor::Job(m))
+        | (RecordedActor::Round(n), RecordedActor::Round(m)) => n == m,
+        _ => false,
+    }
+}
+
+/// Returns the first line of the text that meets the condition, with its number, from 1.
+pub(crate) fn first_line(text: &[u8], line_query: LineQuery) -> Option<(usize, Line<'_>)>
+    ensures { spec.IsFirstLine (lines_of text.now) line_query (spec.found_seen result) }
+{
+    let mut lines = WellFormedLines::new(text);
+    let mut number = 0;
+    while let Some(line) = lines.next() {
+        number += 1;
+        if line_query.matches(&line) {
+            return Some((number, line));
+        }
+    }
+    None
+}
+
+/// Returns the class of a submit line or the kind of a begin line, and an empty label for any other
+/// line.
+pub(crate) fn label_in<'a>(line: &Line<'a>) -> &'a str
+    ensures { result.now ≡ spec.label_in (line_view line.now) }
+{
+    match *line {
+        Line::Submits { class, .. } => class,
+        Line::RoundBegins { kind, .. } => kind,
+        _ => "",
+    }
+}

@@ -1,0 +1,44 @@
+//! The steps of an actor.
+
+ghost use Rattle.std.specs.Prelude.{◌≡◌};
+ghost use Rattle.conformance.specs.PathStep as spec;
+
+/// A step of an actor, as far as bodies describe it.
+#[derive(Drop)]
+pub enum PathStep {
+    /// A submit of a job that may belong to any of these classes, by their numbers in the plan.
+    Submits(Vec<usize>),
+    /// A get of the job that the submit at this index of the same path made.
+    Gets(usize),
+}
+
+/// The state of a path: whole, or only begun.
+#[derive(Clone, Copy, PartialEq, Eq)]
+pub enum PathState {
+    /// The whole path: the actor has ended.
+    Whole,
+    /// A prefix of the path: the actor may continue.
+    Prefix,
+}
+
+impl PathStep {
+    /// Returns true if it is a submit of a job that may belong to this class.
+    pub fn submits(&self, class: usize) -> bool
+        ensures { result ≡ spec.submits self.now class }
+    {
+        match self {
+            PathStep::Submits(classes) => classes.contains(&class),
+            PathStep::Gets(_) => false,
+        }
+    }
+
+    /// Returns true if it gets the job that the submit at this index of its path made.
+    pub fn gets(&self, place: usize) -> bool
+        ensures { result ≡ spec.gets self.now place }
+    {
+        match self {
+            PathStep::Gets(got) => *got == place,
+            PathStep::Submits(_) => false,
+        }
+    }
+}

@@ -1,9 +1,0 @@
-use Rattle.std.proofs.Common.{List}
-use Rattle.std.specs.List.{All}
-use Rattle.recordings.specs.RecordingLine.{RecordedLine}
-use Rattle.learning.specs.Kept.{AreWorkingOf}
-use Rattle.learning.specs.Names.{IsNamedClass}
-use Rattle.learning.proofs.working.Working.copied_classes.Given as goal
-
-abbrev pub invariant-loop-entry : goal.invariant-loop-entry
-invariant-loop-entry l = (lines : List RecordedLine) → AreWorkingOf lines l.self → All (IsNamedClass lines) l.classes.items

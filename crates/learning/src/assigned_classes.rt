@@ -1,0 +1,91 @@
+//! The class assigned to each job.
+
+use conformance::PathStep;
+use recordings::RecordedStep;
+use std::alloc::{AllocError, Global};
+use std::collections::{HashMap, HashSet};
+
+/// The class assigned to each classified job whose submitter is not yet classified, by number. The
+/// class is `None` if none was found.
+#[derive(Drop)]
+pub(crate) struct AssignedClasses {
+    jobs: HashMap<usize, Option<usize>>,
+    /// The refused jobs that are not yet classified. They belong to no path.
+    refused: HashSet<usize>,
+}
+
+impl AssignedClasses {
+    /// Creates an empty map.
+    pub(crate) fn new(alloc: Global) -> AssignedClasses {
+        AssignedClasses {
+            jobs: HashMap::new(alloc),
+            refused: HashSet::new(alloc),
+        }
+    }
+
+    /// Records that the job was refused.
+    ///
+    /// # Errors
+    ///
+    /// Returns `AllocError` if memory runs out.
+    pub(crate) fn refuse(&mut self, job: usize) -> Result<(), AllocError> {
+        self.refused.insert(job)?;
+        Ok(())
+    }
+
+    /// Assigns the class to the job once it is classified.
+    ///
+    /// # Errors
+    ///
+    /// Returns `AllocError` if memory runs out.
+    pub(crate) fn insert(&mut self, job: usize, class: Option<usize>) -> Result<(), AllocError> {
+        if !self.refused.remove(&job) {
+            self.jobs.insert(job, class)?;
+        }
+        Ok(())
+    }
+
+    /// Removes the jobs of a path once their submitter is classified.
+    pub(crate) fn forget(&mut self, path: &[RecordedStep]) {
+        for step in path {
+            if let RecordedStep::Submits(job) = *step {
+                self.jobs.remove(&job);
+            }
+        }
+    }
+
+    /// Returns the path with the class assigned to each of its jobs, or `None` if a job has no
+    /// class.
+    ///
+    /// # Errors
+    ///
+    /// Returns `AllocError` if memory runs out.
+    pub(crate) fn steps(
+        &self,
+        alloc: Global,
+        path: &[RecordedStep],
+    ) -> Result<Option<Vec<PathStep>>, AllocError> {
+        let mut steps = Vec::new(alloc);
+        for step in path {
+            match self.step(alloc, *step)? {
+                Some(step) => steps.push(step)?,
+                None => return Ok(None),
+            }
+        }
+        Ok(Some(steps))
+    }
+
+    fn step(&self, alloc: Global, step: RecordedStep) -> Result<Option<PathStep>, AllocError> {
+        match step {
+            RecordedStep::Gets(place) => Ok(Some(PathStep::Gets(place))),
+            RecordedStep::Submits(job) => match self.class(job) {
+                Some(class) => Ok(Some(PathStep::Submits(vec![in alloc; class]?))),
+                None => Ok(None),
+            },
+        }
+    }
+
+    fn class(&self, job: usize) -> Option<usize> {
+        *self.jobs.get(&job)?
+    }
+}

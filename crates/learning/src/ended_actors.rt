@@ -1,0 +1,56 @@
+//! The actors that have ended.
+
+use recordings::{Line, RecordedActor};
+use std::alloc::{AllocError, Global};
+use std::collections::HashSet;
+
+/// The actors that have ended and are not yet classified.
+#[derive(Drop)]
+pub(crate) struct EndedActors {
+    jobs: HashSet<usize>,
+    rounds: HashSet<usize>,
+}
+
+impl EndedActors {
+    /// Creates an empty set.
+    pub(crate) fn new(alloc: Global) -> EndedActors {
+        EndedActors {
+            jobs: HashSet::new(alloc),
+            rounds: HashSet::new(alloc),
+        }
+    }
+
+    /// Adds the actor that the line ends, if there is one.
+    ///
+    /// # Errors
+    ///
+    /// Returns `AllocError` if memory runs out.
+    pub(crate) fn note(&mut self, line: &Line<'_>) -> Result<(), AllocError> {
+        match *line {
+            Line::RoundEnds { round } => {
+                self.rounds.insert(round)?;
+                Ok(())
+            }
+            Line::JobEnds { job } | Line::JobThrew { job } => {
+                self.jobs.insert(job)?;
+                Ok(())
+            }
+            _ => Ok(()),
+        }
+    }
+
+    pub(crate) fn contains(&self, actor: RecordedActor) -> bool {
+        match actor {
+            RecordedActor::Job(job) => self.jobs.contains(&job),
+            RecordedActor::Round(round) => self.rounds.contains(&round),
+        }
+    }
+
+    /// Removes the actor once it is classified.
+    pub(crate) fn remove(&mut self, actor: RecordedActor) {
+        match actor {
+            RecordedActor::Job(job) => self.jobs.remove(&job),
+            RecordedActor::Round(round) => self.rounds.remove(&round),
+        };
+    }
+}

@@ -1,0 +1,42 @@
+//! Reasons why a valid recording gives no plan.
+
+ghost use Rattle.std.specs.Prelude.{Some};
+ghost use Rattle.learning.specs.InferenceLimit.{inference_limit_text};
+
+use std::fmt;
+
+/// The reason why a valid recording gives no plan: it exceeds a limit of plans, or of learning.
+#[derive(Clone, Copy, PartialEq, Eq)]
+pub enum InferenceLimit {
+    /// More pools than a plan may have.
+    Pools,
+    /// More classes of jobs than a plan may have.
+    Classes,
+    /// More client kinds than a plan may have.
+    Kinds,
+    /// A class or a kind whose name would be too long.
+    Names,
+    /// More rounds of a kind at once than a plan may have clients.
+    Rounds,
+    /// Paths of jobs or rounds for which no body was found.
+    Paths,
+    /// A text of the plan that would be too long.
+    Text,
+}
+
+/// Formats the reason as a short phrase, such as `more pools than a plan may have`.
+impl fmt::Display for InferenceLimit {
+    ghost output = { λ reason. Some (inference_limit_text reason) };
+
+    fn fmt<W: fmt::Write>(&self, f: &mut fmt::Formatter<W>) -> fmt::Result {
+        f.write_str(match self {
+            InferenceLimit::Pools => "more pools than a plan may have",
+            InferenceLimit::Classes => "more classes of jobs than a plan may have",
+            InferenceLimit::Kinds => "more kinds of clients than a plan may have",
+            InferenceLimit::Names => "a class or a kind needs a longer name than a plan may have",
+            InferenceLimit::Rounds => "more rounds of a kind at once than a plan may have clients",
+            InferenceLimit::Paths => "no body was found for what some jobs or rounds did",
+            InferenceLimit::Text => "a longer text than a plan may have",
+        })
+    }
+}

@@ -1,0 +1,191 @@
+//! The names in the lines of a recording.
+
+ghost use Rattle.std.specs.Prelude.{◌≡◌, ◌+◌, ◌++◌, ◌∷◌, [], List, None, OnOk, IfOk, IfErr, if◌then◌else◌};
+ghost use Rattle.recordings.specs.LineParts as parts;
+ghost use Rattle.recordings.specs.Rules.{first_broken_rule};
+ghost use Rattle.recordings.specs.RecordingLine.{RecordedLine, line_view, lines_read};
+ghost use Rattle.learning.specs.LearningState.{AreNamesOf, IsDraftOf, IsLearnError};
+ghost use Rattle.learning.specs.LabelRounds.{AreLabelRoundsOf};
+ghost use Rattle.learning.specs.FirstPass.{IsNamed, IsLearnErrorAt, Counts, well_formed};
+ghost use Rattle.learning.specs.Unfinished as unfinished;
+
+use crate::label_rounds::LabelRounds;
+use crate::pools::note_pool;
+use crate::learn_error::LearnError;
+use crate::draft::PlanDraft;
+use job_bodies::Pool;
+use recordings::{Line, RecordingFault, CheckedLines, first_fault};
+use std::alloc::{AllocError, Global};
+
+/// The pools, classes and client kinds that the lines name, and counts of rounds and jobs.
+#[derive(Drop)]
+pub(crate) struct RecordedNames {
+    pub(crate) pools: Vec<Pool>,
+    pub(crate) draft: PlanDraft,
+    pub(crate) label_rounds: LabelRounds,
+    pub(crate) rounds: usize,
+    pub(crate) jobs: usize,
+    pub(crate) ended_rounds: usize,
+    pub(crate) started_jobs: usize,
+    pub(crate) ended_jobs: usize,
+    alloc: Global,
+}
+
+/// Collects the names in all lines, with an empty body for each class and kind, or returns the
+/// first invalid line.
+///
+/// # Errors
+///
+/// - [`LearnError::InferenceLimit`] if all lines are valid and they name more than a plan may have.
+/// - [`LearnError::Memory`] if memory runs out.
+pub(crate) fn recorded_names(
+    alloc: Global,
+    recording: &[u8],
+) -> Result<Result<RecordedNames, RecordingFault>, LearnError>
+    ensures ok { IfOk result (IsNamed (lines_read recording.now)) }
+    ensures err { IfErr result (IsLearnErrorAt (lines_read recording.now)) }
+{
+    let mut names = RecordedNames::new(alloc)?;
+    let mut lines = CheckedLines::new(alloc, recording);
+    while let Some(line) = lines.next()? {
+        let line = match line {
+            Ok(line) => line,
+            Err(fault) => return Ok(Err(fault)),
+        };
+        if let Err(learn_error) = names.note(&line) {
+            return fault_or_error(alloc, recording, learn_error);
+        }
+    }
+    Ok(Ok(names))
+}
+
+// Returns the first invalid line or, if all lines are valid, `learn_error` as an error. A line after the
+// one that exceeded a limit may still be invalid.
+fn fault_or_error(
+    alloc: Global,
+    recording: &[u8],
+    learn_error: LearnError,
+) -> Result<Result<RecordedNames, RecordingFault>, LearnError>
+    ensures ok { IfOk result (IsNamed (lines_read recording.now)) }
+    ensures err { IsLearnError (well_formed (lines_read recording.now)) learn_error
+        → IfErr result (IsLearnErrorAt (lines_read recording.now)) }
+{
+    match first_fault(alloc, recording)? {
+        Some(fault) => Ok(Err(fault)),
+        None => Err(learn_error),
+    }
+}
+
+impl RecordedNames {
+    // Creates the state before the first line.
+    fn new(alloc: Global) -> Result<RecordedNames, AllocError>
+        ensures names { IfOk result (λ names. AreNamesOf names []) }
+        ensures rounds { IfOk result (λ names. AreLabelRoundsOf names.label_rounds []) }
+        ensures draft { (lines : List RecordedLine)
+            → IfOk result (λ names. IsDraftOf lines names.draft) }
+    {
+        Ok(RecordedNames {
+            pools: Vec::new(alloc),
+            draft: PlanDraft::new(alloc),
+            label_rounds: LabelRounds::new(alloc)?,
+            rounds: 0,
+            jobs: 0,
+            ended_rounds: 0,
+            started_jobs: 0,
+            ended_jobs: 0,
+            alloc,
+        })
+    }
+
+    fn note(&mut self, line: &Line<'_>) -> Result<(), LearnError>
+        ensures names { (before : List RecordedLine)
+            → AreNamesOf self.old before
+            → OnOk result (AreNamesOf self.new (before ++ line_view line.now ∷ [])) }
+        ensures rounds { (before : List RecordedLine)
+            → AreLabelRoundsOf self.old.label_rounds before
+            → OnOk result
+            (AreLabelRoundsOf self.new.label_rounds (before ++ line_view line.now ∷ [])) }
+        ensures draft { (before after : List RecordedLine)
+            → AreNamesOf self.old before
+            → IsDraftOf (before ++ line_view line.now ∷ after) self.old.draft
+            → OnOk result (IsDraftOf (before ++ line_view line.now ∷ after) self.new.draft) }
+        ensures err { (before after : List RecordedLine)
+            → AreNamesOf self.old before
+            → IsDraftOf (before ++ line_view line.now ∷ after) self.old.draft
+            → first_broken_rule before (line_view line.now) ≡ None
+            → IfErr result (IsLearnError (before ++ line_view line.now ∷ after)) }
+    {
+        self.draft.note(&self.pools, line)?;
+        note_pool(self.alloc, &mut self.pools, line)?;
+        self.label_rounds.take(line)?;
+        self.count(line)?;
+        Ok(())
+    }
+
+    fn count(&mut self, line: &Line<'_>) -> Result<(), AllocError>
+        ensures { OnOk result (Counts self.old (line_view line.now) self.new) }
+    {
+        self.rounds = incremented(self.rounds, is_begin(line))?;
+        self.jobs = incremented(self.jobs, is_submit(line))?;
+        self.ended_rounds = incremented(self.ended_rounds, is_round_end(line))?;
+        self.started_jobs = incremented(self.started_jobs, is_job_start(line))?;
+        self.ended_jobs = incremented(self.ended_jobs, is_job_end(line))?;
+        Ok(())
+    }
+}
+
+// Returns the count, incremented if `is_one` is true.
+fn incremented(count: usize, is_one: bool) -> Result<usize, AllocError>
+    ensures { IfOk result (λ new. new ≡ count + (if is_one then 1 else 0)) }
+{
+    if is_one {
+        count.checked_add(1).ok_or(AllocError)
+    } else {
+        Ok(count)
+    }
+}
+
+fn is_begin(line: &Line<'_>) -> bool
+    ensures { result ≡ parts.is_begin (line_view line.now) }
+{
+    match *line {
+        Line::RoundBegins { .. } => true,
+        _ => false,
+    }
+}
+
+fn is_submit(line: &Line<'_>) -> bool
+    ensures { result ≡ parts.is_submit (line_view line.now) }
+{
+    match *line {
+        Line::Submits { .. } => true,
+        _ => false,
+    }
+}
+
+fn is_round_end(line: &Line<'_>) -> bool
+    ensures { result ≡ unfinished.is_round_end (line_view line.now) }
+{
+    match *line {
+        Line::RoundEnds { .. } => true,
+        _ => false,
+    }
+}
+
+fn is_job_start(line: &Line<'_>) -> bool
+    ensures { result ≡ unfinished.is_job_start (line_view line.now) }
+{
+    match *line {
+        Line::JobStarts { .. } => true,
+        _ => false,
+    }
+}
+
+fn is_job_end(line: &Line<'_>) -> bool
+    ensures { result ≡ unfinished.is_job_end (line_view line.now) }
+{
+    match *line {
+        Line::JobEnds { .. } | Line::JobThrew { .. } => true,
+        _ => false,
+    }
+}

@@ -1,0 +1,74 @@
+//! The events that invalidate a SAFE answer, and their texts.
+
+ghost use Rattle.std.specs.Prelude.{◌≡◌, Some};
+ghost use Rattle.recordings.specs.EventText as spec;
+ghost use Rattle.recordings.specs.Invalidations.{keyword_of};
+
+use crate::RecordedActor;
+use std::fmt;
+
+/// An event that invalidates a SAFE answer, from its line on.
+///
+/// It formats as a short phrase without the line number, such as `job 4 was refused`.
+#[derive(Clone, Copy, PartialEq, Eq)]
+pub enum InvalidatingEvent {
+    /// A pool refused the job that this actor submitted, for example because it was full.
+    Refused { actor: RecordedActor, job: usize },
+    /// A get of the job by this actor timed out.
+    TimedOut { actor: RecordedActor, job: usize },
+    /// A get of the job by this actor was interrupted.
+    Interrupted { actor: RecordedActor, job: usize },
+    /// The actor cancelled the job.
+    Cancelled { actor: RecordedActor, job: usize },
+    /// The actor called `invokeAny`.
+    AnyInvoked { actor: RecordedActor },
+    /// `shutdownNow` took the job out of its queue.
+    Removed { job: usize },
+    /// The job's exception ended its thread.
+    Threw { job: usize },
+    /// This many jobs ran without a line in the recording.
+    Unseen { jobs: usize },
+}
+
+/// A line with an event that invalidates a SAFE answer.
+#[derive(Clone, Copy, PartialEq, Eq)]
+pub struct Invalidation {
+    /// The number of the line, from 1.
+    pub line: usize,
+    pub event: InvalidatingEvent,
+}
+
+impl InvalidatingEvent {
+    /// Returns the keyword of its line.
+    pub fn word(self) -> &'static str
+        ensures { result.now ≡ keyword_of self }
+    {
+        match self {
+            InvalidatingEvent::Refused { .. } => "refused",
+            InvalidatingEvent::TimedOut { .. } => "timeout",
+            InvalidatingEvent::Interrupted { .. } => "interrupted",
+            InvalidatingEvent::Cancelled { .. } => "cancel",
+            InvalidatingEvent::AnyInvoked { .. } => "any",
+            InvalidatingEvent::Removed { .. } => "removed",
+            InvalidatingEvent::Threw { .. } => "threw",
+            InvalidatingEvent::Unseen { .. } => "unseen",
+        }
+    }
+}
+
+impl fmt::Display for InvalidatingEvent {
+    ghost output = { λ event. Some (spec.event_text event) };
+
+    fn fmt<W: fmt::Write>(&self, f: &mut fmt::Formatter<W>) -> fmt::Result {
+        match *self {
+            InvalidatingEvent::Refused { job, .. } => write!(f, "job {job} was refused"),
+            InvalidatingEvent::TimedOut { job, .. } => write!(f, "a get of job {job} timed out"),
+            InvalidatingEvent::Interrupted { job, .. } => write!(f, "a get of job {job} was interrupted"),
+            InvalidatingEvent::Cancelled { job, .. } => write!(f, "job {job} was cancelled"),
+            InvalidatingEvent::AnyInvoked { .. } => write!(f, "invokeAny was called"),
+            InvalidatingEvent::Removed { job } => write!(f, "job {job} was taken out of its queue"),
+            InvalidatingEvent::Threw { job } => write!(f, "job {job} ended its thread by an exception"),
+            InvalidatingEvent::Unseen { jobs } => write!(f, "{jobs} jobs were run of which no line tells"),
+        }
+    }
+}

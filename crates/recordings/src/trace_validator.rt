@@ -1,0 +1,61 @@
+//! The state of the rule check.
+
+ghost use Rattle.std.specs.Prelude.{[], List};
+ghost use Rattle.recordings.specs.RecordingLine.{RecordedLine, line_view};
+ghost use Rattle.recordings.specs.StateOfLines.{Represents, IsAccepted};
+
+use crate::Line;
+use crate::jobs::Jobs;
+use crate::rule_check::first_broken_rule;
+use crate::state_update::apply_line;
+use crate::pools::Pools;
+use crate::rounds::Rounds;
+use crate::rule::LineRule;
+use std::alloc::{AllocError, Global};
+
+/// The state of the rule check: everything that the rules need to know about the lines so far.
+///
+/// Its size grows with the names of the pools, the rounds that have not ended and the jobs that are
+/// not done.
+#[derive(Drop)]
+pub struct TraceValidator {
+    pub(crate) begun: bool,
+    pub(crate) closed: bool,
+    pub(crate) pools: Pools,
+    pub(crate) rounds: Rounds,
+    pub(crate) jobs: Jobs,
+}
+
+impl TraceValidator {
+    /// Creates the state before the first line.
+    pub fn new(alloc: Global) -> TraceValidator
+        ensures { Represents result [] }
+    {
+        TraceValidator {
+            begun: false,
+            closed: false,
+            pools: Pools::new(alloc),
+            rounds: Rounds::new(alloc),
+            jobs: Jobs::new(alloc),
+        }
+    }
+
+    /// Accepts the next line if it keeps the rules. Otherwise returns the first rule that it
+    /// breaks, and leaves the state unchanged.
+    ///
+    /// # Errors
+    ///
+    /// Returns `AllocError` if the line keeps the rules but memory runs out. The state is then
+    /// unchanged.
+    pub fn take(&mut self, line: &Line<'_>) -> Result<Option<LineRule>, AllocError>
+        ensures { (before : List RecordedLine)
+            → Represents self.old before
+            → IsAccepted result before (line_view line.now) self.new }
+    {
+        let broken = first_broken_rule(self, line);
+        if broken.is_none() {
+            apply_line(self, line)?;
+        }
+        Ok(broken)
+    }
+}

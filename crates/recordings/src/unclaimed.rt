@@ -1,0 +1,76 @@
+//! The jobs that their submitters have not got.
+
+ghost use Rattle.std.specs.Prelude.{◌≡◌, ℕ, ◌==◌, OnOk, None, Some, if◌then◌else◌};
+ghost use Rattle.recordings.specs.RecordingLine.{line_view};
+ghost use Rattle.recordings.specs.UnclaimedJobs.{submitter_in, entry_after_line, entry_after_get};
+ghost use Rattle.recordings.specs.ForeignGets as spec;
+
+use crate::invalidation_entry::is_same_actor;
+use crate::{Line, RecordedActor};
+use std::alloc::{AllocError, Global};
+use support::IdMap;
+
+/// The submitter of each job that its submitter has not got.
+#[derive(Drop)]
+pub(crate) struct UnclaimedJobs {
+    submitters: IdMap<RecordedActor>,
+}
+
+impl UnclaimedJobs {
+    /// Creates an empty table.
+    pub(crate) fn new(alloc: Global) -> UnclaimedJobs
+        ensures { (job : ℕ) → submitter_in result job ≡ None }
+    {
+        UnclaimedJobs {
+            submitters: IdMap::new(alloc),
+        }
+    }
+
+    /// Returns true if another actor submitted the job and has not got it.
+    pub(crate) fn is_foreign(&self, job: usize, actor: RecordedActor) -> bool
+        ensures { result ≡ spec.is_foreign (submitter_in self.now job) actor }
+    {
+        match self.submitters.get(job) {
+            Some(submitter) => !is_same_actor(*submitter, actor),
+            None => false,
+        }
+    }
+
+    /// Reads the next line.
+    ///
+    /// # Errors
+    ///
+    /// Returns `AllocError` if memory runs out.
+    pub(crate) fn take(&mut self, line: &Line<'_>) -> Result<(), AllocError>
+        ensures { OnOk result
+            ((job : ℕ)
+            → submitter_in self.new job
+            ≡ entry_after_line (line_view line.now) job (submitter_in self.old job)) }
+    {
+        match *line {
+            Line::Submits { actor, job, .. } => {
+                self.submitters.insert(job, actor)?;
+                Ok(())
+            }
+            Line::Got { actor, job } => {
+                self.remove_own(actor, job);
+                Ok(())
+            }
+            _ => Ok(()),
+        }
+    }
+
+    // Removes the job, if the actor is its submitter.
+    fn remove_own(&mut self, actor: RecordedActor, job: usize)
+        ensures { (one : ℕ)
+            → submitter_in self.new one
+            ≡ (if job == one then entry_after_get actor (submitter_in self.old one) else submitter_in
+            self.old one) }
+    {
+        if let Some(submitter) = self.submitters.get(job) {
+            if is_same_actor(*submitter, actor) {
+                self.submitters.remove(job);
+            }
+        }
+    }
+}
