@@ -2,7 +2,7 @@
 
 ghost use Rattle.std.specs.Prelude.{None, if◌then◌else◌};
 
-use sizing_cli::{IoFault, MemorySink, Review, ServeFault, Source, Status, serve_alone};
+use sizing_cli::{IoFault, MemorySink, ReviewCommand, ServeFault, Source, Status, serve_alone};
 use std::test::Fail;
 
 /// A source that returns one byte in each call, and fails once after the last.
@@ -43,7 +43,7 @@ fn a_source_that_fails_at_the_limit(rt: HostRuntime) -> Result<(), Fail> {
             has_failed: false,
         };
         let mut sink = MemorySink::new(rt.alloc());
-        let outcome = serve_alone(rt.alloc(), Review::Replay, &mut source, &mut sink);
+        let outcome = serve_alone(rt.alloc(), ReviewCommand::Replay, &mut source, &mut sink);
         assert!(rt; outcome == ended, "after {left} bytes");
         assert!(rt; sink.written() == written.as_bytes(), "after {left} bytes");
     }

@@ -4,7 +4,7 @@ ghost use Rattle.std.specs.Prelude.{None};
 
 use byte_streams::{InputError, IoFault};
 use sizing_cli::{
-    MemorySink, MemorySource, ServeFault, Status, TextFiles, WordsFault, serve_words,
+    MemorySink, MemorySource, ServeFault, Status, TextFiles, CliError, serve_words,
 };
 use std::alloc::Global;
 use std::test::*;
@@ -258,13 +258,13 @@ fn words_without_an_answer(rt: HostRuntime) -> Result<(), Fail> {
             return Err(Fail::from("an answer"));
         };
         let text = match &fault {
-            WordsFault::Words(error) => format!(in rt.alloc(); "words {:?}", error.kind())?,
-            WordsFault::NoCommand => String::from_str(rt.alloc(), "no command")?,
-            WordsFault::InputTwice => String::from_str(rt.alloc(), "input twice")?,
-            WordsFault::Unread(name) => format!(in rt.alloc(); "unread {name}")?,
-            WordsFault::Occupied(name) => format!(in rt.alloc(); "occupied {name}")?,
-            WordsFault::Unwritten(name) => format!(in rt.alloc(); "unwritten {name}")?,
-            WordsFault::Served(ServeFault { number }) => format!(in rt.alloc(); "fault {number}")?,
+            CliError::Words(error) => format!(in rt.alloc(); "words {:?}", error.kind())?,
+            CliError::NoCommand => String::from_str(rt.alloc(), "no command")?,
+            CliError::InputTwice => String::from_str(rt.alloc(), "input twice")?,
+            CliError::Unread(name) => format!(in rt.alloc(); "unread {name}")?,
+            CliError::Occupied(name) => format!(in rt.alloc(); "occupied {name}")?,
+            CliError::Unwritten(name) => format!(in rt.alloc(); "unwritten {name}")?,
+            CliError::Serve(ServeFault { number }) => format!(in rt.alloc(); "fault {number}")?,
         };
         assert_eq!(rt; text.as_str(), wanted, "{words:?}");
         assert_eq!(rt; fault.code(), code, "{words:?}");
@@ -284,7 +284,7 @@ fn an_unwritten_certificate(rt: HostRuntime) -> Result<(), Fail> {
         let ended = serve_words(&rt, rt.alloc(), &words, &FakeFiles, &mut source, &mut sink);
         let text = String::from_utf8_lossy(rt.alloc(), sink.written())?;
         assert_eq!(rt; text.as_str(), ASKED);
-        assert!(rt; matches!(ended, Err(WordsFault::Unwritten(file)) if file == name));
+        assert!(rt; matches!(ended, Err(CliError::Unwritten(file)) if file == name));
     }
     Ok(())
 }

@@ -3,7 +3,7 @@
 ghost use Rattle.std.specs.Prelude.{◌≡◌, ◌++◌, ◌∷◌, [], List, true, false, Some, None, IfOk, IfSome, OnErr, IsTrue, is_some, position, slice_get};
 ghost use Rattle.std.specs.List.{list_all};
 ghost use Rattle.std.specs.Option.{IfNone};
-ghost use Rattle.cert_search.specs.declared.board.Spot.{Spot};
+ghost use Rattle.cert_search.specs.declared.board.PoolStatus.{PoolStatus};
 ghost use Rattle.cert_search.specs.declared.board.BoardEvent.TheVariants as event;
 ghost use Rattle.cert_search.specs.Board as spec;
 
@@ -13,11 +13,11 @@ use std::marker::Model;
 
 /// The state of a pool on the board.
 #[derive(Clone, Copy, PartialEq, Eq)]
-pub(crate) enum Spot {
+pub(crate) enum PoolStatus {
     /// A pool that no worker has claimed.
     Free,
     /// A pool that a worker is looking at.
-    Taken,
+    Claimed,
     /// A pool that was looked at, in this round or an earlier one.
     Done,
 }
@@ -32,60 +32,60 @@ pub(crate) enum BoardEvent {
 }
 
 /// Returns the state of a pool at the start of a round.
-fn first_spot(has_rank: bool) -> Spot
-    ensures { result ≡ spec.first_spot has_rank }
+fn initial_status(has_rank: bool) -> PoolStatus
+    ensures { result ≡ spec.initial_status has_rank }
 {
-    if has_rank { Spot::Done } else { Spot::Free }
+    if has_rank { PoolStatus::Done } else { PoolStatus::Free }
 }
 
 /// Returns whether a pool in this state is free.
-fn is_free(spot: Spot) -> bool
-    ensures { result ≡ spec.is_free spot }
+fn is_free(status: PoolStatus) -> bool
+    ensures { result ≡ spec.is_free status }
 {
-    match spot {
-        Spot::Free => true,
-        Spot::Taken | Spot::Done => false,
+    match status {
+        PoolStatus::Free => true,
+        PoolStatus::Claimed | PoolStatus::Done => false,
     }
 }
 
 /// Returns whether a pool in this state was looked at.
-fn is_done(spot: Spot) -> bool
-    ensures { result ≡ spec.is_done spot }
+fn is_done(status: PoolStatus) -> bool
+    ensures { result ≡ spec.is_done status }
 {
-    match spot {
-        Spot::Done => true,
-        Spot::Free | Spot::Taken => false,
+    match status {
+        PoolStatus::Done => true,
+        PoolStatus::Free | PoolStatus::Claimed => false,
     }
 }
 
 /// The state of each pool.
 #[derive(Drop)]
-pub(crate) struct Spots {
-    spots: Vec<Spot>,
+pub(crate) struct PoolStatuses {
+    statuses: Vec<PoolStatus>,
 }
 
-impl Model for Spots {
+impl Model for PoolStatuses {
     ghost use Rattle.std.specs.Prelude.{List};
-    ghost use Rattle.cert_search.specs.declared.board.Spot.{Spot};
+    ghost use Rattle.cert_search.specs.declared.board.PoolStatus.{PoolStatus};
 
-    ghost Value = { List Spot };
+    ghost Value = { List PoolStatus };
 
-    ghost view = { λ s. s.spots.items };
+    ghost view = { λ s. s.statuses.items };
 }
 
-impl Spots {
+impl PoolStatuses {
     /// Returns the first free pool.
     fn first_free(&self) -> Option<usize>
         ensures { result ≡ position spec.is_free self.now }
     {
-        self.spots.iter().position(|spot| is_free(*spot))
+        self.statuses.iter().position(|status| is_free(*status))
     }
 
     /// Returns whether every pool was looked at.
     pub(crate) fn are_done(&self) -> bool
         ensures { result ≡ list_all spec.is_done self.now }
     {
-        self.spots.iter().all(|spot| is_done(*spot))
+        self.statuses.iter().all(|status| is_done(*status))
     }
 
     /// Claims the pool if it is free.
@@ -96,9 +96,9 @@ impl Spots {
             → (spec.claimed self.old pool (slice_get self.old pool) ≡ None)
             × (self.new ≡ self.old) }
     {
-        match self.spots.get(pool) {
-            Some(Spot::Free) => {
-                self.spots[pool] = Spot::Taken;
+        match self.statuses.get(pool) {
+            Some(PoolStatus::Free) => {
+                self.statuses[pool] = PoolStatus::Claimed;
                 true
             }
             _ => false,
@@ -113,9 +113,9 @@ impl Spots {
             → (spec.returned self.old pool (slice_get self.old pool) ≡ None)
             × (self.new ≡ self.old) }
     {
-        match self.spots.get(pool) {
-            Some(Spot::Taken) => {
-                self.spots[pool] = Spot::Done;
+        match self.statuses.get(pool) {
+            Some(PoolStatus::Claimed) => {
+                self.statuses[pool] = PoolStatus::Done;
                 true
             }
             _ => false,
@@ -132,30 +132,30 @@ pub(crate) struct Board {
 
 impl Machine for Board {
     ghost use Rattle.std.specs.Prelude.{List};
-    ghost use Rattle.cert_search.specs.declared.board.Spot.{Spot};
+    ghost use Rattle.cert_search.specs.declared.board.PoolStatus.{PoolStatus};
 
-    type State = Spots;
+    type State = PoolStatuses;
 
     type Event = BoardEvent;
 
-    ghost SpecState = { List Spot };
+    ghost SpecState = { List PoolStatus };
 
-    ghost first = { λ board. spec.first_spots board.has_rank.items };
+    ghost first = { λ board. spec.initial_statuses board.has_rank.items };
 
-    ghost next = { λ _ spots event. spec.next_spots spots event };
+    ghost next = { λ _ statuses event. spec.next_statuses statuses event };
 
-    ghost stored_state = { λ _ spots. spots };
+    ghost stored_state = { λ _ statuses. statuses };
 
-    fn start(&self, alloc: Global) -> Result<Spots, AllocError> {
-        let spots = self
+    fn start(&self, alloc: Global) -> Result<PoolStatuses, AllocError> {
+        let statuses = self
             .has_rank
             .iter()
-            .map(|has_rank| first_spot(*has_rank))
+            .map(|has_rank| initial_status(*has_rank))
             .collect(alloc)?;
-        Ok(Spots { spots })
+        Ok(PoolStatuses { statuses })
     }
 
-    fn step(&self, state: &mut Spots, event: BoardEvent) -> Result<bool, AllocError> {
+    fn step(&self, state: &mut PoolStatuses, event: BoardEvent) -> Result<bool, AllocError> {
         Ok(match event {
             BoardEvent::Claim(pool) => state.claim(pool),
             BoardEvent::Return(pool) => state.give_back(pool),
@@ -191,8 +191,8 @@ pub(crate) fn claim(board: &mut Held<Board>) -> Result<Option<usize>, AllocError
 ///
 /// [`AllocError`] if memory runs out. The board is unchanged then.
 pub(crate) fn give_back(board: &mut Held<Board>, pool: usize) -> Result<bool, AllocError>
-    ensures possible { IfOk result (λ given. (spots : List Spot) → spec.LeadsTo board.old.machine.has_rank.items board.old.history spots
-        → given ≡ is_some (spec.next_spots spots (event.Return pool))) }
+    ensures possible { IfOk result (λ given. (statuses : List PoolStatus) → spec.LeadsTo board.old.machine.has_rank.items board.old.history statuses
+        → given ≡ is_some (spec.next_statuses statuses (event.Return pool))) }
     ensures given { IfOk result
         (λ given. given ≡ true → board.new.history ≡ board.old.history ++ event.Return pool ∷ []) }
     ensures refused { IfOk result (λ given. given ≡ false → board.new ≡ board.old) }

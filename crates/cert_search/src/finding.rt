@@ -8,8 +8,8 @@ ghost use Rattle.cert_search.specs.declared.finding.SearchFault.TheVariants.{Mem
 
 use crate::draft::Draft;
 use crate::round::Round;
-use crate::steadily::steady_where_accepted;
-use crate::workers::look_at_all;
+use crate::fallback::steady_if_accepted;
+use crate::workers::search_pools;
 use cert_check::{PoolGate, accepts};
 use cert_text::Cert;
 use job_bodies::Plan;
@@ -72,16 +72,16 @@ pub fn search<R: Threads + Wait + Sync, G: PoolGate>(
     // Mixed and Gate occur only if there is a pool to look at.
     ensures fault { IfErr result (λ fault. fault ≢ Memory → 0 < length plan.now.pools) }
 {
-    if let Some(cert) = looked_for(rt, alloc, plan, workers, gate)? {
+    if let Some(cert) = search_rounds(rt, alloc, plan, workers, gate)? {
         if accepts(plan, &cert) {
             return Ok(Some(cert));
         }
     }
-    Ok(steady_where_accepted(alloc, plan)?)
+    Ok(steady_if_accepted(alloc, plan)?)
 }
 
 /// Returns the result of the rounds, which has not been checked.
-fn looked_for<R: Threads + Wait + Sync, G: PoolGate>(
+fn search_rounds<R: Threads + Wait + Sync, G: PoolGate>(
     rt: &R,
     alloc: Global,
     plan: &Plan,
@@ -110,7 +110,7 @@ fn looked_for<R: Threads + Wait + Sync, G: PoolGate>(
             rank,
         };
         let has_rank = draft.has_rank(alloc)?;
-        let found = look_at_all(rt, alloc, &round, &has_rank, workers.min(unranked), gate)?;
+        let found = search_pools(rt, alloc, &round, &has_rank, workers.min(unranked), gate)?;
         if !draft.note(found, rank) {
             return Ok(None);
         }

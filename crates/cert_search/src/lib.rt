@@ -9,7 +9,7 @@ mod draft;
 mod finding;
 mod results;
 mod round;
-mod steadily;
+mod fallback;
 mod workers;
 
 pub use finding::{SearchFault, search};

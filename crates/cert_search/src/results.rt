@@ -12,12 +12,12 @@ use crate::round::PoolVectors;
 /// # Errors
 ///
 /// [`SearchFault::Mixed`] exactly if that does not hold.
-pub(crate) fn complete(
+pub(crate) fn check_complete(
     has_rank: &[bool],
     found: Vec<PoolVectors>,
 ) -> Result<Vec<PoolVectors>, SearchFault>
     ensures kept { IfOk result (λ kept. kept.items ≡ found.items) }
-    ensures complete { IfOk result (λ kept. IsTrue (spec.are_complete has_rank.now kept.items)) }
+    ensures check_complete { IfOk result (λ kept. IsTrue (spec.are_complete has_rank.now kept.items)) }
     ensures mixed { IfErr result (λ fault. fault ≡ Mixed) }
     ensures incomplete { IfErr result (λ _. spec.are_complete has_rank.now found.items ≡ false) }
 {
@@ -31,14 +31,14 @@ pub(crate) fn complete(
 fn are_complete(has_rank: &[bool], found: &[PoolVectors]) -> bool
     ensures { result ≡ spec.are_complete has_rank.now found.now }
 {
-    each_as_wanted(has_rank, found) && all_exist(has_rank.len(), found)
+    have_right_counts(has_rank, found) && all_exist(has_rank.len(), found)
 }
 
 /// Returns whether each pool has the right number of results.
-fn each_as_wanted(has_rank: &[bool], found: &[PoolVectors]) -> bool
-    ensures { result ≡ spec.each_as_wanted has_rank.now found.now }
+fn have_right_counts(has_rank: &[bool], found: &[PoolVectors]) -> bool
+    ensures { result ≡ spec.have_right_counts has_rank.now found.now }
 {
-    has_rank.iter().enumerate().all(|(pool, has_rank)| count_of(found, pool) == wanted(*has_rank))
+    has_rank.iter().enumerate().all(|(pool, has_rank)| count_of(found, pool) == expected_count(*has_rank))
 }
 
 /// Returns how many of the results are for the pool.
@@ -49,8 +49,8 @@ fn count_of(found: &[PoolVectors], pool: usize) -> usize
 }
 
 /// Returns how many results a pool must have: none if it has a rank.
-fn wanted(has_rank: bool) -> usize
-    ensures { result ≡ spec.wanted has_rank }
+fn expected_count(has_rank: bool) -> usize
+    ensures { result ≡ spec.expected_count has_rank }
 {
     if has_rank { 0 } else { 1 }
 }

@@ -40,7 +40,7 @@ impl Round<'_> {
     /// Searches for the vectors of a pool. If its jobs count the same gets as in the round before,
     /// which found no blocked vector, none is searched for again. Fails with [`SearchFault::Mixed`]
     /// if the plan does not have the pool.
-    fn look_at(&self, alloc: Global, pool: usize) -> Result<PoolVectors, SearchFault>
+    fn search_pool(&self, alloc: Global, pool: usize) -> Result<PoolVectors, SearchFault>
         ensures named { IfOk result (λ found. found.pool ≡ pool) }
         ensures exists { IfOk result (λ _. pool < length self.now.plan.now.pools) }
         ensures fault { IfErr result (λ fault. fault ≢ Memory → fault ≡ Mixed) }
@@ -55,7 +55,7 @@ impl Round<'_> {
         } else {
             None
         };
-        let blocked = if self.counts_as_before(pool) {
+        let blocked = if self.counts_same_gets(pool) {
             None
         } else {
             blocked_vector(alloc, self.plan, self.levels, pool, self.rank, self.reach)?
@@ -69,12 +69,12 @@ impl Round<'_> {
 
     /// Returns whether the jobs of a pool without a rank count the same gets as in the round
     /// before. In the first round the result is `false`.
-    fn counts_as_before(&self, pool: usize) -> bool {
+    fn counts_same_gets(&self, pool: usize) -> bool {
         if self.rank == 0 {
             return false;
         }
         for class in self.plan.classes() {
-            if class.pool == pool && !self.has_gets_as_before(&class.body) {
+            if class.pool == pool && !self.body_counts_same_gets(&class.body) {
                 return false;
             }
         }
@@ -83,7 +83,7 @@ impl Round<'_> {
 
     /// Returns whether a job with this body, of a pool without a rank, counts the same gets as in
     /// the round before.
-    fn has_gets_as_before(&self, body: &[Action]) -> bool {
+    fn body_counts_same_gets(&self, body: &[Action]) -> bool {
         let rank_before = self.rank.saturating_sub(1);
         for action in body {
             if let Action::Get(submit) = action {
@@ -100,7 +100,7 @@ impl Round<'_> {
     /// Claims a pool from the board, asks the gate, looks at the pool and returns it, until no pool
     /// is free or the round must stop. The board is unlocked while the gate is asked and the pool
     /// is looked at.
-    fn look_at_free<R: Wait, G: PoolGate>(
+    fn search_free_pools<R: Wait, G: PoolGate>(
         &self,
         rt: &R,
         alloc: Global,
@@ -120,8 +120,8 @@ impl Round<'_> {
             if !gate.begin(pool) {
                 return Err(SearchFault::Gate);
             }
-            let looked_at = self.look_at(alloc, pool)?;
-            found.push(looked_at).map_err(AllocError::from)?;
+            let vectors = self.search_pool(alloc, pool)?;
+            found.push(vectors).map_err(AllocError::from)?;
             let given = give_back(&mut board.lock(rt), pool)?;
             if !given {
                 return Err(SearchFault::Mixed);
@@ -139,7 +139,7 @@ impl Round<'_> {
         stop: &AtomicBool,
         gate: &G,
     ) -> Result<Vec<PoolVectors>, SearchFault> {
-        let found = self.look_at_free(rt, alloc, board, stop, gate);
+        let found = self.search_free_pools(rt, alloc, board, stop, gate);
         if found.is_err() {
             stop.store(true, Ordering::SeqCst);
         }

@@ -5,7 +5,7 @@ ghost use Rattle.cert_search.specs.Results.{are_complete};
 
 use crate::SearchFault;
 use crate::board::Board;
-use crate::results::complete;
+use crate::results::check_complete;
 use crate::round::{PoolVectors, Round};
 use cert_check::PoolGate;
 use held_machines::{Held, Locked};
@@ -23,7 +23,7 @@ use std::thread::{JoinHandle, Threads};
 /// [`SearchFault::Memory`] if memory runs out or a thread cannot be started, [`SearchFault::Gate`]
 /// if the gate rejects a pool, and [`SearchFault::Mixed`] if the results are inconsistent. All
 /// threads have ended in each case.
-pub(crate) fn look_at_all<R: Threads + Wait + Sync, G: PoolGate>(
+pub(crate) fn search_pools<R: Threads + Wait + Sync, G: PoolGate>(
     rt: &R,
     alloc: Global,
     round: &Round,
@@ -66,7 +66,7 @@ pub(crate) fn look_at_all<R: Threads + Wait + Sync, G: PoolGate>(
         },
     )?;
     if board.into_inner().state().are_done() {
-        complete(has_rank, found)
+        check_complete(has_rank, found)
     } else {
         Err(SearchFault::Mixed)
     }

@@ -8,19 +8,19 @@ use Rattle.clap.specs.declared.builder.command.Command.TheViews.{out-Command as 
 use Rattle.clap.specs.declared.builder.command.Command.{Command}
 
 -- a subcommand of this shape is added at the end
-pub added : (made : Result Command AllocError) (shape : Shape) (before was : App) (both : Command)
+pub adds_subcommand : (made : Result Command AllocError) (shape : Shape) (before was : App) (both : Command)
     → IfOk made (λ it. shape_of it ≡ shape)
     → IsOkAnd made (λ it. app_of both ≡ with_subcommand before (shape_of it))
     → before ≡ was
     → app_of both ≡ with_subcommand was shape
-added (Ok it) shape before was both is adds same = adds ∙ ap (with_subcommand before) is ∙ ap (λ app. with_subcommand app shape) same
-added (Err error) shape before was both is adds same = absurd adds
+adds_subcommand (Ok it) shape before was both is adds same = adds ∙ ap (with_subcommand before) is ∙ ap (λ app. with_subcommand app shape) same
+adds_subcommand (Err error) shape before was both is adds same = absurd adds
 
 -- adds an argument that is not global
-pub argued : (old : Command) (argument : Arg) (new : Command) (shape : Shape) (rule : Rule)
+pub adds_argument : (old : Command) (argument : Arg) (new : Command) (shape : Shape) (rule : Rule)
     → AddsArg old argument new → argument.global ≡ false → rule_of argument ≡ rule → shape_of old ≡ shape
     → shape_of new ≡ record shape { rules = shape.rules ++ rule ∷ [] }
-argued old argument new shape rule adds local is was =
+adds_argument old argument new shape rule adds local is was =
     ap (λ app. app.top) (adds.shape local) ∙ ap₂ (λ (first : Shape) (last : Rule). record first { rules = first.rules ++ last ∷ [] }) was is
 
 -- none of its arguments is global if none was before

@@ -93,8 +93,8 @@ abbrev pub learn_shape : Shape
 learn_shape = (of_plan (codes "learn")).top
 
 -- adds a subcommand for each review
-abbrev pub with_reviews : App → App
-with_reviews program = with_subcommand (with_subcommand (with_subcommand program replay_shape) check_shape) explain_shape
+abbrev pub with_review_commands : App → App
+with_review_commands program = with_subcommand (with_subcommand (with_subcommand program replay_shape) check_shape) explain_shape
 
 -- adds a subcommand for each task
 abbrev pub with_tasks : App → App
@@ -102,9 +102,9 @@ with_tasks program =
     with_subcommand (with_subcommand (with_subcommand (with_subcommand (with_subcommand program certify_shape) fit_shape) run_shape) refute_shape) ask_shape
 
 -- adds a subcommand for each command on recordings
-abbrev pub with_readings : App → App
-with_readings program = with_subcommand (with_subcommand program conform_shape) learn_shape
+abbrev pub with_recording_commands : App → App
+with_recording_commands program = with_subcommand (with_subcommand program conform_shape) learn_shape
 
 -- the program, with a subcommand for each command
 abbrev pub sizing : App
-sizing = with_readings (with_tasks (with_reviews (new_app (codes "sizing"))))
+sizing = with_recording_commands (with_tasks (with_review_commands (new_app (codes "sizing"))))

@@ -10,17 +10,17 @@ use Rattle.clap.specs.declared.builder.value_parser.ValueParser.TheVariants as p
 use Rattle.clap.specs.declared.error.kind.ErrorKind.TheVariants.{ValueValidation}
 use Rattle.command_line.specs.Application.{sizing}
 use Rattle.job_bodies.specs.declared.limits.TheConstants.{MAX_ROUNDS, MAX_STATES, MAX_WORKERS}
-use Rattle.command_line.specs.declared.command.Asked.{Asked}
+use Rattle.command_line.specs.declared.command.Cli.{Cli}
 use Rattle.command_line.specs.declared.command.Command.{Command}
-use Rattle.command_line.specs.declared.command.Command.TheVariants.{Alone, OnRecording, OnThreads}
-use Rattle.command_line.specs.declared.command.Review.TheVariants.{Replay, Check, Explain}
-use Rattle.command_line.specs.declared.command.Reading.TheVariants.{Conform, Learn}
+use Rattle.command_line.specs.declared.command.Command.TheVariants.{Sequential, OnRecording, OnThreads}
+use Rattle.command_line.specs.declared.command.ReviewCommand.TheVariants.{Replay, Check, Explain}
+use Rattle.command_line.specs.declared.command.RecordingCommand.TheVariants.{Conform, Learn}
 use Rattle.command_line.specs.declared.command.Task.{Task}
 use Rattle.command_line.specs.declared.command.Task.TheVariants.{Certify, Fit, Run, Refute, Ask}
 use Rattle.command_line.specs.declared.command.SizesForm.TheVariants.{Sizes, Bundle}
-use Rattle.command_line.specs.declared.command.Shown.TheVariants as shown
-use Rattle.command_line.specs.declared.command.Given.{Given}
-use Rattle.command_line.specs.declared.command.Given.TheVariants.{PlanAlone, WithCertificate}
+use Rattle.command_line.specs.declared.command.RefuteFormat.TheVariants as refute_format
+use Rattle.command_line.specs.declared.command.AskInput.{AskInput}
+use Rattle.command_line.specs.declared.command.AskInput.TheVariants.{PlanAlone, WithCertificate}
 use Rattle.command_line.specs.declared.command.Form.{Form}
 use Rattle.command_line.specs.declared.command.Form.TheVariants.{Words, Json, Dot}
 
@@ -46,12 +46,12 @@ abbrev pub run_with : Option ℕ → Option Task
 run_with = option_map (λ rounds. Run rounds)
 
 abbrev pub refute_with : Bool → Option ℕ → Option Task
-refute_with bundle = option_map (λ states. Refute states (if bundle then shown.Bundle else shown.Story))
+refute_with bundle = option_map (λ states. Refute states (if bundle then refute_format.Bundle else refute_format.Story))
 
 -- a certificate is given if a second file is named
-abbrev pub given_among : Option Text → Given
-given_among None = PlanAlone
-given_among (Some name) = WithCertificate
+abbrev pub ask_input_of : Option Text → AskInput
+ask_input_of None = PlanAlone
+ask_input_of (Some name) = WithCertificate
 
 -- the format that these two options request, unless both are given
 abbrev pub form_of : Bool → Bool → Option Form
@@ -62,7 +62,7 @@ form_of true true = None
 
 -- the task `ask` in this format
 abbrev pub ask_in : List Row → Form → Task
-ask_in rows form = Ask (given_among (first_of (codes "SECOND") rows)) (record { strict = is_set (codes "strict") rows; form = form })
+ask_in rows form = Ask (ask_input_of (first_of (codes "SECOND") rows)) (record { strict = is_set (codes "strict") rows; form = form })
 
 -- the task `ask` of these rows
 abbrev pub ask_named : List Row → Option Task
@@ -80,9 +80,9 @@ task_of name rows =
 -- the command of the subcommand with this name and these rows
 abbrev pub command_named : Text × List Row → Option Command
 command_named (name, rows) =
-    if bytes_eq name (codes "replay") then Some (Alone Replay)
-    else (if bytes_eq name (codes "check") then Some (Alone Check)
-    else (if bytes_eq name (codes "explain") then Some (Alone Explain)
+    if bytes_eq name (codes "replay") then Some (Sequential Replay)
+    else (if bytes_eq name (codes "check") then Some (Sequential Check)
+    else (if bytes_eq name (codes "explain") then Some (Sequential Explain)
     else (if bytes_eq name (codes "conform") then Some (OnRecording Conform)
     else (if bytes_eq name (codes "learn") then Some (OnRecording Learn) else option_map (λ task. OnThreads task) (task_of name rows)))))
 
@@ -108,8 +108,8 @@ abbrev pub files_of : List Text → Option Text × Option Text
 files_of words = files_among (subcommand_of sizing words)
 
 -- the files in the parsed arguments
-abbrev pub files_asked : Asked → Option Text × Option Text
-files_asked asked = (option_map (λ name. name.now) asked.first, option_map (λ name. name.now) asked.second)
+abbrev pub files_of_cli : Cli → Option Text × Option Text
+files_of_cli cli = (option_map (λ name. name.now) cli.first, option_map (λ name. name.now) cli.second)
 
 -- the file that the rows of a subcommand name for a certificate
 abbrev pub certificate_in : Option (List Row) → Option Text
@@ -125,8 +125,8 @@ abbrev pub certificate_of : List Text → Option Text
 certificate_of words = certificate_among (subcommand_of sizing words)
 
 -- the certificate's file in the parsed arguments
-abbrev pub certificate_asked : Asked → Option Text
-certificate_asked asked = option_map (λ name. name.now) asked.certificate
+abbrev pub certificate_of_cli : Cli → Option Text
+certificate_of_cli cli = option_map (λ name. name.now) cli.certificate
 
 -- a subcommand was entered whose numbers and options name no command
 abbrev pub is_out_of_range : Option (Text × List Row) → Bool
@@ -139,13 +139,13 @@ faults_of words = or_else (fault_of sizing words) (if is_out_of_range (subcomman
 -- the numbers of a task are in their ranges
 abbrev pub IsTaskInRange : Task → Type 0
 IsTaskInRange (Certify workers) = (1 ≤ workers) × (workers ≤ MAX_WORKERS)
-IsTaskInRange (Fit wanted) = Unit {0}
+IsTaskInRange (Fit sizes_form) = Unit {0}
 IsTaskInRange (Run rounds) = (1 ≤ rounds) × (rounds ≤ MAX_ROUNDS)
-IsTaskInRange (Refute states shown) = (1 ≤ states) × (states ≤ MAX_STATES)
-IsTaskInRange (Ask given manner) = Unit {0}
+IsTaskInRange (Refute states refute_format) = (1 ≤ states) × (states ≤ MAX_STATES)
+IsTaskInRange (Ask given options) = Unit {0}
 
 -- the numbers of a command are in their ranges
 abbrev pub IsInRange : Command → Type 0
-IsInRange (Alone review) = Unit {0}
+IsInRange (Sequential review) = Unit {0}
 IsInRange (OnRecording reading) = Unit {0}
 IsInRange (OnThreads task) = IsTaskInRange task

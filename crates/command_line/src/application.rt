@@ -2,7 +2,7 @@
 ghost use Rattle.std.specs.Prelude.{◌≡◌, IfOk, IsOkAnd, false, codes};
 ghost use Rattle.clap.specs.Words.{app_of, new_app, rule_of, shape_of, with_subcommand};
 ghost use Rattle.clap.specs.declared.builder.command.Command.TheViews.{out-Command as fields_of};
-ghost use Rattle.command_line.specs.Application.{ask_shape, bundle_option, certificate_option, certify_shape, check_shape, conform_shape, dot_option, explain_shape, file_argument, fit_shape, json_option, learn_shape, number_option, of_both, of_plan, refute_shape, replay_shape, rounds_option, run_shape, sizing, states_option, strict_option, with_readings, with_reviews, with_tasks, workers_option};
+ghost use Rattle.command_line.specs.Application.{ask_shape, bundle_option, certificate_option, certify_shape, check_shape, conform_shape, dot_option, explain_shape, file_argument, fit_shape, json_option, learn_shape, number_option, of_both, of_plan, refute_shape, replay_shape, rounds_option, run_shape, sizing, states_option, strict_option, with_recording_commands, with_review_commands, with_tasks, workers_option};
 
 use crate::{ask_help, help, recording_help, search_help};
 use clap::builder::ValueParser;
@@ -14,14 +14,14 @@ use std::alloc::{AllocError, Global};
 pub(crate) fn application<'a>(alloc: Global) -> Result<Command<'a>, AllocError>
     ensures { IfOk result (λ made. app_of made ≡ sizing) }
 {
-    let reviewed = with_reviews(alloc, program(alloc))?;
+    let reviewed = with_review_commands(alloc, program(alloc))?;
     let tasked = with_tasks(alloc, reviewed)?;
-    with_readings(alloc, tasked)
+    with_recording_commands(alloc, tasked)
 }
 
 // Adds a subcommand for each review.
-fn with_reviews<'a>(alloc: Global, program: Command<'a>) -> Result<Command<'a>, AllocError>
-    ensures { IfOk result (λ made. app_of made ≡ with_reviews (app_of program.entry)) }
+fn with_review_commands<'a>(alloc: Global, program: Command<'a>) -> Result<Command<'a>, AllocError>
+    ensures { IfOk result (λ made. app_of made ≡ with_review_commands (app_of program.entry)) }
 {
     let replayed = with_subcommand(program, replay(alloc))?;
     let checked = with_subcommand(replayed, check(alloc))?;
@@ -40,8 +40,8 @@ fn with_tasks<'a>(alloc: Global, program: Command<'a>) -> Result<Command<'a>, Al
 }
 
 // Adds a subcommand for each command on recordings.
-fn with_readings<'a>(alloc: Global, program: Command<'a>) -> Result<Command<'a>, AllocError>
-    ensures { IfOk result (λ made. app_of made ≡ with_readings (app_of program.entry)) }
+fn with_recording_commands<'a>(alloc: Global, program: Command<'a>) -> Result<Command<'a>, AllocError>
+    ensures { IfOk result (λ made. app_of made ≡ with_recording_commands (app_of program.entry)) }
 {
     let conformed = with_subcommand(program, conform(alloc))?;
     with_subcommand(conformed, learn(alloc))

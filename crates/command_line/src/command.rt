@@ -15,16 +15,16 @@ use std::alloc::Global;
 #[derive(Clone, Copy, Debug, PartialEq, Eq)]
 pub enum Command {
     /// A command that starts no thread and never blocks on one.
-    Alone(Review),
+    Sequential(ReviewCommand),
     /// A command that starts no thread and reads a recording.
-    OnRecording(Reading),
+    OnRecording(RecordingCommand),
     /// A command that starts threads and joins them.
     OnThreads(Task),
 }
 
 /// A command on a plan and a second text.
 #[derive(Clone, Copy, Debug, PartialEq, Eq)]
-pub enum Review {
+pub enum ReviewCommand {
     /// Replays events on a plan and reports the outcome of each.
     Replay,
     /// Decides whether a certificate shows that no submit is refused and no jobs starve.
@@ -35,7 +35,7 @@ pub enum Review {
 
 /// A command on a recording of what a service did.
 #[derive(Clone, Copy, Debug, PartialEq, Eq)]
-pub enum Reading {
+pub enum RecordingCommand {
     /// Compares a recording with the plan before it.
     Conform,
     /// Derives a plan from a recording.
@@ -53,7 +53,7 @@ pub enum Task {
     /// Searches for sizes that a certificate accepts.
     Fit {
         /// The output for the sizes.
-        wanted: SizesForm,
+        sizes_form: SizesForm,
     },
     /// Runs a certified plan on threads, and counts its jobs and their units of work.
     Run {
@@ -65,20 +65,20 @@ pub enum Task {
         /// The maximum number of states to search, 1 to 10,000,000. The default is 100,000.
         states: usize,
         /// The output for a witness.
-        shown: Shown,
+        refute_format: RefuteFormat,
     },
     /// Decides whether a plan is safe with the sizes that it declares, for a person or for a build.
     Ask {
         /// Whether a certificate follows the plan.
-        given: Given,
+        given: AskInput,
         /// The options of the answer.
-        manner: Manner,
+        options: AskOptions,
     },
 }
 
 /// The parsed arguments of a command line.
 #[derive(Clone, Copy, PartialEq, Eq)]
-pub struct Asked<'a> {
+pub struct Cli<'a> {
     /// The command.
     pub command: Command,
     /// The file of all texts, or of the plan if there is a second file. `None` and `-` mean
@@ -101,7 +101,7 @@ pub enum SizesForm {
 
 /// An output format for a witness.
 #[derive(Clone, Copy, Debug, PartialEq, Eq)]
-pub enum Shown {
+pub enum RefuteFormat {
     /// How the witness ends, and the story that leads there.
     Story,
     /// The plan followed by the events, as `replay` reads them.
@@ -110,7 +110,7 @@ pub enum Shown {
 
 /// The texts that `ask` reads.
 #[derive(Clone, Copy, Debug, PartialEq, Eq)]
-pub enum Given {
+pub enum AskInput {
     /// A plan alone.
     PlanAlone,
     /// A plan, and a certificate for it.
@@ -119,7 +119,7 @@ pub enum Given {
 
 /// The options of `ask`.
 #[derive(Clone, Copy, Debug, PartialEq, Eq)]
-pub struct Manner {
+pub struct AskOptions {
     /// Whether a warning makes the answer a no.
     pub strict: bool,
     /// The output format.
@@ -146,17 +146,17 @@ pub enum Form {
 /// Fails if `clap` rejects the arguments, if a number is out of its range, if `--json` and `--dot`
 /// are both given, and on a request for help. The `Display` of the error is a text for the user. If
 /// memory runs out, the error's `kind` is `ErrorKind::OutOfMemory`.
-pub fn read_words<'a>(alloc: Global, words: &'a [&'a str]) -> Result<Option<Asked<'a>>, Error>
+pub fn read_words<'a>(alloc: Global, words: &'a [&'a str]) -> Result<Option<Cli<'a>>, Error>
     ensures command { IfOk result (λ found.
-        option_map (λ asked. asked.command) found
+        option_map (λ cli. cli.command) found
         ≡ spec.command_of (map (λ word. word.now) words.now)) }
     ensures files { IfOk result (λ found.
         IfSome found
-        (λ asked. spec.files_asked asked ≡ spec.files_of (map (λ word. word.now) words.now))) }
+        (λ cli. spec.files_of_cli cli ≡ spec.files_of (map (λ word. word.now) words.now))) }
     ensures certificate { IfOk result (λ found.
-        IfSome found (λ asked.
-        spec.certificate_asked asked ≡ spec.certificate_of (map (λ word. word.now) words.now))) }
-    ensures in_range { IfOk result (λ found. IfSome found (λ asked. spec.IsInRange asked.command)) }
+        IfSome found (λ cli.
+        spec.certificate_of_cli cli ≡ spec.certificate_of (map (λ word. word.now) words.now))) }
+    ensures in_range { IfOk result (λ found. IfSome found (λ cli. spec.IsInRange cli.command)) }
     ensures fails { FailsBy (spec.faults_of (map (λ word. word.now) words.now)) result }
 {
     let mut sizing = application(alloc)?;
@@ -167,22 +167,22 @@ pub fn read_words<'a>(alloc: Global, words: &'a [&'a str]) -> Result<Option<Aske
             "a number is out of its range, or `--json` stands beside `--dot`",
         )?);
     }
-    Ok(asked_among(&matches))
+    Ok(parsed_args(&matches))
 }
 
 // Returns the parsed arguments of the subcommand that was entered.
-fn asked_among<'a>(matches: &ArgMatches<'a>) -> Option<Asked<'a>>
-    ensures command { option_map (λ asked. asked.command) result
+fn parsed_args<'a>(matches: &ArgMatches<'a>) -> Option<Cli<'a>>
+    ensures command { option_map (λ cli. cli.command) result
         ≡ spec.command_among (subcommand_rows_of matches.now) }
     ensures files { IfSome result
-        (λ asked. spec.files_asked asked ≡ spec.files_among (subcommand_rows_of matches.now)) }
-    ensures certificate { IfSome result (λ asked.
-        spec.certificate_asked asked ≡ spec.certificate_among (subcommand_rows_of matches.now)) }
-    ensures in_range { IfSome result (λ asked. spec.IsInRange asked.command) }
+        (λ cli. spec.files_of_cli cli ≡ spec.files_among (subcommand_rows_of matches.now)) }
+    ensures certificate { IfSome result (λ cli.
+        spec.certificate_of_cli cli ≡ spec.certificate_among (subcommand_rows_of matches.now)) }
+    ensures in_range { IfSome result (λ cli. spec.IsInRange cli.command) }
 {
     let command = command_among(matches)?;
     let (_, options) = matches.subcommand()?;
-    Some(Asked {
+    Some(Cli {
         command,
         first: file_named(options, "PLAN"),
         second: file_named(options, "SECOND"),
@@ -212,11 +212,11 @@ fn command_among(matches: &ArgMatches<'_>) -> Option<Command>
     ensures in_range { IfSome result spec.IsInRange }
 {
     match matches.subcommand()? {
-        ("replay", _) => Some(Command::Alone(Review::Replay)),
-        ("check", _) => Some(Command::Alone(Review::Check)),
-        ("explain", _) => Some(Command::Alone(Review::Explain)),
-        ("conform", _) => Some(Command::OnRecording(Reading::Conform)),
-        ("learn", _) => Some(Command::OnRecording(Reading::Learn)),
+        ("replay", _) => Some(Command::Sequential(ReviewCommand::Replay)),
+        ("check", _) => Some(Command::Sequential(ReviewCommand::Check)),
+        ("explain", _) => Some(Command::Sequential(ReviewCommand::Explain)),
+        ("conform", _) => Some(Command::OnRecording(RecordingCommand::Conform)),
+        ("learn", _) => Some(Command::OnRecording(RecordingCommand::Learn)),
         (name, options) => Some(Command::OnThreads(task_of(name, options)?)),
     }
 }
@@ -252,12 +252,12 @@ fn fit(options: &ArgMatches<'_>) -> Task
     ensures { result
         ≡ spec.fit_with (spec.is_set (codes "bundle") (rows_of (found_of options.now))) }
 {
-    let wanted = if is_set(options, "bundle") {
+    let sizes_form = if is_set(options, "bundle") {
         SizesForm::Bundle
     } else {
         SizesForm::Sizes
     };
-    Task::Fit { wanted }
+    Task::Fit { sizes_form }
 }
 
 fn run(options: &ArgMatches<'_>) -> Option<Task>
@@ -277,14 +277,14 @@ fn refute(options: &ArgMatches<'_>) -> Option<Task>
     ensures in_range { IfSome result spec.IsTaskInRange }
 {
     let states = number_of(options, "states", 1, MAX_STATES)?;
-    let shown = if is_set(options, "bundle") {
-        Shown::Bundle
+    let refute_format = if is_set(options, "bundle") {
+        RefuteFormat::Bundle
     } else {
-        Shown::Story
+        RefuteFormat::Story
     };
     Some(Task::Refute {
         states: states as usize,
-        shown,
+        refute_format,
     })
 }
 
@@ -295,8 +295,8 @@ fn ask(options: &ArgMatches<'_>) -> Option<Task>
     let form = form_of(is_set(options, "json"), is_set(options, "dot"))?;
     let strict = is_set(options, "strict");
     Some(Task::Ask {
-        given: texts_given(options),
-        manner: Manner { strict, form },
+        given: ask_input(options),
+        options: AskOptions { strict, form },
     })
 }
 
@@ -312,12 +312,12 @@ fn form_of(json: bool, dot: bool) -> Option<Form>
     }
 }
 
-fn texts_given(options: &ArgMatches<'_>) -> Given
+fn ask_input(options: &ArgMatches<'_>) -> AskInput
     ensures { result
-        ≡ spec.given_among (first_of (codes "SECOND") (rows_of (found_of options.now))) }
+        ≡ spec.ask_input_of (first_of (codes "SECOND") (rows_of (found_of options.now))) }
 {
     match file_named(options, "SECOND") {
-        Some(_) => Given::WithCertificate,
-        None => Given::PlanAlone,
+        Some(_) => AskInput::WithCertificate,
+        None => AskInput::PlanAlone,
     }
 }

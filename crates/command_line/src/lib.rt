@@ -14,5 +14,5 @@ mod recording_help;
 mod search_help;
 
 pub use command::{
-    Asked, Command, Form, Given, Manner, Reading, Review, Shown, SizesForm, Task, read_words,
+    Cli, Command, Form, AskInput, AskOptions, RecordingCommand, ReviewCommand, RefuteFormat, SizesForm, Task, read_words,
 };

@@ -1,7 +1,7 @@
 //! The vectors of a plan that miss their bounds.
 
 use job_bodies::Plan;
-use least_vectors::{Growing, Kind, Levels, reach};
+use least_vectors::{ResizedPlan, Kind, Levels, reach};
 use std::alloc::{AllocError, Global};
 use weights::Vector;
 
@@ -23,7 +23,7 @@ pub(crate) fn missed_vectors(alloc: Global, plan: &Plan) -> Result<Vec<Potential
         return Ok(vectors.potentials);
     };
     let maxes: Vec<u64> = plan.pools().iter().map(|pool| pool.max).collect(alloc)?;
-    let growing = Growing {
+    let growing = ResizedPlan {
         plan,
         levels: &levels,
         maxes: &maxes,
@@ -52,7 +52,7 @@ impl MissedVectors {
     /// the vector.
     fn holds(
         &mut self,
-        growing: &Growing,
+        growing: &ResizedPlan,
         pool: usize,
         kind: Kind,
         limit: u64,
@@ -82,7 +82,7 @@ impl MissedVectors {
     /// it. If no pool got it, keeps the vectors of the other pools.
     fn rank_pools(
         &mut self,
-        growing: &Growing,
+        growing: &ResizedPlan,
         ranks: &mut Vec<Option<u64>>,
         rank: u64,
     ) -> Result<bool, AllocError> {

@@ -1,2 +1,2 @@
-pub mod Advice
-pub mod Oddities
+pub mod Diagnostic
+pub mod Lints

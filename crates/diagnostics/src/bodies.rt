@@ -2,9 +2,9 @@
 //! was submitted.
 
 use crate::entry::PlacedEntry;
-use crate::near::{listed, meant};
-use crate::notes::Notes;
-use crate::orders::{Order, order_of, slip_of};
+use crate::suggestions::{comma_list, suggestion};
+use crate::collector::FaultCollector;
+use crate::actions::{ParsedAction, parse_action, action_error};
 use std::alloc::{AllocError, Global};
 use support::number::{BAD_ACTION, NO_SUCH_CLASS, SLOT_EMPTY, SLOT_OPEN};
 
@@ -20,22 +20,22 @@ struct Slot<'a> {
 
 /// The action that is being checked.
 #[derive(Clone, Copy)]
-struct Spot<'a> {
+struct CheckedAction<'a> {
     entry: &'a PlacedEntry<'a>,
     action: usize,
     text: &'a str,
 }
 
-impl Spot<'_> {
-    fn tell(&self, notes: &mut Notes, number: u8, words: &str) -> Result<(), AllocError> {
+impl CheckedAction<'_> {
+    fn report(&self, collector: &mut FaultCollector, number: u8, words: &str) -> Result<(), AllocError> {
         self.entry
-            .tell_action(notes, self.action, number, self.text, words)
+            .report_action(collector, self.action, number, self.text, words)
     }
 }
 
 /// Reports the faults of the actions in an entry's body.
 pub(crate) fn body(
-    notes: &mut Notes,
+    collector: &mut FaultCollector,
     entry: &PlacedEntry<'_>,
     classes: &[&str],
 ) -> Result<(), AllocError> {
@@ -45,91 +45,91 @@ pub(crate) fn body(
     let Some(actions) = value.as_array() else {
         return Ok(());
     };
-    let mut slots = Vec::new(notes.alloc);
+    let mut slots = Vec::new(collector.alloc);
     for (action, value) in actions.iter().enumerate() {
         if let Some(text) = value.as_str() {
-            let spot = Spot {
+            let checked = CheckedAction {
                 entry: &*entry,
                 action,
                 text,
             };
-            look_at(notes, spot, classes, &mut slots)?;
+            check_action(collector, checked, classes, &mut slots)?;
         }
     }
     Ok(())
 }
 
-fn look_at<'a>(
-    notes: &mut Notes,
-    spot: Spot<'a>,
+fn check_action<'a>(
+    collector: &mut FaultCollector,
+    checked: CheckedAction<'a>,
     classes: &[&str],
     slots: &mut Vec<Slot<'a>>,
 ) -> Result<(), AllocError> {
-    match order_of(spot.text) {
+    match parse_action(checked.text) {
         None => {
-            let words = slip_of(notes.alloc, spot.text)?;
-            spot.tell(notes, BAD_ACTION, &words)
+            let words = action_error(collector.alloc, checked.text)?;
+            checked.report(collector, BAD_ACTION, &words)
         }
-        Some(Order::Work) => Ok(()),
-        Some(Order::Submit(class)) => submitted(notes, spot, class, classes),
-        Some(Order::SubmitAs(class, slot)) => {
-            submitted(notes, spot, class, classes)?;
-            filled(notes, spot, slot, slots)
+        Some(ParsedAction::Work) => Ok(()),
+        Some(ParsedAction::Submit(class)) => check_submit(collector, checked, class, classes),
+        Some(ParsedAction::SubmitAs(class, slot)) => {
+            check_submit(collector, checked, class, classes)?;
+            check_slot_is_free(collector, checked, slot, slots)
         }
-        Some(Order::Get(slot)) => got(notes, spot, slot, slots),
+        Some(ParsedAction::Get(slot)) => check_get(collector, checked, slot, slots),
     }
 }
 
-fn submitted(
-    notes: &mut Notes,
-    spot: Spot<'_>,
+fn check_submit(
+    collector: &mut FaultCollector,
+    checked: CheckedAction<'_>,
     class: &str,
     classes: &[&str],
 ) -> Result<(), AllocError> {
     if classes.contains(&class) {
         return Ok(());
     }
-    let alloc = notes.alloc;
+    let alloc = collector.alloc;
     let otherwise = if classes.is_empty() {
         String::from_str(
             alloc,
             "; the plan has no classes: write a [[class]] of this name",
         )?
     } else {
-        let all = listed(alloc, classes)?;
+        let all = comma_list(alloc, classes)?;
         format!(in alloc; "; the classes are {all}")?
     };
-    let right = meant(alloc, class, classes, &otherwise)?;
+    let right = suggestion(alloc, class, classes, &otherwise)?;
     let words = format!(in alloc; "there is no class {class}{right}")?;
-    spot.tell(notes, NO_SUCH_CLASS, &words)
+    checked.report(collector, NO_SUCH_CLASS, &words)
 }
 
-fn filled<'a>(
-    notes: &mut Notes,
-    spot: Spot<'a>,
+fn check_slot_is_free<'a>(
+    collector: &mut FaultCollector,
+    checked: CheckedAction<'a>,
     name: &'a str,
     slots: &mut Vec<Slot<'a>>,
 ) -> Result<(), AllocError> {
     for slot in slots.iter() {
         if slot.name == name && slot.got.is_none() {
             let submit = slot.submit;
-            let words = format!(in notes.alloc;
+            let words = format!(in collector.alloc;
                 "what action {submit} submitted as {name} was not got yet: get it before, or take another name"
             )?;
-            return spot.tell(notes, SLOT_OPEN, &words);
+            return checked.report(collector, SLOT_OPEN, &words);
         }
     }
     slots.push(Slot {
         name,
-        submit: spot.action,
+        submit: checked.action,
         got: None,
     })?;
     Ok(())
 }
 
-fn got<'a>(
-    notes: &mut Notes,
-    spot: Spot<'a>,
+fn check_get<'a>(
+    collector: &mut FaultCollector,
+    checked: CheckedAction<'a>,
     name: &str,
     slots: &mut Vec<Slot<'a>>,
 ) -> Result<(), AllocError> {
@@ -138,7 +138,7 @@ fn got<'a>(
         if slot.name == name {
             match slot.got {
                 None => {
-                    slot.got = Some(spot.action);
+                    slot.got = Some(checked.action);
                     return Ok(());
                 }
                 Some(action) => before = Some(action),
@@ -147,16 +147,16 @@ fn got<'a>(
     }
     let words = match before {
         Some(action) => {
-            format!(in notes.alloc;
+            format!(in collector.alloc;
                 "{name} was got already, at action {action}: a job is got once"
             )?
         }
-        None => nothing_as(notes.alloc, name, slots)?,
+        None => no_such_slot(collector.alloc, name, slots)?,
     };
-    spot.tell(notes, SLOT_EMPTY, &words)
+    checked.report(collector, SLOT_EMPTY, &words)
 }
 
-fn nothing_as(alloc: Global, name: &str, slots: &[Slot<'_>]) -> Result<String, AllocError> {
+fn no_such_slot(alloc: Global, name: &str, slots: &[Slot<'_>]) -> Result<String, AllocError> {
     let mut names = Vec::new(alloc);
     for slot in slots {
         names.push(slot.name)?;
@@ -164,9 +164,9 @@ fn nothing_as(alloc: Global, name: &str, slots: &[Slot<'_>]) -> Result<String, A
     let otherwise = if names.is_empty() {
         format!(in alloc; ": write a submit CLASS as {name} before it")?
     } else {
-        let all = listed(alloc, &names)?;
+        let all = comma_list(alloc, &names)?;
         format!(in alloc; "; there are {all}")?
     };
-    let right = meant(alloc, name, &names, &otherwise)?;
+    let right = suggestion(alloc, name, &names, &otherwise)?;
     format!(in alloc; "nothing was submitted as {name}{right}")
 }

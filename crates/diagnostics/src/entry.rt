@@ -1,6 +1,6 @@
 //! The entries of a plan: its pools, its classes and its kinds of clients.
 
-use crate::notes::Notes;
+use crate::collector::FaultCollector;
 use job_bodies::{Part, PlanFault};
 use plan_text::{Places, TextPlace};
 use std::alloc::{AllocError, Global};
@@ -89,16 +89,16 @@ impl<'a> PlacedEntry<'a> {
     }
 
     /// Reports a fault of the entry, as `pool db: WORDS`.
-    pub(crate) fn tell(
+    pub(crate) fn report(
         &self,
-        notes: &mut Notes,
+        collector: &mut FaultCollector,
         number: u8,
         place: TextPlace,
         words: &str,
     ) -> Result<(), AllocError> {
-        let who = self.who(notes.alloc)?;
-        let what = format!(in notes.alloc; "{who}: {words}")?;
-        notes.push(
+        let who = self.who(collector.alloc)?;
+        let what = format!(in collector.alloc; "{who}: {words}")?;
+        collector.push(
             PlanFault::at_entry(self.part, self.index, number),
             place,
             what,
@@ -106,17 +106,17 @@ impl<'a> PlacedEntry<'a> {
     }
 
     /// Reports a fault of an action, as `class page, action 1 "get row": WORDS`.
-    pub(crate) fn tell_action(
+    pub(crate) fn report_action(
         &self,
-        notes: &mut Notes,
+        collector: &mut FaultCollector,
         action: usize,
         number: u8,
         text: &str,
         words: &str,
     ) -> Result<(), AllocError> {
-        let who = self.who(notes.alloc)?;
-        let what = format!(in notes.alloc; "{who}, action {action} \"{text}\": {words}")?;
+        let who = self.who(collector.alloc)?;
+        let what = format!(in collector.alloc; "{who}, action {action} \"{text}\": {words}")?;
         let fault = PlanFault::at_action(self.part, self.index, action, number);
-        notes.push(fault, self.action_place(action), what)
+        collector.push(fault, self.action_place(action), what)
     }
 }

@@ -5,29 +5,29 @@
 //! of the plan. The contracts promise nothing about messages and places.
 #![tactic(auto)]
 
-mod advice;
+mod diagnostic;
 mod bodies;
 mod entry;
 mod names;
-mod near;
-mod notes;
+mod suggestions;
+mod collector;
 mod numbers;
-mod oddities;
-mod oddity;
-mod orders;
+mod lints;
+mod lint;
+mod actions;
 mod rules;
 mod shapes;
-mod signs;
+mod lint_conditions;
 mod syntax;
 mod tables;
-mod telling;
+mod plan_faults;
 mod warning_lines;
 mod warning_places;
 mod warning_words;
 mod warnings;
 
-pub use advice::{Advice, Faults, push_faults};
-pub use oddity::Oddity;
-pub use telling::faults_of;
+pub use diagnostic::{Diagnostic, Faults, push_faults};
+pub use lint::Lint;
+pub use plan_faults::faults_of;
 pub use warning_lines::push_warnings;
 pub use warnings::{Warning, warnings_of};

@@ -1,7 +1,7 @@
 //! The checks of sizes and counts: each is in its range.
 
 use crate::entry::PlacedEntry;
-use crate::notes::Notes;
+use crate::collector::FaultCollector;
 use job_bodies::MAX_SIZE;
 use std::alloc::AllocError;
 use support::number::BAD_NUMBER;
@@ -9,50 +9,50 @@ use support::number::BAD_NUMBER;
 /// The largest size and count.
 const MOST: i64 = MAX_SIZE as i64;
 
-fn is_lawful(number: i64) -> bool {
+fn is_in_range(number: i64) -> bool {
     (1..=MOST).contains(&number)
 }
 
 /// Reports the numbers at these keys that are out of range. Returns whether there are any.
 fn out_of_range(
-    notes: &mut Notes,
+    collector: &mut FaultCollector,
     entry: &PlacedEntry<'_>,
     keys: &[&str],
 ) -> Result<bool, AllocError> {
     let mut any = false;
     for key in keys.iter().copied() {
         if let Some(number) = entry.number(key)
-            && !is_lawful(number)
+            && !is_in_range(number)
         {
             any = true;
-            let words = format!(in notes.alloc;
+            let words = format!(in collector.alloc;
                 "{key} is {number}, and is to be from 1 to {MOST}"
             )?;
-            entry.tell(notes, BAD_NUMBER, entry.value_place(key), &words)?;
+            entry.report(collector, BAD_NUMBER, entry.value_place(key), &words)?;
         }
     }
     Ok(any)
 }
 
 /// Reports the invalid sizes of a pool.
-pub(crate) fn sizes(notes: &mut Notes, pool: &PlacedEntry<'_>) -> Result<(), AllocError> {
-    if out_of_range(notes, pool, &["core", "max", "queue"])? {
+pub(crate) fn sizes(collector: &mut FaultCollector, pool: &PlacedEntry<'_>) -> Result<(), AllocError> {
+    if out_of_range(collector, pool, &["core", "max", "queue"])? {
         return Ok(());
     }
     let (Some(core), Some(max)) = (pool.number("core"), pool.number("max")) else {
         return Ok(());
     };
     if max < core {
-        let words = format!(in notes.alloc;
+        let words = format!(in collector.alloc;
             "max {max} is below core {core}; it is to be at least core"
         )?;
-        return pool.tell(notes, BAD_NUMBER, pool.value_place("max"), &words);
+        return pool.report(collector, BAD_NUMBER, pool.value_place("max"), &words);
     }
     Ok(())
 }
 
 /// Reports the count of a kind of clients if it is invalid.
-pub(crate) fn count(notes: &mut Notes, client: &PlacedEntry<'_>) -> Result<(), AllocError> {
-    out_of_range(notes, client, &["count"])?;
+pub(crate) fn count(collector: &mut FaultCollector, client: &PlacedEntry<'_>) -> Result<(), AllocError> {
+    out_of_range(collector, client, &["count"])?;
     Ok(())
 }

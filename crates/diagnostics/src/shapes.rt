@@ -1,8 +1,8 @@
 //! The checks of an entry's keys: which it has, and the types of their values.
 
 use crate::entry::{PlacedEntry, list_of};
-use crate::near::meant;
-use crate::notes::Notes;
+use crate::suggestions::suggestion;
+use crate::collector::FaultCollector;
 use job_bodies::{MAX_ACTIONS, Part};
 use std::alloc::AllocError;
 use support::number::{MISSING_KEY, TOO_MANY, UNKNOWN_KEY, WRONG_TYPE};
@@ -19,11 +19,11 @@ enum ValueKind {
 
 /// A key of an entry.
 #[derive(Clone, Copy)]
-struct Known {
+struct KeyRule {
     key: &'static str,
     wanted: ValueKind,
     /// The hint if a required key is missing. It is empty for an optional key.
-    says: &'static str,
+    hint: &'static str,
 }
 
 const POOL_KEYS: [&str; 5] = ["name", "core", "max", "queue", "prestart"];
@@ -42,8 +42,8 @@ pub(crate) fn keys_of(part: Part) -> &'static [&'static str] {
     }
 }
 
-fn key_named(key: &str) -> Option<Known> {
-    let (key, wanted, says) = match key {
+fn key_rule(key: &str) -> Option<KeyRule> {
+    let (key, wanted, hint) = match key {
         "name" => ("name", ValueKind::Text, "write name = \"..\""),
         "pool" => (
             "pool",
@@ -79,11 +79,11 @@ fn key_named(key: &str) -> Option<Known> {
         ),
         _ => return None,
     };
-    Some(Known { key, wanted, says })
+    Some(KeyRule { key, wanted, hint })
 }
 
 /// Returns the name in plans for a key from Java or from other configuration files.
-fn here_called(key: &str) -> Option<&'static str> {
+fn plan_key_for(key: &str) -> Option<&'static str> {
     match key {
         "corePoolSize" | "corepoolsize" | "core_pool_size" | "threads" | "size" => Some("core"),
         "maximumPoolSize" | "maxPoolSize" | "maximum" | "max_pool_size" => Some("max"),
@@ -100,11 +100,11 @@ fn here_called(key: &str) -> Option<&'static str> {
 }
 
 /// Reports the unknown keys of an entry.
-pub(crate) fn unknown_keys(notes: &mut Notes, entry: &PlacedEntry<'_>) -> Result<(), AllocError> {
+pub(crate) fn unknown_keys(collector: &mut FaultCollector, entry: &PlacedEntry<'_>) -> Result<(), AllocError> {
     for key in entry.table.keys() {
         let key = key.as_str();
         if !has_key(entry.part, key) {
-            unknown_key(notes, entry, key)?;
+            unknown_key(collector, entry, key)?;
         }
     }
     Ok(())
@@ -112,55 +112,55 @@ pub(crate) fn unknown_keys(notes: &mut Notes, entry: &PlacedEntry<'_>) -> Result
 
 /// Returns whether such an entry can have this key.
 pub(crate) fn has_key(part: Part, key: &str) -> bool {
-    keys_of(part).iter().any(|known| *known == key)
+    keys_of(part).iter().any(|rule| *rule == key)
 }
 
-fn unknown_key(notes: &mut Notes, entry: &PlacedEntry<'_>, key: &str) -> Result<(), AllocError> {
-    let alloc = notes.alloc;
+fn unknown_key(collector: &mut FaultCollector, entry: &PlacedEntry<'_>, key: &str) -> Result<(), AllocError> {
+    let alloc = collector.alloc;
     let list = list_of(entry.part);
     let keys = keys_of(entry.part);
-    let right = match here_called(key) {
+    let right = match plan_key_for(key) {
         Some(name) if has_key(entry.part, name) => format!(in alloc; "; here it is called {name}")?,
         _ => {
-            let all = crate::near::listed(alloc, keys)?;
+            let all = crate::suggestions::comma_list(alloc, keys)?;
             let otherwise = format!(in alloc; "; its keys are {all}")?;
-            meant(alloc, key, keys, &otherwise)?
+            suggestion(alloc, key, keys, &otherwise)?
         }
     };
     let words = format!(in alloc; "no {list} has a key {key}{right}")?;
-    entry.tell(notes, UNKNOWN_KEY, entry.key_place(key), &words)
+    entry.report(collector, UNKNOWN_KEY, entry.key_place(key), &words)
 }
 
 /// Reports the keys that the entry lacks, and the values of the wrong type.
-pub(crate) fn values(notes: &mut Notes, entry: &PlacedEntry<'_>) -> Result<(), AllocError> {
+pub(crate) fn values(collector: &mut FaultCollector, entry: &PlacedEntry<'_>) -> Result<(), AllocError> {
     for key in keys_of(entry.part).iter().copied() {
-        if let Some(known) = key_named(key) {
-            value(notes, entry, known)?;
+        if let Some(rule) = key_rule(key) {
+            value(collector, entry, rule)?;
         }
     }
     Ok(())
 }
 
-fn value(notes: &mut Notes, entry: &PlacedEntry<'_>, known: Known) -> Result<(), AllocError> {
-    let key = known.key;
+fn value(collector: &mut FaultCollector, entry: &PlacedEntry<'_>, rule: KeyRule) -> Result<(), AllocError> {
+    let key = rule.key;
     let Some(value) = entry.value(key) else {
-        if known.says.is_empty() {
+        if rule.hint.is_empty() {
             return Ok(());
         }
-        let says = known.says;
-        let words = format!(in notes.alloc; "it has no {key}: {says}")?;
-        return entry.tell(notes, MISSING_KEY, entry.place(), &words);
+        let hint = rule.hint;
+        let words = format!(in collector.alloc; "it has no {key}: {hint}")?;
+        return entry.report(collector, MISSING_KEY, entry.place(), &words);
     };
-    if known.wanted == ValueKind::Body {
-        return body(notes, entry, value);
+    if rule.wanted == ValueKind::Body {
+        return body(collector, entry, value);
     }
-    if is_of(known.wanted, value) {
+    if is_of(rule.wanted, value) {
         return Ok(());
     }
-    let rule = rule_of(known.wanted);
+    let rule = rule_of(rule.wanted);
     let found = value.type_str();
-    let words = format!(in notes.alloc; "{key} is a {found}, and is to be {rule}")?;
-    entry.tell(notes, WRONG_TYPE, entry.value_place(key), &words)
+    let words = format!(in collector.alloc; "{key} is a {found}, and is to be {rule}")?;
+    entry.report(collector, WRONG_TYPE, entry.value_place(key), &words)
 }
 
 fn is_of(wanted: ValueKind, value: &Value) -> bool {
@@ -182,22 +182,22 @@ fn rule_of(wanted: ValueKind) -> &'static str {
 }
 
 /// Reports a body that is not a list, is too long, or has elements that are not strings.
-fn body(notes: &mut Notes, entry: &PlacedEntry<'_>, value: &Value) -> Result<(), AllocError> {
+fn body(collector: &mut FaultCollector, entry: &PlacedEntry<'_>, value: &Value) -> Result<(), AllocError> {
     let place = entry.value_place("body");
     let Some(actions) = value.as_array() else {
         let words =
             "body is to be a list of texts, as [\"work 5\", \"submit query as rows\", \"get rows\"]";
-        return entry.tell(notes, WRONG_TYPE, place, words);
+        return entry.report(collector, WRONG_TYPE, place, words);
     };
     if actions.len() > MAX_ACTIONS {
         let words = "a body has at most 256 actions";
-        return entry.tell(notes, TOO_MANY, place, words);
+        return entry.report(collector, TOO_MANY, place, words);
     }
     for (number, action) in actions.iter().enumerate() {
         if !action.is_str() {
             let found = action.type_str();
-            let words = format!(in notes.alloc; "it is a {found}, and is to be a text in quotes")?;
-            entry.tell_action(notes, number, WRONG_TYPE, "..", &words)?;
+            let words = format!(in collector.alloc; "it is a {found}, and is to be a text in quotes")?;
+            entry.report_action(collector, number, WRONG_TYPE, "..", &words)?;
         }
     }
     Ok(())

@@ -1,21 +1,21 @@
 //! Faults of texts that are not TOML: the place, the parser's message, and a hint for common
 //! mistakes.
 
-use crate::advice::Advice;
+use crate::diagnostic::Diagnostic;
 use job_bodies::PlanFault;
 use plan_text::{TextPlace, place_at};
 use std::alloc::{AllocError, Global};
 use support::number::NOT_TOML;
 
 /// Returns the fault of bytes that are not UTF-8.
-pub(crate) fn not_text(alloc: Global, bytes: &[u8], valid: usize) -> Result<Advice, AllocError> {
+pub(crate) fn not_text(alloc: Global, bytes: &[u8], valid: usize) -> Result<Diagnostic, AllocError> {
     let is_wide = matches!(bytes, [0xFF, 0xFE, ..] | [0xFE, 0xFF, ..]);
     let what = if is_wide {
         "the text is UTF-16: save it as UTF-8"
     } else {
         "a byte is no UTF-8: save the text as UTF-8"
     };
-    Ok(Advice {
+    Ok(Diagnostic {
         fault: PlanFault::at_text(NOT_TOML),
         place: place_at(bytes, valid),
         what: String::from_str(alloc, what)?,
@@ -28,14 +28,14 @@ pub(crate) fn not_toml(
     text: &str,
     offset: usize,
     words: &str,
-) -> Result<Advice, AllocError> {
+) -> Result<Diagnostic, AllocError> {
     let place = place_at(text.as_bytes(), offset);
     let line = line_of(text, place);
     let what = match hint_of(line) {
         Some(hint) => format!(in alloc; "{hint} ({words})")?,
         None => String::from_str(alloc, words)?,
     };
-    Ok(Advice {
+    Ok(Diagnostic {
         fault: PlanFault::at_text(NOT_TOML),
         place,
         what,

@@ -1,8 +1,8 @@
 //! The checks of a plan's lists.
 
 use crate::entry::{BEGINNING, PlacedEntry, list_of};
-use crate::near::{listed, meant};
-use crate::notes::Notes;
+use crate::suggestions::{comma_list, suggestion};
+use crate::collector::FaultCollector;
 use crate::shapes::{has_key, keys_of};
 use crate::{bodies, names, numbers, shapes};
 use job_bodies::{Part, PlanFault};
@@ -21,27 +21,27 @@ struct Lists<'a> {
 
 /// Reports the faults of a document.
 pub(crate) fn document(
-    notes: &mut Notes,
+    collector: &mut FaultCollector,
     document: &Table,
     places: &Places<'_>,
 ) -> Result<(), AllocError> {
     for key in document.keys() {
-        unknown_list(notes, key.as_str(), places)?;
+        unknown_list(collector, key.as_str(), places)?;
     }
-    let lists = lists_of(notes, document, places)?;
-    numbers_and_pools(notes, &lists)?;
-    all_bodies(notes, &lists)
+    let lists = lists_of(collector, document, places)?;
+    numbers_and_pools(collector, &lists)?;
+    all_bodies(collector, &lists)
 }
 
 /// Returns the entries, and reports the faults of their shapes and names.
 fn lists_of<'a>(
-    notes: &mut Notes,
+    collector: &mut FaultCollector,
     document: &'a Table,
     places: &'a Places<'a>,
 ) -> Result<Lists<'a>, AllocError> {
-    let pools = entries(notes, document, Part::Pool, places)?;
-    let classes = entries(notes, document, Part::Class, places)?;
-    let clients = entries(notes, document, Part::Client, places)?;
+    let pools = entries(collector, document, Part::Pool, places)?;
+    let classes = entries(collector, document, Part::Class, places)?;
+    let clients = entries(collector, document, Part::Client, places)?;
     Ok(Lists {
         pools,
         classes,
@@ -50,35 +50,35 @@ fn lists_of<'a>(
 }
 
 /// Reports the faults of sizes, of the pools of classes, and of counts.
-fn numbers_and_pools(notes: &mut Notes, lists: &Lists<'_>) -> Result<(), AllocError> {
-    let pool_names = names_of(notes.alloc, &lists.pools)?;
+fn numbers_and_pools(collector: &mut FaultCollector, lists: &Lists<'_>) -> Result<(), AllocError> {
+    let pool_names = names_of(collector.alloc, &lists.pools)?;
     for pool in &lists.pools {
-        numbers::sizes(notes, pool)?;
+        numbers::sizes(collector, pool)?;
     }
     for class in &lists.classes {
-        pool_of(notes, class, &pool_names)?;
+        pool_of(collector, class, &pool_names)?;
     }
     for client in &lists.clients {
-        numbers::count(notes, client)?;
+        numbers::count(collector, client)?;
     }
     Ok(())
 }
 
 /// Reports the faults of the bodies.
-fn all_bodies(notes: &mut Notes, lists: &Lists<'_>) -> Result<(), AllocError> {
-    let class_names = names_of(notes.alloc, &lists.classes)?;
+fn all_bodies(collector: &mut FaultCollector, lists: &Lists<'_>) -> Result<(), AllocError> {
+    let class_names = names_of(collector.alloc, &lists.classes)?;
     for class in &lists.classes {
-        bodies::body(notes, class, &class_names)?;
+        bodies::body(collector, class, &class_names)?;
     }
     for client in &lists.clients {
-        bodies::body(notes, client, &class_names)?;
+        bodies::body(collector, client, &class_names)?;
     }
     Ok(())
 }
 
 /// Reports an unknown key at the top level.
-fn unknown_list(notes: &mut Notes, key: &str, places: &Places<'_>) -> Result<(), AllocError> {
-    let alloc = notes.alloc;
+fn unknown_list(collector: &mut FaultCollector, key: &str, places: &Places<'_>) -> Result<(), AllocError> {
+    let alloc = collector.alloc;
     if has_key(Part::Text, key) {
         return Ok(());
     }
@@ -87,31 +87,31 @@ fn unknown_list(notes: &mut Notes, key: &str, places: &Places<'_>) -> Result<(),
         "pools" => String::from_str(alloc, "; did you mean [[pool]]?")?,
         "classes" => String::from_str(alloc, "; did you mean [[class]]?")?,
         "clients" => String::from_str(alloc, "; did you mean [[client]]?")?,
-        _ => meant(alloc, key, keys_of(Part::Text), otherwise)?,
+        _ => suggestion(alloc, key, keys_of(Part::Text), otherwise)?,
     };
     let what = format!(in alloc; "no plan has {key}{right}")?;
     let place = places.top(key).unwrap_or(BEGINNING);
-    notes.push(PlanFault::at_text(UNKNOWN_KEY), place, what)
+    collector.push(PlanFault::at_text(UNKNOWN_KEY), place, what)
 }
 
 /// Returns the entries of a list, and reports the faults of their shapes and names.
 fn entries<'a>(
-    notes: &mut Notes,
+    collector: &mut FaultCollector,
     document: &'a Table,
     part: Part,
     places: &'a Places<'a>,
 ) -> Result<Vec<PlacedEntry<'a>>, AllocError> {
-    let mut found: Vec<PlacedEntry<'a>> = Vec::new(notes.alloc);
+    let mut found: Vec<PlacedEntry<'a>> = Vec::new(collector.alloc);
     let Some(value) = document.get(list_of(part)) else {
         return Ok(found);
     };
     let Some(values) = value.as_array() else {
-        no_list(notes, part, places)?;
+        no_list(collector, part, places)?;
         return Ok(found);
     };
     for (index, value) in values.iter().enumerate() {
-        if let Some(entry) = entry_of(notes, part, index, value, places)? {
-            shape_and_name(notes, &entry, &found)?;
+        if let Some(entry) = entry_of(collector, part, index, value, places)? {
+            shape_and_name(collector, &entry, &found)?;
             found.push(entry)?;
         }
     }
@@ -119,28 +119,28 @@ fn entries<'a>(
 }
 
 /// Reports that the entries are not a list.
-fn no_list(notes: &mut Notes, part: Part, places: &Places<'_>) -> Result<(), AllocError> {
+fn no_list(collector: &mut FaultCollector, part: Part, places: &Places<'_>) -> Result<(), AllocError> {
     let list = list_of(part);
-    let what = format!(in notes.alloc;
+    let what = format!(in collector.alloc;
         "{list} is a list of tables: write [[{list}]], with two brackets"
     )?;
     let place = places.top(list).unwrap_or(BEGINNING);
-    notes.push(PlanFault::at_text(WRONG_TYPE), place, what)
+    collector.push(PlanFault::at_text(WRONG_TYPE), place, what)
 }
 
 /// Reports the faults of an entry's shape and of its name, given the earlier entries.
 fn shape_and_name(
-    notes: &mut Notes,
+    collector: &mut FaultCollector,
     entry: &PlacedEntry<'_>,
     before: &[PlacedEntry<'_>],
 ) -> Result<(), AllocError> {
-    shapes::unknown_keys(notes, entry)?;
-    shapes::values(notes, entry)?;
-    names::name(notes, entry, before)
+    shapes::unknown_keys(collector, entry)?;
+    shapes::values(collector, entry)?;
+    names::name(collector, entry, before)
 }
 
 fn entry_of<'a>(
-    notes: &mut Notes,
+    collector: &mut FaultCollector,
     part: Part,
     index: usize,
     value: &'a Value,
@@ -156,11 +156,11 @@ fn entry_of<'a>(
         None => {
             let list = list_of(part);
             let found = value.type_str();
-            let what = format!(in notes.alloc;
+            let what = format!(in collector.alloc;
                 "a {list} is a table, and not a {found}: write [[{list}]]"
             )?;
             let place = places.top(list).unwrap_or(BEGINNING);
-            notes.push(PlanFault::at_entry(part, index, WRONG_TYPE), place, what)?;
+            collector.push(PlanFault::at_entry(part, index, WRONG_TYPE), place, what)?;
             Ok(None)
         }
     }
@@ -177,24 +177,24 @@ fn names_of<'a>(alloc: Global, entries: &[PlacedEntry<'a>]) -> Result<Vec<&'a st
 }
 
 /// Reports a pool that does not exist.
-fn pool_of(notes: &mut Notes, class: &PlacedEntry<'_>, pools: &[&str]) -> Result<(), AllocError> {
+fn pool_of(collector: &mut FaultCollector, class: &PlacedEntry<'_>, pools: &[&str]) -> Result<(), AllocError> {
     let Some(pool) = class.text("pool") else {
         return Ok(());
     };
     if pools.contains(&pool) {
         return Ok(());
     }
-    let alloc = notes.alloc;
+    let alloc = collector.alloc;
     let otherwise = if pools.is_empty() {
         String::from_str(
             alloc,
             "; the plan has no pools: write a [[pool]] of this name",
         )?
     } else {
-        let all = listed(alloc, pools)?;
+        let all = comma_list(alloc, pools)?;
         format!(in alloc; "; the pools are {all}")?
     };
-    let right = meant(alloc, pool, pools, &otherwise)?;
+    let right = suggestion(alloc, pool, pools, &otherwise)?;
     let words = format!(in alloc; "there is no pool {pool}{right}")?;
-    class.tell(notes, NO_SUCH_POOL, class.value_place("pool"), &words)
+    class.report(collector, NO_SUCH_POOL, class.value_place("pool"), &words)
 }

@@ -1,9 +1,9 @@
 //! The lines of warnings.
 
-ghost use Rattle.diagnostics.specs.Advice as spec;
+ghost use Rattle.diagnostics.specs.Diagnostic as spec;
 ghost use Rattle.support.specs.Pushed.{Pushes};
 
-use crate::advice::push_place;
+use crate::diagnostic::push_place;
 use crate::warnings::Warning;
 use plan_text::TextPlace;
 use std::alloc::AllocError;
@@ -35,7 +35,7 @@ fn push_warning(text: &mut String, file: &str, warning: &Warning) -> Result<(), 
 }
 
 fn push_line(text: &mut String, file: &str, place: TextPlace, what: &str) -> Result<(), AllocError>
-    ensures { Pushes result text.old text.new (spec.seldom_line file.now place what.now) }
+    ensures { Pushes result text.old text.new (spec.warning_at file.now place what.now) }
 {
     push_place(text, file, place)?;
     writeln!(text, "warning: {what}")

@@ -1,24 +1,24 @@
 //! The places of lints in a plan's text.
 
 use crate::entry::{BEGINNING, list_of};
-use crate::oddity::Oddity;
+use crate::lint::Lint;
 use job_bodies::Part;
 use plan_text::{Places, TextPlace};
 
 /// Returns the place of the lint.
-pub(crate) fn place_of(places: &Places<'_>, oddity: Oddity) -> TextPlace {
-    match oddity {
-        Oddity::NothingToAsk
-        | Oddity::NoClients
-        | Oddity::NothingSubmitted
-        | Oddity::StaleCertificate => BEGINNING,
-        Oddity::PoolWithoutJobs(pool) => entry_place(places, Part::Pool, pool),
-        Oddity::UselessMax(pool) => value_place(places, Part::Pool, pool, "max"),
-        Oddity::QueueFarAbove(pool, _) => value_place(places, Part::Pool, pool, "queue"),
-        Oddity::ClassWithoutJobs(class) => entry_place(places, Part::Class, class),
-        Oddity::GoesOnce(client) => entry_place(places, Part::Client, client),
-        Oddity::Crowd(client) => value_place(places, Part::Client, client, "count"),
-        Oddity::WorkLikeASize(part, number, action, _) => {
+pub(crate) fn place_of(places: &Places<'_>, lint: Lint) -> TextPlace {
+    match lint {
+        Lint::NothingToAsk
+        | Lint::NoClients
+        | Lint::NothingSubmitted
+        | Lint::StaleCertificate => BEGINNING,
+        Lint::PoolWithoutJobs(pool) => entry_place(places, Part::Pool, pool),
+        Lint::UselessMax(pool) => value_place(places, Part::Pool, pool, "max"),
+        Lint::QueueFarAbove(pool, _) => value_place(places, Part::Pool, pool, "queue"),
+        Lint::ClassWithoutJobs(class) => entry_place(places, Part::Class, class),
+        Lint::GoesOnce(client) => entry_place(places, Part::Client, client),
+        Lint::Crowd(client) => value_place(places, Part::Client, client, "count"),
+        Lint::WorkLikeASize(part, number, action, _) => {
             action_place(places, part, number, action)
         }
     }

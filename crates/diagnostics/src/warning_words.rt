@@ -1,34 +1,34 @@
 //! The messages of lints.
 
-use crate::oddity::Oddity;
+use crate::lint::Lint;
 use job_bodies::Plan;
 use std::alloc::{AllocError, Global};
 
 /// Returns the lint's message: what it is, and what it means for the answer. The message is empty
 /// if the plan does not have a number that the lint names.
-pub(crate) fn words_of(alloc: Global, plan: &Plan, oddity: Oddity) -> Result<String, AllocError> {
-    match oddity {
-        Oddity::NothingToAsk => String::from_str(
+pub(crate) fn words_of(alloc: Global, plan: &Plan, lint: Lint) -> Result<String, AllocError> {
+    match lint {
+        Lint::NothingToAsk => String::from_str(
             alloc,
             "the plan has no pools and no clients: there is nothing to ask about",
         ),
-        Oddity::NoClients => String::from_str(
+        Lint::NoClients => String::from_str(
             alloc,
             "the plan has no clients: nobody submits anything, and any sizes are safe; write a [[client]] for each thread that submits from outside",
         ),
-        Oddity::NothingSubmitted => {
+        Lint::NothingSubmitted => {
             String::from_str(alloc, "no client submits anything: any sizes are safe")
         }
-        Oddity::PoolWithoutJobs(pool) => words_of_idle_pool(alloc, plan, pool),
-        Oddity::UselessMax(pool) => words_of_max(alloc, plan, pool),
-        Oddity::QueueFarAbove(pool, most) => words_of_queue(alloc, plan, pool, most),
-        Oddity::ClassWithoutJobs(class) => words_of_class(alloc, plan, class),
-        Oddity::GoesOnce(client) => words_of_rounds(alloc, plan, client),
-        Oddity::Crowd(client) => words_of_crowd(alloc, plan, client),
-        Oddity::WorkLikeASize(_, _, _, units) => format!(in alloc;
+        Lint::PoolWithoutJobs(pool) => words_of_idle_pool(alloc, plan, pool),
+        Lint::UselessMax(pool) => words_of_max(alloc, plan, pool),
+        Lint::QueueFarAbove(pool, most) => words_of_queue(alloc, plan, pool, most),
+        Lint::ClassWithoutJobs(class) => words_of_class(alloc, plan, class),
+        Lint::GoesOnce(client) => words_of_rounds(alloc, plan, client),
+        Lint::Crowd(client) => words_of_crowd(alloc, plan, client),
+        Lint::WorkLikeASize(_, _, _, units) => format!(in alloc;
             "work {units} looks like a number of threads or jobs: it is a length of time, and changes no answer"
         ),
-        Oddity::StaleCertificate => String::from_str(alloc, "the certificate is stale"),
+        Lint::StaleCertificate => String::from_str(alloc, "the certificate is stale"),
     }
 }
 

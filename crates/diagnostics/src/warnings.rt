@@ -1,10 +1,10 @@
 //! Warnings: lints with their places and messages.
 
 ghost use Rattle.std.specs.Prelude.{◌≡◌, IfOk};
-ghost use Rattle.diagnostics.specs.Oddities as spec;
+ghost use Rattle.diagnostics.specs.Lints as spec;
 
-use crate::oddities::oddities_of;
-use crate::oddity::Oddity;
+use crate::lints::lints_of;
+use crate::lint::Lint;
 use crate::warning_places::place_of;
 use crate::warning_words::words_of;
 use job_bodies::Plan;
@@ -15,7 +15,7 @@ use std::alloc::{AllocError, Global};
 #[derive(Drop)]
 pub struct Warning {
     /// The lint.
-    pub oddity: Oddity,
+    pub lint: Lint,
     /// The place in the plan's text.
     pub place: TextPlace,
     /// A message that says what the lint is and what it means for the answer.
@@ -36,11 +36,11 @@ pub fn warnings_of(
     needed: &[Option<u64>],
 ) -> Result<Vec<Warning>, AllocError>
     ensures { IfOk result
-        (λ warnings. spec.AreOddities plan.now needed.now (spec.warned_of warnings.items)) }
+        (λ warnings. spec.AreLints plan.now needed.now (spec.lints_in warnings.items)) }
 {
-    let oddities = oddities_of(alloc, plan, needed)?;
+    let lints = lints_of(alloc, plan, needed)?;
     let places = Places::of(alloc, text)?;
-    warnings_about(alloc, &places, plan, &oddities)
+    warnings_about(alloc, &places, plan, &lints)
 }
 
 /// Returns a warning for each lint.
@@ -48,13 +48,13 @@ fn warnings_about(
     alloc: Global,
     places: &Places<'_>,
     plan: &Plan,
-    oddities: &[Oddity],
+    lints: &[Lint],
 ) -> Result<Vec<Warning>, AllocError>
-    ensures { IfOk result (λ warnings. spec.warned_of warnings.items ≡ oddities.now) }
+    ensures { IfOk result (λ warnings. spec.lints_in warnings.items ≡ lints.now) }
 {
     let mut warnings = Vec::new(alloc);
-    for oddity in oddities {
-        let warning = warning_about(alloc, places, plan, *oddity)?;
+    for lint in lints {
+        let warning = warning_about(alloc, places, plan, *lint)?;
         warnings.push(warning)?;
     }
     Ok(warnings)
@@ -64,14 +64,14 @@ fn warning_about(
     alloc: Global,
     places: &Places<'_>,
     plan: &Plan,
-    oddity: Oddity,
+    lint: Lint,
 ) -> Result<Warning, AllocError>
-    ensures { IfOk result (λ warning. warning.oddity ≡ oddity) }
+    ensures { IfOk result (λ warning. warning.lint ≡ lint) }
 {
-    let what = words_of(alloc, plan, oddity)?;
-    let place = place_of(places, oddity);
+    let what = words_of(alloc, plan, lint)?;
+    let place = place_of(places, lint);
     Ok(Warning {
-        oddity,
+        lint,
         place,
         what,
     })

@@ -6,8 +6,8 @@
 //! `cert_check::accepts`. Tests show that the vectors are the intended ones.
 #![tactic(auto)]
 
-mod growing;
-mod lending;
+mod resized_plan;
+mod minimize_total;
 mod levels;
 mod numbers;
 mod reached;
@@ -16,11 +16,11 @@ mod rows;
 mod sketch;
 mod submitted;
 mod target;
-mod tried;
+mod sketch_cache;
 mod vectors;
 mod weight;
 
-pub use growing::{Growing, Kind, Weighed};
+pub use resized_plan::{ResizedPlan, Kind, VectorSummary};
 pub use levels::Levels;
 pub use reached::reach;
 pub use vectors::{blocked_vector, pool_bound};

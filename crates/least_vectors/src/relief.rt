@@ -3,9 +3,9 @@
 
 ghost use Rattle.std.specs.Prelude.{◌≡◌, ◌<◌, ◌≤◌, IfOk, IfSome, vec_len, length};
 
-use crate::lending::Loan;
+use crate::minimize_total::Loan;
 use crate::numbers::{number_at, put_at};
-use crate::tried::Tried;
+use crate::sketch_cache::SketchCache;
 use job_bodies::MAX_SIZE;
 use std::alloc::AllocError;
 
@@ -17,20 +17,20 @@ const HALVINGS: usize = 20;
 /// leaves fewer than the sketch at `place`, which belongs to these worker weights. `workers` is
 /// unchanged afterwards.
 pub(crate) fn relieving_loan(
-    tried: &mut Tried,
+    sketch_cache: &mut SketchCache,
     workers: &mut [u64],
     place: usize,
 ) -> Result<Option<Loan>, AllocError>
-    requires { place < vec_len tried.old.weighings }
-    ensures stands { IfOk result
-        (λ found. IfSome found (λ loan. loan.place < vec_len tried.new.weighings)) }
-    ensures kept { vec_len tried.old.weighings ≤ vec_len tried.new.weighings }
+    requires { place < vec_len sketch_cache.old.sketches }
+    ensures in_range { IfOk result
+        (λ found. IfSome found (λ loan. loan.place < vec_len sketch_cache.new.sketches)) }
+    ensures kept { vec_len sketch_cache.old.sketches ≤ vec_len sketch_cache.new.sketches }
     ensures workers { length workers.new ≡ length workers.old }
 {
-    let plan = tried.plan;
-    let target = tried.target;
+    let plan = sketch_cache.plan;
+    let target = sketch_cache.target;
     let mut best = None;
-    let mut fewest = tried.sketch(place).strays.saturating_sub(1);
+    let mut fewest = sketch_cache.sketch(place).overweight_unsubmitted.saturating_sub(1);
     let mut least = u64::MAX;
     for pool in 0..plan.pools().len() {
         if !target.may_lend(pool) {
@@ -38,15 +38,15 @@ pub(crate) fn relieving_loan(
         }
         let before = number_at(workers, pool);
         put_at(workers, pool, MAX_SIZE);
-        let strays = tried.strays(workers)?;
-        if strays <= fewest {
-            let weight = least_weight(tried, workers, pool, strays)?;
+        let overweight_unsubmitted = sketch_cache.overweight_unsubmitted(workers)?;
+        if overweight_unsubmitted <= fewest {
+            let weight = least_weight(sketch_cache, workers, pool, overweight_unsubmitted)?;
             put_at(workers, pool, weight);
             let on_loan = target.workers_weigh(plan, workers);
-            if strays < fewest || on_loan < least {
-                fewest = strays;
+            if overweight_unsubmitted < fewest || on_loan < least {
+                fewest = overweight_unsubmitted;
                 least = on_loan;
-                let place = tried.place_of(workers)?;
+                let place = sketch_cache.index_of(workers)?;
                 best = Some(Loan {
                     pool,
                     weight,
@@ -59,13 +59,13 @@ pub(crate) fn relieving_loan(
     Ok(best)
 }
 
-/// Returns the least weight of the pool's workers for which no more than `strays` classes that are
+/// Returns the least weight of the pool's workers for which no more than `overweight_unsubmitted` classes that are
 /// never submitted are above the weight limit. Heavier workers never leave more of them.
 fn least_weight(
-    tried: &Tried,
+    sketch_cache: &SketchCache,
     workers: &mut [u64],
     pool: usize,
-    strays: usize,
+    overweight_unsubmitted: usize,
 ) -> Result<u64, AllocError>
     ensures { length workers.new ≡ length workers.old }
 {
@@ -74,7 +74,7 @@ fn least_weight(
     for _ in 0..HALVINGS {
         let middle = low.saturating_add(high) / 2;
         put_at(workers, pool, middle);
-        if tried.strays(workers)? > strays {
+        if sketch_cache.overweight_unsubmitted(workers)? > overweight_unsubmitted {
             low = middle.saturating_add(1);
         } else {
             high = middle;

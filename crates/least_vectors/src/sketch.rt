@@ -27,7 +27,7 @@ pub(crate) struct Sketch {
     /// The weight of all workers together.
     pub(crate) on_loan: u64,
     /// The number of classes that are never submitted and whose weight is above the limit.
-    pub(crate) strays: usize,
+    pub(crate) overweight_unsubmitted: usize,
     /// The weight of the plan's start state.
     pub(crate) total: u64,
 }
@@ -49,7 +49,7 @@ impl Sketch {
             starts: Vec::with_capacity(alloc, plan.clients().len())?,
             peaks: vec![in alloc; 0; plan.pools().len()]?,
             on_loan,
-            strays: 0,
+            overweight_unsubmitted: 0,
             total: on_loan,
         };
         for number in &levels.order {
@@ -94,7 +94,7 @@ impl Sketch {
         if peak > MAX_WEIGHT || queued.number > MAX_WEIGHT {
             self.total = TOO_HEAVY;
             if !is_submitted {
-                self.strays = self.strays.saturating_add(1);
+                self.overweight_unsubmitted = self.overweight_unsubmitted.saturating_add(1);
             }
         }
     }

@@ -6,7 +6,7 @@ use weights::submitted_class;
 
 /// The states in which the jobs of the pool must weigh at least 1.
 #[derive(Clone, Copy)]
-pub(crate) enum Heavy<'a> {
+pub(crate) enum WeightRequirement<'a> {
     /// While they are queued, as in a standing vector.
     WhileQueued,
     /// At each get of a job of a class that reaches this rank, as in a blocked vector.
@@ -28,7 +28,7 @@ pub(crate) enum Lenders {
     /// All pools except the one whose vector it is.
     Others,
     /// No pool.
-    Nobody,
+    NoPool,
 }
 
 /// A search target: a vector of a pool.
@@ -37,7 +37,7 @@ pub(crate) struct Target<'a> {
     /// The pool's number.
     pub(crate) pool: usize,
     /// The states in which its jobs weigh at least 1.
-    pub(crate) heavy: Heavy<'a>,
+    pub(crate) requirement: WeightRequirement<'a>,
     /// The largest allowed total.
     pub(crate) limit: u64,
     /// The pools whose workers can have weight.
@@ -51,7 +51,7 @@ impl<'a> Target<'a> {
     pub(crate) fn standing(number: usize, limit: u64) -> Target<'static> {
         Target {
             pool: number,
-            heavy: Heavy::WhileQueued,
+            requirement: WeightRequirement::WhileQueued,
             limit,
             lenders: Lenders::All,
             maxes: None,
@@ -62,9 +62,9 @@ impl<'a> Target<'a> {
     pub(crate) fn lifetime(number: usize, limit: u64) -> Target<'static> {
         Target {
             pool: number,
-            heavy: Heavy::Everywhere,
+            requirement: WeightRequirement::Everywhere,
             limit,
-            lenders: Lenders::Nobody,
+            lenders: Lenders::NoPool,
             maxes: None,
         }
     }
@@ -74,7 +74,7 @@ impl<'a> Target<'a> {
     pub(crate) fn blocked(number: usize, limit: u64, reach: &'a [u64], rank: u64) -> Target<'a> {
         Target {
             pool: number,
-            heavy: Heavy::AtGets { reach, rank },
+            requirement: WeightRequirement::AtGets { reach, rank },
             limit,
             lenders: Lenders::All,
             maxes: None,
@@ -83,12 +83,12 @@ impl<'a> Target<'a> {
 
     /// Disables loans if no total with loans can be within the limit, which is so for the limit 0:
     /// workers with weight make it positive.
-    pub(crate) fn without_vain_loans(self) -> Target<'a> {
+    pub(crate) fn without_useless_loans(self) -> Target<'a> {
         if self.limit > 0 {
             return self;
         }
         Target {
-            lenders: Lenders::Nobody,
+            lenders: Lenders::NoPool,
             ..self
         }
     }
@@ -98,7 +98,7 @@ impl<'a> Target<'a> {
         match self.lenders {
             Lenders::All => true,
             Lenders::Others => pool != self.pool,
-            Lenders::Nobody => false,
+            Lenders::NoPool => false,
         }
     }
 
@@ -122,22 +122,22 @@ impl<'a> Target<'a> {
 
     /// Returns whether a get gives the weight of the got job back to its actor.
     pub(crate) fn gives_back(&self) -> bool {
-        !matches!(self.heavy, Heavy::Everywhere)
+        !matches!(self.requirement, WeightRequirement::Everywhere)
     }
 
     /// Returns the least weight of a queued job of the class.
     pub(crate) fn need_queued(&self, class: &Class) -> u64 {
-        match self.heavy {
-            Heavy::WhileQueued | Heavy::Everywhere => self.one_of(class),
-            Heavy::AtGets { .. } => 0,
+        match self.requirement {
+            WeightRequirement::WhileQueued | WeightRequirement::Everywhere => self.one_of(class),
+            WeightRequirement::AtGets { .. } => 0,
         }
     }
 
     /// Returns the least weight of a job of the class at this action of its body.
     pub(crate) fn need_at(&self, class: &Class, action: Action) -> u64 {
-        match (self.heavy, action) {
-            (Heavy::Everywhere, _) => self.one_of(class),
-            (Heavy::AtGets { reach, rank }, Action::Get(submit)) => {
+        match (self.requirement, action) {
+            (WeightRequirement::Everywhere, _) => self.one_of(class),
+            (WeightRequirement::AtGets { reach, rank }, Action::Get(submit)) => {
                 let reached = number_at(reach, submitted_class(&class.body, submit));
                 if reached < rank {
                     0
@@ -151,9 +151,9 @@ impl<'a> Target<'a> {
 
     /// Returns the least weight of a job of the class at the end of its body.
     pub(crate) fn need_at_end(&self, class: &Class) -> u64 {
-        match self.heavy {
-            Heavy::Everywhere => self.one_of(class),
-            Heavy::WhileQueued | Heavy::AtGets { .. } => 0,
+        match self.requirement {
+            WeightRequirement::Everywhere => self.one_of(class),
+            WeightRequirement::WhileQueued | WeightRequirement::AtGets { .. } => 0,
         }
     }
 

@@ -5,7 +5,7 @@ ghost use Rattle.weights.specs.Vector.{vector_fits};
 ghost use Rattle.weights.specs.Bound.{bound_vector};
 
 use crate::Levels;
-use crate::lending::least_vector;
+use crate::minimize_total::least_vector;
 use crate::target::Target;
 use job_bodies::Plan;
 use std::alloc::{AllocError, Global};
@@ -28,7 +28,7 @@ pub fn pool_bound(
         (λ found. IfSome found (λ bound. IsTrue (vector_fits plan.now (bound_vector bound)))) }
 {
     let sizes = &plan.pools()[pool];
-    let standing = Target::standing(pool, sizes.queue).without_vain_loans();
+    let standing = Target::standing(pool, sizes.queue).without_useless_loans();
     if let Some(vector) = least_vector(alloc, plan, levels, &standing)? {
         return Ok(Some(Bound::Standing(vector)));
     }
@@ -62,6 +62,6 @@ pub fn blocked_vector(
         sizes.core.saturating_sub(1),
         reach,
         rank,
-    ).without_vain_loans();
+    ).without_useless_loans();
     least_vector(alloc, plan, levels, &target)
 }

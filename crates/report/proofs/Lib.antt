@@ -1,5 +1,5 @@
 pub mod Unchanged
-mod Telling
-mod Paid
+mod PoolLines
+mod ShareSums
 mod Rows
 mod Pairs

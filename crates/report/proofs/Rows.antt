@@ -10,11 +10,11 @@ rest_of f xs i = flat_map f (enumerate_from i (drop i xs))
 
 -- the step for one more element
 pub part_more : {X Y : Type 0} (f : ℕ × X → List Y) (xs : List X) (i : ℕ) (d x : X) (front all : List Y) → i < length xs → x ≡ get_or xs i d → front ++ rest_of f xs i ≡ all → (front ++ f (i, x)) ++ rest_of f xs (i + 1) ≡ all
-part_more {X} {Y} f xs i d x front all inside here so_far =
+part_more {X} {Y} f xs i d x front all inside here prefix_is =
     let turn : rest_of f xs i ≡ f (i, x) ++ rest_of f xs (i + 1) =
     at_drop_more (λ (ys : List X). flat_map f (enumerate_from i ys)) xs i d inside
     ∙ ap (λ (y : X). f (i, y) ++ rest_of f xs (i + 1)) (sym here) in
-    append_assoc front (f (i, x)) (rest_of f xs (i + 1)) ∙ (sym (ap (λ (ys : List Y). front ++ ys) turn) ∙ so_far)
+    append_assoc front (f (i, x)) (rest_of f xs (i + 1)) ∙ (sym (ap (λ (ys : List Y). front ++ ys) turn) ∙ prefix_is)
 
 -- joining under a view is joining the viewed texts
 pub row_seen : {X A : Type 0} (view : X → List A) (separator : List A) (xs : List X) → join_by view separator xs ≡ join_by (λ part. part) separator (map view xs)

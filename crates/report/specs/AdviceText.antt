@@ -34,15 +34,15 @@ abbrev pub not_got_text : List ℕ
 not_got_text = codes "no certificate accepts any sizes while nobody waits for these jobs: get the result, or bound them by permits (docs/PERMITS.md)" ++ 10 ∷ []
 
 -- the advice if sizes alone do not help
-abbrev pub way_text : NoSizes → List ℕ
-way_text (Cause (Circle k)) = codes "no certificate accepts any sizes while jobs submit jobs of their own class: write the levels as classes of their own" ++ 10 ∷ []
-way_text (Cause (ClientNeverGets c i)) = not_got_text
-way_text (Cause (ClassNeverGets k i)) = not_got_text
-way_text (TooLarge p) = codes "fewer clients, or bodies that have fewer jobs open at one time, need less" ++ 10 ∷ []
+abbrev pub cause_advice_text : NoSizes → List ℕ
+cause_advice_text (Cause (Circle k)) = codes "no certificate accepts any sizes while jobs submit jobs of their own class: write the levels as classes of their own" ++ 10 ∷ []
+cause_advice_text (Cause (ClientNeverGets c i)) = not_got_text
+cause_advice_text (Cause (ClassNeverGets k i)) = not_got_text
+cause_advice_text (TooLarge p) = codes "fewer clients, or bodies that have fewer jobs open at one time, need less" ++ 10 ∷ []
 
 abbrev pub advice_text : Plan → SizesFound → List ℕ
 advice_text plan (Found fit cert) = reasons_text plan fit
-advice_text plan (NotFound cause) = way_text cause
+advice_text plan (NotFound cause) = cause_advice_text cause
 
 -- the declared sizes may be safe
 abbrev pub maybe_text : List ℕ

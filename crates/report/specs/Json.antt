@@ -65,7 +65,7 @@ pub record BeginsWith (first value : Data) : Type 0 where
   pub is : value ≡ array (item first others)
 
 -- a list of faults, of which the first has this number
-pub record IsLedBy (fault : ℕ) (value : Data) : Type 0 where
+pub record IsFaultsArray (fault : ℕ) (value : Data) : Type 0 where
   pub first : Data
   pub is_fault : IsFault fault first
   pub begins : BeginsWith first value
@@ -73,5 +73,5 @@ pub record IsLedBy (fault : ℕ) (value : Data) : Type 0 where
 -- the answer reports faults, of which the first has this number
 pub record TellsFault (fault : ℕ) (text : List ℕ) : Type 0 where
   pub rest : Rest
-  pub led : IsLedBy fault rest.faults
+  pub is_array : IsFaultsArray fault rest.faults
   pub is_line : IsLineOf (answer_data (codes "FAULTS") rest) text

@@ -1,10 +1,10 @@
 pub mod Sizes
 pub mod Cause
 pub mod Finding
-pub mod Told
+pub mod AnswerText
 pub mod SafeText
 pub mod AdviceText
-pub mod Payers
+pub mod Shares
 pub mod Picture
 pub mod Waits
 pub mod Places

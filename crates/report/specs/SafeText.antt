@@ -8,7 +8,7 @@ use Rattle.weights.specs.Bound.{bound_vector}
 use Rattle.weights.specs.declared.bound.Bound.{Bound}
 use Rattle.weights.specs.declared.bound.Bound.TheVariants.{Standing, Lifetime}
 use Rattle.cert_text.specs.Cert.{PoolCert, Cert}
-use Rattle.report.specs.Payers.{client_shares, worker_shares}
+use Rattle.report.specs.Shares.{client_shares, worker_shares}
 use Rattle.report.specs.Waits.{waits_for}
 
 -- the parts, joined with commas
@@ -30,16 +30,16 @@ most_text (Standing v) n = if n == 1 then codes "up to 1 job waits at once" else
 most_text (Lifetime v) n = if n == 1 then codes "at most 1 job is ever given to it" else codes "at most " ++ decimal n ++ codes " jobs are ever given to it"
 
 -- one share, or nothing if it is 0
-abbrev pub paid : ℕ → List ℕ → List ℕ → List (List ℕ)
-paid share from name = if share == 0 then [] else (decimal share ++ codes " " ++ from ++ name) ∷ []
+abbrev pub share_text : ℕ → List ℕ → List ℕ → List (List ℕ)
+share_text share from name = if share == 0 then [] else (decimal share ++ codes " " ++ from ++ name) ∷ []
 
 -- the share of a kind of clients
 abbrev pub client_part : Plan → ℕ × ℕ → List (List ℕ)
-client_part plan (kind, share) = paid share [] (client_at plan kind).name
+client_part plan (kind, share) = share_text share [] (client_at plan kind).name
 
 -- the share of a pool's threads
 abbrev pub worker_part : Plan → ℕ × ℕ → List (List ℕ)
-worker_part plan (pool, share) = paid share (codes "from threads of ") (pool_at plan pool).name
+worker_part plan (pool, share) = share_text share (codes "from threads of ") (pool_at plan pool).name
 
 -- the shares of the kinds of clients
 abbrev pub client_parts : Plan → List ℕ → List (List ℕ)
@@ -50,13 +50,13 @@ abbrev pub worker_parts : Plan → List ℕ → List (List ℕ)
 worker_parts plan shares = flat_map (worker_part plan) (enumerate_from 0 shares)
 
 -- the shares in the total of a vector
-abbrev pub payers : Plan → Vector → List (List ℕ)
-payers plan v = client_parts plan (client_shares plan v) ++ worker_parts plan (worker_shares plan v)
+abbrev pub share_texts : Plan → Vector → List (List ℕ)
+share_texts plan v = client_parts plan (client_shares plan v) ++ worker_parts plan (worker_shares plan v)
 
 -- the most jobs in the queue, and the shares in them
 abbrev pub places_text : Plan → Bound → ℕ → List ℕ
 places_text plan bound n =
-    if n == 0 then codes "no job waits in it" else most_text bound n ++ codes " (" ++ separated (payers plan (bound_vector bound)) ++ codes ")"
+    if n == 0 then codes "no job waits in it" else most_text bound n ++ codes " (" ++ separated (share_texts plan (bound_vector bound)) ++ codes ")"
 
 -- the bound of the queue, if the vector fits the plan
 abbrev pub queue_text : Plan → Pool → Bound → List ℕ

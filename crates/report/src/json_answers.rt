@@ -7,7 +7,7 @@ ghost use Rattle.serde_json.specs.View.{view as data_of};
 ghost use Rattle.report.specs.Json as spec;
 
 use crate::PlanFinding;
-use crate::json_faults::{fault_alone, faults_value};
+use crate::json_faults::{single_fault, faults_value};
 use crate::json_pools::{bounded_pools, no_pools};
 use crate::json_sizes::sizes_value;
 use crate::json_warnings::warnings_value;
@@ -56,8 +56,8 @@ pub fn faults_json(alloc: Global, file: &str, faults: &Faults) -> Result<String,
     ensures { IfOk result
         (λ text. spec.TellsFault faults.now.first.fault.number (string_bytes text)) }
 {
-    let told = faults_value(alloc, faults)?;
-    let rest = only_faults(alloc, file, told)?;
+    let fault_list = faults_value(alloc, faults)?;
+    let rest = only_faults(alloc, file, fault_list)?;
     let value = answer_value(alloc, "FAULTS", rest)?;
     line_of(alloc, &value)
 }
@@ -70,8 +70,8 @@ pub fn faults_json(alloc: Global, file: &str, faults: &Faults) -> Result<String,
 pub fn fault_json(alloc: Global, file: &str, number: u8, words: &str) -> Result<String, AllocError>
     ensures { IfOk result (λ text. spec.TellsFault number (string_bytes text)) }
 {
-    let told = fault_alone(alloc, number, words)?;
-    let rest = only_faults(alloc, file, told)?;
+    let fault_list = single_fault(alloc, number, words)?;
+    let rest = only_faults(alloc, file, fault_list)?;
     let value = answer_value(alloc, "FAULTS", rest)?;
     line_of(alloc, &value)
 }

@@ -1,7 +1,7 @@
 //! Pools as JSON: their sizes, and, if a certificate accepts the plan, the bound of each queue and
 //! the shares in it.
 
-use crate::{Payers, payers_of, total_of, waits_for};
+use crate::{Shares, shares_of, total_of, waits_for};
 use cert_text::Cert;
 use job_bodies::{Plan, Pool};
 use serde_json::{Value, json};
@@ -63,7 +63,7 @@ fn bound_value(alloc: Global, plan: &Plan, bound: &Bound) -> Result<Value, Alloc
         "standing"
     };
     let total = vector.total(plan);
-    let Payers { clients, workers } = payers_of(alloc, plan, vector)?;
+    let Shares { clients, workers } = shares_of(alloc, plan, vector)?;
     let kinds: Vec<&str> = plan
         .clients()
         .iter()

@@ -1,6 +1,6 @@
 //! Warnings as JSON.
 
-use diagnostics::{Oddity, Warning};
+use diagnostics::{Lint, Warning};
 use serde_json::{Value, json};
 use std::alloc::{AllocError, Global};
 
@@ -16,22 +16,22 @@ pub(crate) fn warnings_value(alloc: Global, warnings: &[Warning]) -> Result<Valu
 fn warning_value(alloc: Global, warning: &Warning) -> Result<Value, AllocError> {
     let line = warning.place.line;
     let column = warning.place.column;
-    let kind = kind_of(warning.oddity);
+    let kind = kind_of(warning.lint);
     json!(in alloc; {"column": column, "kind": kind, "line": line, "text": &warning.what})
 }
 
-fn kind_of(oddity: Oddity) -> &'static str {
-    match oddity {
-        Oddity::NothingToAsk => "nothing to ask",
-        Oddity::NoClients => "no clients",
-        Oddity::NothingSubmitted => "nothing submitted",
-        Oddity::PoolWithoutJobs(_) => "pool without jobs",
-        Oddity::UselessMax(_) => "useless max",
-        Oddity::QueueFarAbove(_, _) => "queue far above",
-        Oddity::ClassWithoutJobs(_) => "class without jobs",
-        Oddity::GoesOnce(_) => "goes once",
-        Oddity::Crowd(_) => "crowd",
-        Oddity::WorkLikeASize(_, _, _, _) => "work like a size",
-        Oddity::StaleCertificate => "stale certificate",
+fn kind_of(lint: Lint) -> &'static str {
+    match lint {
+        Lint::NothingToAsk => "nothing to ask",
+        Lint::NoClients => "no clients",
+        Lint::NothingSubmitted => "nothing submitted",
+        Lint::PoolWithoutJobs(_) => "pool without jobs",
+        Lint::UselessMax(_) => "useless max",
+        Lint::QueueFarAbove(_, _) => "queue far above",
+        Lint::ClassWithoutJobs(_) => "class without jobs",
+        Lint::GoesOnce(_) => "goes once",
+        Lint::Crowd(_) => "crowd",
+        Lint::WorkLikeASize(_, _, _, _) => "work like a size",
+        Lint::StaleCertificate => "stale certificate",
     }
 }

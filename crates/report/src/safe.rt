@@ -6,7 +6,7 @@ ghost use Rattle.weights.specs.Vector.{vector_fits};
 ghost use Rattle.report.specs.Places as places;
 ghost use Rattle.report.specs.SafeText as spec;
 
-use crate::payers::{Payers, payers_of};
+use crate::shares::{Shares, shares_of};
 use crate::waits::waits_for;
 use cert_text::{Cert, PoolCert};
 use job_bodies::{Plan, Pool};
@@ -148,7 +148,7 @@ fn push_queue(
     write!(text, ", queue {queue}: ")?;
     push_most(text, bound, total)?;
     text.push_str(" (")?;
-    push_payers(alloc, text, plan, vector)?;
+    push_shares(alloc, text, plan, vector)?;
     text.push_str(")")
 }
 
@@ -180,16 +180,16 @@ pub(crate) fn push_threads(text: &mut String, pool: &Pool) -> Result<(), AllocEr
 }
 
 /// Appends the shares in the total of a vector, such as `200 browser, 8 from threads of web`.
-fn push_payers(
+fn push_shares(
     alloc: Global,
     text: &mut String,
     plan: &Plan,
     vector: &Vector,
 ) -> Result<(), AllocError>
     requires { IsTrue (vector_fits plan.now vector.now) }
-    ensures { Pushes result text.old text.new (spec.separated (spec.payers plan.now vector.now)) }
+    ensures { Pushes result text.old text.new (spec.separated (spec.share_texts plan.now vector.now)) }
 {
-    let Payers { clients, workers } = payers_of(alloc, plan, vector)?;
+    let Shares { clients, workers } = shares_of(alloc, plan, vector)?;
     let mut parts = Vec::new(alloc);
     push_clients(alloc, &mut parts, plan, &clients)?;
     push_workers(alloc, &mut parts, plan, &workers)?;
@@ -207,7 +207,7 @@ fn push_clients(
         ≡ map string_bytes parts.old.items ++ spec.client_parts plan.now shares.now) }
 {
     for (kind, share) in shares.iter().enumerate() {
-        push_paid(alloc, parts, *share, "", plan.client_name(kind))?;
+        push_share(alloc, parts, *share, "", plan.client_name(kind))?;
     }
     Ok(())
 }
@@ -223,7 +223,7 @@ fn push_workers(
         ≡ map string_bytes parts.old.items ++ spec.worker_parts plan.now shares.now) }
 {
     for (pool, share) in shares.iter().enumerate() {
-        push_paid(
+        push_share(
             alloc,
             parts,
             *share,
@@ -236,7 +236,7 @@ fn push_workers(
 
 /// Appends one share, unless it is 0.
 #[tactic(auto, using(std::proofs::lemmas::List::map_push))]
-fn push_paid(
+fn push_share(
     alloc: Global,
     parts: &mut Vec<String>,
     share: u64,
@@ -245,7 +245,7 @@ fn push_paid(
 ) -> Result<(), AllocError>
     ensures { OnOk result
         (map string_bytes parts.new.items
-        ≡ map string_bytes parts.old.items ++ spec.paid share from.now name.now) }
+        ≡ map string_bytes parts.old.items ++ spec.share_text share from.now name.now) }
 {
     if share == 0 {
         return Ok(());

@@ -2,7 +2,7 @@
 
 ghost use Rattle.std.specs.Prelude.{IfOk, string_bytes};
 ghost use Rattle.support.specs.Pushed.{Pushes};
-ghost use Rattle.report.specs.Told as spec;
+ghost use Rattle.report.specs.AnswerText as spec;
 
 use crate::finding::PlanFinding;
 use crate::safe::push_safe;
@@ -20,7 +20,7 @@ use std::alloc::{AllocError, Global};
 /// # Errors
 ///
 /// [`AllocError`] if memory runs out.
-pub fn told(alloc: Global, plan: &Plan, finding: &PlanFinding) -> Result<String, AllocError>
+pub fn render(alloc: Global, plan: &Plan, finding: &PlanFinding) -> Result<String, AllocError>
     ensures { IfOk result (λ text. spec.Tells plan.now finding.now (string_bytes text)) }
 {
     match finding {

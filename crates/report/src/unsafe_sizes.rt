@@ -17,7 +17,7 @@ pub(crate) fn push_advice(
 {
     match sizes {
         SizesFound::Found { plan: fit, .. } => push_reasons(text, plan, fit),
-        SizesFound::NotFound(cause) => push_way(text, *cause),
+        SizesFound::NotFound(cause) => push_advice_for_cause(text, *cause),
     }
 }
 
@@ -72,8 +72,8 @@ fn push_queue(text: &mut String, declared: &Pool, fit: &Pool) -> Result<(), Allo
 }
 
 /// Appends what to do if sizes alone do not help.
-fn push_way(text: &mut String, cause: NoSizes) -> Result<(), AllocError>
-    ensures { Pushes result text.old text.new (spec.way_text cause) }
+fn push_advice_for_cause(text: &mut String, cause: NoSizes) -> Result<(), AllocError>
+    ensures { Pushes result text.old text.new (spec.cause_advice_text cause) }
 {
     match cause {
         NoSizes::Cause(Cause::Circle(_)) => text.push_str(

@@ -10,7 +10,7 @@ use crate::files::Suite;
 use crate::served::ended::{Ended, Query, serve};
 use crate::served::failing::Case;
 use crate::served::words::asked;
-use sizing_cli::{MemorySink, MemorySource, Reading, Review};
+use sizing_cli::{MemorySink, MemorySource, RecordingCommand, ReviewCommand};
 use std::alloc::{AllocError, Global};
 
 /// A suite for commands that use no threads.
@@ -35,15 +35,15 @@ const LONG: usize = 20_000;
 impl Suite for Served {
     fn answer(&self, alloc: Global, kind: &str, input: &[u8]) -> Result<String, AllocError> {
         match kind {
-            "replay" => answered(alloc, Query::Review(Review::Replay), input),
-            "check" => answered(alloc, Query::Review(Review::Check), input),
-            "explain" => answered(alloc, Query::Review(Review::Explain), input),
+            "replay" => answered(alloc, Query::ReviewCommand(ReviewCommand::Replay), input),
+            "check" => answered(alloc, Query::ReviewCommand(ReviewCommand::Check), input),
+            "explain" => answered(alloc, Query::ReviewCommand(ReviewCommand::Explain), input),
             "check and explain" => checked_and_explained(alloc, input),
-            "fronts of a replay" => fronts(alloc, Query::Review(Review::Replay), input),
-            "fronts of a check" => fronts(alloc, Query::Review(Review::Check), input),
-            "fronts of an explain" => fronts(alloc, Query::Review(Review::Explain), input),
-            "conform" => answered(alloc, Query::Reading(Reading::Conform), input),
-            "learn" => answered(alloc, Query::Reading(Reading::Learn), input),
+            "fronts of a replay" => fronts(alloc, Query::ReviewCommand(ReviewCommand::Replay), input),
+            "fronts of a check" => fronts(alloc, Query::ReviewCommand(ReviewCommand::Check), input),
+            "fronts of an explain" => fronts(alloc, Query::ReviewCommand(ReviewCommand::Explain), input),
+            "conform" => answered(alloc, Query::RecordingCommand(RecordingCommand::Conform), input),
+            "learn" => answered(alloc, Query::RecordingCommand(RecordingCommand::Learn), input),
             "words" => asked(alloc, input),
             _ => String::from_str(alloc, "no such kind of input"),
         }
@@ -90,8 +90,8 @@ fn push_differences(
 }
 
 fn checked_and_explained(alloc: Global, input: &[u8]) -> Result<String, AllocError> {
-    let mut answer = answered(alloc, Query::Review(Review::Check), input)?;
-    let explained = answered(alloc, Query::Review(Review::Explain), input)?;
+    let mut answer = answered(alloc, Query::ReviewCommand(ReviewCommand::Check), input)?;
+    let explained = answered(alloc, Query::ReviewCommand(ReviewCommand::Explain), input)?;
     if explained != answer {
         write!(answer, "\n{explained}")?;
     }

@@ -6,12 +6,12 @@ use Rattle.support.proofs.Members.{In-map, In-map_from, In-get_or}
 use Rattle.job_bodies.specs.declared.action.Action.{Action}
 use Rattle.job_bodies.specs.Plan.{Client, Plan, no_client, client_at}
 use Rattle.size_search.proofs.Following.{place_in, covers_more}
-use Rattle.size_search.specs.declared.reached.Reached.{Reached}
+use Rattle.size_search.specs.declared.submitted_classes.SubmittedClasses.{SubmittedClasses}
 use Rattle.size_search.specs.ByClients.{client_bodies}
 use Rattle.size_search.specs.Reaching.{Has, Covers, IsReaching}
 
 -- the bodies of the first clients
-pub record AreBegun (plan : Plan) (r : Reached) (number : ℕ) : Type 0 where
+pub record AreBegun (plan : Plan) (r : SubmittedClasses) (number : ℕ) : Type 0 where
   pub reaching : IsReaching plan (client_bodies plan) r
   pub covers : (c : ℕ) → c < number → Covers r (client_at plan c).body
 
@@ -19,12 +19,12 @@ pub is_of_client : (plan : Plan) (c : ℕ) → c < length plan.clients → In (c
 is_of_client plan c inside = In-map (λ (client : Client). client.body) (In-get_or plan.clients c no_client inside)
 
 -- the body of one more client
-pub covers_one_more : (plan : Plan) (old new : Reached) (number : ℕ) → ((k : ℕ) → Has old k → Has new k) → ((c : ℕ) → c < number → Covers old (client_at plan c).body) → Covers new (client_at plan number).body
+pub covers_one_more : (plan : Plan) (old new : SubmittedClasses) (number : ℕ) → ((k : ℕ) → Has old k → Has new k) → ((c : ℕ) → c < number → Covers old (client_at plan c).body) → Covers new (client_at plan number).body
     → (c : ℕ) → c < number + 1 → Covers new (client_at plan c).body
 covers_one_more plan old new number kept before this =
     below_more (λ (c : ℕ). Covers new (client_at plan c).body) number (λ c below. covers_more old new (client_at plan c).body kept (before c below)) this
 
-pub covers_each_client : (plan : Plan) (r : Reached) → ((c : ℕ) → c < length plan.clients → Covers r (client_at plan c).body) → (body : List Action) → In body (client_bodies plan) → Covers r body
+pub covers_each_client : (plan : Plan) (r : SubmittedClasses) → ((c : ℕ) → c < length plan.clients → Covers r (client_at plan c).body) → (body : List Action) → In body (client_bodies plan) → Covers r body
 covers_each_client plan r each body at =
     let of_client = In-map_from (λ (client : Client). client.body) plan.clients at in
     let place = place_in of_client.1 in

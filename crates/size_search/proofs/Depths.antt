@@ -133,12 +133,12 @@ shallow plan ordered none k inside =
 
 -- ---- so the levels are stable
 
-settled_below : (plan : Plan) (n k : ℕ) → level_of plan n k < n → level_of plan (suc n) k ≡ level_of plan n k
-settled_below plan zero k low = absurd (omega (arith, low))
-settled_below plan (suc n) k low =
+level_is_final : (plan : Plan) (n k : ℕ) → level_of plan n k < n → level_of plan (suc n) k ≡ level_of plan n k
+level_is_final plan zero k low = absurd (omega (arith, low))
+level_is_final plan (suc n) k low =
     let body = (class_at plan k).body in
     level-step plan (suc n) k
-    ∙ (level_above-agree (levels_within plan (suc n)) (levels_within plan n) body (λ j at. settled_below plan n j (omega (arith, low, level-step plan n k, submits_below (levels_within plan n) at)))
+    ∙ (level_above-agree (levels_within plan (suc n)) (levels_within plan n) body (λ j at. level_is_final plan n j (omega (arith, low, level-step plan n k, submits_below (levels_within plan n) at)))
     ∙ sym (level-step plan n k))
 
 -- the classes that a class submits have lower levels
@@ -147,4 +147,4 @@ levels_sink plan ordered none k j at =
     let place = place_in at in
     let inside = class_of_action plan k place.0 (Submit j) place.1 in
     let n = length plan.classes in
-    omega (arith, submits_below (levels_within plan n) at, level-step plan n k, settled_below plan n k (shallow plan ordered none k inside))
+    omega (arith, submits_below (levels_within plan n) at, level-step plan n k, level_is_final plan n k (shallow plan ordered none k inside))

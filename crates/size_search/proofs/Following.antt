@@ -9,7 +9,7 @@ use Rattle.job_bodies.specs.Plan.{Plan, class_at, client_at}
 use Rattle.job_bodies.specs.WellFormed.{IsWellFormed}
 use Rattle.job_bodies.specs.ValidBody.{IsValidBody}
 use Rattle.job_bodies.proofs.Bodies.{ordered}
-use Rattle.size_search.specs.declared.reached.Reached.{Reached}
+use Rattle.size_search.specs.declared.submitted_classes.SubmittedClasses.{SubmittedClasses}
 use Rattle.size_search.specs.Submitted.{IsSubmitted, begins, follows, repeated_bodies}
 use Rattle.size_search.specs.Reaching.{Has, Covers, Grows, IsReaching, unfound}
 
@@ -28,11 +28,11 @@ class_submits_within plan j k well at = submits_within plan (class_at plan j).bo
 pub client_submits_within : (plan : Plan) (c k : ℕ) → IsWellFormed plan → In (Submit k) (client_at plan c).body → k < length plan.classes
 client_submits_within plan c k well at = submits_within plan (client_at plan c).body k ((ordered plan well).clients c) at
 
-pub covers_more : (a b : Reached) (body : List Action) → ((k : ℕ) → Has a k → Has b k) → Covers a body → Covers b body
+pub covers_more : (a b : SubmittedClasses) (body : List Action) → ((k : ℕ) → Has a k → Has b k) → Covers a body → Covers b body
 covers_more a b body kept covers = record { found = λ k at. kept k (covers.found k at) }
 
 -- after the step for one of the initial bodies
-pub starts : (plan : Plan) (bodies : List (List Action)) (body : List Action) (old new : Reached) → In body bodies → Grows old new
+pub starts : (plan : Plan) (bodies : List (List Action)) (body : List Action) (old new : SubmittedClasses) → In body bodies → Grows old new
     → ((k : ℕ) → Has new k → Has old k ⊎ In (Submit k) body) → IsReaching plan bodies old → IsReaching plan bodies new
 starts plan bodies body old new from grows only reaching = record {
   as_many = grows.as_many ∙ reaching.as_many;
@@ -43,7 +43,7 @@ starts plan bodies body old new from grows only reaching = record {
 }
 
 -- after the step for the body of a class that was found
-pub follows_one : (plan : Plan) (bodies : List (List Action)) (old mid new : Reached) (number : ℕ) → mid.is_found.items ≡ old.is_found.items → old.pending.items ≡ mid.pending.items ++ number ∷ []
+pub follows_one : (plan : Plan) (bodies : List (List Action)) (old mid new : SubmittedClasses) (number : ℕ) → mid.is_found.items ≡ old.is_found.items → old.pending.items ≡ mid.pending.items ++ number ∷ []
     → Grows mid new → Covers new (class_at plan number).body → ((k : ℕ) → Has new k → Has mid k ⊎ In (Submit k) (class_at plan number).body) → IsReaching plan bodies old → IsReaching plan bodies new
 follows_one plan bodies old mid new number same pending grows covers only reaching = record {
   as_many = grows.as_many ∙ (ap length same ∙ reaching.as_many);
@@ -76,37 +76,37 @@ follows_one plan bodies old mid new number same pending grows covers only reachi
 -- ---- loops
 
 -- the first actions of one body
-pub record IsAdded (start r : Reached) (body : List Action) (i : ℕ) : Type 0 where
+pub record IsAdded (start r : SubmittedClasses) (body : List Action) (i : ℕ) : Type 0 where
   pub grows : Grows start r
   pub covers : Covers r (take i body)
   pub only : (k : ℕ) → Has r k → Has start k ⊎ In (Submit k) body
 
 -- the bodies of the first clients that repeat
-pub record AreAdded (plan : Plan) (r : Reached) (number : ℕ) : Type 0 where
+pub record AreAdded (plan : Plan) (r : SubmittedClasses) (number : ℕ) : Type 0 where
   pub reaching : IsReaching plan (repeated_bodies plan) r
   pub covers : (c : ℕ) → c < number → (client_at plan c).repeat ≡ true → Covers r (client_at plan c).body
 
 -- ---- after the loop
 
 -- the state after some rounds: nothing is pending, or one less in each round
-pub record IsFollowed (plan : Plan) (start r : Reached) (rounds : ℕ) : Type 0 where
+pub record IsFollowed (plan : Plan) (start r : SubmittedClasses) (rounds : ℕ) : Type 0 where
   pub reaching : (bodies : List (List Action)) → IsReaching plan bodies start → IsReaching plan bodies r
   pub kept : (k : ℕ) → Has start k → Has r k
   pub as_many : length r.is_found.items ≡ length start.is_found.items
   pub fewer : (r.pending.items ≡ []) ⊎ (unfound r + length r.pending.items + rounds ≤ unfound start + length start.pending.items)
 
 -- the step for one more round
-pub followed_further : (plan : Plan) (start r new : Reached) (rounds : ℕ) → IsFollowed plan start r rounds → ((bodies : List (List Action)) → IsReaching plan bodies r → IsReaching plan bodies new)
+pub followed_further : (plan : Plan) (start r new : SubmittedClasses) (rounds : ℕ) → IsFollowed plan start r rounds → ((bodies : List (List Action)) → IsReaching plan bodies r → IsReaching plan bodies new)
     → ((k : ℕ) → Has r k → Has new k) → length new.is_found.items ≡ length r.is_found.items
     → (new.pending.items ≡ []) ⊎ (unfound new + length new.pending.items + 1 ≤ unfound r + length r.pending.items) → (r.pending.items ≡ [] → new.pending.items ≡ []) → IsFollowed plan start new (rounds + 1)
-followed_further plan start r new rounds so_far reaching kept as_many fewer idle = record {
-  reaching = λ bodies first. reaching bodies (so_far.reaching bodies first);
-  kept = λ k has. kept k (so_far.kept k has);
-  as_many = as_many ∙ so_far.as_many;
-  fewer = ⊎_elim (λ none. inl none) (λ less. ⊎_elim (λ none. inl (idle none)) (λ before. inr (omega (arith, less, before))) so_far.fewer) fewer;
+followed_further plan start r new rounds earlier reaching kept as_many fewer idle = record {
+  reaching = λ bodies first. reaching bodies (earlier.reaching bodies first);
+  kept = λ k has. kept k (earlier.kept k has);
+  as_many = as_many ∙ earlier.as_many;
+  fewer = ⊎_elim (λ none. inl none) (λ less. ⊎_elim (λ none. inl (idle none)) (λ before. inr (omega (arith, less, before))) earlier.fewer) fewer;
 }
 
-found_where_followed : (plan : Plan) (bodies : List (List Action)) (r : Reached) → IsReaching plan bodies r → r.pending.items ≡ [] → ((body : List Action) → In body bodies → Covers r body) → {k : ℕ} → IsSubmitted plan bodies k → Has r k
+found_where_followed : (plan : Plan) (bodies : List (List Action)) (r : SubmittedClasses) → IsReaching plan bodies r → r.pending.items ≡ [] → ((body : List Action) → In body bodies → Covers r body) → {k : ℕ} → IsSubmitted plan bodies k → Has r k
 found_where_followed plan bodies r reaching none covers (begins {k = k} {body = body} from at) = (covers body from).found k at
 found_where_followed plan bodies r reaching none covers (follows {j = j} {k = k} known at) =
     ⊎_elim
@@ -114,14 +114,14 @@ found_where_followed plan bodies r reaching none covers (follows {j = j} {k = k}
     (λ known_too. known_too.found k at)
     (reaching.followed j (found_where_followed plan bodies r reaching none covers known))
 
-nothing_left : (plan : Plan) (bodies : List (List Action)) (start r : Reached) → IsReaching plan bodies start → IsFollowed plan start r (length plan.classes) → r.pending.items ≡ []
+nothing_left : (plan : Plan) (bodies : List (List Action)) (start r : SubmittedClasses) → IsReaching plan bodies start → IsFollowed plan start r (length plan.classes) → r.pending.items ≡ []
 nothing_left plan bodies start r reaching followed =
     ⊎_elim
     (λ (none : r.pending.items ≡ []). none)
     (λ few. nil_from_length r.pending.items (omega (arith, few, reaching.few)))
     followed.fewer
 
-pub followed_to_the_end : (plan : Plan) (start r : Reached) (bodies : List (List Action)) → IsFollowed plan start r (length plan.classes) → IsReaching plan bodies start → ((body : List Action) → In body bodies → Covers start body)
+pub followed_to_the_end : (plan : Plan) (start r : SubmittedClasses) (bodies : List (List Action)) → IsFollowed plan start r (length plan.classes) → IsReaching plan bodies start → ((body : List Action) → In body bodies → Covers start body)
     → (k : ℕ) → Has r k ↔ IsSubmitted plan bodies k
 followed_to_the_end plan start r bodies followed reaching covers k =
     let all = followed.reaching bodies reaching in

@@ -5,11 +5,11 @@ mod Depths
 mod SteadyRows
 mod Steadiness
 mod Holding
-mod Reckoning
+mod Computations
 mod Fitting
-mod Settling
+mod RowSteps
 pub mod Accepting
-pub mod Growing
+pub mod ResizedPlan
 pub mod Following
 pub mod Nothing
 pub mod AllClients

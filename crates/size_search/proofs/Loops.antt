@@ -20,14 +20,14 @@ rest_made made pools i = map made (enumerate_from i (drop i pools))
 -- the step for one more pool
 pub made_more : (made : ℕ × Pool → Pool) (pools : List Pool) (i : ℕ) (front all : List Pool) → i < length pools → front ++ rest_made made pools i ≡ all
     → (front ++ made (i, get_or pools i no_pool) ∷ []) ++ rest_made made pools (i + 1) ≡ all
-made_more made pools i front all inside so_far =
+made_more made pools i front all inside prefix_is =
     append_assoc front (made (i, get_or pools i no_pool) ∷ []) (rest_made made pools (i + 1))
-    ∙ (sym (ap (λ (ps : List Pool). front ++ ps) (turn (map made) pools i inside)) ∙ so_far)
+    ∙ (sym (ap (λ (ps : List Pool). front ++ ps) (turn (map made) pools i inside)) ∙ prefix_is)
 
 -- after the last pool
 pub made_all : (made : ℕ × Pool → Pool) (pools : List Pool) (i : ℕ) (front all : List Pool) → length pools ≤ i → front ++ rest_made made pools i ≡ all → front ≡ all
-made_all made pools i front all past so_far =
-    sym (append-nil front) ∙ (sym (ap (λ (ps : List Pool). front ++ ps) (at_drop_all (λ (ps : List Pool). map made (enumerate_from i ps)) pools i past)) ∙ so_far)
+made_all made pools i front all past prefix_is =
+    sym (append-nil front) ∙ (sym (ap (λ (ps : List Pool). front ++ ps) (at_drop_all (λ (ps : List Pool). map made (enumerate_from i ps)) pools i past)) ∙ prefix_is)
 
 -- ---- the first unfit pool
 
@@ -37,14 +37,14 @@ rest_unfit pools i = first_unfit (enumerate_from i (drop i pools))
 
 -- this pool is not unfit
 pub unfit_later : (pools : List Pool) (i : ℕ) (all : Option Unfit) → i < length pools → unfit_pool i (get_or pools i no_pool) ≡ None → rest_unfit pools i ≡ all → rest_unfit pools (i + 1) ≡ all
-unfit_later pools i all inside fits so_far =
-    sym (turn first_unfit pools i inside ∙ ap (λ (here : Option Unfit). option_or here (rest_unfit pools (i + 1))) fits) ∙ so_far
+unfit_later pools i all inside fits prefix_is =
+    sym (turn first_unfit pools i inside ∙ ap (λ (here : Option Unfit). option_or here (rest_unfit pools (i + 1))) fits) ∙ prefix_is
 
 -- this pool is unfit
 pub unfit_here : (pools : List Pool) (i : ℕ) (unfit : Unfit) (all : Option Unfit) → i < length pools → unfit_pool i (get_or pools i no_pool) ≡ Some unfit → rest_unfit pools i ≡ all → Some unfit ≡ all
-unfit_here pools i unfit all inside found so_far =
-    sym (turn first_unfit pools i inside ∙ ap (λ (here : Option Unfit). option_or here (rest_unfit pools (i + 1))) found) ∙ so_far
+unfit_here pools i unfit all inside found prefix_is =
+    sym (turn first_unfit pools i inside ∙ ap (λ (here : Option Unfit). option_or here (rest_unfit pools (i + 1))) found) ∙ prefix_is
 
 -- no pool is left
 pub none_unfit : (pools : List Pool) (i : ℕ) (all : Option Unfit) → length pools ≤ i → rest_unfit pools i ≡ all → None ≡ all
-none_unfit pools i all past so_far = sym (at_drop_all (λ (ps : List Pool). first_unfit (enumerate_from i ps)) pools i past) ∙ so_far
+none_unfit pools i all past prefix_is = sym (at_drop_all (λ (ps : List Pool). first_unfit (enumerate_from i ps)) pools i past) ∙ prefix_is

@@ -10,7 +10,7 @@ use Rattle.job_bodies.specs.declared.action.Action.TheVariants.{Submit}
 use Rattle.job_bodies.specs.Plan.{Class, Client, Plan, no_class, no_client, class_at, client_at}
 use Rattle.size_search.specs.Submitted.{IsSubmitted, begins, follows, IsNeverGot, NeverGotByClients, NeverGotByJobs, repeated_bodies}
 use Rattle.size_search.proofs.Following.{place_in}
-use Rattle.size_search.specs.declared.reached.Reached.{Reached}
+use Rattle.size_search.specs.declared.submitted_classes.SubmittedClasses.{SubmittedClasses}
 use Rattle.size_search.specs.Reaching.{Covers}
 
 -- an empty body submits nothing
@@ -55,7 +55,7 @@ pub is_repeated : (plan : Plan) (c : ℕ) → c < length plan.clients → (clien
 is_repeated plan c inside repeats = In-map (λ (client : Client). client.body) (In-filter (λ (client : Client). client.repeat) (In-get_or plan.clients c no_client inside) repeats)
 
 -- the body of one more client
-pub covers_next_client : (plan : Plan) (r : Reached) (number : ℕ) → ((c : ℕ) → c < number → (client_at plan c).repeat ≡ true → Covers r (client_at plan c).body)
+pub covers_next_client : (plan : Plan) (r : SubmittedClasses) (number : ℕ) → ((c : ℕ) → c < number → (client_at plan c).repeat ≡ true → Covers r (client_at plan c).body)
     → ((client_at plan number).repeat ≡ true → Covers r (client_at plan number).body) → (c : ℕ) → c < number + 1 → (client_at plan c).repeat ≡ true → Covers r (client_at plan c).body
 covers_next_client plan r number before this c within repeats =
     ⊎_elim
@@ -65,7 +65,7 @@ covers_next_client plan r number before this c within repeats =
     subst (λ (d : ℕ). Covers r (client_at plan d).body) (sym same) (this (subst (λ (d : ℕ). (client_at plan d).repeat ≡ true) same repeats)))
     (cases_lt c number)
 
-pub covers_each_repeated : (plan : Plan) (r : Reached) → ((c : ℕ) → c < length plan.clients → (client_at plan c).repeat ≡ true → Covers r (client_at plan c).body)
+pub covers_each_repeated : (plan : Plan) (r : SubmittedClasses) → ((c : ℕ) → c < length plan.clients → (client_at plan c).repeat ≡ true → Covers r (client_at plan c).body)
     → (body : List Action) → In body (repeated_bodies plan) → Covers r body
 covers_each_repeated plan r each body at =
     let of_client = In-map_from (λ (client : Client). client.body) (filter (λ (client : Client). client.repeat) plan.clients) at in

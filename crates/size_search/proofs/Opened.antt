@@ -115,8 +115,8 @@ open-work v body i u at =
 pub open-submit : (plan : Plan) (v : Vector) (body : List Action) (i k : ℕ) → IsValidBody plan body → slice_get body i ≡ Some (Submit k) → open_weight v body (suc i) ≡ open_weight v body i + cond (has_get_of body i) (queued_weight v k) 0
 open-submit plan v body i k valid at =
     let step : open_weight v body (suc i) ≡ sum_below (awaited_weight v body (suc i)) i + awaited_weight v body (suc i) i = refl in
-    let opened : awaited_weight v body (suc i) i ≡ cond (has_get_of body i) (queued_weight v k) 0 = ap₂ (λ (b : Bool) (x : Option Action). cond b (submitted_weight v x) 0) (got_behind plan body i valid) at in
-    omega (arith, step, opened, sum_below-agree (awaited_weight v body (suc i)) (awaited_weight v body i) i (λ s below. stays v body i s (Submit k) at refl))
+    let open_weight_after : awaited_weight v body (suc i) i ≡ cond (has_get_of body i) (queued_weight v k) 0 = ap₂ (λ (b : Bool) (x : Option Action). cond b (submitted_weight v x) 0) (got_behind plan body i valid) at in
+    omega (arith, step, open_weight_after, sum_below-agree (awaited_weight v body (suc i)) (awaited_weight v body i) i (λ s below. stays v body i s (Submit k) at refl))
 
 weight_of_submit : (v : Vector) (x : Option Action) → submits x ≡ true → submitted_weight v x ≡ queued_weight v (class_of_submit x)
 weight_of_submit v (Some (Submit k)) is_submit = refl

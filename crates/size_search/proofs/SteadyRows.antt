@@ -84,14 +84,14 @@ client_row-agree plan v w client valid same =
 row-step : (plan : Plan) (n k : ℕ) → k < length plan.classes → class_weights (jobs_within plan (suc n)) k ≡ class_row plan (jobs_within plan n) (class_at plan k).body
 row-step plan n k inside = get_or-map (λ (class : Class). class_row plan (jobs_within plan n) class.body) plan.classes k no_class [] inside
 
-settled_at : (plan : Plan) → HasValidBodies plan → NoCircle plan → (n k : ℕ) → k < length plan.classes → get_or (steady_levels plan) k 0 < n → class_weights (jobs_within plan (suc n)) k ≡ class_weights (jobs_within plan n) k
-settled_at plan ordered none zero k inside low = absurd (omega (arith, low))
-settled_at plan ordered none (suc n) k inside low =
+row_is_final : (plan : Plan) → HasValidBodies plan → NoCircle plan → (n k : ℕ) → k < length plan.classes → get_or (steady_levels plan) k 0 < n → class_weights (jobs_within plan (suc n)) k ≡ class_weights (jobs_within plan n) k
+row_is_final plan ordered none zero k inside low = absurd (omega (arith, low))
+row_is_final plan ordered none (suc n) k inside low =
     let valid = ordered.classes k in
     let same : WeighTheSame (jobs_within plan (suc n)) (jobs_within plan n) (class_at plan k).body = record {
       rows = λ j at.
           let place = place_in at in
-          settled_at plan ordered none n j (valid.submit place.0 j place.1) (omega (arith, low, levels_sink plan ordered none k j at));
+          row_is_final plan ordered none n j (valid.submit place.0 j place.1) (omega (arith, low, levels_sink plan ordered none k j at));
     } in
     row-step plan (suc n) k inside ∙ (class_row-agree plan (jobs_within plan (suc n)) (jobs_within plan n) (class_at plan k).body valid same ∙ sym (row-step plan n k inside))
 
@@ -99,7 +99,7 @@ settled_at plan ordered none (suc n) k inside low =
 
 pub class_is : (plan : Plan) → HasValidBodies plan → NoCircle plan → (k : ℕ) → k < length plan.classes → class_weights (steady_vector plan) k ≡ class_row plan (steady_vector plan) (class_at plan k).body
 class_is plan ordered none k inside =
-    sym (settled_at plan ordered none (length plan.classes) k inside (shallow plan ordered none k inside))
+    sym (row_is_final plan ordered none (length plan.classes) k inside (shallow plan ordered none k inside))
     ∙ (row-step plan (length plan.classes) k inside
     ∙ class_row-agree plan (jobs plan) (steady_vector plan) (class_at plan k).body (ordered.classes k) (record { rows = λ j at. refl }))
 

@@ -14,7 +14,7 @@ use Rattle.size_search.specs.declared.unfit.Unfit.{Unfit}
 use Rattle.size_search.specs.declared.unfit.Unfit.TheVariants.{Shape, Condition, Core, Queue}
 use Rattle.size_search.specs.Fitted.{is_total, raised, fails_only_at_totals, fitted, IsLeastFit, NoneFits}
 use Rattle.size_search.specs.Widened.{widened, NoneFitsWide}
-use Rattle.size_search.specs.Unfit.{failing_elsewhere, first_unfit, unfit_pool, why_unfit, why_not_widened, ToldCoresNeedLargerMaxes}
+use Rattle.size_search.specs.Unfit.{failing_elsewhere, first_unfit, unfit_pool, why_unfit, why_not_widened, ReportedCoresNeedLargerMaxes}
 use Rattle.size_search.proofs.Changes.{HasSizes, has_sizes, valid_from_sizes, sized_from_places, sizes_at, well_formed_changed}
 use Rattle.size_search.proofs.LeastSizes.{has_shape, raised-shape, raised_at, raised_no_smaller, raised_is_well_formed, fitted_from, least_fit, none_fits}
 use Rattle.size_search.proofs.LeastMaxes.{length-widened, widened-outline, widened_at, wide_fit_fits, wide_fit_has_room, widened_maxes_are_least}
@@ -210,29 +210,29 @@ none_fits_where_not_widened plan cert unfit well some other fits =
 -- ---- a core as the reason
 
 -- the core of the pool is above its max, or its max is above the limit
-record IsAbove (p : ℕ) (pool : Pool) (told : ℕ) : Type 0 where
-  number : p ≡ told
+record IsAbove (p : ℕ) (pool : Pool) (reported : ℕ) : Type 0 where
+  number : p ≡ reported
   above : (pool.max < pool.core) ⊎ (MAX_SIZE < pool.max)
 
-core_above : (p : ℕ) (pool : Pool) (told : ℕ) → unfit_pool p pool ≡ Some (Core told) → IsAbove p pool told
-core_above p pool told some = at_tests (ltb pool.max pool.core) refl (ltb MAX_SIZE pool.max) refl (ltb MAX_SIZE pool.queue) some
+core_above : (p : ℕ) (pool : Pool) (reported : ℕ) → unfit_pool p pool ≡ Some (Core reported) → IsAbove p pool reported
+core_above p pool reported some = at_tests (ltb pool.max pool.core) refl (ltb MAX_SIZE pool.max) refl (ltb MAX_SIZE pool.queue) some
   where
     at_tests : (a : Bool) → ltb pool.max pool.core ≡ a → (b : Bool) → ltb MAX_SIZE pool.max ≡ b → (d : Bool)
-        → cond (a || b) (Some (Core p)) (cond d (Some (Queue p)) None) ≡ Some (Core told) → IsAbove p pool told
+        → cond (a || b) (Some (Core p)) (cond d (Some (Queue p)) None) ≡ Some (Core reported) → IsAbove p pool reported
     at_tests true is b more d e = record { number = cc; above = inl (ltb-true pool.max pool.core is) }
     at_tests false is true more d e = record { number = cc; above = inr (ltb-true MAX_SIZE pool.max more) }
     at_tests false is false more true e = absurd cc
     at_tests false is false more false e = absurd cc
 
 -- the pool at this index of the list is the one with that core
-record IsToldAt (n : ℕ) (pools : List Pool) (told : ℕ) : Type 0 where
+record IsReportedAt (n : ℕ) (pools : List Pool) (reported : ℕ) : Type 0 where
   place : ℕ
   inside : place < length pools
-  is_above : IsAbove (n + place) (get_or pools place no_pool) told
+  is_above : IsAbove (n + place) (get_or pools place no_pool) reported
 
-told_at : (n : ℕ) (pools : List Pool) (told : ℕ) → first_unfit (enumerate_from n pools) ≡ Some (Core told) → IsToldAt n pools told
-told_at n [] told some = absurd cc
-told_at n (pool ∷ pools) told some = at_first (unfit_pool n pool) refl (λ rest. told_at (n + 1) pools told rest) some
+reported_at : (n : ℕ) (pools : List Pool) (reported : ℕ) → first_unfit (enumerate_from n pools) ≡ Some (Core reported) → IsReportedAt n pools reported
+reported_at n [] reported some = absurd cc
+reported_at n (pool ∷ pools) reported some = at_first (unfit_pool n pool) refl (λ rest. reported_at (n + 1) pools reported rest) some
   where
     first_place : n ≡ n + 0
     first_place = omega arith
@@ -240,38 +240,38 @@ told_at n (pool ∷ pools) told some = at_first (unfit_pool n pool) refl (λ res
     next_place : (i : ℕ) → n + 1 + i ≡ n + suc i
     next_place i = omega arith
 
-    at_first : (found : Option Unfit) → unfit_pool n pool ≡ found → (first_unfit (enumerate_from (n + 1) pools) ≡ Some (Core told) → IsToldAt (n + 1) pools told)
-        → option_or found (first_unfit (enumerate_from (n + 1) pools)) ≡ Some (Core told) → IsToldAt n (pool ∷ pools) told
+    at_first : (found : Option Unfit) → unfit_pool n pool ≡ found → (first_unfit (enumerate_from (n + 1) pools) ≡ Some (Core reported) → IsReportedAt (n + 1) pools reported)
+        → option_or found (first_unfit (enumerate_from (n + 1) pools)) ≡ Some (Core reported) → IsReportedAt n (pool ∷ pools) reported
     at_first None none rest e =
         let later = rest e in
         record {
           place = suc later.place;
           inside = omega (arith, later.inside);
-          is_above = subst (λ (j : ℕ). IsAbove j (get_or pools later.place no_pool) told) (next_place later.place) later.is_above;
+          is_above = subst (λ (j : ℕ). IsAbove j (get_or pools later.place no_pool) reported) (next_place later.place) later.is_above;
         }
     at_first (Some unfit) is rest e =
-        record { place = 0; inside = omega arith; is_above = subst (λ (j : ℕ). IsAbove j pool told) first_place (core_above n pool told (is ∙ e)) }
+        record { place = 0; inside = omega arith; is_above = subst (λ (j : ℕ). IsAbove j pool reported) first_place (core_above n pool reported (is ∙ e)) }
 
 -- the reason comes from the sizes
-of_sizes : (fits : Bool) (found : Option Note) (sizes : Option Unfit) (told : ℕ) → cond fits (option_or (option_map Condition found) sizes) (Some Shape) ≡ Some (Core told) → sizes ≡ Some (Core told)
-of_sizes true None sizes told some = some
-of_sizes true (Some note) sizes told some = absurd cc
-of_sizes false found sizes told some = absurd cc
+of_sizes : (fits : Bool) (found : Option Note) (sizes : Option Unfit) (reported : ℕ) → cond fits (option_or (option_map Condition found) sizes) (Some Shape) ≡ Some (Core reported) → sizes ≡ Some (Core reported)
+of_sizes true None sizes reported some = some
+of_sizes true (Some note) sizes reported some = absurd cc
+of_sizes false found sizes reported some = absurd cc
 
 -- so a core above the max is needed there
-pub told_cores_need_larger_maxes : ToldCoresNeedLargerMaxes
-told_cores_need_larger_maxes plan other cert p well some fits =
+pub reported_cores_need_larger_maxes : ReportedCoresNeedLargerMaxes
+reported_cores_need_larger_maxes plan other cert p well some fits =
     let pools = (raised plan cert).pools in
-    let told = told_at 0 pools p (of_sizes (cert_fits plan cert) (failing_elsewhere plan cert) (first_unfit (enumerate_from 0 pools)) p some) in
-    let at : told.place ≡ p = omega (arith, told.is_above.number) in
-    let inside : p < length plan.pools = omega (arith, told.inside, (has_shape plan (raised plan cert) (raised-shape plan cert)).as_many) in
+    let reported = reported_at 0 pools p (of_sizes (cert_fits plan cert) (failing_elsewhere plan cert) (first_unfit (enumerate_from 0 pools)) p some) in
+    let at : reported.place ≡ p = omega (arith, reported.is_above.number) in
+    let inside : p < length plan.pools = omega (arith, reported.inside, (has_shape plan (raised plan cert) (raised-shape plan cert)).as_many) in
     let is = raised_at plan cert p inside in
     let core = ap (λ (pool : Pool). pool.core) is in
     let max = ap (λ (pool : Pool). pool.max) is in
     let wide = ap (λ (pool : Pool). pool.max) (widened_at plan cert p inside) in
     let declared = sizes_at plan p well inside in
     let least = (widened_maxes_are_least.maxes plan other cert fits).no_smaller_max p in
-    elim (subst (λ (i : ℕ). ((get_or pools i no_pool).max < (get_or pools i no_pool).core) ⊎ (MAX_SIZE < (get_or pools i no_pool).max)) at told.is_above.above) [
+    elim (subst (λ (i : ℕ). ((get_or pools i no_pool).max < (get_or pools i no_pool).core) ⊎ (MAX_SIZE < (get_or pools i no_pool).max)) at reported.is_above.above) [
       | inl above ↦ omega (arith, above, declared.max)
       | inr above ↦ absurd (omega (arith, above, declared.most_max))
     ]

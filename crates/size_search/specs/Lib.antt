@@ -1,7 +1,7 @@
 pub mod Submitted
 pub mod Steady
 pub mod Small
-pub mod Settled
+pub mod ComputedRows
 pub mod SteadyLaws
 pub mod Reaching
 pub mod ByClients

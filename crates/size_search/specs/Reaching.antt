@@ -4,23 +4,23 @@ use Rattle.support.specs.In.{In}
 use Rattle.job_bodies.specs.declared.action.Action.{Action}
 use Rattle.job_bodies.specs.declared.action.Action.TheVariants.{Submit}
 use Rattle.job_bodies.specs.Plan.{Plan, class_at}
-use Rattle.size_search.specs.declared.reached.Reached.{Reached}
+use Rattle.size_search.specs.declared.submitted_classes.SubmittedClasses.{SubmittedClasses}
 use Rattle.size_search.specs.Submitted.{IsSubmitted}
 
 -- the class was found
-abbrev pub Has : Reached → ℕ → Type 0
+abbrev pub Has : SubmittedClasses → ℕ → Type 0
 Has r k = slice_index_or r.is_found.items k false ≡ true
 
 -- each class that the body submits was found
-pub record Covers (r : Reached) (body : List Action) : Type 0 where
+pub record Covers (r : SubmittedClasses) (body : List Action) : Type 0 where
   pub found : (k : ℕ) → In (Submit k) body → Has r k
 
 -- the number of classes that were not found
-abbrev pub unfound : Reached → ℕ
+abbrev pub unfound : SubmittedClasses → ℕ
 unfound r = count_by not r.is_found.items
 
 -- classes were added, and each of them is pending
-pub record Grows (old new : Reached) : Type 0 where
+pub record Grows (old new : SubmittedClasses) : Type 0 where
   pub as_many : length new.is_found.items ≡ length old.is_found.items
   pub kept : (k : ℕ) → Has old k → Has new k
   pub still : (k : ℕ) → In k old.pending.items → In k new.pending.items
@@ -29,7 +29,7 @@ pub record Grows (old new : Reached) : Type 0 where
   pub fewer : unfound new + length new.pending.items ≡ unfound old + length old.pending.items
 
 -- every class that was found is submitted; the classes that it submits were found too, unless it is pending
-pub record IsReaching (plan : Plan) (bodies : List (List Action)) (r : Reached) : Type 0 where
+pub record IsReaching (plan : Plan) (bodies : List (List Action)) (r : SubmittedClasses) : Type 0 where
   pub as_many : length r.is_found.items ≡ length plan.classes
   pub submitted : (k : ℕ) → Has r k → IsSubmitted plan bodies k
   pub waiting : (k : ℕ) → In k r.pending.items → Has r k

@@ -18,11 +18,11 @@ AreEnough plan = (p : ℕ) → p < length plan.pools → (steady_total plan ≤ 
 
 -- the steady certificate fits the plan, only conditions of its total can fail, and it is accepted exactly if the sizes are
 -- enough
-pub record IsSteadilyAccepted (plan : Plan) : Type 0 where
+pub record IsSteadyAccepted (plan : Plan) : Type 0 where
   pub fits : IsTrue (cert_fits plan (steady_cert plan))
   pub only_totals : (x : Note) → In x (failing plan (steady_cert plan)) → x.place ≡ Total
   pub is_accepted : IsTrue (accepted plan (steady_cert plan)) ↔ AreEnough plan
 
 -- this holds if no cause holds, and the weights are within their limit
 abbrev pub SteadyCertificatesAccept : Type 0
-SteadyCertificatesAccept = (plan : Plan) → IsWellFormed plan → IsWithoutCause plan → IsTrue (has_small_numbers (steady_vector plan)) → IsSteadilyAccepted plan
+SteadyCertificatesAccept = (plan : Plan) → IsWellFormed plan → IsWithoutCause plan → IsTrue (has_small_numbers (steady_vector plan)) → IsSteadyAccepted plan

@@ -38,5 +38,5 @@ abbrev pub why_not_widened : Plan → Cert → Option Unfit
 why_not_widened plan cert = if cert_fits plan cert then first_unfit (enumerate_from 0 (widened plan cert).pools) else Some Shape
 
 -- if a core is the reason, all sizes with which the certificate accepts the plan have a larger max there
-abbrev pub ToldCoresNeedLargerMaxes : Type 0
-ToldCoresNeedLargerMaxes = (plan other : Plan) (cert : Cert) (p : ℕ) → IsWellFormed plan → why_unfit plan cert ≡ Some (Core p) → IsWideFit plan cert other → (pool_at plan p).max < (pool_at other p).max
+abbrev pub ReportedCoresNeedLargerMaxes : Type 0
+ReportedCoresNeedLargerMaxes = (plan other : Plan) (cert : Cert) (p : ℕ) → IsWellFormed plan → why_unfit plan cert ≡ Some (Core p) → IsWideFit plan cert other → (pool_at plan p).max < (pool_at other p).max

@@ -1,11 +1,11 @@
 //! One attempt to find sizes.
 
 use crate::certified::cert_of;
-use crate::found::Halt;
+use crate::found::AttemptError;
 use crate::pool_threads::{PoolThreads, declared_threads};
-use crate::remembered::Remembered;
-use crate::rounds::ranked_at_last;
-use crate::settled::settled;
+use crate::vector_cache::VectorCache;
+use crate::rounds::assign_ranks_to_fixpoint;
+use crate::least_sizes::least_sizes;
 use cert_text::Cert;
 use job_bodies::Plan;
 use std::alloc::Global;
@@ -25,22 +25,22 @@ pub(crate) struct Attempt {
 
 /// Searches for a certificate, starting with these cores and maximums. In the first round in which
 /// no pool has a large enough core, it skips the `passed_over` pools with the smallest shortfall.
-pub(crate) fn tried(
+pub(crate) fn attempt_from(
     alloc: Global,
-    known: &mut Remembered,
+    cache: &mut VectorCache,
     threads: Vec<PoolThreads>,
     passed_over: usize,
-) -> Result<Attempt, Halt> {
-    let placing = ranked_at_last(alloc, known, threads, passed_over)?;
-    let cert = cert_of(alloc, known, &placing)?;
-    match settled(alloc, known.plan, &cert)? {
+) -> Result<Attempt, AttemptError> {
+    let assignment = assign_ranks_to_fixpoint(alloc, cache, threads, passed_over)?;
+    let cert = cert_of(alloc, cache, &assignment)?;
+    match least_sizes(alloc, cache.plan, &cert)? {
         Ok(fit) => Ok(Attempt {
             cert,
             threads: declared_threads(alloc, &fit)?,
-            cost: growth(known.plan, &fit),
-            choices: placing.choices,
+            cost: growth(cache.plan, &fit),
+            choices: assignment.choices,
         }),
-        Err(obstacle) => Err(Halt::Obstacle(obstacle)),
+        Err(obstacle) => Err(AttemptError::Obstacle(obstacle)),
     }
 }
 

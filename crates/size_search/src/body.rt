@@ -42,23 +42,23 @@ fn done(plan: &Plan, vector: &Vector, class: usize) -> u64
 }
 
 /// Returns the weight of the open jobs after the action at this position, given that before it.
-fn opened(plan: &Plan, vector: &Vector, body: &[Action], position: usize, so_far: u64) -> u64
+fn open_weight_after(plan: &Plan, vector: &Vector, body: &[Action], position: usize, current_weight: u64) -> u64
     requires valid { IsValidBody plan.now body.now }
     requires small { JobsAreSmall vector.now }
     requires inside { position < length body.now }
-    requires so_far { so_far ≡ spec.open_weight vector.now body.now position }
+    requires current_weight { current_weight ≡ spec.open_weight vector.now body.now position }
     ensures { result ≡ spec.open_weight vector.now body.now (position + 1) }
 {
     match body[position] {
-        Action::Work(_) => so_far,
+        Action::Work(_) => current_weight,
         Action::Submit(class) => {
             if has_get_of(body, position) {
-                so_far + queued(vector, class)
+                current_weight + queued(vector, class)
             } else {
-                so_far
+                current_weight
             }
         }
-        Action::Get(submit) => so_far - queued(vector, submitted_class(body, submit)),
+        Action::Get(submit) => current_weight - queued(vector, submitted_class(body, submit)),
     }
 }
 
@@ -69,11 +69,11 @@ fn most(plan: &Plan, vector: &Vector, body: &[Action]) -> u64
     ensures value { result ≡ spec.most vector.now body.now }
     ensures bound { result ≤ MAX_ACTIONS * MAX_WEIGHT }
 {
-    let mut so_far = 0;
+    let mut current_weight = 0;
     let mut most = 0;
     for position in 0..body.len() {
-        so_far = opened(plan, vector, body, position, so_far);
-        most = most.max(so_far);
+        current_weight = open_weight_after(plan, vector, body, position, current_weight);
+        most = most.max(current_weight);
     }
     most
 }

@@ -1,8 +1,8 @@
 //! The vector that bounds a pool's queue.
 
-use crate::found::{Halt, Obstacle};
+use crate::found::{AttemptError, Obstacle};
 use crate::pool_threads::PoolThreads;
-use crate::remembered::Remembered;
+use crate::vector_cache::VectorCache;
 use job_bodies::Pool;
 use least_vectors::Kind;
 use std::alloc::Global;
@@ -13,35 +13,35 @@ use weights::Bound;
 /// `maxes` the maximums of all pools.
 pub(crate) fn bound_of(
     alloc: Global,
-    known: &mut Remembered,
+    cache: &mut VectorCache,
     number: usize,
     pool: &Pool,
     pool_threads: PoolThreads,
     maxes: &[u64],
-) -> Result<Bound, Halt> {
-    let mut look = known.lightest(alloc, number, Kind::Standing, maxes, pool.queue)?;
-    let missing = look.total.saturating_sub(pool.queue);
+) -> Result<Bound, AttemptError> {
+    let mut hit = cache.lightest(alloc, number, Kind::Standing, maxes, pool.queue)?;
+    let missing = hit.total.saturating_sub(pool.queue);
     let mut is_lifetime = false;
     if missing > 0 {
-        let lifetime = known.lightest(alloc, number, Kind::Lifetime, maxes, 0)?;
+        let lifetime = cache.lightest(alloc, number, Kind::Lifetime, maxes, 0)?;
         is_lifetime = lifetime_queue(pool, pool_threads, lifetime.total).saturating_sub(pool.queue)
             < missing;
         if is_lifetime {
-            look = lifetime;
+            hit = lifetime;
         }
     }
-    let Some(workers) = known.workers_at(look) else {
-        return Err(Halt::Obstacle(Obstacle::Pool(number)));
+    let Some(workers) = cache.workers_at(hit) else {
+        return Err(AttemptError::Obstacle(Obstacle::Pool(number)));
     };
     let kind = if is_lifetime {
         Kind::Lifetime
     } else {
         Kind::Standing
     };
-    match known.growing(maxes).vector(alloc, number, kind, workers)? {
+    match cache.resized_plan(maxes).vector(alloc, number, kind, workers)? {
         Some(vector) if is_lifetime => Ok(Bound::Lifetime(vector)),
         Some(vector) => Ok(Bound::Standing(vector)),
-        None => Err(Halt::Obstacle(Obstacle::Pool(number))),
+        None => Err(AttemptError::Obstacle(Obstacle::Pool(number))),
     }
 }
 

@@ -8,8 +8,8 @@ ghost use Rattle.size_search.specs.Reaching.{Has};
 ghost use Rattle.size_search.specs.Causes.{IsCause};
 
 use crate::cause::Cause;
-use crate::reached::Reached;
-use crate::submitted::submitted_for_ever;
+use crate::submitted_classes::SubmittedClasses;
+use crate::submitted::submitted_by_repeating_clients;
 use job_bodies::{Action, Plan, has_get_of};
 use std::alloc::{AllocError, Global};
 
@@ -29,8 +29,8 @@ pub fn cause_of(alloc: Global, plan: &Plan) -> Result<Option<Cause>, AllocError>
     if let Some(cause) = never_got_by_clients(plan) {
         return Ok(Some(cause));
     }
-    let reached = submitted_for_ever(alloc, plan)?;
-    Ok(never_got_by_jobs(plan, &reached))
+    let submitted_classes = submitted_by_repeating_clients(alloc, plan)?;
+    Ok(never_got_by_jobs(plan, &submitted_classes))
 }
 
 /// Returns the first class that submits itself, directly or through other classes.
@@ -54,10 +54,10 @@ fn submits_itself(alloc: Global, plan: &Plan, number: usize) -> Result<bool, All
         (λ yes. (yes ≡ true) ↔ IsSubmitted plan.now ((class_at plan.now number).body ∷ []) number) }
 {
     let class = &plan.classes()[number];
-    let mut reached = Reached::nothing(alloc, plan)?;
-    reached.add_body(&class.body)?;
-    reached.add_all(plan)?;
-    Ok(reached.has(number))
+    let mut submitted_classes = SubmittedClasses::empty(alloc, plan)?;
+    submitted_classes.add_body(&class.body)?;
+    submitted_classes.add_all(plan)?;
+    Ok(submitted_classes.has(number))
 }
 
 /// Returns the first submit of repeating clients that they never get.
@@ -77,14 +77,14 @@ fn never_got_by_clients(plan: &Plan) -> Option<Cause>
 }
 
 /// Returns the first submit that jobs of the reached classes never get.
-fn never_got_by_jobs(plan: &Plan, reached: &Reached) -> Option<Cause>
-    requires { (k : ℕ) → Has reached.now k ↔ IsSubmitted plan.now (repeated_bodies plan.now) k }
+fn never_got_by_jobs(plan: &Plan, submitted_classes: &SubmittedClasses) -> Option<Cause>
+    requires { (k : ℕ) → Has submitted_classes.now k ↔ IsSubmitted plan.now (repeated_bodies plan.now) k }
     ensures cause { IfSome result (IsCause plan.now) }
     ensures none { IfNone result ((k i : ℕ) → ¬ NeverGotByJobs plan.now k i) }
 {
     for number in 0..plan.classes().len() {
         let class = &plan.classes()[number];
-        if reached.has(number) {
+        if submitted_classes.has(number) {
             if let Some(action) = submit_without_get(&class.body) {
                 return Some(Cause::ClassNeverGets(number, action));
             }

@@ -1,10 +1,10 @@
 //! The certificate of pools that all have ranks.
 
 use crate::bounds::bound_of;
-use crate::found::{Halt, Obstacle};
+use crate::found::{AttemptError, Obstacle};
 use crate::pool_threads::maxes_of;
-use crate::remembered::{Look, Remembered};
-use crate::rounds::Placing;
+use crate::vector_cache::{CacheHit, VectorCache};
+use crate::rounds::RankAssignment;
 use cert_text::{Cert, PoolCert};
 use least_vectors::{Kind, reach};
 use std::alloc::{AllocError, Global};
@@ -14,13 +14,13 @@ use weights::{Ranks, Vector};
 /// and can be smaller than those of the placing.
 pub(crate) fn cert_of(
     alloc: Global,
-    known: &mut Remembered,
-    placing: &Placing,
-) -> Result<Cert, Halt> {
-    let ranks = placing.ranks_or(alloc, 0)?;
-    let reach = reach(alloc, known.plan, known.levels, &ranks)?;
-    let pools = pool_certs(alloc, known, placing, &reach)?;
-    let levels = Vec::from_slice(alloc, &known.levels.of_classes)?;
+    cache: &mut VectorCache,
+    assignment: &RankAssignment,
+) -> Result<Cert, AttemptError> {
+    let ranks = assignment.ranks_or(alloc, 0)?;
+    let reach = reach(alloc, cache.plan, cache.levels, &ranks)?;
+    let pools = pool_certs(alloc, cache, assignment, &reach)?;
+    let levels = Vec::from_slice(alloc, &cache.levels.of_classes)?;
     Ok(Cert {
         pools,
         ranks: Ranks {
@@ -34,21 +34,21 @@ pub(crate) fn cert_of(
 /// Returns the bound and the blocked vector of each pool.
 fn pool_certs(
     alloc: Global,
-    known: &mut Remembered,
-    placing: &Placing,
+    cache: &mut VectorCache,
+    assignment: &RankAssignment,
     reach: &[u64],
-) -> Result<Vec<PoolCert>, Halt> {
-    let maxes = maxes_of(alloc, &placing.threads)?;
-    let mut pools = Vec::with_capacity(alloc, known.plan.pools().len())?;
-    for (number, pool) in known.plan.pools().iter().enumerate() {
-        let (Some(pool_threads), Some(Some((rank, look)))) = (
-            placing.threads.get(number),
-            placing.placed.get(number),
+) -> Result<Vec<PoolCert>, AttemptError> {
+    let maxes = maxes_of(alloc, &assignment.threads)?;
+    let mut pools = Vec::with_capacity(alloc, cache.plan.pools().len())?;
+    for (number, pool) in cache.plan.pools().iter().enumerate() {
+        let (Some(pool_threads), Some(Some((rank, hit)))) = (
+            assignment.threads.get(number),
+            assignment.assigned.get(number),
         ) else {
-            return Err(Halt::Obstacle(Obstacle::Unknown));
+            return Err(AttemptError::Obstacle(Obstacle::Unknown));
         };
-        let blocked = blocked_of(alloc, known, *look, &maxes, *rank, reach)?;
-        let bound = bound_of(alloc, known, number, pool, *pool_threads, &maxes)?;
+        let blocked = blocked_of(alloc, cache, *hit, &maxes, *rank, reach)?;
+        let bound = bound_of(alloc, cache, number, pool, *pool_threads, &maxes)?;
         let cert = PoolCert { bound, blocked };
         pools.push(cert).map_err(AllocError::from)?;
     }
@@ -60,22 +60,22 @@ fn pool_certs(
 /// rank then has at least this rank now.
 fn blocked_of(
     alloc: Global,
-    known: &Remembered,
-    look: Look,
+    cache: &VectorCache,
+    hit: CacheHit,
     maxes: &[u64],
     rank: u64,
     reach: &[u64],
-) -> Result<Vector, Halt> {
+) -> Result<Vector, AttemptError> {
     let kind = Kind::Blocked {
         reach,
         rank,
         lending: true,
     };
-    let vector = match known.workers_at(look) {
-        Some(workers) => known
-            .growing(maxes)
-            .vector(alloc, look.pool, kind, workers)?,
+    let vector = match cache.workers_at(hit) {
+        Some(workers) => cache
+            .resized_plan(maxes)
+            .vector(alloc, hit.pool, kind, workers)?,
         None => None,
     };
-    vector.ok_or(Halt::Obstacle(Obstacle::Pool(look.pool)))
+    vector.ok_or(AttemptError::Obstacle(Obstacle::Pool(hit.pool)))
 }

@@ -2,7 +2,7 @@
 
 ghost use Rattle.size_search.specs.Fitted.{FittedSizesAreLeast, AcceptedPlansFit, LargerSizesAreAccepted, SmallestFitIsLeast};
 ghost use Rattle.size_search.specs.Widened.{WidenedMaxesAreLeast};
-ghost use Rattle.size_search.specs.Unfit.{ToldCoresNeedLargerMaxes};
+ghost use Rattle.size_search.specs.Unfit.{ReportedCoresNeedLargerMaxes};
 
 /// States that the certificate accepts the fitted plan, which differs from its plan only in larger
 /// cores and queues, that no other such plan that it accepts has a smaller core or queue, and that
@@ -38,6 +38,6 @@ pub fn widened_maxes_are_least()
 /// States that, if a plan is not fitted because of the core of a pool, that pool has a larger
 /// maximum in all sizes with which the certificate accepts the plan, and whose maximums are no
 /// smaller than the plan's.
-pub fn told_cores_need_larger_maxes()
-    ensures { ToldCoresNeedLargerMaxes }
+pub fn reported_cores_need_larger_maxes()
+    ensures { ReportedCoresNeedLargerMaxes }
 {}

@@ -52,19 +52,19 @@ impl Obstacle {
 
 /// The reason why an attempt ended without a result.
 #[derive(Drop)]
-pub(crate) enum Halt {
+pub(crate) enum AttemptError {
     /// Memory ran out.
     Memory(AllocError),
     /// The attempt found no certificate.
     Obstacle(Obstacle),
 }
 
-impl From<AllocError> for Halt {
-    ghost use Rattle.size_search.specs.declared.found.Halt.TheVariants.{Memory};
+impl From<AllocError> for AttemptError {
+    ghost use Rattle.size_search.specs.declared.found.AttemptError.TheVariants.{Memory};
 
     ghost from_gives = { λ error halt. halt ≡ Memory error };
 
-    fn from(error: AllocError) -> Halt {
-        Halt::Memory(error)
+    fn from(error: AllocError) -> AttemptError {
+        AttemptError::Memory(error)
     }
 }

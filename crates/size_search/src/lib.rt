@@ -15,16 +15,16 @@ mod existence_laws;
 mod fit;
 mod fitted_laws;
 mod found;
-mod lasting;
+mod stabilize;
 mod levels;
 mod pool_threads;
-mod reached;
-mod remembered;
+mod submitted_classes;
+mod vector_cache;
 mod rounds;
 mod rows;
 mod search;
-mod settled;
-mod steadily;
+mod least_sizes;
+mod fit_steady;
 mod steady_laws;
 mod submitted;
 mod unfit;
@@ -37,7 +37,7 @@ pub use existence_laws::{no_sizes_help, sizes_exist};
 pub use fit::{fitted, smallest};
 pub use fitted_laws::{
     accepted_plans_fit, fitted_sizes_are_least, larger_sizes_are_accepted, smallest_fit_is_least,
-    told_cores_need_larger_maxes, widened_maxes_are_least,
+    reported_cores_need_larger_maxes, widened_maxes_are_least,
 };
 pub use found::{NoSizes, SizesFound};
 pub use search::search_sizes;

@@ -20,7 +20,7 @@ impl PoolThreads {
     }
 
     /// Returns the sum of the increases of core and maximum that this core needs.
-    pub(crate) fn lack(self, core: u64) -> u64 {
+    pub(crate) fn shortfall(self, core: u64) -> u64 {
         let max = core.saturating_sub(self.max);
         core.saturating_sub(self.core).saturating_add(max)
     }

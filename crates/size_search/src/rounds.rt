@@ -1,19 +1,19 @@
 //! The rounds in which pools get their ranks while their cores grow.
 
-use crate::found::{Halt, Obstacle};
+use crate::found::{AttemptError, Obstacle};
 use crate::pool_threads::{PoolThreads, maxes_of};
-use crate::remembered::{Look, Remembered};
+use crate::vector_cache::{CacheHit, VectorCache};
 use job_bodies::MAX_SIZE;
 use least_vectors::{Kind, reach};
 use std::alloc::{AllocError, Global};
 
 /// The pools, and the ranks that they have so far.
 #[derive(Drop)]
-pub(crate) struct Placing {
+pub(crate) struct RankAssignment {
     /// The current core and maximum of each pool.
     pub(crate) threads: Vec<PoolThreads>,
     /// The rank and the blocked vector of each pool that has them.
-    pub(crate) placed: Vec<Option<(u64, Look)>>,
+    pub(crate) assigned: Vec<Option<(u64, CacheHit)>>,
     /// Whether a maximum has grown.
     pub(crate) has_widened: bool,
     /// The largest number of pools to choose from in a round in which no pool had a large enough
@@ -21,13 +21,13 @@ pub(crate) struct Placing {
     pub(crate) choices: usize,
 }
 
-impl Placing {
+impl RankAssignment {
     /// Creates a placing without ranks.
-    fn at(alloc: Global, threads: Vec<PoolThreads>) -> Result<Placing, AllocError> {
-        let placed = vec![in alloc; None; threads.len()]?;
-        Ok(Placing {
+    fn new(alloc: Global, threads: Vec<PoolThreads>) -> Result<RankAssignment, AllocError> {
+        let assigned = vec![in alloc; None; threads.len()]?;
+        Ok(RankAssignment {
             threads,
-            placed,
+            assigned,
             has_widened: false,
             choices: 0,
         })
@@ -35,45 +35,45 @@ impl Placing {
 
     /// Returns the rank of each pool, and `rank` for a pool that has none yet.
     pub(crate) fn ranks_or(&self, alloc: Global, rank: u64) -> Result<Vec<u64>, AllocError> {
-        self.placed
+        self.assigned
             .iter()
-            .map(|placed| placed.map_or(rank, |placed| placed.0))
+            .map(|assigned| assigned.map_or(rank, |assigned| assigned.0))
             .collect(alloc)
     }
 
     /// Returns the lightest blocked vector in this round of each pool without a rank.
-    fn looks(
+    fn lightest_vectors(
         &self,
         alloc: Global,
-        known: &mut Remembered,
+        cache: &mut VectorCache,
         rank: u64,
         lending: bool,
-    ) -> Result<Vec<Look>, Halt> {
+    ) -> Result<Vec<CacheHit>, AttemptError> {
         let maxes = maxes_of(alloc, &self.threads)?;
         let ranks = self.ranks_or(alloc, rank)?;
-        let reach = reach(alloc, known.plan, known.levels, &ranks)?;
+        let reach = reach(alloc, cache.plan, cache.levels, &ranks)?;
         let kind = Kind::Blocked {
             reach: &reach,
             rank,
             lending,
         };
-        let mut looks = Vec::new(alloc);
-        for (pool, (pool_threads, placed)) in self.threads.iter().zip(&self.placed).enumerate() {
-            if placed.is_none() {
+        let mut hits = Vec::new(alloc);
+        for (pool, (pool_threads, assigned)) in self.threads.iter().zip(&self.assigned).enumerate() {
+            if assigned.is_none() {
                 let enough = pool_threads.core.saturating_sub(1);
-                let look = known.lightest(alloc, pool, kind, &maxes, enough)?;
-                looks.push(look).map_err(AllocError::from)?;
+                let hit = cache.lightest(alloc, pool, kind, &maxes, enough)?;
+                hits.push(hit).map_err(AllocError::from)?;
             }
         }
-        Ok(looks)
+        Ok(hits)
     }
 
     /// Gives the rank to each pool whose core is large enough. Returns `false` if there is none.
-    fn place_all(&mut self, looks: &[Look], rank: u64) -> bool {
+    fn assign_all(&mut self, hits: &[CacheHit], rank: u64) -> bool {
         let mut any = false;
-        for look in looks {
-            if self.lack(look) == 0 {
-                self.place(*look, rank);
+        for hit in hits {
+            if self.shortfall(hit) == 0 {
+                self.assign(*hit, rank);
                 any = true;
             }
         }
@@ -82,70 +82,70 @@ impl Placing {
 
     /// Gives the rank to the `choice`-th pool, ordered by shortfall, and raises its core to what it
     /// needs.
-    fn place_one(&mut self, looks: &[Look], rank: u64, choice: usize) -> Result<(), Halt> {
-        let Some(look) = self.choice_of(looks, choice) else {
-            return Err(Halt::Obstacle(Obstacle::Unknown));
+    fn assign_one(&mut self, hits: &[CacheHit], rank: u64, choice: usize) -> Result<(), AttemptError> {
+        let Some(hit) = self.choice_of(hits, choice) else {
+            return Err(AttemptError::Obstacle(Obstacle::Unknown));
         };
-        let core = core_for(&look);
-        if let Some(pool_threads) = self.threads.get_mut(look.pool) {
+        let core = core_for(&hit);
+        if let Some(pool_threads) = self.threads.get_mut(hit.pool) {
             self.has_widened = self.has_widened || core > pool_threads.max;
             *pool_threads = pool_threads.raised(core);
         }
-        self.place(look, rank);
+        self.assign(hit, rank);
         Ok(())
     }
 
     /// Returns why no pool can get the core that it needs.
-    fn obstacle_of(&self, looks: &[Look]) -> Obstacle {
-        match self.choice_of(looks, 0) {
-            Some(look) => Obstacle::Pool(look.pool),
+    fn obstacle_of(&self, hits: &[CacheHit]) -> Obstacle {
+        match self.choice_of(hits, 0) {
+            Some(hit) => Obstacle::Pool(hit.pool),
             None => Obstacle::Unknown,
         }
     }
 
     /// Returns the `choice`-th pool, ordered by shortfall.
-    fn choice_of(&self, looks: &[Look], choice: usize) -> Option<Look> {
-        for look in looks {
-            let lack = self.lack(look);
-            let before = looks
+    fn choice_of(&self, hits: &[CacheHit], choice: usize) -> Option<CacheHit> {
+        for hit in hits {
+            let shortfall = self.shortfall(hit);
+            let before = hits
                 .iter()
                 .filter(|other| {
-                    let less = self.lack(other);
-                    less < lack || (less == lack && other.pool < look.pool)
+                    let less = self.shortfall(other);
+                    less < shortfall || (less == shortfall && other.pool < hit.pool)
                 })
                 .count();
             if before == choice {
-                return Some(*look);
+                return Some(*hit);
             }
         }
         None
     }
 
-    fn place(&mut self, look: Look, rank: u64) {
-        if let Some(placed) = self.placed.get_mut(look.pool) {
-            *placed = Some((rank, look));
+    fn assign(&mut self, hit: CacheHit, rank: u64) {
+        if let Some(assigned) = self.assigned.get_mut(hit.pool) {
+            *assigned = Some((rank, hit));
         }
     }
 
     /// Returns the pool's shortfall of core and maximum together.
-    fn lack(&self, look: &Look) -> u64 {
-        match self.threads.get(look.pool) {
-            Some(pool_threads) => pool_threads.lack(core_for(look)),
+    fn shortfall(&self, hit: &CacheHit) -> u64 {
+        match self.threads.get(hit.pool) {
+            Some(pool_threads) => pool_threads.shortfall(core_for(hit)),
             None => u64::MAX,
         }
     }
 }
 
 /// Returns the core that leaves one thread that is not blocked.
-fn core_for(look: &Look) -> u64 {
-    look.total.saturating_add(1)
+fn core_for(hit: &CacheHit) -> u64 {
+    hit.total.saturating_add(1)
 }
 
 /// Returns the looks whose core is within the limit.
-fn within_limit(alloc: Global, looks: &[Look]) -> Result<Vec<Look>, AllocError> {
-    looks
+fn within_limit(alloc: Global, hits: &[CacheHit]) -> Result<Vec<CacheHit>, AllocError> {
+    hits
         .iter()
-        .filter(|look| core_for(look) <= MAX_SIZE)
+        .filter(|hit| core_for(hit) <= MAX_SIZE)
         .copied()
         .collect(alloc)
 }
@@ -154,49 +154,49 @@ fn within_limit(alloc: Global, looks: &[Look]) -> Result<Vec<Look>, AllocError> 
 /// round, the rank goes to all pools whose core is large enough. If there are none, it goes to the
 /// pool with the smallest shortfall, whose core is raised. The first time that happens, it skips
 /// the `passed_over` pools with the smallest shortfall.
-pub(crate) fn ranked(
+pub(crate) fn assign_ranks(
     alloc: Global,
-    known: &mut Remembered,
+    cache: &mut VectorCache,
     threads: Vec<PoolThreads>,
     lending: bool,
     passed_over: usize,
-) -> Result<Placing, Halt> {
-    let mut placing = Placing::at(alloc, threads)?;
-    for rank in 0..known.plan.pools().len() as u64 {
-        let looks = placing.looks(alloc, known, rank, lending)?;
-        if looks.is_empty() {
+) -> Result<RankAssignment, AttemptError> {
+    let mut assignment = RankAssignment::new(alloc, threads)?;
+    for rank in 0..cache.plan.pools().len() as u64 {
+        let hits = assignment.lightest_vectors(alloc, cache, rank, lending)?;
+        if hits.is_empty() {
             break;
         }
-        if !placing.place_all(&looks, rank) {
-            let choices = within_limit(alloc, &looks)?;
+        if !assignment.assign_all(&hits, rank) {
+            let choices = within_limit(alloc, &hits)?;
             if choices.is_empty() {
-                return Err(Halt::Obstacle(placing.obstacle_of(&looks)));
+                return Err(AttemptError::Obstacle(assignment.obstacle_of(&hits)));
             }
-            let choice = if placing.choices == 0 { passed_over } else { 0 };
-            placing.choices = placing.choices.max(choices.len());
-            placing.place_one(&choices, rank, choice)?;
+            let choice = if assignment.choices == 0 { passed_over } else { 0 };
+            assignment.choices = assignment.choices.max(choices.len());
+            assignment.assign_one(&choices, rank, choice)?;
         }
     }
-    Ok(placing)
+    Ok(assignment)
 }
 
 /// Repeats the rounds while maximums grow, because workers with a weight then weigh more in total.
 /// In the last turn no worker gets a weight, so that the loop ends.
-pub(crate) fn ranked_at_last(
+pub(crate) fn assign_ranks_to_fixpoint(
     alloc: Global,
-    known: &mut Remembered,
+    cache: &mut VectorCache,
     threads: Vec<PoolThreads>,
     passed_over: usize,
-) -> Result<Placing, Halt> {
-    let turns = known.plan.pools().len().saturating_mul(2).saturating_add(4);
-    let mut placing = ranked(alloc, known, threads, true, passed_over)?;
-    let choices = placing.choices;
+) -> Result<RankAssignment, AttemptError> {
+    let turns = cache.plan.pools().len().saturating_mul(2).saturating_add(4);
+    let mut assignment = assign_ranks(alloc, cache, threads, true, passed_over)?;
+    let choices = assignment.choices;
     for turn in 0..=turns {
-        if !placing.has_widened {
+        if !assignment.has_widened {
             break;
         }
-        placing = ranked(alloc, known, placing.threads, turn < turns, 0)?;
+        assignment = assign_ranks(alloc, cache, assignment.threads, turn < turns, 0)?;
     }
-    placing.choices = choices;
-    Ok(placing)
+    assignment.choices = choices;
+    Ok(assignment)
 }

@@ -5,7 +5,7 @@ ghost use Rattle.std.specs.Bool.{OnTrue, OnFalse};
 ghost use Rattle.job_bodies.specs.Plan.{class_at};
 ghost use Rattle.weights.specs.Vector.{has_small_numbers, is_small};
 ghost use Rattle.size_search.specs.Small.{JobsAreSmall};
-ghost use Rattle.size_search.specs.Settled.{IsSettled};
+ghost use Rattle.size_search.specs.ComputedRows.{IsComputedUpTo};
 ghost use Rattle.size_search.specs.Submitted.{NoCircle};
 ghost use Rattle.size_search.specs.Steady as spec;
 
@@ -25,7 +25,7 @@ fn put_row(jobs: &mut Vector, number: usize, row: Vec<u64>)
 
 /// Sets the row of the class of this number, which has this level. Returns `false`, and sets no
 /// row, if a number in it is above the limit.
-fn settle_class(
+fn set_class_row(
     alloc: Global,
     plan: &Plan,
     jobs: &mut Vector,
@@ -35,9 +35,9 @@ fn settle_class(
     requires free { NoCircle plan.now }
     requires number { number < length plan.now.classes }
     requires level { slice_index (spec.steady_levels plan.now) number ≡ level }
-    requires settled { IsSettled plan.now jobs.old level number }
-    ensures settled { IfOk result
-        (λ small. OnTrue small (IsSettled plan.now jobs.new level (number + 1))) }
+    requires computed { IsComputedUpTo plan.now jobs.old level number }
+    ensures computed { IfOk result
+        (λ small. OnTrue small (IsComputedUpTo plan.now jobs.new level (number + 1))) }
     ensures heavy { IfOk result
         (λ small. OnFalse small (has_small_numbers (spec.steady_vector plan.now) ≡ false)) }
 {
@@ -51,7 +51,7 @@ fn settle_class(
 }
 
 /// Sets the row of the class, if it has this level.
-fn settle(
+fn set_row_of_level(
     alloc: Global,
     plan: &Plan,
     levels: &[u64],
@@ -62,22 +62,22 @@ fn settle(
     requires free { NoCircle plan.now }
     requires levels { levels.now ≡ spec.steady_levels plan.now }
     requires number { number < length plan.now.classes }
-    requires settled { IsSettled plan.now jobs.old level number }
-    ensures settled { IfOk result
-        (λ small. OnTrue small (IsSettled plan.now jobs.new level (number + 1))) }
+    requires computed { IsComputedUpTo plan.now jobs.old level number }
+    ensures computed { IfOk result
+        (λ small. OnTrue small (IsComputedUpTo plan.now jobs.new level (number + 1))) }
     ensures heavy { IfOk result
         (λ small. OnFalse small (has_small_numbers (spec.steady_vector plan.now) ≡ false)) }
 {
     let own_level = number_at(levels, number);
     if own_level == level {
-        settle_class(alloc, plan, jobs, level, number)
+        set_class_row(alloc, plan, jobs, level, number)
     } else {
         Ok(true)
     }
 }
 
 /// Sets the rows of the classes of this level. Returns `false` if a number is above the limit.
-fn settle_level(
+fn set_level_rows(
     alloc: Global,
     plan: &Plan,
     levels: &[u64],
@@ -86,14 +86,14 @@ fn settle_level(
 ) -> Result<bool, AllocError>
     requires free { NoCircle plan.now }
     requires levels { levels.now ≡ spec.steady_levels plan.now }
-    requires settled { IsSettled plan.now jobs.old level 0 }
-    ensures settled { IfOk result
-        (λ small. OnTrue small (IsSettled plan.now jobs.new (level + 1) 0)) }
+    requires computed { IsComputedUpTo plan.now jobs.old level 0 }
+    ensures computed { IfOk result
+        (λ small. OnTrue small (IsComputedUpTo plan.now jobs.new (level + 1) 0)) }
     ensures heavy { IfOk result
         (λ small. OnFalse small (has_small_numbers (spec.steady_vector plan.now) ≡ false)) }
 {
     for number in 0..plan.classes().len() {
-        let is_small = settle(alloc, plan, levels, jobs, level, number)?;
+        let is_small = set_row_of_level(alloc, plan, levels, jobs, level, number)?;
         if !is_small {
             return Ok(false);
         }
@@ -103,7 +103,7 @@ fn settle_level(
 
 /// Creates a vector with an empty row for each class.
 fn no_jobs(alloc: Global, plan: &Plan) -> Result<Vector, AllocError>
-    ensures { IfOk result (λ jobs. IsSettled plan.now jobs 0 0) }
+    ensures { IfOk result (λ jobs. IsComputedUpTo plan.now jobs 0 0) }
 {
     let mut classes = Vec::with_capacity(alloc, plan.classes().len())?;
     for _class in plan.classes() {
@@ -125,14 +125,14 @@ pub(crate) fn jobs_of(
 ) -> Result<Option<Vector>, AllocError>
     requires free { NoCircle plan.now }
     requires levels { levels.now ≡ spec.steady_levels plan.now }
-    ensures settled { IfOk result
-        (λ found. IfSome found (λ jobs. IsSettled plan.now jobs (length plan.now.classes) 0)) }
+    ensures computed { IfOk result
+        (λ found. IfSome found (λ jobs. IsComputedUpTo plan.now jobs (length plan.now.classes) 0)) }
     ensures heavy { IfOk result
         (λ found. IfNone found (has_small_numbers (spec.steady_vector plan.now) ≡ false)) }
 {
     let mut jobs = no_jobs(alloc, plan)?;
     for level in 0..plan.classes().len() {
-        let is_small = settle_level(alloc, plan, levels, &mut jobs, level as u64)?;
+        let is_small = set_level_rows(alloc, plan, levels, &mut jobs, level as u64)?;
         if !is_small {
             return Ok(None);
         }

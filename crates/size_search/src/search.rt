@@ -8,14 +8,14 @@ ghost use Rattle.size_search.specs.Sized.{IsSized, IsFound};
 ghost use Rattle.size_search.specs.Decided.{IsDecided};
 ghost use Rattle.size_search.specs.declared.found.SizesFound.TheVariants.{Found};
 
-use crate::attempt::{Attempt, tried};
+use crate::attempt::{Attempt, attempt_from};
 use crate::cause_of;
-use crate::found::{Halt, NoSizes, Obstacle, SizesFound};
-use crate::lasting::lasting;
+use crate::found::{AttemptError, NoSizes, Obstacle, SizesFound};
+use crate::stabilize::stabilize;
 use crate::pool_threads::{PoolThreads, declared_threads};
-use crate::remembered::Remembered;
-use crate::settled::settled;
-use crate::steadily::steadily;
+use crate::vector_cache::VectorCache;
+use crate::least_sizes::least_sizes;
+use crate::fit_steady::fit_steady;
 use cert_check::accepts;
 use cert_text::Cert;
 use job_bodies::{MAX_POOLS, Plan};
@@ -71,67 +71,67 @@ pub fn search_sizes(
             return Ok(SizesFound::Found { plan, cert });
         }
     }
-    searched(alloc, plan)
+    search_without_first(alloc, plan)
 }
 
 /// Searches for sizes when no certificate is at hand.
-fn searched(alloc: Global, plan: &Plan) -> Result<SizesFound, AllocError>
+fn search_without_first(alloc: Global, plan: &Plan) -> Result<SizesFound, AllocError>
     ensures found { IfOk result (IsFound plan.now) }
     ensures decided { IfOk result (IsDecided plan.now) }
 {
     if let Some(cause) = cause_of(alloc, plan)? {
         return Ok(SizesFound::NotFound(NoSizes::Cause(cause)));
     }
-    let found = without_cause(alloc, plan)?;
+    let found = sizes_without_cause(alloc, plan)?;
     Ok(found)
 }
 
 /// Searches for sizes of a plan that has no cause against all sizes.
-fn without_cause(alloc: Global, plan: &Plan) -> Result<SizesFound, AllocError>
+fn sizes_without_cause(alloc: Global, plan: &Plan) -> Result<SizesFound, AllocError>
     requires free { IsWithoutCause plan.now }
     requires well_formed { IsWellFormed plan.now }
     ensures { IfOk result (IsFound plan.now) }
 {
-    match by_rounds(alloc, plan)? {
-        Ok((fit, cert)) => lasting(alloc, plan, fit, cert),
-        Err(obstacle) => steadily(alloc, plan, obstacle),
+    match sizes_by_rounds(alloc, plan)? {
+        Ok((fit, cert)) => stabilize(alloc, plan, fit, cert),
+        Err(obstacle) => fit_steady(alloc, plan, obstacle),
     }
 }
 
 /// Returns the plan with the sizes that the rounds found, and their certificate.
-fn by_rounds(alloc: Global, plan: &Plan) -> Result<Result<(Plan, Cert), Obstacle>, AllocError>
+fn sizes_by_rounds(alloc: Global, plan: &Plan) -> Result<Result<(Plan, Cert), Obstacle>, AllocError>
     ensures { IfOk result (λ answer. IfOk answer (λ found. IsSized plan.now found.1 found.0)) }
 {
-    let cert = match looked_for(alloc, plan)? {
+    let cert = match unchecked_certificate(alloc, plan)? {
         Ok(cert) => cert,
         Err(obstacle) => return Ok(Err(obstacle)),
     };
-    match settled(alloc, plan, &cert)? {
+    match least_sizes(alloc, plan, &cert)? {
         Ok(fit) => Ok(Ok((fit, cert))),
         Err(obstacle) => Ok(Err(obstacle)),
     }
 }
 
 /// Returns a certificate that other sizes make acceptable. It has not been checked.
-pub(crate) fn looked_for(alloc: Global, plan: &Plan) -> Result<Result<Cert, Obstacle>, AllocError> {
+pub(crate) fn unchecked_certificate(alloc: Global, plan: &Plan) -> Result<Result<Cert, Obstacle>, AllocError> {
     let Some(levels) = Levels::of(alloc, plan)? else {
         return Ok(Err(Obstacle::Unknown));
     };
-    let mut known = Remembered::of(alloc, plan, &levels)?;
-    Ok(match cheapest(alloc, &mut known)? {
+    let mut cache = VectorCache::of(alloc, plan, &levels)?;
+    Ok(match cheapest_attempt(alloc, &mut cache)? {
         Ok(best) => Ok(best.cert),
         Err(obstacle) => Err(obstacle),
     })
 }
 
 /// Returns the cheapest attempt.
-fn cheapest(
+fn cheapest_attempt(
     alloc: Global,
-    known: &mut Remembered,
+    cache: &mut VectorCache,
 ) -> Result<Result<Attempt, Obstacle>, AllocError> {
-    let declared = declared_threads(alloc, known.plan)?;
-    match best_from_declared(alloc, known, &declared)? {
-        Ok(best) => Ok(Ok(lowered(alloc, known, &declared, best)?)),
+    let declared = declared_threads(alloc, cache.plan)?;
+    match best_from_declared(alloc, cache, &declared)? {
+        Ok(best) => Ok(Ok(improved_attempt(alloc, cache, &declared, best)?)),
         Err(obstacle) => Ok(Err(obstacle)),
     }
 }
@@ -139,33 +139,33 @@ fn cheapest(
 /// Returns the best attempt that starts with the plan's own sizes.
 fn best_from_declared(
     alloc: Global,
-    known: &mut Remembered,
+    cache: &mut VectorCache,
     declared: &[PoolThreads],
 ) -> Result<Result<Attempt, Obstacle>, AllocError> {
-    let mut best = attempt(alloc, known, declared, 0)?;
+    let mut best = attempt(alloc, cache, declared, 0)?;
     let choices = match &best {
         Ok(first) => first.choices,
         Err(_) => MAX_POOLS,
     };
     for passed_over in 1..choices.min(1 + FURTHER_ATTEMPTS) {
-        let next = attempt(alloc, known, declared, passed_over)?;
-        best = better(best, next);
+        let next = attempt(alloc, cache, declared, passed_over)?;
+        best = better_attempt(best, next);
     }
     Ok(best)
 }
 
 /// Returns the best attempt, or a cheaper one. Each of the pools that were raised most is reset to
 /// the plan's sizes, and another attempt starts from there.
-fn lowered(
+fn improved_attempt(
     alloc: Global,
-    known: &mut Remembered,
+    cache: &mut VectorCache,
     declared: &[PoolThreads],
     mut best: Attempt,
 ) -> Result<Attempt, AllocError> {
-    for pool in most_raised(alloc, &best, declared)? {
-        let threads = put_back(alloc, &best, declared, pool)?;
-        let next = outcome(tried(alloc, known, threads, 0))?;
-        best = cheaper(best, next);
+    for pool in most_raised_pools(alloc, &best, declared)? {
+        let threads = reset_pool(alloc, &best, declared, pool)?;
+        let next = outcome(attempt_from(alloc, cache, threads, 0))?;
+        best = cheaper_attempt(best, next);
     }
     Ok(best)
 }
@@ -173,28 +173,28 @@ fn lowered(
 /// Makes an attempt that starts with these sizes.
 fn attempt(
     alloc: Global,
-    known: &mut Remembered,
+    cache: &mut VectorCache,
     threads: &[PoolThreads],
     passed_over: usize,
 ) -> Result<Result<Attempt, Obstacle>, AllocError> {
     let threads = Vec::from_slice(alloc, threads)?;
-    outcome(tried(alloc, known, threads, passed_over))
+    outcome(attempt_from(alloc, cache, threads, passed_over))
 }
 
 /// Returns the better of two attempts, or the first obstacle if both failed.
-fn better(
+fn better_attempt(
     first: Result<Attempt, Obstacle>,
     second: Result<Attempt, Obstacle>,
 ) -> Result<Attempt, Obstacle> {
     match (first, second) {
-        (Ok(first), second) => Ok(cheaper(first, second)),
+        (Ok(first), second) => Ok(cheaper_attempt(first, second)),
         (Err(_), Ok(second)) => Ok(second),
         (Err(obstacle), Err(_)) => Err(obstacle),
     }
 }
 
 /// Returns the first attempt, unless the second one is cheaper.
-fn cheaper(first: Attempt, second: Result<Attempt, Obstacle>) -> Attempt {
+fn cheaper_attempt(first: Attempt, second: Result<Attempt, Obstacle>) -> Attempt {
     if let Ok(second) = second {
         if second.cost < first.cost {
             return second;
@@ -204,17 +204,17 @@ fn cheaper(first: Attempt, second: Result<Attempt, Obstacle>) -> Attempt {
 }
 
 /// Separates running out of memory from the obstacle of an attempt.
-fn outcome(tried: Result<Attempt, Halt>) -> Result<Result<Attempt, Obstacle>, AllocError> {
-    match tried {
+fn outcome(attempt: Result<Attempt, AttemptError>) -> Result<Result<Attempt, Obstacle>, AllocError> {
+    match attempt {
         Ok(attempt) => Ok(Ok(attempt)),
-        Err(Halt::Obstacle(obstacle)) => Ok(Err(obstacle)),
-        Err(Halt::Memory(error)) => Err(error),
+        Err(AttemptError::Obstacle(obstacle)) => Ok(Err(obstacle)),
+        Err(AttemptError::Memory(error)) => Err(error),
     }
 }
 
 /// Returns the pools whose core and maximum have grown most: at most three, or all if the plan has
 /// few pools.
-fn most_raised(
+fn most_raised_pools(
     alloc: Global,
     best: &Attempt,
     declared: &[PoolThreads],
@@ -243,7 +243,7 @@ fn most_raised(
 }
 
 /// Returns the threads that the attempt needs, with this pool reset to its declared ones.
-fn put_back(
+fn reset_pool(
     alloc: Global,
     best: &Attempt,
     declared: &[PoolThreads],

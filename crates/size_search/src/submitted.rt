@@ -7,7 +7,7 @@ ghost use Rattle.size_search.specs.Submitted.{IsSubmitted, repeated_bodies};
 ghost use Rattle.size_search.specs.ByClients.{MarksSubmitted, client_bodies};
 ghost use Rattle.size_search.specs.Reaching.{Has, Covers, IsReaching};
 
-use crate::reached::Reached;
+use crate::submitted_classes::SubmittedClasses;
 use job_bodies::Plan;
 use std::alloc::{AllocError, Global};
 
@@ -19,47 +19,47 @@ use std::alloc::{AllocError, Global};
 pub fn submitted_by_clients(alloc: Global, plan: &Plan) -> Result<Vec<bool>, AllocError>
     ensures { IfOk result (λ marks. MarksSubmitted plan.now marks.items) }
 {
-    let mut reached = classes_of_clients(alloc, plan)?;
-    reached.add_all(plan)?;
-    Ok(reached.into_marks())
+    let mut submitted_classes = classes_of_clients(alloc, plan)?;
+    submitted_classes.add_all(plan)?;
+    Ok(submitted_classes.into_marks())
 }
 
 /// Returns the classes that repeating clients submit, directly or through other jobs.
-pub(crate) fn submitted_for_ever(alloc: Global, plan: &Plan) -> Result<Reached, AllocError>
+pub(crate) fn submitted_by_repeating_clients(alloc: Global, plan: &Plan) -> Result<SubmittedClasses, AllocError>
     ensures { IfOk result
-        (λ reached. (k : ℕ) → Has reached k ↔ IsSubmitted plan.now (repeated_bodies plan.now) k) }
+        (λ submitted_classes. (k : ℕ) → Has submitted_classes k ↔ IsSubmitted plan.now (repeated_bodies plan.now) k) }
 {
-    let mut reached = classes_of_repeating_clients(alloc, plan)?;
-    reached.add_all(plan)?;
-    Ok(reached)
+    let mut submitted_classes = classes_of_repeating_clients(alloc, plan)?;
+    submitted_classes.add_all(plan)?;
+    Ok(submitted_classes)
 }
 
 /// Returns the classes that clients submit directly.
-fn classes_of_clients(alloc: Global, plan: &Plan) -> Result<Reached, AllocError>
+fn classes_of_clients(alloc: Global, plan: &Plan) -> Result<SubmittedClasses, AllocError>
     ensures reaching { IfOk result (IsReaching plan.now (client_bodies plan.now)) }
     ensures covers { IfOk result
-        (λ reached. (body : List Action) → In body (client_bodies plan.now) → Covers reached body) }
+        (λ submitted_classes. (body : List Action) → In body (client_bodies plan.now) → Covers submitted_classes body) }
 {
-    let mut reached = Reached::nothing(alloc, plan)?;
+    let mut submitted_classes = SubmittedClasses::empty(alloc, plan)?;
     for number in 0..plan.clients().len() {
         let client = &plan.clients()[number];
-        reached.add_body(&client.body)?;
+        submitted_classes.add_body(&client.body)?;
     }
-    Ok(reached)
+    Ok(submitted_classes)
 }
 
 /// Returns the classes that repeating clients submit directly.
-fn classes_of_repeating_clients(alloc: Global, plan: &Plan) -> Result<Reached, AllocError>
+fn classes_of_repeating_clients(alloc: Global, plan: &Plan) -> Result<SubmittedClasses, AllocError>
     ensures reaching { IfOk result (IsReaching plan.now (repeated_bodies plan.now)) }
-    ensures covers { IfOk result (λ reached.
-        (body : List Action) → In body (repeated_bodies plan.now) → Covers reached body) }
+    ensures covers { IfOk result (λ submitted_classes.
+        (body : List Action) → In body (repeated_bodies plan.now) → Covers submitted_classes body) }
 {
-    let mut reached = Reached::nothing(alloc, plan)?;
+    let mut submitted_classes = SubmittedClasses::empty(alloc, plan)?;
     for number in 0..plan.clients().len() {
         let client = &plan.clients()[number];
         if client.repeat {
-            reached.add_body(&client.body)?;
+            submitted_classes.add_body(&client.body)?;
         }
     }
-    Ok(reached)
+    Ok(submitted_classes)
 }

@@ -2,7 +2,7 @@
 #![tactic(auto)]
 
 use clap::error::ErrorKind;
-use sizing_cli::{ServeFault, StdFiles, StdSink, StdSource, WordsFault, serve_words};
+use sizing_cli::{ServeFault, StdFiles, StdSink, StdSource, CliError, serve_words};
 use std::alloc::AllocError;
 use std::process::ExitCode;
 use std::{env, io};
@@ -20,7 +20,7 @@ fn main(rt: HostRuntime) -> ExitCode {
     let mut parts: Vec<&str> = Vec::new(rt.alloc());
     for word in &words {
         if parts.push(word.as_str()).is_err() {
-            return ended(&rt, &WordsFault::from(AllocError));
+            return ended(&rt, &CliError::from(AllocError));
         }
     }
     let mut source = StdSource::new(rt.stdin());
@@ -44,7 +44,7 @@ fn words_of(rt: &HostRuntime) -> io::Result<Vec<String>> {
 /// Reports that the arguments could not be read, and returns the exit status.
 fn unread_words(rt: &impl Eprint, kind: io::ErrorKind) -> ExitCode {
     if kind == io::ErrorKind::OutOfMemory {
-        return ended(rt, &WordsFault::from(AllocError));
+        return ended(rt, &CliError::from(AllocError));
     }
     let _ = eprintln!(rt; "the words of the command line are to be UTF-8");
     ExitCode::from(USAGE)
@@ -52,30 +52,30 @@ fn unread_words(rt: &impl Eprint, kind: io::ErrorKind) -> ExitCode {
 
 /// Reports an error and returns its exit status. If standard error fails too, only the status
 /// reports it.
-fn ended(rt: &impl Eprint, fault: &WordsFault<'_>) -> ExitCode {
+fn ended(rt: &impl Eprint, fault: &CliError<'_>) -> ExitCode {
     let _ = tell(rt, fault);
     ExitCode::from(fault.code())
 }
 
-fn tell(rt: &impl Eprint, fault: &WordsFault<'_>) -> io::Result<()> {
+fn tell(rt: &impl Eprint, fault: &CliError<'_>) -> io::Result<()> {
     match fault {
-        WordsFault::Words(error) if error.kind() == ErrorKind::OutOfMemory => {
+        CliError::Words(error) if error.kind() == ErrorKind::OutOfMemory => {
             eprintln!(rt; "{}", ServeFault::from(AllocError))
         }
-        WordsFault::Words(error) => eprint!(rt; "{error}"),
-        WordsFault::NoCommand => eprintln!(rt; "no command"),
-        WordsFault::InputTwice => {
+        CliError::Words(error) => eprint!(rt; "{error}"),
+        CliError::NoCommand => eprintln!(rt; "no command"),
+        CliError::InputTwice => {
             eprintln!(rt;
                 "standard input has one of the two texts, not both: name a file for the other"
             )
         }
-        WordsFault::Occupied(name) => {
+        CliError::Occupied(name) => {
             eprintln!(rt;
                 "{name} is there and no certificate, so it stays as it is: name another file for --certificate"
             )
         }
-        WordsFault::Unwritten(name) => eprintln!(rt; "{} at {name}", FaultHead(WRITE_FAILED)),
-        WordsFault::Unread(name) => eprintln!(rt; "{} at {name}", FaultHead(READ_FAILED)),
-        WordsFault::Served(fault) => eprintln!(rt; "{fault}"),
+        CliError::Unwritten(name) => eprintln!(rt; "{} at {name}", FaultHead(WRITE_FAILED)),
+        CliError::Unread(name) => eprintln!(rt; "{} at {name}", FaultHead(READ_FAILED)),
+        CliError::Serve(fault) => eprintln!(rt; "{fault}"),
     }
 }

@@ -1,6 +1,6 @@
 -- The answer to event lines, one line at a time.
 use Rattle.std.proofs.Common.{◌≡◌, ℕ, ◌+◌, Bool, true, false, if◌then◌else◌, cond, List, [], ◌∷◌, ◌++◌, length, Option, Some, None, Result, Ok, Err, IfOk, refl, sym, ap, ap₂, ◌∙◌, append_assoc, arith}
-use Rattle.support.specs.Reading.{◌>>=◌}
+use Rattle.support.specs.RecordingCommand.{◌>>=◌}
 use Rattle.job_bodies.specs.Plan.{Plan}
 use Rattle.written_machine.specs.declared.event.Event.{Event}
 use Rattle.written_machine.specs.declared.event.Outcome.{Outcome}
@@ -15,9 +15,9 @@ use Rattle.event_lines.specs.EventLine.{Line, all_from}
 use Rattle.sizing_cli.specs.declared.status.Status.{Status}
 use Rattle.sizing_cli.specs.declared.status.Status.TheVariants.{Done, Refused, BadText, Undecided}
 use Rattle.sizing_cli.specs.Answer.{Answer, then_status, followed_by, bad_event}
-use Rattle.sizing_cli.specs.Transcript.{is_last, replied, happened, ending, reply_to, transcript}
+use Rattle.sizing_cli.specs.Transcript.{is_last, reply_answer, event_reply, ending, reply_to, transcript}
 use Rattle.sizing_cli.specs.Report.{replay_of_lines}
-use Rattle.sizing_cli.specs.SoFar.{IsEnded, RepliesIn, RepliesSo}
+use Rattle.sizing_cli.specs.PartialTranscript.{IsWithEnding, RepliesIn, RepliesToLine}
 
 -- ---- reachable states
 
@@ -34,12 +34,12 @@ reached_by_step plan s s' e outcome reached happens =
 
 -- the answer of a world to an event is the reply to its line
 pub replies_to_event : (plan : Plan) (s : State) (event : Event) (outcome : Outcome) (after : View) → IsReached plan s → AnswersAs plan s event (Some outcome) after
-    → RepliesIn plan (happened s (step plan s event)) after (reply.Performed outcome)
+    → RepliesIn plan (event_reply s (step plan s event)) after (reply.Performed outcome)
 replies_to_event plan s event outcome after reached answers =
     rw answers.1 (reached_by_step plan s answers.0 event outcome reached answers.1, sym answers.2, refl)
 
 pub replies_not_possible : (plan : Plan) (s : State) (event : Event) (after : View) → IsReached plan s → AnswersAs plan s event None after
-    → RepliesIn plan (happened s (step plan s event)) after reply.NotPossible
+    → RepliesIn plan (event_reply s (step plan s event)) after reply.NotPossible
 replies_not_possible plan s event after reached answers = rw answers.0 (reached, sym answers.1, refl)
 
 -- ---- parts of an answer
@@ -61,7 +61,7 @@ replay_behind plan s front number is_over (Err bad) = bad_event bad
 replay_behind plan s front number is_over (Ok rest) = followed_by front (if is_over then ending s else transcript plan s (number + 1) rest)
 
 -- `number` lines are read, the world is the view of a state, and the remaining lines complete the whole answer
-pub record IsSoFar (plan : Plan) (lines : List (Option Line)) (world : View) (answer : Answer) (number : ℕ) (is_over : Bool) (left : List (Option Line)) : Type 0 where
+pub record IsReplayedUpTo (plan : Plan) (lines : List (Option Line)) (world : View) (answer : Answer) (number : ℕ) (is_over : Bool) (left : List (Option Line)) : Type 0 where
   pub state : State
   pub reached : IsReached plan state
   pub live : live_view plan state ≡ world
@@ -69,8 +69,8 @@ pub record IsSoFar (plan : Plan) (lines : List (Option Line)) (world : View) (an
   pub count : number + length left ≡ length lines
 
 -- before the first line
-pub so_far_start : (plan : Plan) (lines : List (Option Line)) (world : View) → world ≡ live_view plan (start plan) → IsSoFar plan lines world (record { text = []; status = Done }) 0 false lines
-so_far_start plan lines world live = record { state = start plan; reached = ([], refl); live = sym live; whole = from_nothing (all_from 0 lines); count = omega arith }
+pub replayed_at_start : (plan : Plan) (lines : List (Option Line)) (world : View) → world ≡ live_view plan (start plan) → IsReplayedUpTo plan lines world (record { text = []; status = Done }) 0 false lines
+replayed_at_start plan lines world live = record { state = start plan; reached = ([], refl); live = sym live; whole = from_nothing (all_from 0 lines); count = omega arith }
   where
     nothing_before : (status : Status) → then_status Done status ≡ status
     nothing_before Done = refl
@@ -83,41 +83,41 @@ so_far_start plan lines world live = record { state = start plan; reached = ([],
     from_nothing (Ok all) = ap (λ (s : Status). record { text = (transcript plan (start plan) 1 all).text; status = s }) (nothing_before (transcript plan (start plan) 1 all).status)
 
 -- after one more reply, the rest is the replay from the new state, or the ending
-more_replied : (plan : Plan) (s : State) (old new : Answer) (number : ℕ) (reply : Reply) (line : Line) (rest : Result (List Line) ℕ) → (reply_to plan s line).1 ≡ reply → new ≡ followed_by old (replied plan (number + 1) reply)
+more_replies : (plan : Plan) (s : State) (old new : Answer) (number : ℕ) (reply : Reply) (line : Line) (rest : Result (List Line) ℕ) → (reply_to plan s line).1 ≡ reply → new ≡ followed_by old (reply_answer plan (number + 1) reply)
     → replay_behind plan (reply_to plan s line).0 new (number + 1) (is_last reply) rest ≡ replay_behind plan s old number false (rest >>= λ ls. Ok (line ∷ ls))
-more_replied plan s old new number reply line (Err bad) same is = refl
-more_replied plan s old new number reply line (Ok rest) same is =
+more_replies plan s old new number reply line (Err bad) same is = refl
+more_replies plan s old new number reply line (Ok rest) same is =
     let x : State × Reply = reply_to plan s line in
     let behind = λ (r : Reply). cond (is_last r) (ending x.0) (transcript plan x.0 (number + 1 + 1) rest) in
     ap (λ (a : Answer). followed_by a (behind reply)) is
-    ∙ followed_by-assoc old (replied plan (number + 1) reply) (behind reply)
-    ∙ ap (λ (r : Reply). followed_by old (followed_by (replied plan (number + 1) r) (behind r))) (sym same)
+    ∙ followed_by-assoc old (reply_answer plan (number + 1) reply) (behind reply)
+    ∙ ap (λ (r : Reply). followed_by old (followed_by (reply_answer plan (number + 1) r) (behind r))) (sym same)
 
-pub so_far_replied : (plan : Plan) (lines left rest : List (Option Line)) (before after : View) (old new : Answer) (number : ℕ) (is_over : Bool) (reply : Reply) (line : Line) → left ≡ Some line ∷ rest
-    → is_over ≡ false → IsSoFar plan lines before old number is_over left → RepliesSo plan before after line reply → new ≡ followed_by old (replied plan (number + 1) reply)
-    → IsSoFar plan lines after new (number + 1) (is_last reply) rest
-so_far_replied plan lines left rest before after old new number is_over reply line next goes_on so_far replies is =
-    let here = replies so_far.state so_far.reached so_far.live in
+pub replayed_one_more : (plan : Plan) (lines left rest : List (Option Line)) (before after : View) (old new : Answer) (number : ℕ) (is_over : Bool) (reply : Reply) (line : Line) → left ≡ Some line ∷ rest
+    → is_over ≡ false → IsReplayedUpTo plan lines before old number is_over left → RepliesToLine plan before after line reply → new ≡ followed_by old (reply_answer plan (number + 1) reply)
+    → IsReplayedUpTo plan lines after new (number + 1) (is_last reply) rest
+replayed_one_more plan lines left rest before after old new number is_over reply line next goes_on replayed_part replies is =
+    let here = replies replayed_part.state replayed_part.reached replayed_part.live in
     record {
-      state = (reply_to plan so_far.state line).0;
+      state = (reply_to plan replayed_part.state line).0;
       reached = here.0;
       live = here.1;
-      whole = more_replied plan so_far.state old new number reply line (all_from (number + 1) rest) here.2 is
-          ∙ sym (ap₂ (λ (over : Bool) (ls : List (Option Line)). replay_behind plan so_far.state old number over (all_from number ls)) goes_on next)
-          ∙ so_far.whole;
-      count = omega (arith, so_far.count, ap (λ (ls : List (Option Line)). length ls) next);
+      whole = more_replies plan replayed_part.state old new number reply line (all_from (number + 1) rest) here.2 is
+          ∙ sym (ap₂ (λ (over : Bool) (ls : List (Option Line)). replay_behind plan replayed_part.state old number over (all_from number ls)) goes_on next)
+          ∙ replayed_part.whole;
+      count = omega (arith, replayed_part.count, ap (λ (ls : List (Option Line)). length ls) next);
     }
 
 -- after the last line
-pub so_far_ended : (plan : Plan) (lines left : List (Option Line)) (world : View) (answer whole : Answer) (number : ℕ) (is_over : Bool) → left ≡ []
-    → IsSoFar plan lines world answer number is_over left → IsEnded world answer whole → whole ≡ replay_of_lines plan (all_from 0 lines)
-so_far_ended plan lines left world answer whole number is_over none so_far ended =
-    ended plan so_far.state so_far.reached so_far.live
+pub replayed_to_end : (plan : Plan) (lines left : List (Option Line)) (world : View) (answer whole : Answer) (number : ℕ) (is_over : Bool) → left ≡ []
+    → IsReplayedUpTo plan lines world answer number is_over left → IsWithEnding world answer whole → whole ≡ replay_of_lines plan (all_from 0 lines)
+replayed_to_end plan lines left world answer whole number is_over none replayed_part ended =
+    ended plan replayed_part.state replayed_part.reached replayed_part.live
     ∙ sym (nothing_more is_over)
-    ∙ sym (ap (λ (ls : List (Option Line)). replay_behind plan so_far.state answer number is_over (all_from number ls)) none)
-    ∙ so_far.whole
+    ∙ sym (ap (λ (ls : List (Option Line)). replay_behind plan replayed_part.state answer number is_over (all_from number ls)) none)
+    ∙ replayed_part.whole
   where
-    nothing_more : (over : Bool) → replay_behind plan so_far.state answer number over (Ok []) ≡ followed_by answer (ending so_far.state)
+    nothing_more : (over : Bool) → replay_behind plan replayed_part.state answer number over (Ok []) ≡ followed_by answer (ending replayed_part.state)
     nothing_more true = refl
     nothing_more false = refl
 

@@ -2,7 +2,7 @@
 use Rattle.std.proofs.Common.{◌≡◌, inl, inr, ℕ, List, [], ◌∷◌, ◌++◌, length, codes, Some, refl, sym, ap₂, subst, ◌∙◌, arith}
 use Rattle.sizing_cli.specs.Laws.{IsJoined}
 use Rattle.sizing_cli.specs.Certify.{IsYes, IsBundleWith}
-use Rattle.sizing_cli.specs.SplitAt.{IsSplitAt}
+use Rattle.sizing_cli.specs.CertifiedSplit.{IsCertifiedSplit}
 use Rattle.sizing_cli.proofs.LastSeparator.{split_is}
 
 -- prefixes of equal length are the same, and so are the texts after them
@@ -16,12 +16,12 @@ same_parts (a ∷ front) (b ∷ bs) x y len whole =
     let rest = same_parts front bs x y (omega arith) tails in
     (ap₂ (λ (h : ℕ) (t : List ℕ). h ∷ t) heads rest.0, rest.1)
 
-pub certified : (plan cert text : List ℕ) → text ≡ plan ++ (codes "%%" ++ 10 ∷ cert) → IsSplitAt (length plan) text → IsBundleWith plan cert text
+pub certified : (plan cert text : List ℕ) → text ≡ plan ++ (codes "%%" ++ 10 ∷ cert) → IsCertifiedSplit (length plan) text → IsBundleWith plan cert text
 certified plan cert text whole split = by_join ((split_is text split.bundle).0 split.is_bundle).whole
   where
     by_join : IsJoined text split.bundle → IsBundleWith plan cert text
-    by_join (inl joined) =
-        let parts = same_parts split.bundle.plan plan _ _ split.at (sym joined ∙ whole) in
+    by_join (inl same_bytes) =
+        let parts = same_parts split.bundle.plan plan _ _ split.at (sym same_bytes ∙ whole) in
         let behind : 37 ∷ 37 ∷ 10 ∷ split.bundle.second ≡ 37 ∷ 37 ∷ 10 ∷ cert = parts.1 in
         let second : split.bundle.second ≡ cert = cc in
         let OfPlan : List ℕ → Type 0 = λ p. IsYes p split.bundle.second in
@@ -29,9 +29,9 @@ certified plan cert text whole split = by_join ((split_is text split.bundle).0 s
         record {
           whole = whole;
           splits = split.is_bundle ∙ ap₂ (λ (p s : List ℕ). Some (record { plan = p; second = s })) parts.0 second;
-          says_yes = subst OfCert second (subst OfPlan parts.0 split.says_yes);
+          is_accepted = subst OfCert second (subst OfPlan parts.0 split.is_accepted);
         }
-    by_join (inr joined) =
-        let parts = same_parts split.bundle.plan plan _ _ split.at (sym joined.0 ∙ whole) in
+    by_join (inr same_bytes) =
+        let parts = same_parts split.bundle.plan plan _ _ split.at (sym same_bytes.0 ∙ whole) in
         let behind : 37 ∷ 37 ∷ [] ≡ 37 ∷ 37 ∷ 10 ∷ cert = parts.1 in
         absurd cc

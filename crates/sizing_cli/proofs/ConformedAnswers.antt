@@ -14,26 +14,26 @@ use Rattle.job_bodies.specs.declared.limits.TheConstants.{MAX_RECORDED_BYTES}
 use Rattle.sizing_cli.specs.declared.status.Status.TheVariants.{Done, Refused, BadText, Undecided}
 use Rattle.sizing_cli.specs.Answer.{Answer, input_too_long}
 use Rattle.sizing_cli.specs.Bundle.{Bundle, bundle_of}
-use Rattle.sizing_cli.specs.Conform.{AnswersBundle, AnswersReading, AnswersRecording, IsConformAnswer, IsConformingInput, IsSaidOf, answer_of, is_undecided, status_of}
+use Rattle.sizing_cli.specs.Conform.{AnswersBundle, AnswersReading, AnswersRecording, IsConformAnswer, IsConformingInput, IsConformance, answer_of, is_undecided, status_of}
 
 -- status 0 means that there are no findings
 done_of_no_findings : (findings : List Finding) → status_of findings ≡ Done → findings ≡ []
 done_of_no_findings findings done = by_length (length findings == 0) refl done
   where
     by_all : (all : Bool) → cond all Undecided Refused ≡ Done → findings ≡ []
-    by_all true said = absurd cc
-    by_all false said = absurd cc
+    by_all true outcome = absurd cc
+    by_all false outcome = absurd cc
 
     by_length : (none : Bool) → (length findings == 0) ≡ none → cond none Done (cond (list_all is_undecided findings) Undecided Refused) ≡ Done → findings ≡ []
-    by_length true is said = nil_from_length findings (eqb-true (length findings) 0 is)
-    by_length false is said = by_all (list_all is_undecided findings) said
+    by_length true is outcome = nil_from_length findings (eqb-true (length findings) 0 is)
+    by_length false is outcome = by_all (list_all is_undecided findings) outcome
 
-with_said : (input : List ℕ) (bundle : Bundle) (plan : Plan) → bundle_of input ≡ Some bundle → plan_of bundle.plan ≡ Ok plan → (said : Conformance)
-    → IsSaidOf plan bundle.second said → (answer_of plan said).status ≡ Done → IsConformingInput input
-with_said input bundle plan is_bundle is_plan (Invalid fault) said done = absurd cc
-with_said input bundle plan is_bundle is_plan (Compared findings) said done =
-    let all = said.conforms (done_of_no_findings findings.items done) in
-    record { bundle = bundle; is_bundle = is_bundle; plan = plan; is_plan = is_plan; no_fault = said.bad; conforms = all.0; valid = all.1 }
+with_outcome : (input : List ℕ) (bundle : Bundle) (plan : Plan) → bundle_of input ≡ Some bundle → plan_of bundle.plan ≡ Ok plan → (outcome : Conformance)
+    → IsConformance plan bundle.second outcome → (answer_of plan outcome).status ≡ Done → IsConformingInput input
+with_outcome input bundle plan is_bundle is_plan (Invalid fault) outcome done = absurd cc
+with_outcome input bundle plan is_bundle is_plan (Compared findings) outcome done =
+    let all = outcome.conforms (done_of_no_findings findings.items done) in
+    record { bundle = bundle; is_bundle = is_bundle; plan = plan; is_plan = is_plan; no_fault = outcome.bad; conforms = all.0; valid = all.1 }
 
 with_reading : (input : List ℕ) (bundle : Bundle) (answer : Answer) (found : Result Plan PlanFault) → bundle_of input ≡ Some bundle → plan_of bundle.plan ≡ found
     → AnswersReading bundle.second found answer → answer.status ≡ Done → IsConformingInput input
@@ -41,7 +41,7 @@ with_reading input bundle answer (Err fault) is_bundle is_plan is done =
     let no : BadText ≡ Done = sym (ap (λ (a : Answer). a.status) is) ∙ done in
     absurd cc
 with_reading input bundle answer (Ok plan) is_bundle is_plan is done =
-    with_said input bundle plan is_bundle is_plan is.said is.is_said (sym (ap (λ (a : Answer). a.status) is.answer_is) ∙ done)
+    with_outcome input bundle plan is_bundle is_plan is.outcome is.is_outcome (sym (ap (λ (a : Answer). a.status) is.answer_is) ∙ done)
 
 with_bundle : (input : List ℕ) (answer : Answer) (found : Option Bundle) → bundle_of input ≡ found → AnswersBundle found answer → answer.status ≡ Done → IsConformingInput input
 with_bundle input answer None is_bundle is done =

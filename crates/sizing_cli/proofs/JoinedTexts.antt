@@ -8,7 +8,7 @@ use Rattle.std.proofs.lemmas.Bool.Decides.{Decides-eqb}
 use Rattle.sizing_cli.specs.Certify.{whole_lines}
 use Rattle.sizing_cli.specs.Laws.{IsWholeLines}
 use Rattle.sizing_cli.proofs.LastSeparator.{split_is}
-use Rattle.sizing_cli.specs.Texts.{JoinedTextsSplitAgain, joined}
+use Rattle.sizing_cli.specs.Texts.{JoinedTextsSplitAgain, join_texts}
 
 nothing_in : (text : List ℕ) → (length text == 0) ≡ true → text ≡ []
 nothing_in [] is = refl
@@ -24,4 +24,4 @@ are_whole_lines text = by_test (length text == 0) (ends_with nat_eq text (10 ∷
 
 pub split_again : JoinedTextsSplitAgain
 split_again plan second last =
-    (split_is (joined plan second) (record { plan = whole_lines plan; second = second })).1 (record { plan = are_whole_lines plan; whole = inl refl; last = last })
+    (split_is (join_texts plan second) (record { plan = whole_lines plan; second = second })).1 (record { plan = are_whole_lines plan; whole = inl refl; last = last })

@@ -201,8 +201,8 @@ front_from : (plan : List ℕ) → IsWholeLines plan → IsFront true plan
 front_from plan (inl empty) = inl (empty, refl)
 front_from plan (inr more) = inr more
 
-joined : (input : List ℕ) (bundle : Bundle) → IsSplit input bundle → bundle_of input ≡ Some bundle
-joined input bundle split =
+splits_where_joined : (input : List ℕ) (bundle : Bundle) → IsSplit input bundle → bundle_of input ≡ Some bundle
+splits_where_joined input bundle split =
     ⊎_elim (λ same. ap (split_from true) same ∙ split_written true bundle.plan (37 ∷ 37 ∷ 10 ∷ bundle.second) bundle.second (front_from bundle.plan split.plan) (inl refl) split.last)
     (λ same. ap (split_from true) same.0 ∙ split_written true bundle.plan (37 ∷ 37 ∷ []) bundle.second (front_from bundle.plan split.plan) (inr (refl, same.1)) split.last)
     split.whole
@@ -210,7 +210,7 @@ joined input bundle split =
 pub split_is : InputsSplitAtTheLastSeparator
 split_is input bundle = (
   λ found. let split = split_read true input bundle found in record { plan = front_is_whole_lines bundle.plan split.front; whole = split.whole; last = split.last },
-  joined input bundle,
+  splits_where_joined input bundle,
 )
 
 pub no_split_is : NoBundleWithoutASeparator

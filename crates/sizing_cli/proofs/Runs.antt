@@ -20,17 +20,17 @@ run_of_certified plan cert rounds certified (Ok answer) is fits ran =
     rw fits (ran ∙ ap (λ (c : Certified). run_of_accepted c.plan c.cert rounds) is)
 
 -- fault 40 occurs only if the plan is too large
-pub too_large_where_told : (large : Bool) (fault : RunFault) → IsFaultOf large fault → fault.number ≡ RUN_TOO_LARGE → large ≡ true
-too_large_where_told true fault is told = refl
-too_large_where_told false fault (inl strange) told = absurd (omega arith)
-too_large_where_told false fault (inr (inl mixed)) told = absurd (omega arith)
-too_large_where_told false fault (inr (inr (inl memory))) told = absurd (omega arith)
-too_large_where_told false fault (inr (inr (inr gate))) told = absurd (omega arith)
+pub too_large_if_reported : (large : Bool) (fault : RunFault) → IsFaultOf large fault → fault.number ≡ RUN_TOO_LARGE → large ≡ true
+too_large_if_reported true fault is reported = refl
+too_large_if_reported false fault (inl strange) reported = absurd (omega arith)
+too_large_if_reported false fault (inr (inl mixed)) reported = absurd (omega arith)
+too_large_if_reported false fault (inr (inr (inl memory))) reported = absurd (omega arith)
+too_large_if_reported false fault (inr (inr (inr gate))) reported = absurd (omega arith)
 
 -- every other fault is one of a run
 pub of_run_else : (large : Bool) (fault : RunFault) → IsFaultOf large fault → (fault.number == RUN_TOO_LARGE) ≡ false → is_of_run fault.number ≡ true
-of_run_else true fault (inl told, none) other =
-    let no : (RUN_TOO_LARGE == RUN_TOO_LARGE) ≡ false = subst (λ (n : ℕ). (n == RUN_TOO_LARGE) ≡ false) told other in
+of_run_else true fault (inl reported, none) other =
+    let no : (RUN_TOO_LARGE == RUN_TOO_LARGE) ≡ false = subst (λ (n : ℕ). (n == RUN_TOO_LARGE) ≡ false) reported other in
     absurd cc
 of_run_else true fault (inr memory, none) other = rw memory refl
 of_run_else false fault (inl strange) other = rw strange refl

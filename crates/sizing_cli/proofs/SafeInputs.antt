@@ -9,7 +9,7 @@ use Rattle.cert_text.specs.CertOf.{cert_of}
 use Rattle.soundness.specs.Accepted.{accepted}
 use Rattle.cert_check.specs.Check.{IsSafeWith, IsSafeToRun}
 use Rattle.cert_check.proofs.Yes.{plans_read_are_well_formed, safe_with}
-use Rattle.command_line.specs.declared.command.Review.TheVariants.{Check}
+use Rattle.command_line.specs.declared.command.ReviewCommand.TheVariants.{Check}
 use Rattle.job_bodies.specs.declared.limits.TheConstants.{MAX_INPUT_BYTES}
 use Rattle.sizing_cli.specs.declared.status.Status.TheVariants.{Done}
 use Rattle.sizing_cli.specs.Answer.{Answer, yes_or_no, input_too_long}

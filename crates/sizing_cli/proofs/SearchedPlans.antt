@@ -9,9 +9,9 @@ use Rattle.job_bodies.specs.declared.limits.TheConstants.{MAX_INPUT_BYTES}
 use Rattle.sizing_cli.specs.Answer as answers
 use Rattle.sizing_cli.specs.Certify.{AnswersReading, IsSearched}
 
-pub searched_fault : (text : List ℕ) (read : Result Plan PlanFault) (told : PlanFault) (answer : answers.Answer) → IsSearched read (Err told) → answer ≡ answers.fault (fault_line told) → AnswersReading text read answer
-searched_fault text (Err found) told answer same is = is ∙ ap (λ (f : PlanFault). answers.fault (fault_line f)) same
-searched_fault text (Ok plan) told answer same is = absurd same
+pub searched_fault : (text : List ℕ) (read : Result Plan PlanFault) (reported : PlanFault) (answer : answers.Answer) → IsSearched read (Err reported) → answer ≡ answers.fault (fault_line reported) → AnswersReading text read answer
+searched_fault text (Err found) reported answer same is = is ∙ ap (λ (f : PlanFault). answers.fault (fault_line f)) same
+searched_fault text (Ok plan) reported answer same is = absurd same
 
 -- the answer to an input that is not too long
 pub within_limit : (A B : Type 0) (input : List ℕ) → length input ≤ MAX_INPUT_BYTES → B → MatchBool (nat_lt MAX_INPUT_BYTES (length input)) A B

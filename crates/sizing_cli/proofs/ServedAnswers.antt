@@ -9,16 +9,16 @@ use Rattle.job_bodies.specs.Plan.{Plan}
 use Rattle.job_bodies.specs.declared.fault.PlanFault.{PlanFault}
 use Rattle.plan_text.specs.PlanOf.{plan_of}
 use Rattle.command_line.specs.declared.command.Command.{Command}
-use Rattle.command_line.specs.declared.command.Command.TheVariants.{Alone, OnRecording, OnThreads}
-use Rattle.command_line.specs.declared.command.Reading.{Reading}
-use Rattle.command_line.specs.declared.command.Reading.TheVariants.{Conform, Learn}
-use Rattle.command_line.specs.declared.command.Review.TheVariants.{Replay, Check, Explain}
+use Rattle.command_line.specs.declared.command.Command.TheVariants.{Sequential, OnRecording, OnThreads}
+use Rattle.command_line.specs.declared.command.RecordingCommand.{RecordingCommand}
+use Rattle.command_line.specs.declared.command.RecordingCommand.TheVariants.{Conform, Learn}
+use Rattle.command_line.specs.declared.command.ReviewCommand.TheVariants.{Replay, Check, Explain}
 use Rattle.command_line.specs.declared.command.Task.{Task}
 use Rattle.command_line.specs.declared.command.Task.TheVariants.{Certify, Fit, Run, Refute, Ask}
-use Rattle.command_line.specs.declared.command.Given.{Given}
-use Rattle.command_line.specs.declared.command.Manner.{Manner}
+use Rattle.command_line.specs.declared.command.AskInput.{AskInput}
+use Rattle.command_line.specs.declared.command.AskOptions.{AskOptions}
 use Rattle.command_line.specs.declared.command.SizesForm.TheVariants.{Sizes, Bundle}
-use Rattle.command_line.specs.declared.command.Shown.TheVariants as shown
+use Rattle.command_line.specs.declared.command.RefuteFormat.TheVariants as refute_format
 use Rattle.job_bodies.specs.declared.limits.TheConstants.{MAX_INPUT_BYTES, MAX_RECORDED_BYTES}
 use Rattle.sizing_cli.specs.declared.status.Status.{Status}
 use Rattle.sizing_cli.specs.declared.status.Status.TheVariants.{Done, Refused, BadText}
@@ -30,7 +30,7 @@ use Rattle.sizing_cli.specs.Refute as refute
 use Rattle.sizing_cli.specs.Bundle.{bundle_of}
 use Rattle.sizing_cli.specs.Conform.{AnswersBundle, IsConformAnswer}
 use Rattle.sizing_cli.specs.Learn.{AnswersLines, IsLearnAnswer}
-use Rattle.sizing_cli.specs.Served.{IsAnswer, IsLeftBy, IsReadingAnswer, IsTaskAnswer, WritesAnswer, WritesFront, WritesLeaving, MeansSafe}
+use Rattle.sizing_cli.specs.CommandResult.{IsAnswer, IsTaskAnswerWith, IsRecordingAnswer, IsTaskAnswer, WritesAnswer, WritesPrefix, TaskWritesWithCertificate, MeansSafe}
 use Rattle.sizing_cli.proofs.PastTheLimit.{answered_whole}
 use Rattle.sizing_cli.proofs.SafeInputs.{yes_means_safe, run_means_safe}
 use Rattle.sizing_cli.proofs.FittedAnswers.{sizes_mean_safe, bundle_means_fitted}
@@ -69,42 +69,42 @@ answered_by_length : (TooLong : Type 0) (Answers : List ℕ → Type 0) (remaini
 answered_by_length = answered_within MAX_INPUT_BYTES
 
 -- for commands on recordings
-pub recorded_by_front : (remaining : Option (List ℕ)) (items slice : List ℕ) (reading : Reading) (answer : Answer) → IfSome remaining (λ input. items ≡ take (MAX_RECORDED_BYTES + 1) input) → slice ≡ items
-    → IsReadingAnswer reading slice answer → IfSome remaining (λ input. IsReadingAnswer reading input answer)
+pub recorded_by_front : (remaining : Option (List ℕ)) (items slice : List ℕ) (reading : RecordingCommand) (answer : Answer) → IfSome remaining (λ input. items ≡ take (MAX_RECORDED_BYTES + 1) input) → slice ≡ items
+    → IsRecordingAnswer reading slice answer → IfSome remaining (λ input. IsRecordingAnswer reading input answer)
 recorded_by_front remaining items slice Conform answer front same is =
     answered_within MAX_RECORDED_BYTES (answer ≡ input_too_long) (λ bytes. AnswersBundle (bundle_of bytes) answer) remaining items front (subst (λ (bytes : List ℕ). IsConformAnswer bytes answer) same is)
 recorded_by_front remaining items slice Learn answer front same is =
     answered_within MAX_RECORDED_BYTES (answer ≡ input_too_long) (λ bytes. AnswersLines bytes answer) remaining items front (subst (λ (bytes : List ℕ). IsLearnAnswer bytes answer) same is)
 
-asked_by_front : (remaining : Option (List ℕ)) (items : List ℕ) (given : Given) (manner : Manner) (left : Option (List ℕ)) (answer : Answer)
-    → IfSome remaining (λ input. items ≡ take (MAX_INPUT_BYTES + 1) input) → IsAskAnswer given manner items left answer → IfSome remaining (λ input. IsAskAnswer given manner input left answer)
-asked_by_front remaining items given manner left answer front is =
-    answered_by_length ((left ≡ None) × (answer ≡ input_too_long)) (λ bytes. AnswersInput given manner bytes left answer) remaining items front is
+asked_by_front : (remaining : Option (List ℕ)) (items : List ℕ) (given : AskInput) (options : AskOptions) (left : Option (List ℕ)) (answer : Answer)
+    → IfSome remaining (λ input. items ≡ take (MAX_INPUT_BYTES + 1) input) → IsAskAnswer given options items left answer → IfSome remaining (λ input. IsAskAnswer given options input left answer)
+asked_by_front remaining items given options left answer front is =
+    answered_by_length ((left ≡ None) × (answer ≡ input_too_long)) (λ bytes. AnswersInput given options bytes left answer) remaining items front is
 
 -- for every task
 pub answered_by_front : (remaining : Option (List ℕ)) (items : List ℕ) (task : Task) (answer : Answer) → IfSome remaining (λ input. items ≡ take (MAX_INPUT_BYTES + 1) input)
     → IsTaskAnswer task items answer → IfSome remaining (λ input. IsTaskAnswer task input answer)
 answered_by_front remaining items (Certify workers) answer front is =
     answered_by_length (answer ≡ input_too_long) (λ bytes. AnswersReading (whole_lines bytes) (plan_of (whole_lines bytes)) answer) remaining items front is
-answered_by_front remaining items (Fit wanted) answer front is = answered_by_length (answer ≡ input_too_long) (λ bytes. fit.AnswersReading wanted (plan_of bytes) answer) remaining items front is
+answered_by_front remaining items (Fit sizes_form) answer front is = answered_by_length (answer ≡ input_too_long) (λ bytes. fit.AnswersReading sizes_form (plan_of bytes) answer) remaining items front is
 answered_by_front remaining items (Run rounds) answer front is = answered_whole remaining items items (run rounds) answer front refl is
-answered_by_front remaining items (Refute states shown) answer front is =
-    answered_by_length (answer ≡ input_too_long) (λ bytes. refute.AnswersReading states shown (whole_lines bytes) (plan_of (whole_lines bytes)) answer) remaining items front is
-answered_by_front remaining items (Ask given manner) answer front is = left_somehow remaining (asked_by_front remaining items given manner is.0 answer front is.1)
+answered_by_front remaining items (Refute states refute_format) answer front is =
+    answered_by_length (answer ≡ input_too_long) (λ bytes. refute.AnswersReading states refute_format (whole_lines bytes) (plan_of (whole_lines bytes)) answer) remaining items front is
+answered_by_front remaining items (Ask given options) answer front is = left_somehow remaining (asked_by_front remaining items given options is.0 answer front is.1)
   where
-    left_somehow : (known : Option (List ℕ)) → IfSome known (λ input. IsAskAnswer given manner input is.0 answer) → IfSome known (λ input. IsTaskAnswer (Ask given manner) input answer)
+    left_somehow : (known : Option (List ℕ)) → IfSome known (λ input. IsAskAnswer given options input is.0 answer) → IfSome known (λ input. IsTaskAnswer (Ask given options) input answer)
     left_somehow None asked = tt
     left_somehow (Some input) asked = (is.0, asked)
 
 -- for the certificate that is left
 pub left_by_front : (remaining : Option (List ℕ)) (items : List ℕ) (task : Task) (answer : Answer) (left : Option (List ℕ)) → IfSome remaining (λ input. items ≡ take (MAX_INPUT_BYTES + 1) input)
-    → IsLeftBy task items answer left → IfSome remaining (λ input. IsLeftBy task input answer left)
+    → IsTaskAnswerWith task items answer left → IfSome remaining (λ input. IsTaskAnswerWith task input answer left)
 left_by_front None items task answer left front is = tt
 left_by_front (Some input) items (Certify workers) answer left front is = is
-left_by_front (Some input) items (Fit wanted) answer left front is = is
+left_by_front (Some input) items (Fit sizes_form) answer left front is = is
 left_by_front (Some input) items (Run rounds) answer left front is = is
-left_by_front (Some input) items (Refute states shown) answer left front is = is
-left_by_front (Some input) items (Ask given manner) answer left front is = asked_by_front (Some input) items given manner left answer front is
+left_by_front (Some input) items (Refute states refute_format) answer left front is = is
+left_by_front (Some input) items (Ask given options) answer left front is = asked_by_front (Some input) items given options left answer front is
 
 -- ---- the written answer
 
@@ -118,15 +118,15 @@ wrote_answer (Some input) old new command answer bytes status is text same writt
 
 pub wrote_answer_front : (remaining old new : Option (List ℕ)) (command : Command) (answer : Answer) (bytes : List ℕ)
     → IfSome remaining (λ input. IsAnswer command input answer) → bytes ≡ answer.text → AppendsFront old new bytes
-    → IfSome remaining (λ input. WritesFront command input old new)
+    → IfSome remaining (λ input. WritesPrefix command input old new)
 wrote_answer_front None old new command answer bytes is text written = tt
 wrote_answer_front (Some input) old new command answer bytes is text written =
     let Written : List ℕ → Type 0 = λ t. AppendsFront old new t in
     record { answer = answer; is_answer = is; written = subst Written text written }
 
 pub wrote_leaving : (remaining old new left : Option (List ℕ)) (task : Task) (answer : Answer) (bytes : List ℕ) (status : Status)
-    → IfSome remaining (λ input. IsLeftBy task input answer left) → bytes ≡ answer.text → status ≡ answer.status → Appends old new bytes
-    → IfSome remaining (λ input. WritesLeaving task input status left old new)
+    → IfSome remaining (λ input. IsTaskAnswerWith task input answer left) → bytes ≡ answer.text → status ≡ answer.status → Appends old new bytes
+    → IfSome remaining (λ input. TaskWritesWithCertificate task input status left old new)
 wrote_leaving None old new left task answer bytes status is text same written = tt
 wrote_leaving (Some input) old new left task answer bytes status is text same written =
     let Written : List ℕ → Type 0 = λ t. Appends old new t in
@@ -159,9 +159,9 @@ certified_answer input answer is done = by_length (nat_lt MAX_INPUT_BYTES (lengt
     by_length false answers = by_plan (plan_of (whole_lines input)) answers
 
 means_safe : (command : Command) (input : List ℕ) (status : Status) (old new : Option (List ℕ)) → WritesAnswer command input status old new → status ≡ Done → MeansSafe command input old new
-means_safe (Alone Replay) input status old new writes done = tt
-means_safe (Alone Check) input status old new writes done = yes_means_safe input (sym (ap (λ (a : Answer). a.status) writes.is_answer) ∙ (sym writes.status_is ∙ done))
-means_safe (Alone Explain) input status old new writes done = tt
+means_safe (Sequential Replay) input status old new writes done = tt
+means_safe (Sequential Check) input status old new writes done = yes_means_safe input (sym (ap (λ (a : Answer). a.status) writes.is_answer) ∙ (sym writes.status_is ∙ done))
+means_safe (Sequential Explain) input status old new writes done = tt
 means_safe (OnRecording Conform) input status old new writes done = conformed input writes.answer writes.is_answer (sym writes.status_is ∙ done)
 means_safe (OnRecording Learn) input status old new writes done =
     record { text = writes.answer.text; learned = learned input writes.answer writes.is_answer (sym writes.status_is ∙ done); written = writes.written }
@@ -170,10 +170,10 @@ means_safe (OnThreads (Fit Bundle)) input status old new writes done =
     let fitted = bundle_means_fitted input writes.answer writes.is_answer (sym writes.status_is ∙ done) in
     record { plan = fitted.plan; is_plan = fitted.is_plan; text = writes.answer.text; fitted = fitted.bundle; written = writes.written }
 means_safe (OnThreads (Run rounds)) input status old new writes done = run_means_safe rounds input (sym (ap (λ (a : Answer). a.status) writes.is_answer) ∙ (sym writes.status_is ∙ done))
-means_safe (OnThreads (Refute states shown.Story)) input status old new writes done = refuted_means_safe states input writes.answer writes.is_answer (sym writes.status_is ∙ done)
-means_safe (OnThreads (Refute states shown.Bundle)) input status old new writes done =
+means_safe (OnThreads (Refute states refute_format.Story)) input status old new writes done = refuted_means_safe states input writes.answer writes.is_answer (sym writes.status_is ∙ done)
+means_safe (OnThreads (Refute states refute_format.Bundle)) input status old new writes done =
     record { text = writes.answer.text; shows = bundle_means_witness states input writes.answer writes.is_answer (sym writes.status_is ∙ done); written = writes.written }
-means_safe (OnThreads (Ask given manner)) input status old new writes done = asked_means_safe given manner input writes.is_answer.0 writes.answer writes.is_answer.1 (sym writes.status_is ∙ done)
+means_safe (OnThreads (Ask given options)) input status old new writes done = asked_means_safe given options input writes.is_answer.0 writes.answer writes.is_answer.1 (sym writes.status_is ∙ done)
 means_safe (OnThreads (Certify workers)) input status old new writes done =
     record { text = writes.answer.text; certified = certified_answer input writes.answer writes.is_answer (sym writes.status_is ∙ done); written = writes.written }
 

@@ -8,31 +8,31 @@ use Rattle.cert_text.specs.Cert.{Cert}
 use Rattle.cert_text.specs.CertOf.{cert_of}
 use Rattle.soundness.specs.Accepted.{accepted}
 use Rattle.cert_text.specs.declared.fault.CertFault.{CertFault}
-use Rattle.diagnostics.specs.declared.advice.Faults.{Faults}
-use Rattle.diagnostics.specs.declared.oddity.Oddity.{Oddity}
-use Rattle.diagnostics.specs.declared.oddity.Oddity.TheVariants.{StaleCertificate}
+use Rattle.diagnostics.specs.declared.diagnostic.Faults.{Faults}
+use Rattle.diagnostics.specs.declared.lint.Lint.{Lint}
+use Rattle.diagnostics.specs.declared.lint.Lint.TheVariants.{StaleCertificate}
 use Rattle.diagnostics.specs.declared.warnings.Warning.{Warning}
-use Rattle.diagnostics.specs.Oddities.{AreOddities, warned_of}
-use Rattle.diagnostics.specs.Advice.{faults_text, warnings_text}
+use Rattle.diagnostics.specs.Lints.{AreLints, lints_in}
+use Rattle.diagnostics.specs.Diagnostic.{faults_text, warnings_text}
 use Rattle.report.specs.declared.finding.PlanFinding.{PlanFinding}
 use Rattle.report.specs.declared.finding.PlanFinding.TheVariants.{Safe, NotSafe, NotDecided}
 use Rattle.report.specs.Finding.{IsFinding}
 use Rattle.report.specs.Places.{needed_places}
-use Rattle.report.specs.Told.{Tells}
+use Rattle.report.specs.AnswerText.{Tells}
 use Rattle.report.specs.Json as json
 use Rattle.report.specs.Picture.{IsPicture}
-use Rattle.command_line.specs.declared.command.Given.{Given}
-use Rattle.command_line.specs.declared.command.Given.TheVariants.{PlanAlone, WithCertificate}
+use Rattle.command_line.specs.declared.command.AskInput.{AskInput}
+use Rattle.command_line.specs.declared.command.AskInput.TheVariants.{PlanAlone, WithCertificate}
 use Rattle.command_line.specs.declared.command.Form.{Form}
 use Rattle.command_line.specs.declared.command.Form.TheVariants.{Words, Json, Dot}
-use Rattle.command_line.specs.declared.command.Manner.{Manner}
+use Rattle.command_line.specs.declared.command.AskOptions.{AskOptions}
 use Rattle.job_bodies.specs.declared.limits.TheConstants.{MAX_INPUT_BYTES}
 use Rattle.sizing_cli.specs.declared.status.Status.{Status}
 use Rattle.sizing_cli.specs.declared.status.Status.TheVariants.{Done, Refused, BadText, Undecided}
 use Rattle.sizing_cli.specs.Answer.{Answer, no_separator, input_too_long}
 use Rattle.sizing_cli.specs.Bundle.{Bundle, bundle_of}
 use Rattle.sizing_cli.specs.Certify.{HasLongText}
-use Rattle.sizing_cli.specs.declared.asking.Replied.{Replied}
+use Rattle.sizing_cli.specs.declared.ask_answer.AskOutput.{AskOutput}
 use Rattle.sizing_cli.specs.SafeInput.{IsSafePlan}
 
 -- ---- faults
@@ -81,7 +81,7 @@ status_of strict warnings (NotSafe witness sizes) = Refused
 status_of strict warnings (NotDecided sizes) = Undecided
 
 -- the warning about a stale certificate, which comes last
-abbrev pub stale_if : Bool → List Oddity
+abbrev pub stale_if : Bool → List Lint
 stale_if true = StaleCertificate ∷ []
 stale_if false = []
 
@@ -103,9 +103,9 @@ needed_of plan (NotDecided sizes) = []
 -- the warnings are exactly the lints of the plan, in order, with these numbers of places for the pools; then a warning about
 -- a stale certificate, if it is stale
 pub record AreWarnings (plan : Plan) (finding : PlanFinding) (stale : Bool) (warnings : List Warning) : Type 0 where
-  pub oddities : List Oddity
-  pub are_oddities : AreOddities plan (needed_of plan finding) oddities
-  pub warned : warned_of warnings ≡ oddities ++ stale_if stale
+  pub lints : List Lint
+  pub are_lints : AreLints plan (needed_of plan finding) lints
+  pub warned : lints_in warnings ≡ lints ++ stale_if stale
 
 -- the text reports the warnings, under some file name, and then the finding
 pub record TellsFinding (plan : Plan) (warnings : List Warning) (finding : PlanFinding) (text : List ℕ) : Type 0 where
@@ -121,64 +121,64 @@ TellsFindingIn Json plan warnings finding text = json.TellsFinding finding text
 TellsFindingIn Dot plan warnings finding text = IsPicture text
 
 -- the answer reports the finding and the warnings, and its status follows from both
-pub record AnswersFinding (manner : Manner) (plan : Plan) (finding : PlanFinding) (stale : Bool) (answer : Answer) : Type 0 where
+pub record AnswersFinding (options : AskOptions) (plan : Plan) (finding : PlanFinding) (stale : Bool) (answer : Answer) : Type 0 where
   pub warnings : List Warning
   pub are_warnings : AreWarnings plan finding stale warnings
-  pub tells : TellsFindingIn manner.form plan warnings finding answer.text
-  pub status : answer.status ≡ status_of manner.strict warnings finding
+  pub tells : TellsFindingIn options.form plan warnings finding answer.text
+  pub status : answer.status ≡ status_of options.strict warnings finding
 
 -- ---- the certificate that an answer leaves
 
 -- the text left is that of the certificate; it is missing exactly if it would be too long to be read back
-abbrev pub IsTextLeft : Plan → Cert → Option (List ℕ) → Type 0
-IsTextLeft plan cert (Some text) = cert_of text plan ≡ Ok cert
-IsTextLeft plan cert None = HasLongText cert
+abbrev pub IsCertificateText : Plan → Cert → Option (List ℕ) → Type 0
+IsCertificateText plan cert (Some text) = cert_of text plan ≡ Ok cert
+IsCertificateText plan cert None = HasLongText cert
 
 -- a finding leaves the certificate that accepts the plan, if there is one
-abbrev pub IsLeftOf : Plan → PlanFinding → Option (List ℕ) → Type 0
-IsLeftOf plan (Safe cert) left = IsTextLeft plan cert left
-IsLeftOf plan (NotSafe witness sizes) left = left ≡ None
-IsLeftOf plan (NotDecided sizes) left = left ≡ None
+abbrev pub IsFindingCertificate : Plan → PlanFinding → Option (List ℕ) → Type 0
+IsFindingCertificate plan (Safe cert) left = IsCertificateText plan cert left
+IsFindingCertificate plan (NotSafe witness sizes) left = left ≡ None
+IsFindingCertificate plan (NotDecided sizes) left = left ≡ None
 
 -- the certificate's text that is left beside an answer
-abbrev pub left_in : Replied → Option (List ℕ)
-left_in replied = option_map (λ text. text.items) replied.certificate
+abbrev pub certificate_of_output : AskOutput → Option (List ℕ)
+certificate_of_output answer = option_map (λ text. text.items) answer.certificate
 
 -- ---- answers to an input
 
 -- the answer reports a finding that is true of the plan. It rests on the given certificate if that accepts the plan, and it
 -- leaves its certificate.
-pub record AnswersPlan (manner : Manner) (plan : Plan) (given : Option Cert) (left : Option (List ℕ)) (answer : Answer) : Type 0 where
+pub record AnswersPlan (options : AskOptions) (plan : Plan) (given : Option Cert) (left : Option (List ℕ)) (answer : Answer) : Type 0 where
   pub finding : PlanFinding
   pub is_finding : IsFinding plan finding
   pub rests : RestsOnGiven plan given finding
-  pub answers : AnswersFinding manner plan finding (is_stale plan given) answer
-  pub leaves : IsLeftOf plan finding left
+  pub answers : AnswersFinding options plan finding (is_stale plan given) answer
+  pub leaves : IsFindingCertificate plan finding left
 
-abbrev pub AnswersCert : Manner → Plan → Result Cert CertFault → Option (List ℕ) → Answer → Type 0
-AnswersCert manner plan (Err f) left answer = (left ≡ None) × AnswersCertFault manner.form f answer
-AnswersCert manner plan (Ok cert) left answer = AnswersPlan manner plan (Some cert) left answer
+abbrev pub AnswersCert : AskOptions → Plan → Result Cert CertFault → Option (List ℕ) → Answer → Type 0
+AnswersCert options plan (Err f) left answer = (left ≡ None) × AnswersCertFault options.form f answer
+AnswersCert options plan (Ok cert) left answer = AnswersPlan options plan (Some cert) left answer
 
 -- answers for a plan and, if one is given, the text of a certificate
-abbrev pub AnswersGiven : Manner → Option (List ℕ) → Plan → Option (List ℕ) → Answer → Type 0
-AnswersGiven manner None plan left answer = AnswersPlan manner plan None left answer
-AnswersGiven manner (Some cert) plan left answer = AnswersCert manner plan (cert_of cert plan) left answer
+abbrev pub AnswersGiven : AskOptions → Option (List ℕ) → Plan → Option (List ℕ) → Answer → Type 0
+AnswersGiven options None plan left answer = AnswersPlan options plan None left answer
+AnswersGiven options (Some cert) plan left answer = AnswersCert options plan (cert_of cert plan) left answer
 
-abbrev pub AnswersReading : Manner → Option (List ℕ) → Result Plan PlanFault → Option (List ℕ) → Answer → Type 0
-AnswersReading manner cert (Err f) left answer = (left ≡ None) × AnswersFault manner.form f answer
-AnswersReading manner cert (Ok plan) left answer = AnswersGiven manner cert plan left answer
+abbrev pub AnswersReading : AskOptions → Option (List ℕ) → Result Plan PlanFault → Option (List ℕ) → Answer → Type 0
+AnswersReading options cert (Err f) left answer = (left ≡ None) × AnswersFault options.form f answer
+AnswersReading options cert (Ok plan) left answer = AnswersGiven options cert plan left answer
 
-abbrev pub AnswersBundle : Manner → Option Bundle → Option (List ℕ) → Answer → Type 0
-AnswersBundle manner None left answer = (left ≡ None) × (answer ≡ no_separator)
-AnswersBundle manner (Some bundle) left answer = AnswersReading manner (Some bundle.second) (plan_of bundle.plan) left answer
+abbrev pub AnswersBundle : AskOptions → Option Bundle → Option (List ℕ) → Answer → Type 0
+AnswersBundle options None left answer = (left ≡ None) × (answer ≡ no_separator)
+AnswersBundle options (Some bundle) left answer = AnswersReading options (Some bundle.second) (plan_of bundle.plan) left answer
 
-abbrev pub AnswersInput : Given → Manner → List ℕ → Option (List ℕ) → Answer → Type 0
-AnswersInput PlanAlone manner input left answer = AnswersReading manner None (plan_of input) left answer
-AnswersInput WithCertificate manner input left answer = AnswersBundle manner (bundle_of input) left answer
+abbrev pub AnswersInput : AskInput → AskOptions → List ℕ → Option (List ℕ) → Answer → Type 0
+AnswersInput PlanAlone options input left answer = AnswersReading options None (plan_of input) left answer
+AnswersInput WithCertificate options input left answer = AnswersBundle options (bundle_of input) left answer
 
-abbrev pub IsAskAnswer : Given → Manner → List ℕ → Option (List ℕ) → Answer → Type 0
-IsAskAnswer given manner input left answer =
-    MatchBool (nat_lt MAX_INPUT_BYTES (length input)) ((left ≡ None) × (answer ≡ input_too_long)) (AnswersInput given manner input left answer)
+abbrev pub IsAskAnswer : AskInput → AskOptions → List ℕ → Option (List ℕ) → Answer → Type 0
+IsAskAnswer given options input left answer =
+    MatchBool (nat_lt MAX_INPUT_BYTES (length input)) ((left ≡ None) × (answer ≡ input_too_long)) (AnswersInput given options input left answer)
 
 -- ---- what status 0 means
 
@@ -189,6 +189,6 @@ pub record IsSafeBundle (input : List ℕ) : Type 0 where
   pub safe : IsSafePlan bundle.plan
 
 -- the plan in the input is safe
-abbrev pub IsSafeAsked : Given → List ℕ → Type 0
-IsSafeAsked PlanAlone input = IsSafePlan input
-IsSafeAsked WithCertificate input = IsSafeBundle input
+abbrev pub IsSafeAskInput : AskInput → List ℕ → Type 0
+IsSafeAskInput PlanAlone input = IsSafePlan input
+IsSafeAskInput WithCertificate input = IsSafeBundle input

@@ -13,8 +13,8 @@ use Rattle.size_search.specs.declared.found.SizesFound.{SizesFound}
 use Rattle.report.specs.Finding.{IsOpen}
 use Rattle.cert_check.specs.Verdict.{Verdict}
 use Rattle.cert_check.specs.Check.{checked, IsSafeToRun}
-use Rattle.sizing_cli.specs.declared.certify.Certified.{Certified}
-use Rattle.sizing_cli.specs.declared.certify.Certified.TheVariants.{Text, Nothing, TooLong}
+use Rattle.sizing_cli.specs.declared.certify.CertificateSearch.{CertificateSearch}
+use Rattle.sizing_cli.specs.declared.certify.CertificateSearch.TheVariants.{Text, NotFound, TooLong}
 use Rattle.sizing_cli.specs.declared.status.Status.TheVariants.{Done, Refused}
 use Rattle.sizing_cli.specs.Answer.{Answer, fault, input_too_long}
 use Rattle.sizing_cli.specs.Bundle.{bundle_of}
@@ -40,7 +40,7 @@ pub record IsYes (plan cert : List ℕ) : Type 0 where
 pub record IsBundleWith (plan cert text : List ℕ) : Type 0 where
   pub whole : text ≡ plan ++ (codes "%%" ++ 10 ∷ cert)
   pub splits : bundle_of text ≡ Some (record { plan = plan; second = cert })
-  pub says_yes : IsYes plan cert
+  pub is_accepted : IsYes plan cert
 
 -- the text of a certificate, as it is written, followed by a newline
 pub record IsCertLine (text : List ℕ) : Type 0 where
@@ -73,16 +73,16 @@ pub record IsUncertified (plan : Plan) : Type 0 where
 
 -- the possible results of a search for a certificate of the plan: the line of one; or none, and then the search for sizes
 -- found other sizes or none; or one that accepts the plan and whose text is too long
-abbrev pub IsFoundFor : Plan → Certified → Type 0
+abbrev pub IsFoundFor : Plan → CertificateSearch → Type 0
 IsFoundFor plan (Text line) = IsCertLine line.items
-IsFoundFor plan Nothing = IsUncertified plan
+IsFoundFor plan NotFound = IsUncertified plan
 IsFoundFor plan TooLong = IsTooLong plan
 
 -- the possible results for a plan's text, or the text's fault
-abbrev pub IsSearched : Result Plan PlanFault → Result Certified PlanFault → Type 0
+abbrev pub IsSearched : Result Plan PlanFault → Result CertificateSearch PlanFault → Type 0
 IsSearched (Ok plan) (Ok found) = IsFoundFor plan found
-IsSearched (Err fault) (Err told) = told ≡ fault
-IsSearched (Ok plan) (Err told) = ⊥
+IsSearched (Err fault) (Err reported) = reported ≡ fault
+IsSearched (Ok plan) (Err reported) = ⊥
 IsSearched (Err fault) (Ok found) = ⊥
 
 -- the possible answers for a plan's text: a bundle with a certificate; or that the certificate is too long, if it is; or

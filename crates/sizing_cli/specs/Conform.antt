@@ -45,11 +45,11 @@ is_undecided (finding.Invalidation void) = false
 abbrev pub status_of : List Finding → Status
 status_of findings = if length findings == 0 then Done else (if list_all is_undecided findings then Undecided else Refused)
 
-abbrev pub told_text : Plan → List Finding → List ℕ
-told_text plan findings = if length findings == 0 then codes "conforms" ++ 10 ∷ [] else findings_text plan findings
+abbrev pub conform_text : Plan → List Finding → List ℕ
+conform_text plan findings = if length findings == 0 then codes "conforms" ++ 10 ∷ [] else findings_text plan findings
 
 abbrev pub findings_answer : Plan → List Finding → Answer
-findings_answer plan findings = record { text = told_text plan findings; status = status_of findings }
+findings_answer plan findings = record { text = conform_text plan findings; status = status_of findings }
 
 abbrev pub answer_of : Plan → Conformance → Answer
 answer_of plan (Invalid found) = bad_recording found
@@ -61,17 +61,17 @@ abbrev pub AreAllFindings : Plan → List ℕ → List Finding → Type 0
 AreAllFindings plan recording findings = findings ≡ [] → Conforms plan (lines_of recording) × HasNoInvalidation (lines_of recording)
 
 -- either the recording's first malformed line; or, if it has none, all findings, each once, in the order of the lines
-pub record IsSaidOf (plan : Plan) (recording : List ℕ) (said : Conformance) : Type 0 where
-  pub bad : IsFirstFault (lines_read recording) (fault_of said)
-  pub found : IfCompared said (AreFindingsOf plan MAX_PATH_STEPS (lines_of recording))
-  pub conforms : IfCompared said (AreAllFindings plan recording)
-  pub ascending : IfCompared said AreInOrder
+pub record IsConformance (plan : Plan) (recording : List ℕ) (outcome : Conformance) : Type 0 where
+  pub bad : IsFirstFault (lines_read recording) (fault_of outcome)
+  pub found : IfCompared outcome (AreFindingsOf plan MAX_PATH_STEPS (lines_of recording))
+  pub conforms : IfCompared outcome (AreAllFindings plan recording)
+  pub ascending : IfCompared outcome AreInOrder
 
 -- the answers for a plan and a recording
 pub record AnswersRecording (plan : Plan) (recording : List ℕ) (answer : Answer) : Type 0 where
-  pub said : Conformance
-  pub is_said : IsSaidOf plan recording said
-  pub answer_is : answer ≡ answer_of plan said
+  pub outcome : Conformance
+  pub is_outcome : IsConformance plan recording outcome
+  pub answer_is : answer ≡ answer_of plan outcome
 
 abbrev pub AnswersReading : List ℕ → Result Plan PlanFault → Answer → Type 0
 AnswersReading recording (Err f) answer = answer ≡ fault (fault_line f)

@@ -34,9 +34,9 @@ abbrev pub text_too_long : Answer
 text_too_long = record { text = codes "no bundle: text too long" ++ 10 ∷ []; status = Refused }
 
 -- the lines that report the result of the search
-abbrev pub told : Plan → SizesFound → Answer
-told plan (Found fit cert) = sizes_answer plan fit
-told plan (NotFound cause) = no_sizes_answer plan cause
+abbrev pub lines_answer : Plan → SizesFound → Answer
+lines_answer plan (Found fit cert) = sizes_answer plan fit
+lines_answer plan (NotFound cause) = no_sizes_answer plan cause
 
 -- a written text of the plan is too long to be read back
 pub record HasLongPlanText (plan : Plan) : Type 0 where
@@ -61,7 +61,7 @@ BundlesSizes fit cert answer = ((answer ≡ text_too_long) × (HasLongPlanText f
 
 -- the answers for the result of the search
 abbrev pub AnswersFound : SizesForm → Plan → SizesFound → Answer → Type 0
-AnswersFound Sizes plan found answer = answer ≡ told plan found
+AnswersFound Sizes plan found answer = answer ≡ lines_answer plan found
 AnswersFound Bundle plan (Found fit cert) answer = BundlesSizes fit cert answer
 AnswersFound Bundle plan (NotFound cause) answer = answer ≡ no_sizes_answer plan cause
 
@@ -72,20 +72,20 @@ pub record IsAsDeclared (plan : Plan) (found : SizesFound) : Type 0 where
 
 -- the answers for a plan: the result is true of the plan, decides whether there are sizes, and is reported; if the steady
 -- certificate accepts the plan, no size changes
-pub record AnswersPlan (wanted : SizesForm) (plan : Plan) (answer : Answer) : Type 0 where
+pub record AnswersPlan (sizes_form : SizesForm) (plan : Plan) (answer : Answer) : Type 0 where
   pub found : SizesFound
   pub is_found : IsFound plan found
   pub is_decided : IsDecided plan found
   pub unchanged : IsTrue (accepted plan (steady_cert plan)) → IsAsDeclared plan found
-  pub answers : AnswersFound wanted plan found answer
+  pub answers : AnswersFound sizes_form plan found answer
 
 abbrev pub AnswersReading : SizesForm → Result Plan PlanFault → Answer → Type 0
-AnswersReading wanted (Err f) answer = answer ≡ fault (fault_line f)
-AnswersReading wanted (Ok plan) answer = AnswersPlan wanted plan answer
+AnswersReading sizes_form (Err f) answer = answer ≡ fault (fault_line f)
+AnswersReading sizes_form (Ok plan) answer = AnswersPlan sizes_form plan answer
 
 -- the possible answers to an input
 abbrev pub IsFitAnswer : SizesForm → List ℕ → Answer → Type 0
-IsFitAnswer wanted input answer = MatchBool (nat_lt MAX_INPUT_BYTES (length input)) (answer ≡ input_too_long) (AnswersReading wanted (plan_of input) answer)
+IsFitAnswer sizes_form input answer = MatchBool (nat_lt MAX_INPUT_BYTES (length input)) (answer ≡ input_too_long) (AnswersReading sizes_form (plan_of input) answer)
 
 -- what status 0 means for a bundle: it has such sizes, and the certificate for which they are the least
 pub record IsFittedBundle (plan : Plan) (text : List ℕ) : Type 0 where

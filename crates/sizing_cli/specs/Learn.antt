@@ -29,8 +29,8 @@ use Rattle.sizing_cli.specs.Conform.{AreAllFindings, bad_recording}
 
 -- ---- the comments at the head of a plan
 -- the number of rounds and jobs that the plan was derived from
-abbrev pub seen_comment : ℕ → ℕ → List ℕ
-seen_comment rounds jobs = codes "# Learned from a recording. Rounds: " ++ (decimal rounds ++ (codes ". Jobs: " ++ (decimal jobs ++ (codes "." ++ 10 ∷ []))))
+abbrev pub extent_comment : ℕ → ℕ → List ℕ
+extent_comment rounds jobs = codes "# Learned from a recording. Rounds: " ++ (decimal rounds ++ (codes ". Jobs: " ++ (decimal jobs ++ (codes "." ++ 10 ∷ []))))
 
 -- what a recording cannot show
 abbrev pub not_taken_comment : List ℕ
@@ -43,7 +43,7 @@ unfinished_comment rounds jobs =
     (codes "# Not at their ends yet. Rounds: " ++ (decimal rounds ++ (codes ". Jobs: " ++ (decimal jobs ++ (codes ". What they wait for, and what comes behind it, is not here." ++ 10 ∷ [])))))
 
 abbrev pub head_comment : InferredPlan → List ℕ
-head_comment seen = seen_comment seen.rounds seen.jobs ++ (not_taken_comment ++ unfinished_comment seen.unfinished_rounds seen.unfinished_jobs)
+head_comment seen = extent_comment seen.rounds seen.jobs ++ (not_taken_comment ++ unfinished_comment seen.unfinished_rounds seen.unfinished_jobs)
 
 -- the comment for a finding that the recording has and the plan does not contain
 abbrev pub comment_line : Plan → Finding → List ℕ

@@ -11,9 +11,9 @@ use Rattle.event_lines.specs.LineText.{lines_text}
 use Rattle.counterexample.specs.declared.witness.Witness.{Witness}
 use Rattle.counterexample.specs.Witness.{IsWitness}
 use Rattle.counterexample.specs.EventLines.{witness_lines}
-use Rattle.counterexample.specs.Told.{IsTold}
-use Rattle.command_line.specs.declared.command.Shown.{Shown}
-use Rattle.command_line.specs.declared.command.Shown.TheVariants.{Story, Bundle}
+use Rattle.counterexample.specs.AnswerText.{IsTold}
+use Rattle.command_line.specs.declared.command.RefuteFormat.{RefuteFormat}
+use Rattle.command_line.specs.declared.command.RefuteFormat.TheVariants.{Story, Bundle}
 use Rattle.job_bodies.specs.declared.limits.TheConstants.{MAX_INPUT_BYTES, MAX_EVENT_BYTES}
 use Rattle.sizing_cli.specs.declared.status.Status.{Status}
 use Rattle.sizing_cli.specs.declared.status.Status.TheVariants.{Done, Refused, Undecided}
@@ -32,26 +32,26 @@ IsWitnessOf plan witness = IsWitness plan witness.events.items witness.ending
 -- ---- the lines if there is no witness, with their statuses
 
 -- the status of an answer without a bundle: a no if a bundle was wanted
-abbrev pub without_bundle : Shown → Status → Status
+abbrev pub without_bundle : RefuteFormat → Status → Status
 without_bundle Story status = status
 without_bundle Bundle status = Refused
 
-abbrev pub safe_answer : Shown → Answer
-safe_answer shown = record { text = codes "safe: a certificate was found" ++ 10 ∷ []; status = without_bundle shown Done }
+abbrev pub safe_answer : RefuteFormat → Answer
+safe_answer refute_format = record { text = codes "safe: a certificate was found" ++ 10 ∷ []; status = without_bundle refute_format Done }
 
 -- the words after the number of states
 abbrev pub were_searched : ℕ → List ℕ
 were_searched states = if states == 1 then codes " state was searched" else codes " states were searched"
 
-abbrev pub not_decided : Shown → ℕ → Answer
-not_decided shown states = record { text = codes "not decided: " ++ (decimal states ++ (were_searched states ++ 10 ∷ [])); status = without_bundle shown Undecided }
+abbrev pub not_decided : RefuteFormat → ℕ → Answer
+not_decided refute_format states = record { text = codes "not decided: " ++ (decimal states ++ (were_searched states ++ 10 ∷ [])); status = without_bundle refute_format Undecided }
 
 -- neither a certificate nor a witness was found in `searched` states, which are at most `states`
-pub record IsUndecided (states : ℕ) (shown : Shown) (plan : Plan) (answer : Answer) : Type 0 where
+pub record IsUndecided (states : ℕ) (refute_format : RefuteFormat) (plan : Plan) (answer : Answer) : Type 0 where
   pub uncertified : IsUncertified plan
   pub searched : ℕ
   pub within : searched ≤ states
-  pub told : answer ≡ not_decided shown searched
+  pub reported : answer ≡ not_decided refute_format searched
 
 abbrev pub events_too_long : Answer
 events_too_long = record { text = codes "no bundle: too many events" ++ 10 ∷ []; status = Refused }
@@ -60,7 +60,7 @@ events_too_long = record { text = codes "no bundle: too many events" ++ 10 ∷ [
 
 -- the answer reports the witness: how it ends, and then its story
 pub record TellsWitness (plan : Plan) (witness : Witness) (answer : Answer) : Type 0 where
-  pub told : IsTold plan witness answer.text
+  pub reported : IsTold plan witness answer.text
   pub status : answer.status ≡ Refused
 
 -- the lines of the witness's events
@@ -73,16 +73,16 @@ pub record BundlesWitness (text : List ℕ) (plan : Plan) (witness : Witness) (a
   pub short : length (event_lines_of plan witness) ≤ MAX_EVENT_BYTES
   pub status : answer.status ≡ Done
 
-abbrev pub ShowsWitness : Shown → List ℕ → Plan → Witness → Answer → Type 0
+abbrev pub ShowsWitness : RefuteFormat → List ℕ → Plan → Witness → Answer → Type 0
 ShowsWitness Story text plan witness answer = TellsWitness plan witness answer
 ShowsWitness Bundle text plan witness answer =
     ((answer ≡ events_too_long) × (MAX_EVENT_BYTES < length (event_lines_of plan witness))) ⊎ BundlesWitness text plan witness answer
 
 -- the plan has a witness, and the answer shows it
-pub record Refutes (shown : Shown) (text : List ℕ) (plan : Plan) (answer : Answer) : Type 0 where
+pub record Refutes (refute_format : RefuteFormat) (text : List ℕ) (plan : Plan) (answer : Answer) : Type 0 where
   pub witness : Witness
   pub is_witness : IsWitnessOf plan witness
-  pub shows : ShowsWitness shown text plan witness answer
+  pub shows : ShowsWitness refute_format text plan witness answer
 
 -- the text is the input's plan followed by the events of a witness against it, which are not too long to be read back
 pub record IsWitnessBundle (input text : List ℕ) : Type 0 where
@@ -97,14 +97,14 @@ pub record IsWitnessBundle (input text : List ℕ) : Type 0 where
 
 -- the answers for a plan's text if at most `states` states may be searched: that it is safe, if some certificate accepts it;
 -- that it is undecided; or a witness
-abbrev pub AnswersPlan : ℕ → Shown → List ℕ → Plan → Answer → Type 0
-AnswersPlan states shown text plan answer = ((answer ≡ safe_answer shown) × HasCertificate plan) ⊎ (IsUndecided states shown plan answer ⊎ Refutes shown text plan answer)
+abbrev pub AnswersPlan : ℕ → RefuteFormat → List ℕ → Plan → Answer → Type 0
+AnswersPlan states refute_format text plan answer = ((answer ≡ safe_answer refute_format) × HasCertificate plan) ⊎ (IsUndecided states refute_format plan answer ⊎ Refutes refute_format text plan answer)
 
-abbrev pub AnswersReading : ℕ → Shown → List ℕ → Result Plan PlanFault → Answer → Type 0
-AnswersReading states shown text (Err f) answer = answer ≡ fault (fault_line f)
-AnswersReading states shown text (Ok plan) answer = AnswersPlan states shown text plan answer
+abbrev pub AnswersReading : ℕ → RefuteFormat → List ℕ → Result Plan PlanFault → Answer → Type 0
+AnswersReading states refute_format text (Err f) answer = answer ≡ fault (fault_line f)
+AnswersReading states refute_format text (Ok plan) answer = AnswersPlan states refute_format text plan answer
 
 -- the possible answers to an input
-abbrev pub IsRefuteAnswer : ℕ → Shown → List ℕ → Answer → Type 0
-IsRefuteAnswer states shown input answer =
-    MatchBool (nat_lt MAX_INPUT_BYTES (length input)) (answer ≡ input_too_long) (AnswersReading states shown (whole_lines input) (plan_of (whole_lines input)) answer)
+abbrev pub IsRefuteAnswer : ℕ → RefuteFormat → List ℕ → Answer → Type 0
+IsRefuteAnswer states refute_format input answer =
+    MatchBool (nat_lt MAX_INPUT_BYTES (length input)) (answer ≡ input_too_long) (AnswersReading states refute_format (whole_lines input) (plan_of (whole_lines input)) answer)

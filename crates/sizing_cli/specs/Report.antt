@@ -19,8 +19,8 @@ use Rattle.written_machine.specs.Reach.{start}
 use Rattle.locked_runner.specs.RunNumbers.{jobs, units}
 use Rattle.locked_runner.specs.Limits.{is_too_large}
 use Rattle.event_lines.specs.EventLine.{Line, event_lines}
-use Rattle.command_line.specs.declared.command.Review.{Review}
-use Rattle.command_line.specs.declared.command.Review.TheVariants.{Replay, Check, Explain}
+use Rattle.command_line.specs.declared.command.ReviewCommand.{ReviewCommand}
+use Rattle.command_line.specs.declared.command.ReviewCommand.TheVariants.{Replay, Check, Explain}
 use Rattle.job_bodies.specs.declared.limits.TheConstants.{MAX_INPUT_BYTES, MAX_EVENT_BYTES}
 use Rattle.sizing_cli.specs.declared.status.Status.TheVariants.{Done, Refused}
 use Rattle.sizing_cli.specs.Answer.{Answer, fault, no_separator, input_too_long, bad_event, yes_or_no}
@@ -101,13 +101,13 @@ abbrev pub answer_by : (Plan → List ℕ → Answer) → List ℕ → Answer
 answer_by answers input = if nat_lt MAX_INPUT_BYTES (length input) then input_too_long else answer_of_bundle answers (bundle_of input)
 
 -- a review's answer for a plan and a second part
-abbrev pub answer_of : Review → Plan → List ℕ → Answer
+abbrev pub answer_of : ReviewCommand → Plan → List ℕ → Answer
 answer_of Replay plan second = replay plan second
 answer_of Check plan second = check plan second
 answer_of Explain plan second = explain plan second
 
 -- a review's answer to an input
-abbrev pub report : Review → List ℕ → Answer
+abbrev pub report : ReviewCommand → List ℕ → Answer
 report review input = answer_by (answer_of review) input
 
 -- the answer of a run of `rounds` rounds

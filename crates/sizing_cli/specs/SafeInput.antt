@@ -4,7 +4,7 @@ use Rattle.job_bodies.specs.Plan.{Plan}
 use Rattle.plan_text.specs.PlanOf.{plan_of}
 use Rattle.cert_text.specs.Cert.{Cert}
 use Rattle.soundness.specs.Headline.{Promises}
-use Rattle.command_line.specs.declared.command.Review.TheVariants.{Check}
+use Rattle.command_line.specs.declared.command.ReviewCommand.TheVariants.{Check}
 use Rattle.cert_check.specs.Check.{IsSafeToRun}
 use Rattle.sizing_cli.specs.declared.status.Status.TheVariants.{Done}
 use Rattle.sizing_cli.specs.Bundle.{Bundle, bundle_of}

@@ -5,7 +5,7 @@ use Rattle.byte_streams.specs.declared.reading.InputError.TheVariants.{Memory, F
 use Rattle.cert_search.specs.declared.finding.SearchFault.{SearchFault}
 use Rattle.cert_search.specs.declared.finding.SearchFault.TheVariants as search
 use Rattle.command_line.specs.declared.command.Command.{Command}
-use Rattle.command_line.specs.declared.command.Command.TheVariants.{Alone, OnRecording, OnThreads}
+use Rattle.command_line.specs.declared.command.Command.TheVariants.{Sequential, OnRecording, OnThreads}
 use Rattle.command_line.specs.declared.command.Task.{Task}
 use Rattle.command_line.specs.declared.command.Task.TheVariants.{Certify, Fit, Run, Refute, Ask}
 use Rattle.support.specs.declared.number.TheConstants.{MEMORY, STRANGE, MIXED, GATE, READ_FAILED, WRITE_FAILED}
@@ -43,13 +43,13 @@ is_of_run number = number == STRANGE || is_of_search number
 -- the faults of a task, apart from reading and writing
 abbrev pub is_of_threads : Task → ℕ → Bool
 is_of_threads (Certify workers) number = is_of_search number
-is_of_threads (Fit wanted) number = is_of_search number
+is_of_threads (Fit sizes_form) number = is_of_search number
 is_of_threads (Run rounds) number = is_of_run number
-is_of_threads (Refute states shown) number = is_of_search number
-is_of_threads (Ask given manner) number = is_of_search number
+is_of_threads (Refute states refute_format) number = is_of_search number
+is_of_threads (Ask given options) number = is_of_search number
 
 -- the faults of a command
 abbrev pub is_known_of : Command → ℕ → Bool
-is_known_of (Alone review) number = is_known number
+is_known_of (Sequential review) number = is_known number
 is_known_of (OnRecording reading) number = is_known number
 is_known_of (OnThreads task) number = is_known number || is_of_threads task number

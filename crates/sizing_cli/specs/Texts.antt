@@ -9,17 +9,17 @@ use Rattle.sizing_cli.specs.Laws.{has_separator}
 use Rattle.sizing_cli.specs.InputLength.{most_bytes}
 
 -- the bundle of a plan's text and a second text
-abbrev pub joined : List ℕ → List ℕ → List ℕ
-joined plan second = whole_lines plan ++ (codes "%%" ++ 10 ∷ second)
+abbrev pub join_texts : List ℕ → List ℕ → List ℕ
+join_texts plan second = whole_lines plan ++ (codes "%%" ++ 10 ∷ second)
 
 -- if the second text has no line `%%`, the bundle splits into the two texts again
 abbrev pub JoinedTextsSplitAgain : Type 0
 JoinedTextsSplitAgain = (plan second : List ℕ) → has_separator second ≡ false
-    → bundle_of (joined plan second) ≡ Some (record { plan = whole_lines plan; second = second })
+    → bundle_of (join_texts plan second) ≡ Some (record { plan = whole_lines plan; second = second })
 
 -- the part of a text that the command reads, which is enough to detect one that is too long
-abbrev pub front : Command → List ℕ → List ℕ
-front command = take (most_bytes command + 1)
+abbrev pub read_part : Command → List ℕ → List ℕ
+read_part command = take (most_bytes command + 1)
 
 -- the name, unless it means standard input
 abbrev pub not_input : Text → Option Text
@@ -41,13 +41,13 @@ text_named files input name = text_of files input (file_named name)
 -- the input if all is in one text
 abbrev pub served_of : Command → (Text → Option (List ℕ)) → Option (List ℕ) → Option Text → Option (List ℕ)
 served_of command files input None = input
-served_of command files input (Some name) = option_map (front command) (files name)
+served_of command files input (Some name) = option_map (read_part command) (files name)
 
-abbrev pub both_fronts : Command → Option (List ℕ) → Option (List ℕ) → Option (List ℕ)
-both_fronts command (Some plan) (Some second) = Some (joined (front command plan) (front command second))
-both_fronts command _ _ = None
+abbrev pub both_read_parts : Command → Option (List ℕ) → Option (List ℕ) → Option (List ℕ)
+both_read_parts command (Some plan) (Some second) = Some (join_texts (read_part command plan) (read_part command second))
+both_read_parts command _ _ = None
 
 -- the command's input, if it is known, from the named files and standard input
 abbrev pub input_named : Command → (Text → Option (List ℕ)) → Option (List ℕ) → Option Text × Option Text → Option (List ℕ)
 input_named command files input (first, None) = served_of command files input (file_named first)
-input_named command files input (first, Some second) = both_fronts command (text_named files input first) (text_named files input (Some second))
+input_named command files input (first, Some second) = both_read_parts command (text_named files input first) (text_named files input (Some second))

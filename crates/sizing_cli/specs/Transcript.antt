@@ -30,8 +30,8 @@ is_last reply.NotPossible = true
 is_last _ = false
 
 -- the part of the answer for the line of this number
-abbrev pub replied : Plan → ℕ → Reply → Answer
-replied plan number reply = record { text = numbered number (reply_text plan reply); status = if is_no reply then Refused else Done }
+abbrev pub reply_answer : Plan → ℕ → Reply → Answer
+reply_answer plan number reply = record { text = numbered number (reply_text plan reply); status = if is_no reply then Refused else Done }
 
 abbrev pub unfinished : State → ℕ
 unfinished s = count_by (λ job. is_unfinished job.stage) s.jobs
@@ -41,18 +41,18 @@ abbrev pub ending : State → Answer
 ending s = record { text = summary s.refusals (unfinished s); status = Done }
 
 -- the state after an event, and the reply to it
-abbrev pub happened : State → Option (State × Outcome) → State × Reply
-happened s None = (s, reply.NotPossible)
-happened s (Some x) = (x.0, reply.Performed x.1)
+abbrev pub event_reply : State → Option (State × Outcome) → State × Reply
+event_reply s None = (s, reply.NotPossible)
+event_reply s (Some x) = (x.0, reply.Performed x.1)
 
 -- the state after a line, and the reply to it
 abbrev pub reply_to : Plan → State → Line → State × Reply
-reply_to plan s (Perform event) = happened s (step plan s event)
+reply_to plan s (Perform event) = event_reply s (step plan s event)
 reply_to plan s (Stuck members) = (s, reply.Stuck (is_waiting_set plan s members))
 
 -- a reply, and then the rest from the new state, or the ending
 abbrev pub reply_then : Plan → ℕ → State × Reply → (State → Answer) → Answer
-reply_then plan number x rest = followed_by (replied plan number x.1) (if is_last x.1 then ending x.0 else rest x.0)
+reply_then plan number x rest = followed_by (reply_answer plan number x.1) (if is_last x.1 then ending x.0 else rest x.0)
 
 -- the replay of the lines from a state, with numbers from `number`
 abbrev pub transcript : Plan → State → ℕ → List Line → Answer

@@ -6,7 +6,7 @@ ghost use Rattle.job_bodies.specs.FaultText.{fault_line};
 ghost use Rattle.sizing_cli.specs.Answer as spec;
 ghost use Rattle.sizing_cli.specs.Conform.{bad_recording as bad_recording_spec};
 ghost use Rattle.sizing_cli.specs.Report.{too_large};
-ghost use Rattle.sizing_cli.specs.Transcript.{is_no, replied};
+ghost use Rattle.sizing_cli.specs.Transcript.{is_no, reply_answer};
 
 use crate::Status;
 use cert_text::CertFault;
@@ -61,7 +61,7 @@ impl Answer {
         reply: Reply,
     ) -> Result<(), AllocError>
         ensures { IfOk result
-            (λ _. self.new ≡ spec.followed_by self.old (replied plan.now number.now reply)) }
+            (λ _. self.new ≡ spec.followed_by self.old (reply_answer plan.now number.now reply)) }
     {
         push_reply(&mut self.text, plan, number, reply)?;
         if is_no(reply) {

@@ -6,11 +6,11 @@ ghost use Rattle.soundness.specs.Accepted.{accepted};
 ghost use Rattle.size_search.specs.Steady.{steady_cert};
 ghost use Rattle.report.specs.Finding.{IsKnown};
 ghost use Rattle.sizing_cli.specs.Certify.{IsUncertified};
-ghost use Rattle.sizing_cli.specs.OfSizes as spec;
+ghost use Rattle.sizing_cli.specs.DeclaredSizes as spec;
 ghost use Rattle.sizing_cli.specs.ServeFault.{is_of_search};
 
 use crate::ServeFault;
-use crate::at_once::AtOnce;
+use crate::noop_gate::NoopGate;
 use cert_check::accepts;
 use cert_search::search;
 use cert_text::Cert;
@@ -48,7 +48,7 @@ pub(crate) fn certificate_of<R: Threads + Wait + Sync>(
     ensures none { IfOk result (λ found. IfNone found (IsUncertified plan.now)) }
     ensures fault { IfErr result (λ fault. IsTrue (is_of_search fault.number)) }
 {
-    match search(rt, alloc, plan, workers_of(plan, workers), &AtOnce)? {
+    match search(rt, alloc, plan, workers_of(plan, workers), &NoopGate)? {
         Some(cert) => Ok(Some(cert)),
         None => Ok(certificate_of_sizes(alloc, plan)?),
     }
@@ -72,13 +72,13 @@ fn certificate_of_sizes(alloc: Global, plan: &Plan) -> Result<Option<Cert>, Allo
 {
     let sizes = search_sizes(alloc, plan, None)?;
     Ok(match as_declared(plan, sizes) {
-        Declared::Accepted(cert) => Some(cert),
-        Declared::Other(_sizes) => None,
+        SizesComparison::Accepted(cert) => Some(cert),
+        SizesComparison::Other(_sizes) => None,
     })
 }
 
 /// The result of comparing the sizes that a search found with the declared ones.
-pub(crate) enum Declared {
+pub(crate) enum SizesComparison {
     /// A certificate that accepts the plan with its declared sizes.
     Accepted(Cert),
     /// Sizes that differ from the declared ones, or the reason why none were found.
@@ -86,19 +86,19 @@ pub(crate) enum Declared {
 }
 
 /// Compares the sizes that a search found with those that the plan declares.
-pub(crate) fn as_declared(plan: &Plan, sizes: SizesFound) -> Declared
+pub(crate) fn as_declared(plan: &Plan, sizes: SizesFound) -> SizesComparison
     requires known { IsKnown plan.now sizes }
     requires not_steady { accepted plan.now (steady_cert plan.now) ≡ false }
-    ensures { spec.IsSaid plan.now result }
+    ensures { spec.IsComparison plan.now result }
 {
     match sizes {
         SizesFound::Found { plan: fit, cert } => {
             if accepts(plan, &cert) {
-                Declared::Accepted(cert)
+                SizesComparison::Accepted(cert)
             } else {
-                Declared::Other(SizesFound::Found { plan: fit, cert })
+                SizesComparison::Other(SizesFound::Found { plan: fit, cert })
             }
         }
-        SizesFound::NotFound(cause) => Declared::Other(SizesFound::NotFound(cause)),
+        SizesFound::NotFound(cause) => SizesComparison::Other(SizesFound::NotFound(cause)),
     }
 }

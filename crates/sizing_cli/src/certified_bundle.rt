@@ -3,11 +3,11 @@
 ghost use Rattle.std.specs.Prelude.{◌≡◌, ◌≤◌, ◌++◌, ◌∷◌, codes, IfOk, IfErr, IfSome, IsTrue};
 ghost use Rattle.job_bodies.specs.declared.limits.TheConstants.{MAX_WORKERS};
 ghost use Rattle.sizing_cli.specs.Certify.{IsBundleWith, IsYes};
-ghost use Rattle.sizing_cli.specs.SplitAt.{IsSplitAt};
+ghost use Rattle.sizing_cli.specs.CertifiedSplit.{IsCertifiedSplit};
 ghost use Rattle.sizing_cli.specs.ServeFault.{is_of_search};
 
 use crate::ServeFault;
-use crate::at_once::AtOnce;
+use crate::noop_gate::NoopGate;
 use crate::bundle::{Bundle, bundle_of};
 use cert_check::{CheckFault, check_on};
 use std::alloc::{AllocError, Global};
@@ -31,7 +31,7 @@ pub fn certified_bundle<R: Threads + Wait + Sync>(
     ensures fault { IfErr result (λ fault. IsTrue (is_of_search fault.number)) }
 {
     let plan_len = plan.len();
-    let text = joined(plan, cert)?;
+    let text = join_texts(plan, cert)?;
     if is_certified(rt, alloc, workers, &text, plan_len)? {
         Ok(Some(text))
     } else {
@@ -40,7 +40,7 @@ pub fn certified_bundle<R: Threads + Wait + Sync>(
 }
 
 /// Joins the two texts with a line `%%` between them, and frees the second one.
-fn joined(plan: Vec<u8>, cert: Vec<u8>) -> Result<Vec<u8>, AllocError>
+fn join_texts(plan: Vec<u8>, cert: Vec<u8>) -> Result<Vec<u8>, AllocError>
     ensures { IfOk result (λ text. text.items ≡ plan.items ++ (codes "%%" ++ 10 ∷ cert.items)) }
 {
     let mut text = plan;
@@ -62,17 +62,17 @@ fn is_certified<R: Threads + Wait + Sync>(
 ) -> Result<bool, ServeFault>
     requires some { 1 ≤ workers }
     requires most { workers ≤ MAX_WORKERS }
-    ensures yes { IfOk result (λ yes. IsTrue yes → IsSplitAt plan_len text.now) }
+    ensures yes { IfOk result (λ yes. IsTrue yes → IsCertifiedSplit plan_len text.now) }
     ensures fault { IfErr result (λ fault. IsTrue (is_of_search fault.number)) }
 {
     match bundle_of(text) {
-        Some(bundle) if bundle.plan.len() == plan_len => says_yes(rt, alloc, workers, bundle),
+        Some(bundle) if bundle.plan.len() == plan_len => is_accepted(rt, alloc, workers, bundle),
         _ => Ok(false),
     }
 }
 
 /// Returns whether `check` accepts the two parts. It does not if either has a fault.
-fn says_yes<R: Threads + Wait + Sync>(
+fn is_accepted<R: Threads + Wait + Sync>(
     rt: &R,
     alloc: Global,
     workers: usize,
@@ -84,7 +84,7 @@ fn says_yes<R: Threads + Wait + Sync>(
         (λ yes. IsTrue yes → IsYes bundle.entry.plan.now bundle.entry.second.now) }
     ensures fault { IfErr result (λ fault. IsTrue (is_of_search fault.number)) }
 {
-    match check_on(rt, alloc, workers, bundle.plan, bundle.second, &AtOnce) {
+    match check_on(rt, alloc, workers, bundle.plan, bundle.second, &NoopGate) {
         Ok(verdict) => Ok(verdict.yes),
         Err(CheckFault::Plan(_) | CheckFault::Cert(_)) => Ok(false),
         Err(CheckFault::Memory) => Err(ServeFault { number: MEMORY }),

@@ -21,10 +21,10 @@ use std::thread::Threads;
 use support::number::MIXED;
 
 /// The result of the search for a certificate.
-enum Certified {
+enum CertificateSearch {
     /// The text of a certificate, with its newline.
     Text(Vec<u8>),
-    Nothing,
+    NotFound,
     /// A certificate whose text would be too long to be read back.
     TooLong,
 }
@@ -51,11 +51,11 @@ pub fn certify<R: Threads + Wait + Sync>(
         return Ok(Output::of(input_too_long(alloc)?));
     }
     let text = whole_lines(input)?;
-    let found = searched(rt, alloc, workers, &text)?;
+    let found = search_text(rt, alloc, workers, &text)?;
     match found {
-        Ok(Certified::Text(cert)) => bundle(rt, alloc, workers, text, cert),
-        Ok(Certified::Nothing) => Ok(Output::of(none_found(alloc)?)),
-        Ok(Certified::TooLong) => Ok(Output::of(text_too_long(alloc)?)),
+        Ok(CertificateSearch::Text(cert)) => bundle(rt, alloc, workers, text, cert),
+        Ok(CertificateSearch::NotFound) => Ok(Output::of(none_found(alloc)?)),
+        Ok(CertificateSearch::TooLong) => Ok(Output::of(text_too_long(alloc)?)),
         Err(fault) => Ok(Output::of(plan_fault(alloc, fault)?)),
     }
 }
@@ -77,12 +77,12 @@ pub fn whole_lines(mut text: Vec<u8>) -> Result<Vec<u8>, AllocError>
 
 /// Searches for a certificate of the plan in this text, and returns the text's first fault if it
 /// has one. Drops the plan, so that its memory is free when the bundle is checked.
-fn searched<R: Threads + Wait + Sync>(
+fn search_text<R: Threads + Wait + Sync>(
     rt: &R,
     alloc: Global,
     workers: usize,
     text: &[u8],
-) -> Result<Result<Certified, PlanFault>, ServeFault>
+) -> Result<Result<CertificateSearch, PlanFault>, ServeFault>
     requires some { 1 ≤ workers }
     requires most { workers ≤ MAX_WORKERS }
     ensures found { IfOk result (spec.IsSearched (plan_of text.now)) }
@@ -99,21 +99,21 @@ fn found_text<R: Threads + Wait + Sync>(
     alloc: Global,
     workers: usize,
     plan: &Plan,
-) -> Result<Certified, ServeFault>
+) -> Result<CertificateSearch, ServeFault>
     requires some { 1 ≤ workers }
     requires most { workers ≤ MAX_WORKERS }
     ensures found { IfOk result (spec.IsFoundFor plan.now) }
     ensures fault { IfErr result (λ fault. IsTrue (is_of_search fault.number)) }
 {
     let Some(cert) = certificate_of(rt, alloc, workers, plan)? else {
-        return Ok(Certified::Nothing);
+        return Ok(CertificateSearch::NotFound);
     };
     let mut text = write_cert(alloc, &cert)?;
     if text.len() >= MAX_CERT_BYTES {
-        return Ok(Certified::TooLong);
+        return Ok(CertificateSearch::TooLong);
     }
     text.extend_from_slice(b"\n")?;
-    Ok(Certified::Text(text))
+    Ok(CertificateSearch::Text(text))
 }
 
 /// Returns the bundle of the two texts, which `check` accepts.

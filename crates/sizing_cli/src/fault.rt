@@ -1,9 +1,9 @@
 //! The errors of a call with the arguments of a command line.
 
 ghost use Rattle.std.specs.Prelude.{◌≡◌};
-ghost use Rattle.sizing_cli.specs.declared.fault.WordsFault.TheVariants.{Served, Words};
+ghost use Rattle.sizing_cli.specs.declared.fault.CliError.TheVariants.{Serve, Words};
 ghost use Rattle.support.specs.declared.number.TheConstants.{MEMORY};
-ghost use Rattle.sizing_cli.specs.WordsFault as spec;
+ghost use Rattle.sizing_cli.specs.CliError as spec;
 
 use crate::ServeFault;
 use clap::Error;
@@ -18,7 +18,7 @@ const NO_ANSWER: u8 = 3;
 /// The reason why the arguments of a command line got no complete answer. Nothing was written,
 /// except after a failure of the sink or of the certificate's file.
 #[derive(Debug, Drop)]
-pub enum WordsFault<'a> {
+pub enum CliError<'a> {
     /// An error of `clap`, or a request for help. Its `Display` is `clap`'s own text for the user.
     Words(Error),
     /// The arguments name no command.
@@ -34,46 +34,46 @@ pub enum WordsFault<'a> {
     /// was written.
     Unwritten(&'a str),
     /// The command ended with this fault.
-    Served(ServeFault),
+    Serve(ServeFault),
 }
 
-impl WordsFault<'_> {
+impl CliError<'_> {
     /// Returns the program's exit status: 2 for bad arguments and for help, 3 if there is no
     /// answer.
     pub fn code(&self) -> u8
         ensures { spec.IsCode self.now result }
     {
         match self {
-            WordsFault::Words(error) if error.kind() == ErrorKind::OutOfMemory => NO_ANSWER,
-            WordsFault::Words(_)
-            | WordsFault::NoCommand
-            | WordsFault::InputTwice
-            | WordsFault::Occupied(_) => USAGE,
-            WordsFault::Unread(_) | WordsFault::Unwritten(_) | WordsFault::Served(_) => NO_ANSWER,
+            CliError::Words(error) if error.kind() == ErrorKind::OutOfMemory => NO_ANSWER,
+            CliError::Words(_)
+            | CliError::NoCommand
+            | CliError::InputTwice
+            | CliError::Occupied(_) => USAGE,
+            CliError::Unread(_) | CliError::Unwritten(_) | CliError::Serve(_) => NO_ANSWER,
         }
     }
 }
 
-impl<'a> From<Error> for WordsFault<'a> {
+impl<'a> From<Error> for CliError<'a> {
     ghost from_gives = { λ error fault. fault ≡ Words error };
 
-    fn from(error: Error) -> WordsFault<'a> {
-        WordsFault::Words(error)
+    fn from(error: Error) -> CliError<'a> {
+        CliError::Words(error)
     }
 }
 
-impl<'a> From<ServeFault> for WordsFault<'a> {
-    ghost from_gives = { λ error fault. fault ≡ Served error };
+impl<'a> From<ServeFault> for CliError<'a> {
+    ghost from_gives = { λ error fault. fault ≡ Serve error };
 
-    fn from(fault: ServeFault) -> WordsFault<'a> {
-        WordsFault::Served(fault)
+    fn from(fault: ServeFault) -> CliError<'a> {
+        CliError::Serve(fault)
     }
 }
 
-impl<'a> From<AllocError> for WordsFault<'a> {
-    ghost from_gives = { λ _ fault. fault ≡ Served (record { number = MEMORY }) };
+impl<'a> From<AllocError> for CliError<'a> {
+    ghost from_gives = { λ _ fault. fault ≡ Serve (record { number = MEMORY }) };
 
-    fn from(error: AllocError) -> WordsFault<'a> {
-        WordsFault::Served(ServeFault::from(error))
+    fn from(error: AllocError) -> CliError<'a> {
+        CliError::Serve(ServeFault::from(error))
     }
 }

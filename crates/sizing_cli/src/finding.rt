@@ -9,8 +9,8 @@ ghost use Rattle.sizing_cli.specs.Ask as spec;
 ghost use Rattle.sizing_cli.specs.ServeFault.{is_of_search};
 
 use crate::ServeFault;
-use crate::at_once::AtOnce;
-use crate::certificate::{Declared, WORKERS, as_declared};
+use crate::noop_gate::NoopGate;
+use crate::certificate::{SizesComparison, WORKERS, as_declared};
 use crate::witness::witness_of;
 use cert_check::accepts;
 use cert_search::search;
@@ -76,7 +76,7 @@ fn search_finding<R: Threads + Wait + Sync>(
     ensures finding { IfOk result (IsFinding plan.now) }
     ensures fault { IfErr result (λ fault. IsTrue (is_of_search fault.number)) }
 {
-    match search(rt, alloc, plan, WORKERS, &AtOnce)? {
+    match search(rt, alloc, plan, WORKERS, &NoopGate)? {
         Some(cert) => Ok(PlanFinding::Safe(cert)),
         None => Ok(without_certificate(alloc, plan)?),
     }
@@ -104,7 +104,7 @@ fn without_witness(plan: &Plan, sizes: SizesFound) -> PlanFinding
     ensures { IsFinding plan.now result }
 {
     match as_declared(plan, sizes) {
-        Declared::Accepted(cert) => PlanFinding::Safe(cert),
-        Declared::Other(sizes) => PlanFinding::NotDecided(sizes),
+        SizesComparison::Accepted(cert) => PlanFinding::Safe(cert),
+        SizesComparison::Other(sizes) => PlanFinding::NotDecided(sizes),
     }
 }

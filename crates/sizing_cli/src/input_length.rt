@@ -12,7 +12,7 @@ pub fn most_bytes(command: Command) -> usize
     ensures { result ≡ spec.most_bytes command }
 {
     match command {
-        Command::Alone(_) | Command::OnThreads(_) => MAX_INPUT_BYTES,
+        Command::Sequential(_) | Command::OnThreads(_) => MAX_INPUT_BYTES,
         Command::OnRecording(_) => MAX_RECORDED_BYTES,
     }
 }

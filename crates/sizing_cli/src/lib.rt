@@ -4,36 +4,36 @@
 //! writes the answer.
 #![tactic(auto)]
 
-mod alone;
+mod sequential;
 mod answer;
-mod asked_faults;
-mod asking;
-mod at_once;
+mod ask_faults;
+mod ask_answer;
+mod noop_gate;
 mod bundle;
 mod certificate;
 mod certified_bundle;
 mod certify;
-mod checking;
-mod conforming;
-mod explaining;
+mod check;
+mod conform;
+mod explain;
 mod fault;
 mod finding;
-mod fitting;
-mod found_answer;
-mod inferring;
+mod fit;
+mod finding_answer;
+mod learn;
 mod input;
 mod input_laws;
 mod input_length;
-mod joining;
-mod joining_laws;
+mod join;
+mod join_laws;
 mod output;
-mod recorded;
-mod refuting;
-mod replaying;
-mod reviewing;
-mod running;
-mod serving;
-mod serving_words;
+mod recording_commands;
+mod refute;
+mod replay;
+mod review_answer;
+mod run;
+mod entry_points;
+mod arguments;
 mod status;
 mod std_files;
 mod text_files;
@@ -41,25 +41,25 @@ mod texts;
 mod transcript;
 mod witness;
 
-pub use alone::serve_alone;
-pub use asking::{Replied, ask};
+pub use sequential::serve_alone;
+pub use ask_answer::{AskOutput, ask};
 pub use byte_streams::{IoFault, MemorySink, MemorySource, Sink, Source, StdSink, StdSource};
 pub use certify::whole_lines;
 pub use command_line::{
-    Command, Form, Given, Manner, Reading, Review, Shown, SizesForm, Task, read_words,
+    Command, Form, AskInput, AskOptions, RecordingCommand, ReviewCommand, RefuteFormat, SizesForm, Task, read_words,
 };
-pub use fault::WordsFault;
-pub use fitting::answer_of_sizes;
+pub use fault::CliError;
+pub use fit::answer_of_sizes;
 pub use input_laws::{
     a_yes_means_safe, inputs_split_at_the_last_separator, no_bundle_without_a_separator,
 };
 pub use input_length::most_bytes;
-pub use joining::joined;
-pub use joining_laws::joined_texts_split_again;
+pub use join::join_texts;
+pub use join_laws::joined_texts_split_again;
 pub use output::Output;
-pub use recorded::serve_recording;
-pub use serving::{serve, serve_named};
-pub use serving_words::serve_words;
+pub use recording_commands::serve_recording;
+pub use entry_points::{serve, serve_named};
+pub use arguments::serve_words;
 pub use status::{ServeFault, Status};
 pub use std_files::StdFiles;
 pub use text_files::TextFiles;

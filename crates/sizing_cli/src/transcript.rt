@@ -6,7 +6,7 @@ ghost use Rattle.interleaving.specs.LiveView.{live_view};
 ghost use Rattle.event_lines.specs.EventLine.{all_from, line_seen};
 ghost use Rattle.interleaving.specs.OfPlan.{IsReachableView};
 ghost use Rattle.sizing_cli.specs.Report.{replay_of_lines};
-ghost use Rattle.sizing_cli.specs.SoFar.{IsEnded, IsTranscribed, RepliesSo};
+ghost use Rattle.sizing_cli.specs.PartialTranscript.{IsWithEnding, IsTranscribed, RepliesToLine};
 ghost use Rattle.sizing_cli.specs.declared.status.Status.TheVariants as statuses;
 ghost use Rattle.sizing_cli.specs.Transcript as spec;
 
@@ -73,7 +73,7 @@ fn reply_to(
 ) -> Result<Reply, AllocError>
     requires { IsReachableView plan.now world.old.view }
     ensures { IfOk result
-        (λ reply. RepliesSo plan.now world.old.view world.new.view (line_seen line.entry) reply) }
+        (λ reply. RepliesToLine plan.now world.old.view world.new.view (line_seen line.entry) reply) }
 {
     match line {
         EventLine::Perform(event) => match world.step(plan, event)? {
@@ -97,7 +97,7 @@ fn is_last(reply: Reply) -> bool
 
 /// Appends the line with the numbers of refusals and unfinished jobs.
 fn finish(mut answer: Answer, world: &World) -> Result<Answer, AllocError>
-    ensures { IfOk result (λ whole. IsEnded world.now.view answer whole) }
+    ensures { IfOk result (λ whole. IsWithEnding world.now.view answer whole) }
 {
     push_summary(&mut answer.text, world.refusals(), world.unfinished())?;
     Ok(answer)

@@ -11,7 +11,7 @@ use weights::{Bound, Vector};
 
 /// The result of a search for a witness.
 #[derive(Drop)]
-pub(crate) struct Sought {
+pub(crate) struct WitnessSearch {
     pub(crate) witness: Option<Witness>,
     /// The number of states that were searched.
     pub(crate) states: usize,
@@ -19,9 +19,9 @@ pub(crate) struct Sought {
 
 /// Searches at most `states` states for a witness against the plan. A witness that is found is
 /// confirmed by a replay.
-pub(crate) fn witness_of(alloc: Global, plan: &Plan, states: usize) -> Result<Sought, AllocError>
-    ensures witness { IfOk result (λ sought. IfSome sought.witness (IsWitnessOf plan.now)) }
-    ensures states { IfOk result (λ sought. sought.states ≤ states) }
+pub(crate) fn witness_of(alloc: Global, plan: &Plan, states: usize) -> Result<WitnessSearch, AllocError>
+    ensures witness { IfOk result (λ search. IfSome search.witness (IsWitnessOf plan.now)) }
+    ensures states { IfOk result (λ search. search.states ≤ states) }
 {
     let searched = search_witness(alloc, plan, states)?;
     let states = searched.states;
@@ -29,7 +29,7 @@ pub(crate) fn witness_of(alloc: Global, plan: &Plan, states: usize) -> Result<So
         Some(found) => confirm(alloc, plan, found)?,
         None => None,
     };
-    Ok(Sought { witness, states })
+    Ok(WitnessSearch { witness, states })
 }
 
 /// Confirms a candidate by a replay. Returns `None` if it is not a witness.
@@ -60,7 +60,7 @@ fn standing_vectors(alloc: Global, plan: &Plan) -> Result<Vec<Vector>, AllocErro
     };
     for pool in 0..plan.pools().len() {
         let vector = match pool_bound(alloc, plan, &levels, pool)? {
-            Some(bound) => standing_of(alloc, bound),
+            Some(bound) => standing_vector(alloc, bound),
             None => no_weights(alloc),
         };
         vectors.push(vector)?;
@@ -69,7 +69,7 @@ fn standing_vectors(alloc: Global, plan: &Plan) -> Result<Vec<Vector>, AllocErro
 }
 
 /// Returns the vector of a standing bound.
-fn standing_of(alloc: Global, bound: Bound) -> Vector {
+fn standing_vector(alloc: Global, bound: Bound) -> Vector {
     match bound {
         Bound::Standing(vector) => vector,
         Bound::Lifetime(_vector) => no_weights(alloc),

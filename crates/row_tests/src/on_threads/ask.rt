@@ -4,18 +4,18 @@ ghost use Rattle.command_line.specs.Command.{IsInRange};
 
 use crate::on_threads::ended::Ended;
 use crate::on_threads::fit::served;
-use sizing_cli::{Command, Form, Given, Manner, Task};
+use sizing_cli::{Command, Form, AskInput, AskOptions, Task};
 use std::alloc::{AllocError, Global};
 use std::sync::Wait;
 use std::thread::Threads;
 
 /// Returns the command for a plan alone, or for a plan with a certificate.
-fn question(given: Given, strict: bool, form: Form) -> Command
+fn question(given: AskInput, strict: bool, form: Form) -> Command
     ensures { IsInRange result }
 {
     Command::OnThreads(Task::Ask {
         given,
-        manner: Manner { strict, form },
+        options: AskOptions { strict, form },
     })
 }
 
@@ -26,8 +26,8 @@ pub fn asked<R: Threads + Wait + Sync>(
     kind: &str,
     input: &[u8],
 ) -> Result<String, AllocError> {
-    let plan = Given::PlanAlone;
-    let both = Given::WithCertificate;
+    let plan = AskInput::PlanAlone;
+    let both = AskInput::WithCertificate;
     match kind {
         "ask" => served(rt, alloc, question(plan, false, Form::Words), input),
         "ask strict" => served(rt, alloc, question(plan, true, Form::Words), input),

@@ -3,7 +3,7 @@
 ghost use Rattle.command_line.specs.Command.{IsInRange};
 
 use sizing_cli::{
-    Command, MemorySink, MemorySource, Review, ServeFault, Source, Status, serve, serve_alone,
+    Command, MemorySink, MemorySource, ReviewCommand, ServeFault, Source, Status, serve, serve_alone,
 };
 use std::alloc::{AllocError, Global};
 use std::sync::Wait;
@@ -51,7 +51,7 @@ impl Ended {
         let mut sink = MemorySink::new(alloc);
         let outcome = serve_alone(
             alloc,
-            Review::Check,
+            ReviewCommand::Check,
             &mut MemorySource::new(bundle),
             &mut sink,
         );

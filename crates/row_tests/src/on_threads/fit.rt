@@ -13,11 +13,11 @@ use std::thread::Threads;
 const SHORT: usize = 250;
 
 const SIZES: Command = Command::OnThreads(Task::Fit {
-    wanted: SizesForm::Sizes,
+    sizes_form: SizesForm::Sizes,
 });
 
 const BUNDLE: Command = Command::OnThreads(Task::Fit {
-    wanted: SizesForm::Bundle,
+    sizes_form: SizesForm::Bundle,
 });
 
 /// Returns the answer of `fit` to a plan's text.

@@ -2,24 +2,24 @@
 
 use crate::on_threads::ended::Ended;
 use crate::on_threads::fit::served;
-use sizing_cli::{Command, Review, Shown, Status, Task};
+use sizing_cli::{Command, ReviewCommand, RefuteFormat, Status, Task};
 use std::alloc::{AllocError, Global};
 use std::sync::Wait;
 use std::thread::Threads;
 
 const STORY: Command = Command::OnThreads(Task::Refute {
     states: 100_000,
-    shown: Shown::Story,
+    refute_format: RefuteFormat::Story,
 });
 
 const BRIEF: Command = Command::OnThreads(Task::Refute {
     states: 1,
-    shown: Shown::Story,
+    refute_format: RefuteFormat::Story,
 });
 
 const BUNDLE: Command = Command::OnThreads(Task::Refute {
     states: 100_000,
-    shown: Shown::Bundle,
+    refute_format: RefuteFormat::Bundle,
 });
 
 /// Returns the answer of `refute` to a plan's text.
@@ -68,5 +68,5 @@ pub fn refuted_and_replayed<R: Threads + Wait + Sync>(
     if ended.outcome != Ok(Status::Done) {
         return ended.to_text(alloc);
     }
-    Ended::of_input(rt, alloc, Command::Alone(Review::Replay), &ended.written)?.to_text(alloc)
+    Ended::of_input(rt, alloc, Command::Sequential(ReviewCommand::Replay), &ended.written)?.to_text(alloc)
 }

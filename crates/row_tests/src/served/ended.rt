@@ -1,15 +1,15 @@
 //! Serving inputs from and to memory.
 
 use sizing_cli::{
-    MemorySink, Reading, Review, ServeFault, Sink, Source, Status, serve_alone, serve_recording,
+    MemorySink, RecordingCommand, ReviewCommand, ServeFault, Sink, Source, Status, serve_alone, serve_recording,
 };
 use std::alloc::{AllocError, Global};
 
 /// A command that uses no threads.
 #[derive(Clone, Copy)]
 pub enum Query {
-    Review(Review),
-    Reading(Reading),
+    ReviewCommand(ReviewCommand),
+    RecordingCommand(RecordingCommand),
 }
 
 impl Query {
@@ -21,8 +21,8 @@ impl Query {
         sink: &mut K,
     ) -> Result<Status, ServeFault> {
         match self {
-            Query::Review(review) => serve_alone(alloc, review, source, sink),
-            Query::Reading(reading) => serve_recording(alloc, reading, source, sink),
+            Query::ReviewCommand(review) => serve_alone(alloc, review, source, sink),
+            Query::RecordingCommand(reading) => serve_recording(alloc, reading, source, sink),
         }
     }
 }

@@ -1,6 +1,6 @@
 //! The arguments of the command line.
 
-use command_line::{Asked, Command, read_words};
+use command_line::{Cli, Command, read_words};
 use std::alloc::{AllocError, Global};
 
 /// Returns the command of the arguments, each followed by a newline, with its files, or the error.
@@ -14,15 +14,15 @@ pub fn asked(alloc: Global, lines: &[u8]) -> Result<String, AllocError> {
     }
 }
 
-fn args_text(alloc: Global, asked: &Asked<'_>) -> Result<String, AllocError> {
+fn args_text(alloc: Global, asked: &Cli<'_>) -> Result<String, AllocError> {
     let mut text = String::new(alloc);
     push_asked(&mut text, asked)?;
     Ok(text)
 }
 
-fn push_asked(text: &mut String, asked: &Asked<'_>) -> Result<(), AllocError> {
+fn push_asked(text: &mut String, asked: &Cli<'_>) -> Result<(), AllocError> {
     match asked.command {
-        Command::Alone(review) => write!(text, "Some({review:?})")?,
+        Command::Sequential(review) => write!(text, "Some({review:?})")?,
         Command::OnRecording(reading) => write!(text, "Some({reading:?})")?,
         Command::OnThreads(task) => write!(text, "Some({task:?})")?,
     }

@@ -1,13 +1,13 @@
 use Rattle.std.proofs.lemmas.Result.{IfOk-weaker}
-use Rattle.command_line.proofs.Subcommands.{argued, still_local}
+use Rattle.command_line.proofs.Subcommands.{adds_argument, still_local}
 use Rattle.command_line.proofs.application.ask.Goals as goal
 
 pub returns-clause-shape : goal.returns-clause-shape
 returns-clause-shape c =
-    let one = argued _ c.strict.result c.in_ok-arg.field-0 _ _ c.in_ok-arg.ensures c.strict.ensures.local c.strict.ensures.rule c.in_ok-of_both.ensures.shape in
-    let two = argued _ c.json.result c.in_ok-arg-2.field-0 _ _ c.in_ok-arg-2.ensures c.json.ensures.local c.json.ensures.rule one in
-    let three = argued _ c.dot.result c.in_ok-arg-3.field-0 _ _ c.in_ok-arg-3.ensures c.dot.ensures.local c.dot.ensures.rule two in
-    IfOk-weaker c.arg-4.result _ _ (λ made adds. argued _ c.certificate.result made _ _ adds c.certificate.ensures.local c.certificate.ensures.rule three) c.arg-4.ensures
+    let one = adds_argument _ c.strict.result c.in_ok-arg.field-0 _ _ c.in_ok-arg.ensures c.strict.ensures.local c.strict.ensures.rule c.in_ok-of_both.ensures.shape in
+    let two = adds_argument _ c.json.result c.in_ok-arg-2.field-0 _ _ c.in_ok-arg-2.ensures c.json.ensures.local c.json.ensures.rule one in
+    let three = adds_argument _ c.dot.result c.in_ok-arg-3.field-0 _ _ c.in_ok-arg-3.ensures c.dot.ensures.local c.dot.ensures.rule two in
+    IfOk-weaker c.arg-4.result _ _ (λ made adds. adds_argument _ c.certificate.result made _ _ adds c.certificate.ensures.local c.certificate.ensures.rule three) c.arg-4.ensures
 
 pub returns-clause-local : goal.returns-clause-local
 returns-clause-local c =

@@ -1,6 +1,6 @@
 use Rattle.std.proofs.Common.{◌≡◌, sym, ap, subst, ◌∙◌, map}
 use Rattle.std.specs.Prelude.{IfSome}
-use Rattle.command_line.specs.Command.{certificate_among, certificate_asked, command_among, files_among, files_asked}
+use Rattle.command_line.specs.Command.{certificate_among, certificate_of_cli, command_among, files_among, files_of_cli}
 use Rattle.command_line.proofs.ApplicationLemmas.{fails_by_clap, fails_out_of_range, no_fault, no_faults, rows_of_parse}
 use Rattle.command_line.proofs.command.read_words.Goals as goal
 
@@ -21,12 +21,12 @@ returns-then-is_out_of_range-clause-fails c =
 
 pub returns-clause-command : goal.returns-clause-command
 returns-clause-command c =
-    c.asked_among.ensures.command ∙ ap command_among (rows_of_parse _ _ _ c.in_ok-sizing.ensures c.in_ok-matches.ensures.ok.2)
+    c.parsed_args.ensures.command ∙ ap command_among (rows_of_parse _ _ _ c.in_ok-sizing.ensures c.in_ok-matches.ensures.ok.2)
 
 pub returns-clause-files : goal.returns-clause-files
 returns-clause-files c =
-    subst (λ rows. IfSome c.asked_among.result (λ asked. files_asked asked ≡ files_among rows)) (rows_of_parse _ _ _ c.in_ok-sizing.ensures c.in_ok-matches.ensures.ok.2) c.asked_among.ensures.files
+    subst (λ rows. IfSome c.parsed_args.result (λ cli. files_of_cli cli ≡ files_among rows)) (rows_of_parse _ _ _ c.in_ok-sizing.ensures c.in_ok-matches.ensures.ok.2) c.parsed_args.ensures.files
 
 pub returns-clause-certificate : goal.returns-clause-certificate
 returns-clause-certificate c =
-    subst (λ rows. IfSome c.asked_among.result (λ asked. certificate_asked asked ≡ certificate_among rows)) (rows_of_parse _ _ _ c.in_ok-sizing.ensures c.in_ok-matches.ensures.ok.2) c.asked_among.ensures.certificate
+    subst (λ rows. IfSome c.parsed_args.result (λ cli. certificate_of_cli cli ≡ certificate_among rows)) (rows_of_parse _ _ _ c.in_ok-sizing.ensures c.in_ok-matches.ensures.ok.2) c.parsed_args.ensures.certificate

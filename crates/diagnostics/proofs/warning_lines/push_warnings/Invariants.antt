@@ -1,7 +1,7 @@
 -- The text so far and the remaining lines are all lines.
 use Rattle.std.proofs.Common.{◌≡◌, ◌++◌, length}
 use Rattle.std.specs.Prelude.{string_bytes}
-use Rattle.diagnostics.specs.Advice.{warnings_text}
+use Rattle.diagnostics.specs.Diagnostic.{warnings_text}
 use Rattle.diagnostics.proofs.warning_lines.push_warnings.Given as goal
 
 abbrev pub invariant-loop-warning : goal.invariant-loop-warning

@@ -1,10 +1,10 @@
 use Rattle.std.proofs.Common.{sym, subst, ◌∙◌}
 use Rattle.std.proofs.lemmas.Result.{IfOk-weaker}
-use Rattle.diagnostics.specs.Oddities.{AreOddities}
+use Rattle.diagnostics.specs.Lints.{AreLints}
 use Rattle.diagnostics.proofs.warnings.warnings_of.Goals as goal
 
 pub returns : goal.returns
 returns c =
     IfOk-weaker c.warnings_about.result _ _
-    (λ warnings same. subst (AreOddities c.args.plan.now c.args.needed.now) (sym (same ∙ c.deref.ensures.value)) c.in_ok-oddities.ensures)
+    (λ warnings same. subst (AreLints c.args.plan.now c.args.needed.now) (sym (same ∙ c.deref.ensures.value)) c.in_ok-lints.ensures)
     c.warnings_about.ensures

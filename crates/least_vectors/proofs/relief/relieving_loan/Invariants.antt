@@ -4,5 +4,5 @@ use Rattle.least_vectors.proofs.relief.relieving_loan.Given as goal
 abbrev pub invariant-loop-pool : goal.invariant-loop-pool
 invariant-loop-pool l =
     (length l.workers ≡ length l.initial.workers) ×
-    (vec_len l.initial.tried.weighings ≤ vec_len l.tried.weighings) ×
-    IfSome l.best (λ loan. loan.place < vec_len l.tried.weighings)
+    (vec_len l.initial.sketch_cache.sketches ≤ vec_len l.sketch_cache.sketches) ×
+    IfSome l.best (λ loan. loan.place < vec_len l.sketch_cache.sketches)

@@ -7,4 +7,4 @@ pub loop-pool-preserved : goal.loop-pool-preserved
 loop-pool-preserved c =
     let shares = c.args.shares.now in
     let pool = c.loop-pool.pool in
-    rw (c.in_ok-push_paid.ensures, c.pool_name.ensures) (part_more (worker_part c.args.plan.now) shares pool 0 (get_or shares pool 0) _ _ c.loop-pool-test.true refl c.loop-pool.invariant)
+    rw (c.in_ok-push_share.ensures, c.pool_name.ensures) (part_more (worker_part c.args.plan.now) shares pool 0 (get_or shares pool 0) _ _ c.loop-pool-test.true refl c.loop-pool.invariant)

@@ -1,6 +1,6 @@
 use Rattle.std.proofs.Common.{rules, ◌≡◌, ◌+◌, ℕ, List, [], ◌∷◌, ◌++◌, get_or, ap, ap₂, ◌∙◌}
 use Rattle.size_search.specs.Steady.{weights_from, weight_at}
-use Rattle.size_search.proofs.Reckoning.{first-weight}
+use Rattle.size_search.proofs.Computations.{first-weight}
 use Rattle.size_search.proofs.body.class_row.Goals as goal
 
 pub returns : goal.returns

@@ -1,5 +1,5 @@
 use Rattle.std.proofs.Common.{arith}
-use Rattle.size_search.proofs.Reckoning.{greatest-open-bound}
+use Rattle.size_search.proofs.Computations.{greatest-open-bound}
 use Rattle.size_search.proofs.body.most.Goals as goal
 
 pub returns-clause-bound : goal.returns-clause-bound

@@ -5,6 +5,6 @@ use Rattle.size_search.proofs.body.most.Given as goal
 
 abbrev pub invariant-loop-position : goal.invariant-loop-position
 invariant-loop-position l = record {
-  here : l.so_far ≡ open_weight l.vector l.body l.position;
+  here : l.current_weight ≡ open_weight l.vector l.body l.position;
   most : l.most ≡ greatest_upto (open_weight l.vector l.body) l.position;
 }

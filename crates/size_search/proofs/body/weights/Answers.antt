@@ -3,7 +3,7 @@ use Rattle.std.proofs.lemmas.Option.{slice_get-get_or}
 use Rattle.job_bodies.specs.declared.action.Action.{Action}
 use Rattle.job_bodies.specs.declared.action.Action.TheVariants.{Work}
 use Rattle.size_search.specs.Steady.{weight_before, weight_at, weights_from}
-use Rattle.size_search.proofs.Reckoning.{weight-bound, behind-short, longer_rest, reverse-cons}
+use Rattle.size_search.proofs.Computations.{weight-bound, behind-short, longer_rest, reverse-cons}
 use Rattle.size_search.proofs.body.weights.Goals as goal
 
 pub before-weight-requires-clause-behind : goal.before-weight-requires-clause-behind

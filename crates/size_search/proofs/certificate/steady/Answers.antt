@@ -4,7 +4,7 @@ use Rattle.job_bodies.specs.WellFormed.{IsWellFormed}
 use Rattle.job_bodies.proofs.Bodies.{ordered}
 use Rattle.weights.specs.Vector.{vector_fits}
 use Rattle.size_search.specs.Steady.{pool_of, steady_levels, steady_vector}
-use Rattle.size_search.proofs.Settling.{cert_from, heavy_unless_fit}
+use Rattle.size_search.proofs.RowSteps.{cert_from, heavy_unless_fit}
 use Rattle.size_search.proofs.certificate.steady.Goals as goal
 
 pub returns-then-not-fits-clause-heavy : goal.returns-then-not-fits-clause-heavy

@@ -1,9 +1,9 @@
 use Rattle.std.proofs.Common.{rules, ◌≡◌, ℕ, length, map, replicate, ap, ◌∙◌, Vec, Global}
 use Rattle.job_bodies.proofs.Bodies.{ordered}
 use Rattle.weights.specs.Vector.{Vector}
-use Rattle.size_search.specs.Settled.{IsSettled}
+use Rattle.size_search.specs.ComputedRows.{IsComputedUpTo}
 use Rattle.size_search.specs.Steady.{client_row}
-use Rattle.size_search.proofs.Settling.{vector_of, vector_from}
+use Rattle.size_search.proofs.RowSteps.{vector_of, vector_from}
 use Rattle.size_search.proofs.certificate.steady_vector.Goals as goal
 
 pub returns-clause-vector : goal.returns-clause-vector
@@ -11,8 +11,8 @@ returns-clause-vector c =
     let plan = c.args.plan.now in
     let seen = λ (row : Vec ℕ Global). row.items in
     let v = c.in-Some.jobs in
-    let settled : IsSettled plan v (length plan.classes) 0 = search rules in
+    let computed : IsComputedUpTo plan v (length plan.classes) 0 = search rules in
     let workers : c.in_ok-workers.workers.items ≡ replicate (length plan.pools) 0 = search rules in
     let clients : map seen c.in_ok-clients.clients.items ≡ map (client_row plan v) plan.clients = search rules in
     ap (λ (any : Vector). vector_of c.in_ok-workers.workers.items any.classes (map seen c.in_ok-clients.clients.items)) c.jobs.view_is
-    ∙ vector_from plan v c.in_ok-workers.workers.items (map seen c.in_ok-clients.clients.items) (ordered plan c.pools.ensures.well_formed) c.requires.free settled workers clients
+    ∙ vector_from plan v c.in_ok-workers.workers.items (map seen c.in_ok-clients.clients.items) (ordered plan c.pools.ensures.well_formed) c.requires.free computed workers clients

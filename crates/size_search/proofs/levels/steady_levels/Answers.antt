@@ -1,5 +1,5 @@
 use Rattle.std.proofs.Common.{ℕ, List, length, get_or, ap, ◌∙◌, arith}
-use Rattle.size_search.proofs.Reckoning.{level-le}
+use Rattle.size_search.proofs.Computations.{level-le}
 use Rattle.size_search.proofs.levels.steady_levels.Goals as goal
 
 pub next_levels-requires : goal.next_levels-requires

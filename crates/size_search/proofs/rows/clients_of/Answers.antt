@@ -2,7 +2,7 @@ use Rattle.std.proofs.Common.{sym, subst}
 use Rattle.job_bodies.specs.Plan.{Client}
 use Rattle.job_bodies.specs.ValidBody.{IsValidBody}
 use Rattle.job_bodies.proofs.Bodies.{ordered}
-use Rattle.size_search.proofs.Settling.{client_here}
+use Rattle.size_search.proofs.RowSteps.{client_here}
 use Rattle.size_search.proofs.rows.clients_of.Goals as goal
 
 pub client_row-requires-clause-valid : goal.client_row-requires-clause-valid

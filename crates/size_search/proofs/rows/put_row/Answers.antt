@@ -1,7 +1,7 @@
 use Rattle.std.proofs.Common.{ℕ, List, map, set, ap, ◌∙◌, Vec, Global}
 use Rattle.std.proofs.lemmas.List.{map-set}
 use Rattle.weights.specs.Vector.{Vector}
-use Rattle.size_search.proofs.Settling.{vector_of}
+use Rattle.size_search.proofs.RowSteps.{vector_of}
 use Rattle.size_search.proofs.rows.put_row.Goals as goal
 
 pub returns : goal.returns

@@ -12,7 +12,7 @@ use Rattle.size_search.proofs.submitted.classes_of_clients.Goals as goal
 
 pub loop-number-init : goal.loop-number-init
 loop-number-init c = record {
-  reaching = c.in_ok-reached.ensures (client_bodies c.args.plan.now);
+  reaching = c.in_ok-submitted_classes.ensures (client_bodies c.args.plan.now);
   covers = λ k below. absurd (omega (arith, below));
 }
 
@@ -30,7 +30,7 @@ loop-number-preserved c =
     let plan = c.args.plan.now in
     let number = c.loop-number.number in
     let first = (client_at plan number).body in
-    let old = c.loop-number.reached in
+    let old = c.loop-number.submitted_classes in
     let new = c.add_body.new.self in
     let inside : number < length plan.clients = omega (arith, c.loop-number-test.true, ap length c.clients-number-end.ensures.value, c.loop-number.auto.number-end) in
     let client : c.index-clients-number.result ≡ client_at plan number = client_read plan c.clients.result.now number c.index-clients-number.result c.clients.ensures.value inside c.index-clients-number.is in
@@ -46,4 +46,4 @@ pub returns-clause-covers : goal.returns-clause-covers
 returns-clause-covers c =
     let plan = c.args.plan.now in
     let end : length plan.clients ≤ c.loop-number.number = omega (arith, c.loop-number-test.false, ap length c.clients-number-end.ensures.value, c.loop-number.auto.number-end) in
-    covers_each_client plan c.loop-number.reached (λ k inside. c.loop-number.invariant.covers k (omega (arith, inside, end)))
+    covers_each_client plan c.loop-number.submitted_classes (λ k inside. c.loop-number.invariant.covers k (omega (arith, inside, end)))

@@ -5,7 +5,7 @@ use Rattle.job_bodies.specs.declared.action.Action.{Action}
 use Rattle.job_bodies.specs.declared.action.Action.TheVariants.{Submit}
 use Rattle.job_bodies.specs.Plan.{Client, client_at}
 use Rattle.size_search.specs.Submitted.{repeated_bodies}
-use Rattle.size_search.specs.declared.reached.Reached.{Reached}
+use Rattle.size_search.specs.declared.submitted_classes.SubmittedClasses.{SubmittedClasses}
 use Rattle.size_search.specs.Reaching.{Has, Covers, IsReaching}
 use Rattle.size_search.proofs.Following.{client_submits_within, starts, covers_more, AreAdded}
 use Rattle.size_search.proofs.Nothing.{client_read, is_repeated, covers_next_client, covers_each_repeated}
@@ -14,7 +14,7 @@ use Rattle.size_search.proofs.submitted.classes_of_repeating_clients.Goals.{then
 
 pub loop-number-init : goal.loop-number-init
 loop-number-init c = record {
-  reaching = c.in_ok-reached.ensures (repeated_bodies c.args.plan.now);
+  reaching = c.in_ok-submitted_classes.ensures (repeated_bodies c.args.plan.now);
   covers = λ k below repeats. absurd (omega (arith, below));
 }
 
@@ -39,7 +39,7 @@ loop-number-preserved c =
     elim c.if-client.branch [
       | then-client+in_ok-add_body w ↦
           let first = (client_at plan number).body in
-          let old = c.loop-number.reached in
+          let old = c.loop-number.submitted_classes in
           let new = w.add_body.new.self in
           let body : w.deref.result.now ≡ first = w.deref.ensures.value ∙ ap (λ (any : Client). any.body) (c.client.view_is ∙ client) in
           let repeats : (client_at plan number).repeat ≡ true = sym repeat ∙ w.if-client.true in
@@ -47,19 +47,19 @@ loop-number-preserved c =
           let only : (k : ℕ) → Has new k → Has old k ⊎ In (Submit k) first = subst (λ (actions : List Action). (k : ℕ) → Has new k → Has old k ⊎ In (Submit k) actions) body w.in_ok-add_body.ensures.only in
           let reaching : IsReaching plan bodies new = starts plan bodies first old new (is_repeated plan number inside repeats) w.in_ok-add_body.ensures.grows only before.reaching in
           subst
-          (λ (r : Reached). AreAdded plan r (number + 1))
-          (sym w.reached-is)
+          (λ (r : SubmittedClasses). AreAdded plan r (number + 1))
+          (sym w.submitted_classes-is)
           (record {
             reaching = reaching;
             covers = covers_next_client plan new number (λ k below yes. covers_more old new (client_at plan k).body w.in_ok-add_body.ensures.grows.kept (before.covers k below yes)) (λ yes. covers);
           })
       | else-client w ↦
           subst
-          (λ (r : Reached). AreAdded plan r (number + 1))
-          (sym w.reached-is)
+          (λ (r : SubmittedClasses). AreAdded plan r (number + 1))
+          (sym w.submitted_classes-is)
           (record {
             reaching = before.reaching;
-            covers = covers_next_client plan c.loop-number.reached number before.covers (λ yes. absurd (false≢true (sym w.if-client.false ∙ (repeat ∙ yes))));
+            covers = covers_next_client plan c.loop-number.submitted_classes number before.covers (λ yes. absurd (false≢true (sym w.if-client.false ∙ (repeat ∙ yes))));
           })
     ]
 
@@ -67,4 +67,4 @@ pub returns-clause-covers : goal.returns-clause-covers
 returns-clause-covers c =
     let plan = c.args.plan.now in
     let end : length plan.clients ≤ c.loop-number.number = omega (arith, c.loop-number-test.false, ap length c.clients-number-end.ensures.value, c.loop-number.auto.number-end) in
-    covers_each_repeated plan c.loop-number.reached (λ k inside yes. c.loop-number.invariant.covers k (omega (arith, inside, end)) yes)
+    covers_each_repeated plan c.loop-number.submitted_classes (λ k inside yes. c.loop-number.invariant.covers k (omega (arith, inside, end)) yes)

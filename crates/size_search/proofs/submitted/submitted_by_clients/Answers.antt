@@ -5,7 +5,7 @@ use Rattle.size_search.proofs.submitted.submitted_by_clients.Goals as goal
 pub returns : goal.returns
 returns c =
     let plan = c.args.plan.now in
-    let start = c.in_ok-reached.ensures in
+    let start = c.in_ok-submitted_classes.ensures in
     subst
     (MarksSubmitted plan)
     (sym c.into_marks.ensures)

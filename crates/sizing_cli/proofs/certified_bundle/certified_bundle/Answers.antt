@@ -1,5 +1,5 @@
 use Rattle.std.proofs.Common.{◌≡◌, List, ℕ, ◌∷◌, ◌++◌, [], codes, length, subst, ap, ◌∙◌, append_assoc}
-use Rattle.sizing_cli.specs.SplitAt.{IsSplitAt}
+use Rattle.sizing_cli.specs.CertifiedSplit.{IsCertifiedSplit}
 use Rattle.sizing_cli.proofs.Certified.{certified}
 use Rattle.sizing_cli.proofs.certified_bundle.certified_bundle.Goals as goal
 
@@ -10,7 +10,7 @@ returns-then-branch-clause-bundle g c =
     let text : List ℕ = c.in_ok-text.text.items in
     let whole : text ≡ plan ++ (codes "%%" ++ 10 ∷ cert) = c.in_ok-text.ensures in
     let len : c.len-plan_len.result ≡ length plan = c.len-plan_len.ensures ∙ c.args.plan.ok.0 in
-    let split : IsSplitAt c.len-plan_len.result c.deref.result.now = c.in_ok-is_certified.ensures.yes c.if-branch.true in
-    let OfText : List ℕ → Type 0 = λ l. IsSplitAt c.len-plan_len.result l in
-    let OfLength : ℕ → Type 0 = λ n. IsSplitAt n text in
+    let split : IsCertifiedSplit c.len-plan_len.result c.deref.result.now = c.in_ok-is_certified.ensures.yes c.if-branch.true in
+    let OfText : List ℕ → Type 0 = λ l. IsCertifiedSplit c.len-plan_len.result l in
+    let OfLength : ℕ → Type 0 = λ n. IsCertifiedSplit n text in
     certified plan cert text whole (subst OfLength len (subst OfText c.deref.ensures.value split))

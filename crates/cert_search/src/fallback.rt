@@ -1,0 +1,54 @@
+//! The fallback if the rounds find nothing.
+
+ghost use Rattle.std.specs.Prelude.{◌≡◌, false, IfOk, IfSome, IfNone, IsTrue};
+ghost use Rattle.job_bodies.specs.WellFormed.{IsWellFormed};
+ghost use Rattle.soundness.specs.Accepted.{accepted};
+ghost use Rattle.size_search.specs.Submitted.{NoCircle};
+ghost use Rattle.size_search.specs.Steady.{steady_cert};
+
+use cert_check::accepts;
+use cert_text::Cert;
+use job_bodies::Plan;
+use size_search::{cause_of, steady};
+use std::alloc::{AllocError, Global};
+
+/// Returns the steady certificate of the plan, if it accepts the plan as it is. If a cause against
+/// all sizes holds, no certificate does.
+pub(crate) fn steady_if_accepted(alloc: Global, plan: &Plan) -> Result<Option<Cert>, AllocError>
+    ensures accepted { IfOk result
+        (λ found. IfSome found (λ cert. IsTrue (accepted plan.now cert))) }
+    ensures none { IfOk result
+        (λ found. IfNone found (accepted plan.now (steady_cert plan.now) ≡ false)) }
+{
+    match cause_of(alloc, plan)? {
+        Some(_cause) => Ok(None),
+        None => without_circle(alloc, plan),
+    }
+}
+
+/// Returns the same for a plan in which no class submits itself.
+fn without_circle(alloc: Global, plan: &Plan) -> Result<Option<Cert>, AllocError>
+    requires free { NoCircle plan.now }
+    requires well_formed { IsWellFormed plan.now }
+    ensures accepted { IfOk result
+        (λ found. IfSome found (λ cert. IsTrue (accepted plan.now cert))) }
+    ensures none { IfOk result
+        (λ found. IfNone found (accepted plan.now (steady_cert plan.now) ≡ false)) }
+{
+    match steady(alloc, plan)? {
+        Some(cert) => Ok(if_accepted(plan, cert)),
+        None => Ok(None),
+    }
+}
+
+/// Returns the certificate, if it accepts the plan.
+pub(crate) fn if_accepted(plan: &Plan, cert: Cert) -> Option<Cert>
+    ensures accepted { IfSome result (λ cert. IsTrue (accepted plan.now cert)) }
+    ensures none { IfNone result (accepted plan.now cert ≡ false) }
+{
+    if accepts(plan, &cert) {
+        Some(cert)
+    } else {
+        None
+    }
+}

@@ -1,0 +1,9 @@
+-- The lints of the classes so far and of the remaining ones are those of all.
+use Rattle.std.proofs.Common.{◌≡◌, ◌++◌, ℕ}
+use Rattle.job_bodies.specs.Plan.{Class}
+use Rattle.diagnostics.specs.Lints.{lints_of_class, lints_of_classes}
+use Rattle.diagnostics.proofs.InOrder.{rest_of}
+use Rattle.diagnostics.proofs.lints.push_classes.Given as goal
+
+abbrev pub invariant-loop-number : goal.invariant-loop-number
+invariant-loop-number l = l.found.items ++ rest_of (λ (entry : ℕ × Class). lints_of_class l.plan l.marks entry.0 entry.1) l.plan.classes l.number ≡ l.fn.found.items ++ lints_of_classes l.plan l.marks

@@ -1,0 +1,9 @@
+-- The lints of the kinds of clients so far and of the remaining ones are those of all.
+use Rattle.std.proofs.Common.{◌≡◌, ◌++◌, ℕ}
+use Rattle.job_bodies.specs.Plan.{Client}
+use Rattle.diagnostics.specs.Lints.{lints_of_client, lints_of_clients}
+use Rattle.diagnostics.proofs.InOrder.{rest_of}
+use Rattle.diagnostics.proofs.lints.push_clients.Given as goal
+
+abbrev pub invariant-loop-number : goal.invariant-loop-number
+invariant-loop-number l = l.found.items ++ rest_of (λ (entry : ℕ × Client). lints_of_client l.plan entry.0 entry.1) l.plan.clients l.number ≡ l.fn.found.items ++ lints_of_clients l.plan

@@ -1,9 +1,0 @@
--- The lints of the classes so far and of the remaining ones are those of all.
-use Rattle.std.proofs.Common.{◌≡◌, ◌++◌, ℕ}
-use Rattle.job_bodies.specs.Plan.{Class}
-use Rattle.diagnostics.specs.Oddities.{oddities_of_class, oddities_of_classes}
-use Rattle.diagnostics.proofs.InOrder.{rest_of}
-use Rattle.diagnostics.proofs.oddities.push_classes.Given as goal
-
-abbrev pub invariant-loop-number : goal.invariant-loop-number
-invariant-loop-number l = l.found.items ++ rest_of (λ (entry : ℕ × Class). oddities_of_class l.plan l.marks entry.0 entry.1) l.plan.classes l.number ≡ l.fn.found.items ++ oddities_of_classes l.plan l.marks

@@ -1,9 +1,0 @@
--- The lints of the kinds of clients so far and of the remaining ones are those of all.
-use Rattle.std.proofs.Common.{◌≡◌, ◌++◌, ℕ}
-use Rattle.job_bodies.specs.Plan.{Client}
-use Rattle.diagnostics.specs.Oddities.{oddities_of_client, oddities_of_clients}
-use Rattle.diagnostics.proofs.InOrder.{rest_of}
-use Rattle.diagnostics.proofs.oddities.push_clients.Given as goal
-
-abbrev pub invariant-loop-number : goal.invariant-loop-number
-invariant-loop-number l = l.found.items ++ rest_of (λ (entry : ℕ × Client). oddities_of_client l.plan entry.0 entry.1) l.plan.clients l.number ≡ l.fn.found.items ++ oddities_of_clients l.plan

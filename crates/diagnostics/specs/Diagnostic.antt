@@ -1,0 +1,41 @@
+-- The lines that report the faults of a plan's text.
+use Rattle.std.specs.Prelude.{ℕ, List, [], ◌∷◌, ◌++◌, codes, decimal, string_bytes}
+use Rattle.std.specs.List.{flat_map}
+use Rattle.plan_text.specs.declared.place.TextPlace.{TextPlace}
+use Rattle.diagnostics.specs.declared.diagnostic.Diagnostic.{Diagnostic}
+use Rattle.diagnostics.specs.declared.diagnostic.Faults.{Faults}
+use Rattle.diagnostics.specs.declared.warnings.Warning.{Warning}
+
+-- a place in the file of this name
+abbrev pub place_head : List ℕ → TextPlace → List ℕ
+place_head file place = file ++ (codes ":" ++ (decimal place.line ++ (codes ":" ++ (decimal place.column ++ codes ": "))))
+
+-- the number of a fault, at the end of its line
+abbrev pub number_end : ℕ → List ℕ
+number_end number = codes " (fault " ++ (decimal number ++ (codes ")" ++ 10 ∷ []))
+
+-- a message at a place, and the number of the fault
+abbrev pub fault_line : List ℕ → TextPlace → List ℕ → ℕ → List ℕ
+fault_line file place what number = place_head file place ++ (what ++ number_end number)
+
+abbrev pub diagnostic_line : List ℕ → Diagnostic → List ℕ
+diagnostic_line file diagnostic = fault_line file diagnostic.place (string_bytes diagnostic.what) diagnostic.fault.number
+
+-- a line for each fault
+abbrev pub diagnostic_lines : List ℕ → List Diagnostic → List ℕ
+diagnostic_lines file diagnostic = flat_map (diagnostic_line file) diagnostic
+
+-- the first fault, and then the others
+abbrev pub faults_text : List ℕ → Faults → List ℕ
+faults_text file faults = diagnostic_line file faults.first ++ diagnostic_lines file faults.others.items
+
+-- a warning at a place
+abbrev pub warning_at : List ℕ → TextPlace → List ℕ → List ℕ
+warning_at file place what = place_head file place ++ (codes "warning: " ++ (what ++ 10 ∷ []))
+
+abbrev pub warning_line : List ℕ → Warning → List ℕ
+warning_line file warning = warning_at file warning.place (string_bytes warning.what)
+
+-- a line for each warning
+abbrev pub warnings_text : List ℕ → List Warning → List ℕ
+warnings_text file warnings = flat_map (warning_line file) warnings

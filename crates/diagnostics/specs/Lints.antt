@@ -1,0 +1,133 @@
+-- The lints of a plan, in the order in which they are reported.
+use Rattle.std.specs.Prelude.{◌≡◌, ℕ, ◌/◌, max, Bool, true, false, not, ◌&&◌, ◌||◌, ◌==◌, nat_lt, nat_le, if◌then◌else◌, List, [], ◌∷◌, ◌++◌, map, length, slice_index_or, Option, Some, None}
+use Rattle.std.specs.List.{list_any, list_all, flat_map, enumerate_from}
+use Rattle.job_bodies.specs.declared.action.Action.{Action}
+use Rattle.job_bodies.specs.declared.action.Action.TheVariants.{Work, Submit}
+use Rattle.job_bodies.specs.declared.fault.Part.{Part}
+use Rattle.job_bodies.specs.declared.fault.Part.TheVariants as part
+use Rattle.job_bodies.specs.Plan.{Pool, Class, Client, Plan, pool_at, class_at}
+use Rattle.size_search.specs.ByClients.{MarksSubmitted}
+use Rattle.diagnostics.specs.declared.lint.Lint.{Lint}
+use Rattle.diagnostics.specs.declared.lint.Lint.TheVariants.{NothingToAsk, NoClients, NothingSubmitted, PoolWithoutJobs, UselessMax, QueueFarAbove, ClassWithoutJobs, GoesOnce, Crowd, WorkLikeASize}
+use Rattle.diagnostics.specs.declared.warnings.Warning.{Warning}
+
+-- the lint alone, or nothing
+abbrev pub only_if : Bool → Lint → List Lint
+only_if true lint = lint ∷ []
+only_if false lint = []
+
+-- ---- lengths of work that look like sizes
+
+-- the number is a size of the pool
+abbrev pub has_size : ℕ → Pool → Bool
+has_size n pool = pool.core == n || pool.max == n || pool.queue == n
+
+abbrev pub has_count : ℕ → Client → Bool
+has_count n client = client.count == n
+
+-- the number is a size of some pool, or the count of some kind of clients
+abbrev pub is_a_size : Plan → ℕ → Bool
+is_a_size plan n = list_any (has_size n) plan.pools || list_any (has_count n) plan.clients
+
+-- the length of work is at least 50 units and equals some size
+abbrev pub looks_like_a_size : Plan → ℕ → Bool
+looks_like_a_size plan units = nat_le 50 units && is_a_size plan units
+
+-- the lints of an action in the body of a class or a kind of clients
+abbrev pub lints_of_action : Plan → Part → ℕ → ℕ → Action → List Lint
+lints_of_action plan of number place (Work units) = only_if (looks_like_a_size plan units) (WorkLikeASize of number place units)
+lints_of_action plan of number place _ = []
+
+abbrev pub lints_of_body : Plan → Part → ℕ → List Action → List Lint
+lints_of_body plan of number body = flat_map (λ (entry : ℕ × Action). lints_of_action plan of number entry.0 entry.1) (enumerate_from 0 body)
+
+-- ---- pools
+
+-- the class is submitted, and its jobs run in the pool
+abbrev pub brings_jobs : List Bool → ℕ → ℕ → Class → Bool
+brings_jobs marks p k class = slice_index_or marks k false && class.pool == p
+
+-- a class that is submitted has its jobs in the pool
+abbrev pub gets_a_job : Plan → List Bool → ℕ → Bool
+gets_a_job plan marks p = list_any (λ (entry : ℕ × Class). brings_jobs marks p entry.0 entry.1) (enumerate_from 0 plan.classes)
+
+-- the pool can have more threads than its core size, which are created when the queue is full
+abbrev pub may_grow : Pool → Bool
+may_grow pool = nat_lt pool.core pool.max
+
+-- a tenth of the queue's capacity is more than the jobs that it holds at most, and more than 1
+abbrev pub is_far_above : Pool → ℕ → Bool
+is_far_above pool most = nat_lt (max most 1) (pool.queue / 10)
+
+-- the lints of sizes that are larger than needed for this number of jobs in the queue
+abbrev pub lints_of_known_sizes : ℕ → Pool → ℕ → List Lint
+lints_of_known_sizes p pool most = only_if (may_grow pool) (UselessMax p) ++ only_if (is_far_above pool most) (QueueFarAbove p most)
+
+-- if that number is known
+abbrev pub lints_of_sizes : ℕ → Pool → Option ℕ → List Lint
+lints_of_sizes p pool None = []
+lints_of_sizes p pool (Some most) = lints_of_known_sizes p pool most
+
+abbrev pub lints_of_pool : Plan → List (Option ℕ) → List Bool → ℕ → Pool → List Lint
+lints_of_pool plan needed marks p pool = if gets_a_job plan marks p then lints_of_sizes p pool (slice_index_or needed p None) else PoolWithoutJobs p ∷ []
+
+abbrev pub lints_of_pools : Plan → List (Option ℕ) → List Bool → List Lint
+lints_of_pools plan needed marks = flat_map (λ (entry : ℕ × Pool). lints_of_pool plan needed marks entry.0 entry.1) (enumerate_from 0 plan.pools)
+
+-- ---- classes
+
+abbrev pub lints_of_class : Plan → List Bool → ℕ → Class → List Lint
+lints_of_class plan marks k class = only_if (not (slice_index_or marks k false)) (ClassWithoutJobs k) ++ lints_of_body plan part.Class k class.body
+
+abbrev pub lints_of_classes : Plan → List Bool → List Lint
+lints_of_classes plan marks = flat_map (λ (entry : ℕ × Class). lints_of_class plan marks entry.0 entry.1) (enumerate_from 0 plan.classes)
+
+-- ---- kinds of clients
+
+abbrev pub is_submit : Action → Bool
+is_submit (Submit k) = true
+is_submit _ = false
+
+-- the pool has one core thread, and a queue that holds fewer jobs than there are clients
+abbrev pub is_small : ℕ → Pool → Bool
+is_small count pool = pool.core == 1 && nat_lt pool.queue count
+
+-- the action is not a submit, or submits to such a pool
+abbrev pub is_for_small : Plan → ℕ → Action → Bool
+is_for_small plan count (Submit k) = is_small count (pool_at plan (class_at plan k).pool)
+is_for_small plan count _ = true
+
+-- the clients submit, and only to such pools
+abbrev pub are_a_crowd : Plan → Client → Bool
+are_a_crowd plan client = list_any is_submit client.body && list_all (is_for_small plan client.count) client.body
+
+abbrev pub lints_of_client : Plan → ℕ → Client → List Lint
+lints_of_client plan c client = only_if (not client.repeat) (GoesOnce c) ++ only_if (are_a_crowd plan client) (Crowd c) ++ lints_of_body plan part.Client c client.body
+
+abbrev pub lints_of_clients : Plan → List Lint
+lints_of_clients plan = flat_map (λ (entry : ℕ × Client). lints_of_client plan entry.0 entry.1) (enumerate_from 0 plan.clients)
+
+-- ---- the plan
+
+abbrev pub without_clients : Plan → Lint
+without_clients plan = if length plan.pools == 0 then NothingToAsk else NoClients
+
+abbrev pub lints_of_parts : Plan → List (Option ℕ) → List Bool → List Lint
+lints_of_parts plan needed marks = lints_of_pools plan needed marks ++ lints_of_classes plan marks ++ lints_of_clients plan
+
+-- the lint of the whole plan, or the lints of its parts if there is none; `needed` has the most jobs that each queue holds,
+-- as far as known, and `marks` the classes that are submitted
+abbrev pub lints : Plan → List (Option ℕ) → List Bool → List Lint
+lints plan needed marks =
+    if length plan.clients == 0 then without_clients plan ∷ [] else
+    (if list_any (λ (mark : Bool). mark) marks then lints_of_parts plan needed marks else NothingSubmitted ∷ [])
+
+-- the list is the lints of the plan; the marked classes are those that clients submit, directly or through other jobs
+pub record AreLints (plan : Plan) (needed : List (Option ℕ)) (found : List Lint) : Type 0 where
+  pub marks : List Bool
+  pub submitted : MarksSubmitted plan marks
+  pub comma_list : found ≡ lints plan needed marks
+
+-- the lints that the warnings report
+abbrev pub lints_in : List Warning → List Lint
+lints_in warnings = map (λ (warning : Warning). warning.lint) warnings

@@ -1,0 +1,167 @@
+//! The parsing of actions, and what is wrong with a text that is not one.
+
+use crate::names::name_rule;
+use crate::suggestions::suggestion;
+use job_bodies::{MAX_WORK, is_valid_name};
+use std::alloc::{AllocError, Global};
+
+/// An action as it is written.
+#[derive(Clone, Copy)]
+pub(crate) enum ParsedAction<'a> {
+    Work,
+    Submit(&'a str),
+    SubmitAs(&'a str, &'a str),
+    Get(&'a str),
+}
+
+/// The words of a text: the first four, and how many there are.
+#[derive(Clone, Copy)]
+struct Words<'a> {
+    words: [&'a str; 4],
+    count: usize,
+}
+
+fn words_of(text: &str) -> Words<'_> {
+    let mut found = Words {
+        words: [""; 4],
+        count: 0,
+    };
+    for word in text.split(' ') {
+        if found.count < 4 {
+            found.words[found.count] = word;
+        }
+        found.count = found.count.saturating_add(1);
+    }
+    found
+}
+
+/// Parses an action, if the text is one.
+pub(crate) fn parse_action(text: &str) -> Option<ParsedAction<'_>> {
+    let Words {
+        words: [verb, first, word, slot],
+        count,
+    } = words_of(text);
+    match (verb, count) {
+        ("work", 2) if is_length(first) => Some(ParsedAction::Work),
+        ("submit", 2) if is_valid_name(first) => Some(ParsedAction::Submit(first)),
+        ("submit", 4) if word == "as" && is_valid_name(first) && is_valid_name(slot) => {
+            Some(ParsedAction::SubmitAs(first, slot))
+        }
+        ("get", 2) if is_valid_name(first) => Some(ParsedAction::Get(first)),
+        _ => None,
+    }
+}
+
+/// Returns whether the text is a length of work: a number from 1 to 1,000,000 without a leading
+/// zero.
+fn is_length(text: &str) -> bool {
+    let bytes = text.as_bytes();
+    if bytes.first() == Some(&b'0') || !bytes.iter().all(|byte| byte.is_ascii_digit()) {
+        return false;
+    }
+    match text.parse::<u32>() {
+        Ok(units) => 1 <= units && u64::from(units) <= MAX_WORK,
+        Err(_) => false,
+    }
+}
+
+/// Returns what is wrong with a text that is not an action.
+pub(crate) fn action_error(alloc: Global, text: &str) -> Result<String, AllocError> {
+    if is_spaced(text) {
+        let words = "one space stands between two words, and none before or behind them";
+        return String::from_str(alloc, words);
+    }
+    let Words { words, count } = words_of(text);
+    let [verb, first, word, slot] = words;
+    match verb {
+        "work" => work_error(alloc, first, count),
+        "get" => get_error(alloc, first, count),
+        "submit" => submit_error(alloc, first, word, slot, count),
+        _ => verb_error(alloc, verb, first),
+    }
+}
+
+fn is_spaced(text: &str) -> bool {
+    let bytes = text.as_bytes();
+    let mut last = b' ';
+    for byte in bytes.iter().copied() {
+        if byte == b'\t' || (byte == b' ' && last == b' ') {
+            return true;
+        }
+        last = byte;
+    }
+    !bytes.is_empty() && last == b' '
+}
+
+fn work_error(alloc: Global, units: &str, count: usize) -> Result<String, AllocError> {
+    if count < 2 {
+        return String::from_str(
+            alloc,
+            "a work has a length: write work 5; which number changes no answer",
+        );
+    }
+    format!(in alloc;
+        "a work is a whole number of units from 1 to {MAX_WORK}, as work 5, and not {units}"
+    )
+}
+
+fn get_error(alloc: Global, slot: &str, count: usize) -> Result<String, AllocError> {
+    if count > 2 {
+        return format!(in alloc;
+            "a get of a plan has no timeout: write get {slot} where the service cannot go on without the result, or see docs/PERMITS.md for a get that may give up"
+        );
+    }
+    if count < 2 {
+        return String::from_str(
+            alloc,
+            "a get names what it gets: write get NAME, behind a submit CLASS as NAME",
+        );
+    }
+    name_rule(alloc, slot)
+}
+
+fn submit_error(
+    alloc: Global,
+    class: &str,
+    word: &str,
+    slot: &str,
+    count: usize,
+) -> Result<String, AllocError> {
+    if count < 2 {
+        return String::from_str(
+            alloc,
+            "a submit names a class: write submit CLASS, or submit CLASS as NAME",
+        );
+    }
+    if class == "as" && count == 3 {
+        return format!(in alloc; "a submit names a class before as: write submit CLASS as {word}");
+    }
+    if !is_valid_name(class) {
+        return name_rule(alloc, class);
+    }
+    if count == 4 && word == "as" {
+        return name_rule(alloc, slot);
+    }
+    format!(in alloc; "write submit {class}, or submit {class} as NAME where it is got")
+}
+
+fn verb_error(alloc: Global, verb: &str, first: &str) -> Result<String, AllocError> {
+    match verb {
+        "execute" | "invoke" | "start" | "schedule" => {
+            format!(in alloc;
+                "write submit {first}, and submit {first} as NAME where its result is got"
+            )
+        }
+        "wait" | "join" | "await" => {
+            format!(in alloc;
+                "write get {first}, where {first} was submitted before, or work 1 where it waits for nothing of the plan"
+            )
+        }
+        "sleep" | "run" | "compute" => String::from_str(alloc, "write work 5"),
+        _ => {
+            let forms = ": an action is work N, submit CLASS, submit CLASS as NAME, or get NAME";
+            let right = suggestion(alloc, verb, &["work", "submit", "get"], forms)?;
+            format!(in alloc; "there is no action {verb}{right}")
+        }
+    }
+}

@@ -1,0 +1,166 @@
+//! The conditions of the lints.
+
+ghost use Rattle.std.specs.Prelude.{◌≡◌, slice_index_or, false};
+ghost use Rattle.std.specs.List.{list_any, list_all};
+ghost use Rattle.job_bodies.specs.Plan.{pool_at, class_at};
+ghost use Rattle.diagnostics.specs.Lints as spec;
+
+use job_bodies::{Action, Class, Client, Plan, Pool};
+
+/// The ratio of a queue's capacity to the jobs that it holds at most, above which a lint reports
+/// it.
+const FAR_ABOVE: u64 = 10;
+
+/// The shortest length of work that a lint reports if it is also a size of the plan.
+const LIKE_A_SIZE: u32 = 50;
+
+/// Returns whether the class of this number is submitted.
+pub(crate) fn is_submitted(marks: &[bool], class: usize) -> bool
+    ensures { result ≡ slice_index_or marks.now class false }
+{
+    class < marks.len() && marks[class]
+}
+
+/// Returns whether any class is submitted.
+pub(crate) fn is_any_submitted(marks: &[bool]) -> bool
+    ensures { result ≡ list_any (λ mark. mark) marks.now }
+{
+    marks.iter().any(|mark| *mark)
+}
+
+/// Returns how many jobs the queue of the pool of this number holds at most, if that is known.
+pub(crate) fn most_at(needed: &[Option<u64>], pool: usize) -> Option<u64>
+    ensures { result ≡ slice_index_or needed.now pool None }
+{
+    if pool < needed.len() {
+        needed[pool]
+    } else {
+        None
+    }
+}
+
+/// Returns whether the pool of this number gets a job of a class that is submitted.
+pub(crate) fn gets_a_job(plan: &Plan, marks: &[bool], pool: usize) -> bool
+    ensures { result ≡ spec.gets_a_job plan.now marks.now pool }
+{
+    plan.classes()
+        .iter()
+        .enumerate()
+        .any(|(number, class)| brings_jobs(marks, number, class, pool))
+}
+
+fn brings_jobs(marks: &[bool], number: usize, class: &Class, pool: usize) -> bool
+    ensures { result ≡ spec.brings_jobs marks.now pool number class.now }
+{
+    is_submitted(marks, number) && class.pool == pool
+}
+
+/// Returns whether the pool can have more threads than its core size.
+pub(crate) fn may_grow(pool: &Pool) -> bool
+    ensures { result ≡ spec.may_grow pool.now }
+{
+    pool.core < pool.max
+}
+
+/// Returns whether the pool's queue is much larger than `most` jobs.
+pub(crate) fn is_far_above(pool: &Pool, most: u64) -> bool
+    ensures { result ≡ spec.is_far_above pool.now most }
+{
+    most.max(1) < pool.queue / FAR_ABOVE
+}
+
+/// Returns whether the clients submit, and only to pools with one core thread whose queues hold
+/// fewer jobs than there are clients.
+pub(crate) fn are_a_crowd(plan: &Plan, client: &Client) -> bool
+    ensures { result ≡ spec.are_a_crowd plan.now client.now }
+{
+    submits_any(&client.body) && submits_to_small_alone(plan, client.count, &client.body)
+}
+
+fn submits_any(body: &[Action]) -> bool
+    ensures { result ≡ list_any spec.is_submit body.now }
+{
+    body.iter().any(|action| is_submit(*action))
+}
+
+fn is_submit(action: Action) -> bool
+    ensures { result ≡ spec.is_submit action }
+{
+    matches!(action, Action::Submit(_))
+}
+
+fn submits_to_small_alone(plan: &Plan, count: u64, body: &[Action]) -> bool
+    ensures { result ≡ list_all (spec.is_for_small plan.now count) body.now }
+{
+    body.iter().all(|action| is_for_small(plan, count, *action))
+}
+
+/// Returns whether the action is not a submit, or submits to a pool that is small for this many
+/// clients.
+fn is_for_small(plan: &Plan, count: u64, action: Action) -> bool
+    ensures { result ≡ spec.is_for_small plan.now count action }
+{
+    match action {
+        Action::Submit(class) => is_small_at(plan, count, pool_of(plan, class)),
+        Action::Work(_) | Action::Get(_) => true,
+    }
+}
+
+/// Returns the number of the pool that runs the jobs of the class, or 0 if there is no such class.
+fn pool_of(plan: &Plan, class: usize) -> usize
+    ensures { result ≡ (class_at plan.now class).pool }
+{
+    match plan.class_at(class) {
+        Some(class) => class.pool,
+        None => 0,
+    }
+}
+
+fn is_small_at(plan: &Plan, count: u64, pool: usize) -> bool
+    ensures { result ≡ spec.is_small count (pool_at plan.now pool) }
+{
+    match plan.pool_at(pool) {
+        Some(pool) => is_small(count, pool),
+        None => false,
+    }
+}
+
+/// Returns whether the pool has one core thread, and a queue that holds fewer jobs than there are
+/// clients.
+fn is_small(count: u64, pool: &Pool) -> bool
+    ensures { result ≡ spec.is_small count pool.now }
+{
+    pool.core == 1 && pool.queue < count
+}
+
+/// Returns whether the length of work equals a size of the plan and is at least 50.
+pub(crate) fn looks_like_a_size(plan: &Plan, units: u32) -> bool
+    ensures { result ≡ spec.looks_like_a_size plan.now units }
+{
+    LIKE_A_SIZE <= units && is_a_size(plan, u64::from(units))
+}
+
+/// Returns whether some pool has this size, or some kind of clients this count.
+fn is_a_size(plan: &Plan, number: u64) -> bool
+    ensures { result ≡ spec.is_a_size plan.now number }
+{
+    is_size_of_any(plan.pools(), number) || is_count_of_any(plan.clients(), number)
+}
+
+fn is_size_of_any(pools: &[Pool], number: u64) -> bool
+    ensures { result ≡ list_any (spec.has_size number) pools.now }
+{
+    pools.iter().any(|pool| has_size(pool, number))
+}
+
+fn has_size(pool: &Pool, number: u64) -> bool
+    ensures { result ≡ spec.has_size number pool.now }
+{
+    pool.core == number || pool.max == number || pool.queue == number
+}
+
+fn is_count_of_any(clients: &[Client], number: u64) -> bool
+    ensures { result ≡ list_any (spec.has_count number) clients.now }
+{
+    clients.iter().any(|client| client.count == number)
+}

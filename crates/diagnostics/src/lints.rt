@@ -1,0 +1,250 @@
+//! The lints of a plan, in order.
+
+ghost use Rattle.std.specs.Prelude.{◌≡◌, [], ◌∷◌, ◌++◌, IfOk, OnOk};
+ghost use Rattle.diagnostics.specs.Lints as spec;
+
+use crate::lint::Lint;
+use crate::lint_conditions::{
+    are_a_crowd, gets_a_job, is_any_submitted, is_far_above, is_submitted, looks_like_a_size,
+    may_grow, most_at,
+};
+use job_bodies::{Action, Class, Client, Part, Plan, Pool};
+use size_search::submitted_by_clients;
+use std::alloc::{AllocError, Global};
+
+/// Returns the lints of the plan. For each pool whose queue is bounded by a standing vector,
+/// `needed` has the bound.
+pub(crate) fn lints_of(
+    alloc: Global,
+    plan: &Plan,
+    needed: &[Option<u64>],
+) -> Result<Vec<Lint>, AllocError>
+    ensures { IfOk result (λ found. spec.AreLints plan.now needed.now found.items) }
+{
+    let marks = submitted_by_clients(alloc, plan)?;
+    lints_with_marks(alloc, plan, needed, &marks)
+}
+
+/// Returns the lints of the plan, given which classes are submitted.
+fn lints_with_marks(
+    alloc: Global,
+    plan: &Plan,
+    needed: &[Option<u64>],
+    marks: &[bool],
+) -> Result<Vec<Lint>, AllocError>
+    ensures { IfOk result (λ found. found.items ≡ spec.lints plan.now needed.now marks.now) }
+{
+    if plan.clients().is_empty() {
+        return single_lint(alloc, without_clients(plan));
+    }
+    if !is_any_submitted(marks) {
+        return single_lint(alloc, Lint::NothingSubmitted);
+    }
+    lints_of_parts(alloc, plan, needed, marks)
+}
+
+fn single_lint(alloc: Global, lint: Lint) -> Result<Vec<Lint>, AllocError>
+    ensures { IfOk result (λ found. found.items ≡ lint ∷ []) }
+{
+    let mut found = Vec::new(alloc);
+    found.push(lint)?;
+    Ok(found)
+}
+
+fn without_clients(plan: &Plan) -> Lint
+    ensures { result ≡ spec.without_clients plan.now }
+{
+    if plan.pools().is_empty() {
+        Lint::NothingToAsk
+    } else {
+        Lint::NoClients
+    }
+}
+
+/// Returns the lints of the pools, the classes and the kinds of clients.
+fn lints_of_parts(
+    alloc: Global,
+    plan: &Plan,
+    needed: &[Option<u64>],
+    marks: &[bool],
+) -> Result<Vec<Lint>, AllocError>
+    ensures { IfOk result
+        (λ found. found.items ≡ spec.lints_of_parts plan.now needed.now marks.now) }
+{
+    let mut found = Vec::new(alloc);
+    push_pools(&mut found, plan, needed, marks)?;
+    push_classes(&mut found, plan, marks)?;
+    push_clients(&mut found, plan)?;
+    Ok(found)
+}
+
+fn push_pools(
+    found: &mut Vec<Lint>,
+    plan: &Plan,
+    needed: &[Option<u64>],
+    marks: &[bool],
+) -> Result<(), AllocError>
+    ensures { OnOk result
+        (found.new.items
+        ≡ found.old.items ++ spec.lints_of_pools plan.now needed.now marks.now) }
+{
+    for (number, pool) in plan.pools().iter().enumerate() {
+        push_pool(found, plan, needed, marks, number, pool)?;
+    }
+    Ok(())
+}
+
+/// Appends the lint of a pool that gets no jobs, or those of sizes that are larger than needed.
+fn push_pool(
+    found: &mut Vec<Lint>,
+    plan: &Plan,
+    needed: &[Option<u64>],
+    marks: &[bool],
+    number: usize,
+    pool: &Pool,
+) -> Result<(), AllocError>
+    ensures { OnOk result
+        (found.new.items
+        ≡ found.old.items ++ spec.lints_of_pool plan.now needed.now marks.now number pool.now) }
+{
+    if gets_a_job(plan, marks, number) {
+        push_sizes(found, number, pool, most_at(needed, number))
+    } else {
+        push_if(found, true, Lint::PoolWithoutJobs(number))
+    }
+}
+
+/// Appends the lints of sizes that are larger than needed, if it is known how many jobs the queue
+/// holds at most.
+fn push_sizes(
+    found: &mut Vec<Lint>,
+    number: usize,
+    pool: &Pool,
+    most: Option<u64>,
+) -> Result<(), AllocError>
+    ensures { OnOk result
+        (found.new.items ≡ found.old.items ++ spec.lints_of_sizes number pool.now most) }
+{
+    match most {
+        None => Ok(()),
+        Some(most) => push_known_sizes(found, number, pool, most),
+    }
+}
+
+fn push_known_sizes(
+    found: &mut Vec<Lint>,
+    number: usize,
+    pool: &Pool,
+    most: u64,
+) -> Result<(), AllocError>
+    ensures { OnOk result
+        (found.new.items ≡ found.old.items ++ spec.lints_of_known_sizes number pool.now most) }
+{
+    push_if(found, may_grow(pool), Lint::UselessMax(number))?;
+    push_if(
+        found,
+        is_far_above(pool, most),
+        Lint::QueueFarAbove(number, most),
+    )
+}
+
+fn push_classes(found: &mut Vec<Lint>, plan: &Plan, marks: &[bool]) -> Result<(), AllocError>
+    ensures { OnOk result
+        (found.new.items ≡ found.old.items ++ spec.lints_of_classes plan.now marks.now) }
+{
+    for (number, class) in plan.classes().iter().enumerate() {
+        push_class(found, plan, marks, number, class)?;
+    }
+    Ok(())
+}
+
+fn push_class(
+    found: &mut Vec<Lint>,
+    plan: &Plan,
+    marks: &[bool],
+    number: usize,
+    class: &Class,
+) -> Result<(), AllocError>
+    ensures { OnOk result
+        (found.new.items
+        ≡ found.old.items ++ spec.lints_of_class plan.now marks.now number class.now) }
+{
+    push_if(
+        found,
+        !is_submitted(marks, number),
+        Lint::ClassWithoutJobs(number),
+    )?;
+    push_work(found, plan, Part::Class, number, &class.body)
+}
+
+fn push_clients(found: &mut Vec<Lint>, plan: &Plan) -> Result<(), AllocError>
+    ensures { OnOk result (found.new.items ≡ found.old.items ++ spec.lints_of_clients plan.now) }
+{
+    for (number, client) in plan.clients().iter().enumerate() {
+        push_client(found, plan, number, client)?;
+    }
+    Ok(())
+}
+
+fn push_client(
+    found: &mut Vec<Lint>,
+    plan: &Plan,
+    number: usize,
+    client: &Client,
+) -> Result<(), AllocError>
+    ensures { OnOk result
+        (found.new.items ≡ found.old.items ++ spec.lints_of_client plan.now number client.now) }
+{
+    push_if(found, !client.repeat, Lint::GoesOnce(number))?;
+    push_if(found, are_a_crowd(plan, client), Lint::Crowd(number))?;
+    push_work(found, plan, Part::Client, number, &client.body)
+}
+
+/// Appends a lint for each length of work in a body that looks like a size.
+fn push_work(
+    found: &mut Vec<Lint>,
+    plan: &Plan,
+    part: Part,
+    number: usize,
+    body: &[Action],
+) -> Result<(), AllocError>
+    ensures { OnOk result
+        (found.new.items ≡ found.old.items ++ spec.lints_of_body plan.now part number body.now) }
+{
+    for (place, action) in body.iter().enumerate() {
+        push_action(found, plan, part, number, place, *action)?;
+    }
+    Ok(())
+}
+
+fn push_action(
+    found: &mut Vec<Lint>,
+    plan: &Plan,
+    part: Part,
+    number: usize,
+    place: usize,
+    action: Action,
+) -> Result<(), AllocError>
+    ensures { OnOk result
+        (found.new.items
+        ≡ found.old.items ++ spec.lints_of_action plan.now part number place action) }
+{
+    match action {
+        Action::Work(units) => push_if(
+            found,
+            looks_like_a_size(plan, units),
+            Lint::WorkLikeASize(part, number, place, units),
+        ),
+        Action::Submit(_) | Action::Get(_) => Ok(()),
+    }
+}
+
+/// Appends the lint if it applies.
+fn push_if(found: &mut Vec<Lint>, is_there: bool, lint: Lint) -> Result<(), AllocError>
+    ensures { OnOk result (found.new.items ≡ found.old.items ++ spec.only_if is_there lint) }
+{
+    if is_there {
+        found.push(lint)?;
+    }
+    Ok(())
+}

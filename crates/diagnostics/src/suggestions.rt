@@ -1,0 +1,59 @@
+//! Suggestions for misspelled words.
+
+use std::alloc::{AllocError, Global};
+use strsim::osa_distance;
+
+/// Returns the word that is most similar to `written`, if one is similar enough. A word is similar
+/// if it starts with `written`, or if its edit distance is at most a third of the length of
+/// `written`, or 1.
+pub(crate) fn nearest<'w>(
+    alloc: Global,
+    written: &str,
+    words: &[&'w str],
+) -> Result<Option<&'w str>, AllocError> {
+    let mut best = None;
+    let mut least = (written.len() / 3).max(1);
+    for word in words.iter().copied() {
+        if written.len() > 2 && word.starts_with(written) && word != written {
+            return Ok(Some(word));
+        }
+        let distance = osa_distance(alloc, written, word)?;
+        if distance <= least && word != written {
+            best = Some(word);
+            least = distance.saturating_sub(1);
+            if distance == 1 {
+                return Ok(best);
+            }
+        }
+    }
+    Ok(best)
+}
+
+/// Returns a suggestion, such as `; did you mean rows?`, or `otherwise` if no word is similar.
+pub(crate) fn suggestion(
+    alloc: Global,
+    written: &str,
+    words: &[&str],
+    otherwise: &str,
+) -> Result<String, AllocError> {
+    match nearest(alloc, written, words)? {
+        Some(word) => format!(in alloc; "; did you mean {word}?"),
+        None => String::from_str(alloc, otherwise),
+    }
+}
+
+/// Joins the words with commas. After 12 words it ends with `..`.
+pub(crate) fn comma_list(alloc: Global, words: &[&str]) -> Result<String, AllocError> {
+    let mut list = String::new(alloc);
+    for (number, word) in words.iter().copied().enumerate() {
+        if number == 12 {
+            list.push_str(", ..")?;
+            return Ok(list);
+        }
+        if number > 0 {
+            list.push_str(", ")?;
+        }
+        list.push_str(word)?;
+    }
+    Ok(list)
+}

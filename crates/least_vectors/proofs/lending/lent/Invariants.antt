@@ -1,7 +1,0 @@
-use Rattle.std.proofs.Common.{◌≡◌, ◌<◌, vec_len}
-use Rattle.least_vectors.proofs.lending.lent.Given as goal
-
-abbrev pub invariant-loop : goal.invariant-loop
-invariant-loop l =
-    (vec_len l.workers ≡ vec_len l.initial.workers) ×
-    (l.place < vec_len l.tried.weighings)

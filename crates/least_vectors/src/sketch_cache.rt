@@ -1,0 +1,84 @@
+//! A cache of the sketches that the search for one vector computes, so that none is computed twice.
+
+ghost use Rattle.std.specs.Prelude.{◌<◌, ◌≤◌, IfOk, vec_len};
+
+use crate::Levels;
+use crate::sketch::Sketch;
+use crate::target::Target;
+use job_bodies::Plan;
+use std::alloc::{AllocError, Global};
+
+/// The worker weights of each pool, and the resulting sketch.
+#[derive(Drop)]
+struct CachedSketch {
+    workers: Vec<u64>,
+    sketch: Sketch,
+}
+
+/// The target, and the sketches of all worker weights that were tried for it.
+#[derive(Drop)]
+pub(crate) struct SketchCache<'a> {
+    alloc: Global,
+    pub(crate) plan: &'a Plan,
+    levels: &'a Levels,
+    pub(crate) target: &'a Target<'a>,
+    sketches: Vec<CachedSketch>,
+}
+
+impl<'a> SketchCache<'a> {
+    /// Creates an empty cache.
+    pub(crate) fn new(
+        alloc: Global,
+        plan: &'a Plan,
+        levels: &'a Levels,
+        target: &'a Target<'a>,
+    ) -> SketchCache<'a> {
+        SketchCache {
+            alloc,
+            plan,
+            levels,
+            target,
+            sketches: Vec::new(alloc),
+        }
+    }
+
+    /// Returns the index of the sketch for these worker weights. Computes it if it is missing.
+    pub(crate) fn index_of(&mut self, workers: &[u64]) -> Result<usize, AllocError>
+        ensures in_range { IfOk result (λ place. place < vec_len self.new.sketches) }
+        ensures kept { vec_len self.old.sketches ≤ vec_len self.new.sketches }
+    {
+        let known = self
+            .sketches
+            .iter()
+            .position(|cached| cached.workers.as_slice() == workers);
+        if let Some(place) = known {
+            return Ok(place);
+        }
+        let place = self.sketches.len();
+        let sketch = Sketch::of(self.alloc, self.plan, self.levels, self.target, workers)?;
+        let workers = Vec::from_slice(self.alloc, workers)?;
+        self.sketches.push(CachedSketch { workers, sketch })?;
+        Ok(place)
+    }
+
+    /// Returns how many classes that are never submitted are above the weight limit with these
+    /// worker weights. The result is not cached.
+    pub(crate) fn overweight_unsubmitted(&self, workers: &[u64]) -> Result<usize, AllocError> {
+        let sketch = Sketch::of(self.alloc, self.plan, self.levels, self.target, workers)?;
+        Ok(sketch.overweight_unsubmitted)
+    }
+
+    /// Returns the sketch at this index.
+    pub(crate) fn sketch(&self, place: usize) -> &Sketch
+        requires { place < vec_len self.now.sketches }
+    {
+        &self.sketches[place].sketch
+    }
+
+    /// Returns the sketch at this index and drops the others.
+    pub(crate) fn into_sketch(mut self, place: usize) -> Sketch
+        requires { place < vec_len self.sketches }
+    {
+        self.sketches.swap_remove(place).sketch
+    }
+}

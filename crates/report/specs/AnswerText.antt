@@ -1,0 +1,52 @@
+-- The text of an answer.
+use Rattle.std.specs.Prelude.{◌≡◌, List, ℕ, [], ◌∷◌, ◌++◌, codes}
+use Rattle.job_bodies.specs.Plan.{Plan}
+use Rattle.cert_text.specs.Cert.{Cert}
+use Rattle.counterexample.specs.declared.witness.Witness.{Witness}
+use Rattle.counterexample.specs.AnswerText.{IsTold}
+use Rattle.size_search.specs.declared.found.SizesFound.{SizesFound}
+use Rattle.size_search.specs.declared.found.SizesFound.TheVariants.{Found, NotFound}
+use Rattle.report.specs.Sizes.{sizes_text}
+use Rattle.report.specs.Cause.{no_sizes_text}
+use Rattle.report.specs.SafeText.{safe_text}
+use Rattle.report.specs.AdviceText.{advice_text, open_text}
+use Rattle.report.specs.declared.finding.PlanFinding.{PlanFinding}
+use Rattle.report.specs.declared.finding.PlanFinding.TheVariants.{Safe, NotSafe, NotDecided}
+
+abbrev pub safe_head : List ℕ
+safe_head = codes "SAFE" ++ 10 ∷ []
+
+abbrev pub not_safe_head : List ℕ
+not_safe_head = codes "NOT SAFE" ++ 10 ∷ []
+
+abbrev pub not_decided_head : List ℕ
+not_decided_head = codes "NOT DECIDED" ++ 10 ∷ []
+
+-- the sizes with which a certificate accepts the plan
+abbrev pub fit_part : Plan → Plan → List ℕ
+fit_part plan fit = (codes "with these sizes a certificate accepts the plan:" ++ 10 ∷ []) ++ sizes_text plan fit
+
+-- those sizes, or why there are none
+abbrev pub sizes_part : Plan → SizesFound → List ℕ
+sizes_part plan (Found fit cert) = fit_part plan fit
+sizes_part plan (NotFound cause) = no_sizes_text plan cause
+
+-- the answer, and then the lines for each pool
+abbrev pub TellsSafe : Plan → Cert → List ℕ → Type 0
+TellsSafe plan cert text = text ≡ safe_head ++ safe_text plan cert
+
+-- the answer, the witness's story, the sizes, and the advice for them
+pub record TellsNotSafe (plan : Plan) (witness : Witness) (sizes : SizesFound) (text : List ℕ) : Type 0 where
+  pub story : List ℕ
+  pub is_story : IsTold plan witness story
+  pub is : text ≡ ((not_safe_head ++ story) ++ sizes_part plan sizes) ++ advice_text plan sizes
+
+-- the answer, the sizes, the advice for them, and what is left undecided
+abbrev pub TellsNotDecided : Plan → SizesFound → List ℕ → Type 0
+TellsNotDecided plan sizes text = text ≡ ((not_decided_head ++ sizes_part plan sizes) ++ advice_text plan sizes) ++ open_text sizes
+
+-- the text reports the finding
+abbrev pub Tells : Plan → PlanFinding → List ℕ → Type 0
+Tells plan (Safe cert) text = TellsSafe plan cert text
+Tells plan (NotSafe witness sizes) text = TellsNotSafe plan witness sizes text
+Tells plan (NotDecided sizes) text = TellsNotDecided plan sizes text

@@ -1,0 +1,101 @@
+//! The least sizes for the steady certificate, for when the rounds find nothing.
+
+ghost use Rattle.std.specs.Prelude.{◌≡◌, ◌≤◌, IfOk, IfSome, IfNone, IsTrue};
+ghost use Rattle.job_bodies.specs.WellFormed.{IsWellFormed};
+ghost use Rattle.job_bodies.specs.declared.limits.TheConstants.{MAX_SIZE};
+ghost use Rattle.weights.specs.Vector.{has_small_numbers};
+ghost use Rattle.size_search.specs.Widened.{IsLeastWide};
+ghost use Rattle.size_search.specs.Widened as spec;
+ghost use Rattle.size_search.specs.Submitted.{IsWithoutCause};
+ghost use Rattle.size_search.specs.Steady.{steady_vector, steady_total, steady_cert};
+ghost use Rattle.size_search.specs.Sized.{IsSized, IsFound, IsTooLarge};
+
+use crate::found::{NoSizes, Obstacle, SizesFound};
+use crate::{fitted, steady, widened};
+use cert_text::Cert;
+use job_bodies::Plan;
+use std::alloc::{AllocError, Global};
+
+/// Returns the plan with the least sizes that its steady certificate needs. If those are too large,
+/// returns that, with the pool at which an attempt failed.
+pub(crate) fn fit_steady(
+    alloc: Global,
+    plan: &Plan,
+    obstacle: Obstacle,
+) -> Result<SizesFound, AllocError>
+    requires free { IsWithoutCause plan.now }
+    requires well_formed { IsWellFormed plan.now }
+    ensures found { IfOk result (IsFound plan.now) }
+{
+    match steady(alloc, plan)? {
+        Some(cert) => fit_steady_cert(alloc, plan, cert, obstacle),
+        None => Ok(too_large(plan, obstacle)),
+    }
+}
+
+/// Returns the least sizes for this steady certificate.
+fn fit_steady_cert(
+    alloc: Global,
+    plan: &Plan,
+    cert: Cert,
+    obstacle: Obstacle,
+) -> Result<SizesFound, AllocError>
+    requires free { IsWithoutCause plan.now }
+    requires well_formed { IsWellFormed plan.now }
+    requires steady { cert ≡ steady_cert plan.now }
+    requires small { IsTrue (has_small_numbers (steady_vector plan.now)) }
+    ensures found { IfOk result (IsFound plan.now) }
+{
+    match least_steady_sizes(alloc, plan, &cert)? {
+        Some(plan) => Ok(SizesFound::Found { plan, cert }),
+        None => Ok(too_large(plan, obstacle)),
+    }
+}
+
+fn too_large(plan: &Plan, obstacle: Obstacle) -> SizesFound
+    requires large { IsTooLarge plan.now }
+    requires well_formed { IsWellFormed plan.now }
+    ensures { IsFound plan.now result }
+{
+    SizesFound::NotFound(NoSizes::TooLarge(obstacle.pool(plan)))
+}
+
+/// Returns the plan with the least sizes for its steady certificate, or `None` if its total leaves
+/// no room below the limit.
+fn least_steady_sizes(alloc: Global, plan: &Plan, cert: &Cert) -> Result<Option<Plan>, AllocError>
+    requires free { IsWithoutCause plan.now }
+    requires well_formed { IsWellFormed plan.now }
+    requires steady { cert.now ≡ steady_cert plan.now }
+    requires small { IsTrue (has_small_numbers (steady_vector plan.now)) }
+    ensures sized { IfOk result (λ found. IfSome found (IsSized plan.now cert.now)) }
+    ensures none { IfOk result (λ found. IfNone found (MAX_SIZE ≤ steady_total plan.now)) }
+{
+    // Workers have weight 0 in the steady certificate, so its total does not change, and widening
+    // once is enough.
+    match widened(alloc, plan, cert)? {
+        Ok(wide) => least_wide(alloc, plan, wide, cert),
+        Err(_unfit) => Ok(None),
+    }
+}
+
+/// Returns the least sizes for the plan with widened maximums.
+fn least_wide(
+    alloc: Global,
+    plan: &Plan,
+    wide: Plan,
+    cert: &Cert,
+) -> Result<Option<Plan>, AllocError>
+    requires free { IsWithoutCause plan.now }
+    requires well_formed { IsWellFormed plan.now }
+    requires steady { cert.now ≡ steady_cert plan.now }
+    requires small { IsTrue (has_small_numbers (steady_vector plan.now)) }
+    requires wide { wide ≡ spec.widened plan.now cert.now }
+    requires least { IsLeastWide plan.now cert.now wide }
+    ensures sized { IfOk result (λ found. IfSome found (IsSized plan.now cert.now)) }
+    ensures none { IfOk result (λ found. IfNone found (MAX_SIZE ≤ steady_total plan.now)) }
+{
+    match fitted(alloc, wide, cert)? {
+        Ok(fit) => Ok(Some(fit)),
+        Err(_back) => Ok(None),
+    }
+}

@@ -1,0 +1,78 @@
+//! The least sizes for a certificate.
+
+ghost use Rattle.std.specs.Prelude.{IfOk};
+ghost use Rattle.size_search.specs.Widened.{IsLeastWide};
+ghost use Rattle.size_search.specs.Sized.{IsSized};
+
+use crate::found::Obstacle;
+use crate::{Unfit, fitted, widened};
+use cert_text::Cert;
+use job_bodies::Plan;
+use std::alloc::{AllocError, Global};
+
+/// Returns the plan with the least sizes that the certificate needs, or why there are none.
+pub(crate) fn least_sizes(
+    alloc: Global,
+    plan: &Plan,
+    cert: &Cert,
+) -> Result<Result<Plan, Obstacle>, AllocError>
+    ensures { IfOk result (λ answer. IfOk answer (IsSized plan.now cert.now)) }
+{
+    let wide = match widest(alloc, plan, cert)? {
+        Ok(wide) => wide,
+        Err(unfit) => return Ok(Err(obstacle_of_wide(unfit))),
+    };
+    Ok(match fitted(alloc, wide, cert)? {
+        Ok(fit) => Ok(fit),
+        Err((_plan, unfit)) => Err(obstacle_of_fit(unfit)),
+    })
+}
+
+/// Returns the plan with its maximums widened until they leave room for each core. A wider pool can
+/// need another one to be wider. If that takes more turns than there are pools, it returns to a
+/// pool again, and no sizes are enough.
+fn widest(alloc: Global, plan: &Plan, cert: &Cert) -> Result<Result<Plan, Unfit>, AllocError>
+    ensures { IfOk result (λ answer. IfOk answer (IsLeastWide plan.now cert.now)) }
+{
+    let mut wide = match widened(alloc, plan, cert)? {
+        Ok(wide) => wide,
+        Err(unfit) => return Ok(Err(unfit)),
+    };
+    for _ in 0..plan.pools().len() {
+        let wider = match widened(alloc, &wide, cert)? {
+            Ok(wider) => wider,
+            Err(unfit) => return Ok(Err(unfit)),
+        };
+        let is_widest = have_same_maxes(&wide, &wider);
+        wide = wider;
+        if is_widest {
+            break;
+        }
+    }
+    Ok(Ok(wide))
+}
+
+/// Returns whether the pools of both plans have the same maximums.
+fn have_same_maxes(plan: &Plan, other: &Plan) -> bool {
+    plan.pools()
+        .iter()
+        .zip(other.pools())
+        .all(|(pool, other)| pool.max == other.max)
+}
+
+/// Returns why the plan was not widened.
+fn obstacle_of_wide(unfit: Unfit) -> Obstacle {
+    match unfit {
+        Unfit::Core(pool) => Obstacle::Pool(pool),
+        Unfit::Shape | Unfit::Condition(_) | Unfit::Queue(_) => Obstacle::Unknown,
+    }
+}
+
+/// Returns why the widened plan was not fitted. A core above its maximum is not known to be above
+/// the limit of sizes.
+fn obstacle_of_fit(unfit: Unfit) -> Obstacle {
+    match unfit {
+        Unfit::Queue(pool) => Obstacle::Pool(pool),
+        Unfit::Shape | Unfit::Condition(_) | Unfit::Core(_) => Obstacle::Unknown,
+    }
+}

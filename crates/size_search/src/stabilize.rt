@@ -1,0 +1,95 @@
+//! Sizes that the search itself does not change again.
+
+ghost use Rattle.std.specs.Prelude.{IfOk};
+ghost use Rattle.size_search.specs.Submitted.{IsWithoutCause};
+ghost use Rattle.job_bodies.specs.WellFormed.{IsWellFormed};
+ghost use Rattle.size_search.specs.Sized.{IsSized, IsFound};
+
+use crate::attempt::growth;
+use crate::found::{Obstacle, SizesFound};
+use crate::search::unchecked_certificate;
+use crate::least_sizes::least_sizes;
+use crate::fit_steady::fit_steady;
+use cert_check::accepts;
+use cert_text::Cert;
+use job_bodies::Plan;
+use std::alloc::{AllocError, Global};
+
+/// The maximum number of refinement rounds.
+const MAX_TURNS: usize = 4;
+
+/// The result of a search that starts with sizes that were found.
+#[derive(Drop)]
+enum Recheck {
+    /// A certificate that accepts the plan with these sizes.
+    Same,
+    /// A certificate that needs larger sizes.
+    More(Cert),
+    /// No certificate.
+    Nothing,
+}
+
+/// Returns these sizes if the search finds a certificate with them again. Otherwise repeats this
+/// with the sizes that it finds then. If that does not end within the maximum number of rounds,
+/// returns the sizes of the steady certificate, with which the search always finds one, or the
+/// current sizes if those are too large.
+pub(crate) fn stabilize(
+    alloc: Global,
+    plan: &Plan,
+    fit: Plan,
+    cert: Cert,
+) -> Result<SizesFound, AllocError>
+    requires free { IsWithoutCause plan.now }
+    requires well_formed { IsWellFormed plan.now }
+    requires sized { IsSized plan.now cert fit }
+    ensures { IfOk result (IsFound plan.now) }
+{
+    let mut fit = fit;
+    let mut cert = cert;
+    for _turn in 0..MAX_TURNS {
+        let more = match recheck(alloc, plan, &fit)? {
+            Recheck::Same => return Ok(SizesFound::Found { plan: fit, cert }),
+            Recheck::More(more) => more,
+            Recheck::Nothing => return or_fit_steady(alloc, plan, fit, cert),
+        };
+        match least_sizes(alloc, plan, &more)? {
+            Ok(wider) => {
+                fit = wider;
+                cert = more;
+            }
+            Err(_obstacle) => return or_fit_steady(alloc, plan, fit, cert),
+        }
+    }
+    or_fit_steady(alloc, plan, fit, cert)
+}
+
+/// Searches for a certificate of the fitted plan. A plan without a larger size keeps its
+/// certificate.
+fn recheck(alloc: Global, plan: &Plan, fit: &Plan) -> Result<Recheck, AllocError> {
+    if growth(plan, fit) == 0 {
+        return Ok(Recheck::Same);
+    }
+    Ok(match unchecked_certificate(alloc, fit)? {
+        Ok(cert) => {
+            if accepts(fit, &cert) {
+                Recheck::Same
+            } else {
+                Recheck::More(cert)
+            }
+        }
+        Err(_obstacle) => Recheck::Nothing,
+    })
+}
+
+/// Returns the least sizes for the steady certificate, or the current sizes if those are too large.
+fn or_fit_steady(alloc: Global, plan: &Plan, fit: Plan, cert: Cert) -> Result<SizesFound, AllocError>
+    requires free { IsWithoutCause plan.now }
+    requires well_formed { IsWellFormed plan.now }
+    requires sized { IsSized plan.now cert fit }
+    ensures { IfOk result (IsFound plan.now) }
+{
+    match fit_steady(alloc, plan, Obstacle::Unknown)? {
+        SizesFound::NotFound(_) => Ok(SizesFound::Found { plan: fit, cert }),
+        found => Ok(found),
+    }
+}

@@ -1,0 +1,126 @@
+-- The errors of a call with the arguments of a command line.
+use Rattle.std.specs.Prelude.{◌≡◌, ◌≢◌, ◌⊎◌, ℕ, Bool, true, false, ◌==◌, ◌||◌, List, Option, Some, None, IfSome, IsTrue, is_some}
+use Rattle.clap.specs.Words.{HasKind, Text, kind_of}
+use Rattle.clap.specs.declared.error.kind.ErrorKind.TheVariants.{OutOfMemory}
+use Rattle.command_line.specs.Command.{certificate_of, command_of, faults_of, files_of}
+use Rattle.command_line.specs.declared.command.Command.{Command}
+use Rattle.support.specs.declared.number.TheConstants.{MEMORY, READ_FAILED, WRITE_FAILED}
+use Rattle.sizing_cli.specs.ServeFault.{is_known_of}
+use Rattle.sizing_cli.specs.CommandResult.{WritesAnswer, WritesPrefix}
+use Rattle.sizing_cli.specs.declared.status.Status.{Status}
+use Rattle.sizing_cli.specs.SavedCertificate.{may_be_certificate}
+use Rattle.sizing_cli.specs.Texts.{file_named}
+use Rattle.sizing_cli.specs.declared.fault.CliError.{CliError}
+use Rattle.sizing_cli.specs.declared.fault.CliError.TheVariants.{Words, NoCommand, InputTwice, Unread, Occupied, Unwritten, Serve}
+
+-- the sink failed, or the certificate's file did, so an answer may have been written
+abbrev pub is_of_sink : CliError → Bool
+is_of_sink (Words error) = false
+is_of_sink NoCommand = false
+is_of_sink InputTwice = false
+is_of_sink (Unread name) = false
+is_of_sink (Occupied name) = false
+is_of_sink (Unwritten name) = true
+is_of_sink (Serve fault) = fault.number == WRITE_FAILED
+
+-- the exit status: 2 for bad arguments and for help, 3 if there is no answer
+abbrev pub IsCode : CliError → ℕ → Type 0
+IsCode (Words error) status = ((kind_of error ≡ OutOfMemory) × (status ≡ 3)) ⊎ ((kind_of error ≢ OutOfMemory) × (status ≡ 2))
+IsCode NoCommand status = status ≡ 2
+IsCode InputTwice status = status ≡ 2
+IsCode (Unread name) status = status ≡ 3
+IsCode (Occupied name) status = status ≡ 2
+IsCode (Unwritten name) status = status ≡ 3
+IsCode (Serve fault) status = status ≡ 3
+
+-- both texts are to come from standard input
+abbrev pub IsTwice : Option Text × Option Text → Type 0
+IsTwice (first, second) = (is_some second ≡ true) × ((file_named first ≡ None) × (file_named second ≡ None))
+
+-- one of the two texts is in this file
+abbrev pub IsNamed : Option Text × Option Text → Text → Type 0
+IsNamed (first, second) name = (file_named first ≡ Some name) ⊎ (file_named second ≡ Some name)
+
+-- reading failed, or memory ran out
+abbrev pub is_of_reading : ℕ → Bool
+is_of_reading number = number == MEMORY || number == READ_FAILED
+
+-- a possible fault of reading standard input
+abbrev pub IsOfReading : CliError → Type 0
+IsOfReading (Words error) = ⊥
+IsOfReading NoCommand = ⊥
+IsOfReading InputTwice = ⊥
+IsOfReading (Unread name) = ⊥
+IsOfReading (Occupied name) = ⊥
+IsOfReading (Unwritten name) = ⊥
+IsOfReading (Serve fault) = IsTrue (is_of_reading fault.number)
+
+-- a possible fault of reading this file
+abbrev pub IsOfFile : Text → CliError → Type 0
+IsOfFile file (Words error) = ⊥
+IsOfFile file NoCommand = ⊥
+IsOfFile file InputTwice = ⊥
+IsOfFile file (Unread name) = name.now ≡ file
+IsOfFile file (Occupied name) = ⊥
+IsOfFile file (Unwritten name) = ⊥
+IsOfFile file (Serve fault) = IsTrue (is_of_reading fault.number)
+
+-- a possible fault of a command that reads these files
+abbrev pub IsOfTexts : Command → Option Text × Option Text → CliError → Type 0
+IsOfTexts command files (Words error) = ⊥
+IsOfTexts command files NoCommand = ⊥
+IsOfTexts command files InputTwice = IsTwice files
+IsOfTexts command files (Unread name) = IsNamed files name.now
+IsOfTexts command files (Occupied name) = ⊥
+IsOfTexts command files (Unwritten name) = ⊥
+IsOfTexts command files (Serve fault) = IsTrue (is_known_of command fault.number)
+
+-- the certificate could not be written to the named file
+abbrev pub IsUnwritten : Option Text → CliError → Type 0
+IsUnwritten named (Words error) = ⊥
+IsUnwritten named NoCommand = ⊥
+IsUnwritten named InputTwice = ⊥
+IsUnwritten named (Unread name) = ⊥
+IsUnwritten named (Occupied name) = ⊥
+IsUnwritten named (Unwritten name) = named ≡ Some name.now
+IsUnwritten named (Serve fault) = ⊥
+
+-- if the fault says that a file holds something other than a certificate, that agrees with what is known of the file
+abbrev pub IsOccupied : (Text → Option (List ℕ)) → CliError → Type 0
+IsOccupied content (Words error) = Unit {0}
+IsOccupied content NoCommand = Unit {0}
+IsOccupied content InputTwice = Unit {0}
+IsOccupied content (Unread name) = Unit {0}
+IsOccupied content (Occupied name) = IfSome (content name.now) (λ text. may_be_certificate text ≡ false)
+IsOccupied content (Unwritten name) = Unit {0}
+IsOccupied content (Serve fault) = Unit {0}
+
+-- a possible fault of looking at that file
+abbrev pub IsOfReplacing : Option Text → CliError → Type 0
+IsOfReplacing named (Words error) = ⊥
+IsOfReplacing named NoCommand = ⊥
+IsOfReplacing named InputTwice = ⊥
+IsOfReplacing named (Unread name) = named ≡ Some name.now
+IsOfReplacing named (Occupied name) = named ≡ Some name.now
+IsOfReplacing named (Unwritten name) = ⊥
+IsOfReplacing named (Serve fault) = fault.number ≡ MEMORY
+
+-- a possible fault for these arguments
+abbrev pub IsFaultOf : List Text → CliError → Type 0
+IsFaultOf words (Words error) = HasKind (faults_of words) error
+IsFaultOf words NoCommand = command_of words ≡ None
+IsFaultOf words (Unwritten name) = certificate_of words ≡ Some name.now
+IsFaultOf words (Unread name) = IsNamed (files_of words) name.now ⊎ (certificate_of words ≡ Some name.now)
+IsFaultOf words (Occupied name) = certificate_of words ≡ Some name.now
+IsFaultOf words fault = IfSome (command_of words) (λ command. IsOfTexts command (files_of words) fault)
+
+-- what was written before the fault: a prefix of an answer if the sink failed, and a whole one if only the certificate's
+-- file failed
+abbrev pub IsWrittenBefore : CliError → Command → List ℕ → Option (List ℕ) → Option (List ℕ) → Type 0
+IsWrittenBefore (Words error) command input old new = Unit {0}
+IsWrittenBefore NoCommand command input old new = Unit {0}
+IsWrittenBefore InputTwice command input old new = Unit {0}
+IsWrittenBefore (Unread name) command input old new = Unit {0}
+IsWrittenBefore (Occupied name) command input old new = Unit {0}
+IsWrittenBefore (Unwritten name) command input old new = (status : Status) × WritesAnswer command input status old new
+IsWrittenBefore (Serve fault) command input old new = fault.number ≡ WRITE_FAILED → WritesPrefix command input old new

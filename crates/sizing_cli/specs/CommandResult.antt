@@ -1,0 +1,156 @@
+-- What a command writes, and what it means.
+use Rattle.std.specs.Prelude.{◌≡◌, ◌≢◌, ◌+◌, ℕ, List, Option, Result, Ok, IfOk, IfErr, IfSome, IsTrue}
+use Rattle.std.specs.Io.KnownBytes.{Appends, Keeps}
+use Rattle.byte_streams.specs.Reading.{ConsumesAtMost}
+use Rattle.byte_streams.specs.Writing.{AppendsFront}
+use Rattle.support.specs.declared.number.TheConstants.{READ_FAILED, WRITE_FAILED}
+use Rattle.job_bodies.specs.Plan.{Plan}
+use Rattle.plan_text.specs.PlanOf.{plan_of}
+use Rattle.command_line.specs.declared.command.Command.{Command}
+use Rattle.command_line.specs.declared.command.Command.TheVariants.{Sequential, OnRecording, OnThreads}
+use Rattle.command_line.specs.declared.command.RecordingCommand.{RecordingCommand}
+use Rattle.command_line.specs.declared.command.RecordingCommand.TheVariants.{Conform, Learn}
+use Rattle.command_line.specs.declared.command.ReviewCommand.TheVariants.{Replay, Check, Explain}
+use Rattle.command_line.specs.declared.command.Task.{Task}
+use Rattle.command_line.specs.declared.command.Task.TheVariants.{Certify, Fit, Run, Refute, Ask}
+use Rattle.command_line.specs.declared.command.SizesForm.TheVariants.{Sizes, Bundle}
+use Rattle.command_line.specs.declared.command.RefuteFormat.TheVariants as refute_format
+use Rattle.sizing_cli.specs.declared.status.ServeFault.{ServeFault}
+use Rattle.sizing_cli.specs.declared.status.Status.{Status}
+use Rattle.sizing_cli.specs.declared.status.Status.TheVariants.{Done}
+use Rattle.sizing_cli.specs.ServeFault.{count_of, is_known_of}
+use Rattle.sizing_cli.specs.InputLength.{most_bytes}
+use Rattle.sizing_cli.specs.Answer.{Answer}
+use Rattle.sizing_cli.specs.Report.{report, run_report}
+use Rattle.sizing_cli.specs.SafeInput.{IsSafeInput, IsSafePlan}
+use Rattle.sizing_cli.specs.Certify.{IsCertifyAnswer, IsCertifiedBundle, whole_lines}
+use Rattle.sizing_cli.specs.Fit.{IsFitAnswer, IsFittedBundle}
+use Rattle.sizing_cli.specs.Refute.{IsRefuteAnswer, IsWitnessBundle}
+use Rattle.sizing_cli.specs.Ask.{IsAskAnswer, IsSafeAskInput}
+use Rattle.sizing_cli.specs.Conform.{IsConformAnswer, IsConformingInput}
+use Rattle.sizing_cli.specs.Learn.{IsLearnAnswer, IsLearnedText}
+
+-- the answer is a possible one of the task
+abbrev pub IsTaskAnswer : Task → List ℕ → Answer → Type 0
+IsTaskAnswer (Certify workers) input answer = IsCertifyAnswer input answer
+IsTaskAnswer (Fit sizes_form) input answer = IsFitAnswer sizes_form input answer
+IsTaskAnswer (Run rounds) input answer = answer ≡ run_report rounds input
+IsTaskAnswer (Refute states refute_format) input answer = IsRefuteAnswer states refute_format input answer
+IsTaskAnswer (Ask given options) input answer = (left : Option (List ℕ)) × IsAskAnswer given options input left answer
+
+-- the answer is a possible one for an input with a recording
+abbrev pub IsRecordingAnswer : RecordingCommand → List ℕ → Answer → Type 0
+IsRecordingAnswer Conform input answer = IsConformAnswer input answer
+IsRecordingAnswer Learn input answer = IsLearnAnswer input answer
+
+-- the answer is a possible one of the command
+abbrev pub IsAnswer : Command → List ℕ → Answer → Type 0
+IsAnswer (Sequential review) input answer = answer ≡ report review input
+IsAnswer (OnRecording reading) input answer = IsRecordingAnswer reading input answer
+IsAnswer (OnThreads task) input answer = IsTaskAnswer task input answer
+
+-- such an answer was written, and the status is its status
+pub record WritesAnswer (command : Command) (input : List ℕ) (status : Status) (old new : Option (List ℕ)) : Type 0 where
+  pub answer : Answer
+  pub is_answer : IsAnswer command input answer
+  pub written : Appends old new answer.text
+  pub status_is : status ≡ answer.status
+
+-- a prefix of such an answer was written
+pub record WritesPrefix (command : Command) (input : List ℕ) (old new : Option (List ℕ)) : Type 0 where
+  pub answer : Answer
+  pub is_answer : IsAnswer command input answer
+  pub written : AppendsFront old new answer.text
+
+-- a bundle was written: the input's plan with a certificate that `check` accepts
+pub record WritesCertified (input : List ℕ) (old new : Option (List ℕ)) : Type 0 where
+  pub text : List ℕ
+  pub certified : IsCertifiedBundle (whole_lines input) text
+  pub written : Appends old new text
+
+-- a bundle was written: a plan that differs from the input's only in larger sizes, with a certificate that `check` accepts
+pub record WritesFitted (input : List ℕ) (old new : Option (List ℕ)) : Type 0 where
+  pub plan : Plan
+  pub is_plan : plan_of input ≡ Ok plan
+  pub text : List ℕ
+  pub fitted : IsFittedBundle plan text
+  pub written : Appends old new text
+
+-- a bundle was written: the input's plan with a witness against it
+pub record WritesWitness (input : List ℕ) (old new : Option (List ℕ)) : Type 0 where
+  pub text : List ℕ
+  pub shows : IsWitnessBundle input text
+  pub written : Appends old new text
+
+-- a plan was written to which the recording conforms, except for what the comments at its head list
+pub record WritesLearned (input : List ℕ) (old new : Option (List ℕ)) : Type 0 where
+  pub text : List ℕ
+  pub learned : IsLearnedText input text
+  pub written : Appends old new text
+
+-- what status 0 means. For `check`, `run`, `ask`, the sizes of `fit` and the story of `refute`: the input's plan is safe.
+-- For `certify` and the bundle of `fit`: the plan that was written is safe. For the bundle of `refute`: the plan that was
+-- written has a witness. For `conform`: the recording is one of the plan. For `learn`: the recording conforms to the plan
+-- that was written.
+abbrev pub MeansSafe : Command → List ℕ → Option (List ℕ) → Option (List ℕ) → Type 0
+MeansSafe (Sequential Replay) input old new = Unit {0}
+MeansSafe (Sequential Check) input old new = IsSafeInput input
+MeansSafe (Sequential Explain) input old new = Unit {0}
+MeansSafe (OnRecording Conform) input old new = IsConformingInput input
+MeansSafe (OnRecording Learn) input old new = WritesLearned input old new
+MeansSafe (OnThreads (Certify workers)) input old new = WritesCertified input old new
+MeansSafe (OnThreads (Fit Sizes)) input old new = IsSafePlan input
+MeansSafe (OnThreads (Fit Bundle)) input old new = WritesFitted input old new
+MeansSafe (OnThreads (Run rounds)) input old new = IsSafeInput input
+MeansSafe (OnThreads (Refute states refute_format.Story)) input old new = IsSafePlan (whole_lines input)
+MeansSafe (OnThreads (Refute states refute_format.Bundle)) input old new = WritesWitness input old new
+MeansSafe (OnThreads (Ask given options)) input old new = IsSafeAskInput given input
+
+-- an answer of `ask` leaves this certificate; nothing is promised for other tasks
+abbrev pub IsTaskAnswerWith : Task → List ℕ → Answer → Option (List ℕ) → Type 0
+IsTaskAnswerWith (Certify workers) input answer left = Unit {0}
+IsTaskAnswerWith (Fit sizes_form) input answer left = Unit {0}
+IsTaskAnswerWith (Run rounds) input answer left = Unit {0}
+IsTaskAnswerWith (Refute states refute_format) input answer left = Unit {0}
+IsTaskAnswerWith (Ask given options) input answer left = IsAskAnswer given options input left answer
+
+-- an answer was written that leaves this certificate, and the status is its status
+pub record TaskWritesWithCertificate (task : Task) (input : List ℕ) (status : Status) (left old new : Option (List ℕ)) : Type 0 where
+  pub answer : Answer
+  pub is_left : IsTaskAnswerWith task input answer left
+  pub written : Appends old new answer.text
+  pub status_is : status ≡ answer.status
+
+-- what a command leaves besides its output: for `ask` the certificate that the answer rests on, if the plan is safe
+abbrev pub WritesWithCertificate : Command → List ℕ → Status → Option (List ℕ) → Option (List ℕ) → Option (List ℕ) → Type 0
+WritesWithCertificate (Sequential review) input status left old new = Unit {0}
+WritesWithCertificate (OnRecording reading) input status left old new = Unit {0}
+WritesWithCertificate (OnThreads task) input status left old new = TaskWritesWithCertificate task input status left old new
+
+-- ---- whole calls
+
+-- a source or a sink before and after a call: the bytes still to be read or already written, if they are known, and the
+-- number of failures
+pub record StreamChange : Type 0 where
+  pub before : Option (List ℕ)
+  pub after : Option (List ℕ)
+  pub failed_before : ℕ
+  pub failed_after : ℕ
+
+-- the passage of a stream, given its bytes and its failures
+abbrev pub stream_change : {X : Type 0} → (X → Option (List ℕ)) → (X → ℕ) → X → X → StreamChange
+stream_change bytes failures old new = record { before = bytes old; after = bytes new; failed_before = failures old; failed_after = failures new }
+
+-- a call reads an input and writes the command's answer to it. If the call ends with a fault, nothing was written, except
+-- that after a fault of the sink a prefix of the answer was.
+pub record Serves (command : Command) (source sink : StreamChange) (result : Result Status ServeFault) : Type 0 where
+  -- what was written, and the status, are a possible answer of the command to what was read
+  pub answered : IfOk result (λ status. IfSome source.before (λ input. WritesAnswer command input status sink.before sink.after))
+  pub prefix : IfErr result (λ fault. fault.number ≡ WRITE_FAILED → IfSome source.before (λ input. WritesPrefix command input sink.before sink.after))
+  pub nothing : IfErr result (λ fault. fault.number ≢ WRITE_FAILED → Keeps sink.before sink.after)
+  pub safe : IfOk result (λ status. status ≡ Done → IfSome source.before (λ input. MeansSafe command input sink.before sink.after))
+  -- only the command's own faults occur, and 60 and 61 exactly when the source and the sink failed
+  pub known : IfErr result (λ fault. IsTrue (is_known_of command fault.number))
+  pub read_failed : source.failed_after ≡ source.failed_before + count_of READ_FAILED result
+  pub write_failed : sink.failed_after ≡ sink.failed_before + count_of WRITE_FAILED result
+  pub at_most : ConsumesAtMost source.before source.after (most_bytes command + 1)

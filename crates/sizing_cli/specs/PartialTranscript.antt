@@ -1,0 +1,29 @@
+-- The replies of a world, in terms of each state that it is the view of, and the answer after some of the lines.
+use Rattle.std.specs.Prelude.{◌≡◌, ℕ, List, Option, Some, None}
+use Rattle.job_bodies.specs.Plan.{Plan}
+use Rattle.written_machine.specs.State.{State}
+use Rattle.written_machine.specs.Reach.{IsReached}
+use Rattle.interleaving.specs.LiveView.{View, live_view}
+use Rattle.event_lines.specs.declared.reply.Reply.{Reply}
+use Rattle.event_lines.specs.EventLine.{Line, all_from}
+use Rattle.sizing_cli.specs.Answer.{Answer, followed_by, bad_event}
+use Rattle.sizing_cli.specs.Report.{replay_of_lines}
+use Rattle.sizing_cli.specs.Transcript.{ending, reply_to}
+
+-- the whole answer is the answer so far followed by its ending
+abbrev pub IsWithEnding : View → Answer → Answer → Type 0
+IsWithEnding world front whole = (plan : Plan) (s : State) → IsReached plan s → live_view plan s ≡ world → whole ≡ followed_by front (ending s)
+
+-- the state is reachable, has this view, and gives this reply
+abbrev pub RepliesIn : Plan → State × Reply → View → Reply → Type 0
+RepliesIn plan x after reply = IsReached plan x.0 × (live_view plan x.0 ≡ after) × (x.1 ≡ reply)
+
+-- the reply to the line, and the world after it
+abbrev pub RepliesToLine : Plan → View → View → Line → Reply → Type 0
+RepliesToLine plan before after line reply = (s : State) → IsReached plan s → live_view plan s ≡ before → RepliesIn plan (reply_to plan s line) after reply
+
+-- the outcome of the lines: either all have replies and only the ending is missing, or the line of this number is malformed
+abbrev pub IsTranscribed : Plan → List (Option Line) → View → Answer → Option ℕ → Type 0
+IsTranscribed plan lines world answer None =
+    (whole : Answer) → IsWithEnding world answer whole → whole ≡ replay_of_lines plan (all_from 0 lines)
+IsTranscribed plan lines world answer (Some bad) = bad_event bad ≡ replay_of_lines plan (all_from 0 lines)

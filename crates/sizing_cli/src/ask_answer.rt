@@ -1,0 +1,168 @@
+//! The `ask` command: decides whether the sizes that a plan declares are safe.
+
+ghost use Rattle.std.specs.Prelude.{◌≡◌, IfOk, IfErr, IsTrue, None, option_map};
+ghost use Rattle.plan_text.specs.PlanOf.{plan_of};
+ghost use Rattle.cert_text.specs.CertOf.{cert_of};
+ghost use Rattle.sizing_cli.specs.Ask as spec;
+ghost use Rattle.sizing_cli.specs.ServeFault.{is_of_search};
+
+use crate::ServeFault;
+use crate::answer::{input_too_long, no_separator};
+use crate::ask_faults::{cert_fault_answer, faults_answer};
+use crate::bundle::bundle_of;
+use crate::finding::finding_of;
+use crate::finding_answer::answer_of;
+use crate::output::Output;
+use crate::texts::{cert_in, plan_in};
+use cert_text::Cert;
+use command_line::{AskInput, AskOptions};
+use job_bodies::{MAX_INPUT_BYTES, Plan};
+use std::alloc::Global;
+use std::sync::Wait;
+use std::thread::Threads;
+
+/// The answer of `ask`, and the text of the certificate that proves it, if there is one.
+#[derive(Drop)]
+pub struct AskOutput {
+    pub output: Output,
+    /// The certificate's text, with a newline at its end. `None` if the answer needs no certificate
+    /// or if the text would be too long to be read back.
+    pub certificate: Option<Vec<u8>>,
+}
+
+impl AskOutput {
+    fn without(output: Output) -> AskOutput
+        ensures output { result.output ≡ output }
+        ensures none { result.certificate ≡ None }
+    {
+        AskOutput {
+            output,
+            certificate: None,
+        }
+    }
+}
+
+/// Answers whether the plan in `input` is safe. The input is a plan's text, or a bundle of a plan
+/// and a certificate. Messages use `file` as the name of the plan's file.
+///
+/// # Errors
+///
+/// Fails with fault 20 if memory runs out or a thread cannot be started, and with the faults 42 and
+/// 43 of the search.
+pub fn ask<R: Threads + Wait + Sync>(
+    rt: &R,
+    alloc: Global,
+    given: AskInput,
+    options: AskOptions,
+    file: &str,
+    input: &[u8],
+) -> Result<AskOutput, ServeFault>
+    ensures answer { IfOk result
+        (λ answer. spec.IsAskAnswer given options input.now (spec.certificate_of_output answer) answer.output) }
+    ensures fault { IfErr result (λ fault. IsTrue (is_of_search fault.number)) }
+{
+    if input.len() > MAX_INPUT_BYTES {
+        return Ok(AskOutput::without(Output::of(input_too_long(alloc)?)));
+    }
+    match given {
+        AskInput::PlanAlone => ask_text(rt, alloc, options, file, input, None),
+        AskInput::WithCertificate => ask_bundle(rt, alloc, options, file, input),
+    }
+}
+
+fn ask_bundle<R: Threads + Wait + Sync>(
+    rt: &R,
+    alloc: Global,
+    options: AskOptions,
+    file: &str,
+    input: &[u8],
+) -> Result<AskOutput, ServeFault>
+    ensures answer { IfOk result (λ answer.
+        spec.AnswersInput AskInput.WithCertificate options input.now (spec.certificate_of_output answer)
+        answer.output) }
+    ensures fault { IfErr result (λ fault. IsTrue (is_of_search fault.number)) }
+{
+    match bundle_of(input) {
+        Some(bundle) => ask_text(rt, alloc, options, file, bundle.plan, Some(bundle.second)),
+        None => Ok(AskOutput::without(Output::of(no_separator(alloc)?))),
+    }
+}
+
+fn ask_text<R: Threads + Wait + Sync>(
+    rt: &R,
+    alloc: Global,
+    options: AskOptions,
+    file: &str,
+    text: &[u8],
+    cert: Option<&[u8]>,
+) -> Result<AskOutput, ServeFault>
+    ensures answer { IfOk result (λ answer.
+        spec.AnswersReading options (option_map (λ cert. cert.now) cert.entry) (plan_of text.now)
+        (spec.certificate_of_output answer) answer.output) }
+    ensures fault { IfErr result (λ fault. IsTrue (is_of_search fault.number)) }
+{
+    match plan_in(alloc, text)? {
+        Ok(plan) => ask_plan(rt, alloc, options, file, text, &plan, cert),
+        Err(fault) => Ok(AskOutput::without(faults_answer(alloc, options.form, file, text, fault)?)),
+    }
+}
+
+/// Answers for a plan and, if one is given, the text of a certificate.
+fn ask_plan<R: Threads + Wait + Sync>(
+    rt: &R,
+    alloc: Global,
+    options: AskOptions,
+    file: &str,
+    text: &[u8],
+    plan: &Plan,
+    cert: Option<&[u8]>,
+) -> Result<AskOutput, ServeFault>
+    ensures answer { IfOk result (λ answer.
+        spec.AnswersGiven options (option_map (λ cert. cert.now) cert.entry) plan.now
+        (spec.certificate_of_output answer) answer.output) }
+    ensures fault { IfErr result (λ fault. IsTrue (is_of_search fault.number)) }
+{
+    match cert {
+        Some(cert) => ask_with(rt, alloc, options, file, text, plan, cert),
+        None => ask_found(rt, alloc, options, file, text, plan, None),
+    }
+}
+
+fn ask_with<R: Threads + Wait + Sync>(
+    rt: &R,
+    alloc: Global,
+    options: AskOptions,
+    file: &str,
+    text: &[u8],
+    plan: &Plan,
+    cert: &[u8],
+) -> Result<AskOutput, ServeFault>
+    ensures answer { IfOk result (λ answer.
+        spec.AnswersCert options plan.now (cert_of cert.now plan.now) (spec.certificate_of_output answer)
+        answer.output) }
+    ensures fault { IfErr result (λ fault. IsTrue (is_of_search fault.number)) }
+{
+    match cert_in(alloc, cert, plan)? {
+        Ok(cert) => ask_found(rt, alloc, options, file, text, plan, Some(cert)),
+        Err(fault) => Ok(AskOutput::without(cert_fault_answer(alloc, options.form, file, fault)?)),
+    }
+}
+
+/// Answers for a plan and, if one is given, a certificate that fits it.
+fn ask_found<R: Threads + Wait + Sync>(
+    rt: &R,
+    alloc: Global,
+    options: AskOptions,
+    file: &str,
+    text: &[u8],
+    plan: &Plan,
+    cert: Option<Cert>,
+) -> Result<AskOutput, ServeFault>
+    ensures answer { IfOk result
+        (λ answer. spec.AnswersPlan options plan.now cert (spec.certificate_of_output answer) answer.output) }
+    ensures fault { IfErr result (λ fault. IsTrue (is_of_search fault.number)) }
+{
+    let (finding, is_stale) = finding_of(rt, alloc, plan, cert)?;
+    let answer = answer_of(alloc, options, file, text, plan, &finding, is_stale)?;
+    Ok(answer)
+}

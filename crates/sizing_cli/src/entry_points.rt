@@ -1,0 +1,172 @@
+//! The entry points that serve one input to any command.
+
+ghost use Rattle.std.specs.Prelude.{IfOk, IfErr, IfSome, IsTrue, option_map};
+ghost use Rattle.command_line.specs.Command.{IsInRange, IsTaskInRange};
+ghost use Rattle.command_line.specs.declared.command.Command.TheVariants.{OnThreads};
+ghost use Rattle.sizing_cli.specs.ServeFault.{is_of_search, is_of_threads};
+ghost use Rattle.sizing_cli.specs.Ask.{IsAskAnswer};
+ghost use Rattle.sizing_cli.specs.CommandResult.{IsTaskAnswerWith, IsTaskAnswer, WritesWithCertificate, Serves, stream_change};
+
+use crate::sequential::serve_alone;
+use crate::ask_answer::{AskOutput, ask};
+use crate::certify::certify;
+use crate::fit::fit;
+use crate::output::Output;
+use crate::recording_commands::serve_recording;
+use crate::refute::refute;
+use crate::run::run_report;
+use crate::status::{ServeFault, Status};
+use byte_streams::{Sink, Source, read_up_to, write_all};
+use command_line::{Command, AskInput, AskOptions, Task};
+use job_bodies::MAX_INPUT_BYTES;
+use std::alloc::Global;
+use std::sync::Wait;
+use std::thread::Threads;
+
+/// The name of the plan in messages if it was not read from a named file.
+const STANDARD_INPUT_NAME: &str = "<stdin>";
+
+/// Reads an input, and writes the command's answer to it. The whole answer is computed before its
+/// first byte is written. The numbers in the command must be in their ranges.
+///
+/// It reads at most 2,097,156 bytes, or 268,435,457 for a command on a recording. Each read except
+/// the last takes at least one byte. For a [`Task`] it starts threads and joins them.
+///
+/// # Errors
+///
+/// Any command fails with fault 20 if memory runs out, with 60 if the source fails during this
+/// call, and with 61 if the sink fails. A [`Task`] also fails with 20 if a thread cannot be
+/// started, with 42 of [`search`](cert_search::search), and with 43 of the search and of
+/// [`check_on`](cert_check::check_on). [`Task::Run`] also fails with 41, 42 and 43 of
+/// [`run`](locked_runner::run). After 61 a prefix of the answer was written; after any other fault
+/// nothing was.
+pub fn serve<R: Threads + Wait + Sync, S: Source, K: Sink>(
+    rt: &R,
+    alloc: Global,
+    command: Command,
+    source: &mut S,
+    sink: &mut K,
+) -> Result<Status, ServeFault>
+    requires { IsInRange command }
+    ensures { Serves command (stream_change S.remaining S.failures source.old source.new)
+        (stream_change K.written K.failures sink.old sink.new) result }
+{
+    let mut certificate = None;
+    serve_named(
+        rt,
+        alloc,
+        command,
+        STANDARD_INPUT_NAME,
+        &mut certificate,
+        source,
+        sink,
+    )
+}
+
+/// Does what [`serve`] does, with `file` as the name of the plan's file in messages of
+/// [`Task::Ask`]. If the answer of `ask` rests on a certificate, sets `certificate` to its text
+/// with a newline at its end, unless that is too long to be read back.
+///
+/// # Errors
+///
+/// Those of [`serve`].
+pub fn serve_named<R: Threads + Wait + Sync, S: Source, K: Sink>(
+    rt: &R,
+    alloc: Global,
+    command: Command,
+    file: &str,
+    certificate: &mut Option<Vec<u8>>,
+    source: &mut S,
+    sink: &mut K,
+) -> Result<Status, ServeFault>
+    requires { IsInRange command }
+    ensures serves { Serves command (stream_change S.remaining S.failures source.old source.new)
+        (stream_change K.written K.failures sink.old sink.new) result }
+
+    // If `ask` says that the plan is safe, `certificate` is the one that proves it, unless its text
+    // is too long to be read back.
+    ensures left { IfOk result (λ status.
+        IfSome (S.remaining source.old) (λ input.
+        WritesWithCertificate command input status (option_map (λ text. text.items) certificate.new)
+        (K.written sink.old) (K.written sink.new))) }
+{
+    match command {
+        Command::Sequential(review) => serve_alone(alloc, review, source, sink),
+        Command::OnRecording(reading) => serve_recording(alloc, reading, source, sink),
+        Command::OnThreads(task) => {
+            serve_on_threads(rt, alloc, task, file, certificate, source, sink)
+        }
+    }
+}
+
+/// Serves a task, which runs on threads.
+fn serve_on_threads<R: Threads + Wait + Sync, S: Source, K: Sink>(
+    rt: &R,
+    alloc: Global,
+    task: Task,
+    file: &str,
+    certificate: &mut Option<Vec<u8>>,
+    source: &mut S,
+    sink: &mut K,
+) -> Result<Status, ServeFault>
+    requires { IsTaskInRange task }
+    ensures serves { Serves (OnThreads task) (stream_change S.remaining S.failures source.old source.new)
+        (stream_change K.written K.failures sink.old sink.new) result }
+    ensures left { IfOk result (λ status.
+        IfSome (S.remaining source.old) (λ input.
+        WritesWithCertificate (OnThreads task) input status (option_map (λ text. text.items) certificate.new)
+        (K.written sink.old) (K.written sink.new))) }
+{
+    let input = read_up_to(alloc, source, MAX_INPUT_BYTES + 1)?;
+    let output = answer_on_threads(rt, alloc, task, file, certificate, input)?;
+    write_all(sink, &output.bytes)?;
+    Ok(output.status)
+}
+
+/// Returns an answer of the task to the input.
+fn answer_on_threads<R: Threads + Wait + Sync>(
+    rt: &R,
+    alloc: Global,
+    task: Task,
+    file: &str,
+    certificate: &mut Option<Vec<u8>>,
+    input: Vec<u8>,
+) -> Result<Output, ServeFault>
+    requires { IsTaskInRange task }
+    ensures answer { IfOk result (IsTaskAnswer task input.items) }
+    ensures left { IfOk result (λ output.
+        IsTaskAnswerWith task input.items output (option_map (λ text. text.items) certificate.new)) }
+    ensures fault { IfErr result (λ fault. IsTrue (is_of_threads task fault.number)) }
+{
+    match task {
+        Task::Certify { workers } => certify(rt, alloc, workers, input),
+        Task::Fit { sizes_form } => fit(rt, alloc, sizes_form, &input),
+        Task::Run { rounds } => Ok(Output::of(run_report(rt, alloc, rounds, &input)?)),
+        Task::Refute { states, refute_format } => refute(rt, alloc, states, refute_format, input),
+        Task::Ask { given, options } => {
+            answer_question(rt, alloc, given, options, file, certificate, &input)
+        }
+    }
+}
+
+/// Answers `ask`, and sets `certificate` to the text of the certificate that the answer rests on.
+fn answer_question<R: Threads + Wait + Sync>(
+    rt: &R,
+    alloc: Global,
+    given: AskInput,
+    options: AskOptions,
+    file: &str,
+    certificate: &mut Option<Vec<u8>>,
+    input: &[u8],
+) -> Result<Output, ServeFault>
+    ensures answer { IfOk result
+        (IsAskAnswer given options input.now (option_map (λ text. text.items) certificate.new)) }
+    ensures fault { IfErr result (λ fault. IsTrue (is_of_search fault.number)) }
+{
+    let AskOutput {
+        output,
+        certificate: found,
+    } = ask(rt, alloc, given, options, file, input)?;
+    *certificate = found;
+    Ok(output)
+}

@@ -1,0 +1,204 @@
+//! The answer of `ask` about a plan, written from a finding.
+
+ghost use Rattle.std.specs.Prelude.{◌≡◌, ◌++◌, IfOk, IsTrue, option_map, string_bytes};
+ghost use Rattle.soundness.specs.Accepted.{accepted};
+ghost use Rattle.diagnostics.specs.Lints.{lints_in};
+ghost use Rattle.job_bodies.specs.Plan.{Plan as PlanValue};
+ghost use Rattle.report.specs.Finding.{IsFinding};
+ghost use Rattle.sizing_cli.specs.Ask as spec;
+
+use crate::Status;
+use crate::answer::Answer;
+use crate::ask_answer::AskOutput;
+use crate::output::Output;
+use cert_text::{Cert, write_cert};
+use command_line::{Form, AskOptions};
+use diagnostics::{Lint, Warning, push_warnings, warnings_of};
+use job_bodies::{MAX_CERT_BYTES, Plan};
+use plan_text::TextPlace;
+use report::{PlanFinding, finding_json, needed_places, picture_of, render};
+use std::alloc::{AllocError, Global};
+
+/// Writes the answer for this finding. Messages use `file` as the name of the plan's file. A given
+/// certificate is stale if it does not accept the plan.
+pub(crate) fn answer_of(
+    alloc: Global,
+    options: AskOptions,
+    file: &str,
+    text: &[u8],
+    plan: &Plan,
+    finding: &PlanFinding,
+    is_stale: bool,
+) -> Result<AskOutput, AllocError>
+    requires { IsFinding plan.now finding.now }
+    ensures answer { IfOk result
+        (λ answer. spec.AnswersFinding options plan.now finding.now is_stale answer.output) }
+    ensures leaves { IfOk result
+        (λ answer. spec.IsFindingCertificate plan.now finding.now (spec.certificate_of_output answer)) }
+{
+    let warnings = warnings_for(alloc, text, plan, finding, is_stale)?;
+    let answer = answer_with(alloc, options, file, plan, finding, is_stale, &warnings)?;
+    let certificate = certificate_text(alloc, finding)?;
+    Ok(AskOutput {
+        output: Output::of(answer),
+        certificate,
+    })
+}
+
+/// Returns the warnings about a plan, and one about a stale certificate if `is_stale`.
+fn warnings_for(
+    alloc: Global,
+    text: &[u8],
+    plan: &Plan,
+    finding: &PlanFinding,
+    is_stale: bool,
+) -> Result<Vec<Warning>, AllocError>
+    ensures { IfOk result
+        (λ warnings. spec.AreWarnings plan.now finding.now is_stale warnings.items) }
+{
+    let needed = needed_of(alloc, plan, finding)?;
+    let warnings = warnings_of(alloc, text, plan, &needed)?;
+    let all = with_stale(alloc, warnings, is_stale)?;
+    Ok(all)
+}
+
+/// Returns how many places each pool needs. The list is empty if no certificate was found.
+fn needed_of(
+    alloc: Global,
+    plan: &Plan,
+    finding: &PlanFinding,
+) -> Result<Vec<Option<u64>>, AllocError>
+    ensures { IfOk result (λ needed. needed.items ≡ spec.needed_of plan.now finding.now) }
+{
+    match finding {
+        PlanFinding::Safe(cert) => needed_places(alloc, plan, cert),
+        PlanFinding::NotSafe(_, _) | PlanFinding::NotDecided(_) => Ok(Vec::new(alloc)),
+    }
+}
+
+/// Appends a warning about a stale certificate if `is_stale`.
+fn with_stale(
+    alloc: Global,
+    mut warnings: Vec<Warning>,
+    is_stale: bool,
+) -> Result<Vec<Warning>, AllocError>
+    ensures { IfOk result
+        (λ all. lints_in all.items ≡ lints_in warnings.items ++ spec.stale_if is_stale) }
+{
+    if is_stale {
+        warnings.push(stale(alloc)?)?;
+    }
+    Ok(warnings)
+}
+
+/// Writes the answer with these warnings.
+fn answer_with(
+    alloc: Global,
+    options: AskOptions,
+    file: &str,
+    plan: &Plan,
+    finding: &PlanFinding,
+    is_stale: bool,
+    warnings: &[Warning],
+) -> Result<Answer, AllocError>
+    requires { spec.AreWarnings plan.now finding.now is_stale warnings.now }
+    ensures { IfOk result (spec.AnswersFinding options plan.now finding.now is_stale) }
+{
+    let text = text_of(alloc, options.form, file, plan, finding, warnings)?;
+    let status = status_of(options.strict, warnings, finding);
+    Ok(Answer { text, status })
+}
+
+fn text_of(
+    alloc: Global,
+    form: Form,
+    file: &str,
+    plan: &Plan,
+    finding: &PlanFinding,
+    warnings: &[Warning],
+) -> Result<String, AllocError>
+    ensures { IfOk result
+        (λ text. spec.TellsFindingIn form plan.now warnings.now finding.now (string_bytes text)) }
+{
+    match form {
+        Form::Words => words_of(alloc, file, plan, finding, warnings),
+        Form::Json => finding_json(alloc, file, plan, finding, warnings),
+        Form::Dot => picture_of(alloc, plan, finding),
+    }
+}
+
+fn words_of(
+    alloc: Global,
+    file: &str,
+    plan: &Plan,
+    finding: &PlanFinding,
+    warnings: &[Warning],
+) -> Result<String, AllocError>
+    ensures { IfOk result
+        (λ text. spec.TellsFinding plan.now warnings.now finding.now (string_bytes text)) }
+{
+    let words = render(alloc, plan, finding)?;
+    let mut text = String::new(alloc);
+    push_warnings(&mut text, file, warnings)?;
+    text.push_str(&words)?;
+    Ok(text)
+}
+
+fn status_of(strict: bool, warnings: &[Warning], finding: &PlanFinding) -> Status
+    ensures { result ≡ spec.status_of strict warnings.now finding.now }
+{
+    match finding {
+        PlanFinding::Safe(_) => {
+            if strict && !warnings.is_empty() {
+                Status::Refused
+            } else {
+                Status::Done
+            }
+        }
+        PlanFinding::NotSafe(_, _) => Status::Refused,
+        PlanFinding::NotDecided(_) => Status::Undecided,
+    }
+}
+
+/// Returns the text of the certificate that a finding rests on.
+fn certificate_text(alloc: Global, finding: &PlanFinding) -> Result<Option<Vec<u8>>, AllocError>
+    ensures { IfOk result (λ left.
+        (plan : PlanValue)
+        → IsFinding plan finding.now
+        → spec.IsFindingCertificate plan finding.now (option_map (λ text. text.items) left)) }
+{
+    match finding {
+        PlanFinding::Safe(cert) => readable_text(alloc, cert),
+        PlanFinding::NotSafe(_, _) => Ok(None),
+        PlanFinding::NotDecided(_) => Ok(None),
+    }
+}
+
+/// Returns the text of a certificate with a newline at its end, unless that is too long to be read
+/// back.
+fn readable_text(alloc: Global, cert: &Cert) -> Result<Option<Vec<u8>>, AllocError>
+    ensures { IfOk result (λ left.
+        (plan : PlanValue)
+        → IsTrue (accepted plan cert.now)
+        → spec.IsCertificateText plan cert.now (option_map (λ text. text.items) left)) }
+{
+    let mut text = write_cert(alloc, cert)?;
+    if text.len() >= MAX_CERT_BYTES {
+        return Ok(None);
+    }
+    text.extend_from_slice(b"\n")?;
+    Ok(Some(text))
+}
+
+/// Returns the warning that the given certificate does not accept the plan.
+fn stale(alloc: Global) -> Result<Warning, AllocError>
+    ensures { IfOk result (λ warning. warning.lint ≡ Lint.StaleCertificate) }
+{
+    let what =
+        "the certificate that was given does not show that these sizes are safe: write a new one by --certificate";
+    Ok(Warning {
+        lint: Lint::StaleCertificate,
+        place: TextPlace { line: 1, column: 1 },
+        what: String::from_str(alloc, what)?,
+    })
+}

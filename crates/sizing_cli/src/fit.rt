@@ -1,0 +1,191 @@
+//! The `fit` command: searches for sizes, and writes them as lines or as a bundle.
+
+ghost use Rattle.std.specs.Prelude.{◌≡◌, IfOk, IfErr, IsTrue};
+ghost use Rattle.soundness.specs.Accepted.{accepted};
+ghost use Rattle.size_search.specs.Steady.{steady_cert};
+ghost use Rattle.size_search.specs.Sized.{IsFound};
+ghost use Rattle.size_search.specs.Decided.{IsDecided};
+ghost use Rattle.sizing_cli.specs.Fit as spec;
+ghost use Rattle.sizing_cli.specs.ServeFault.{is_of_search};
+
+use crate::answer::{Answer, input_too_long, plan_fault};
+use crate::noop_gate::NoopGate;
+use crate::certificate::WORKERS;
+use crate::certified_bundle::certified_bundle;
+use crate::output::Output;
+use crate::texts::plan_in;
+use crate::{ServeFault, Status};
+use cert_search::search;
+use cert_text::{Cert, write_cert};
+use command_line::SizesForm;
+use job_bodies::{MAX_CERT_BYTES, MAX_INPUT_BYTES, MAX_PLAN_BYTES, Plan};
+use plan_text::write_plan;
+use report::{push_no_sizes, push_sizes};
+use size_search::{NoSizes, SizesFound, search_sizes};
+use std::alloc::{AllocError, Global};
+use std::sync::Wait;
+use std::thread::Threads;
+use support::number::MIXED;
+
+/// Searches for sizes that a certificate accepts. Returns them as lines, or as the bundle of the
+/// plan with those sizes and the certificate, or returns the reason why none were found. The input
+/// is a plan's text.
+///
+/// # Errors
+///
+/// Fails with fault 20 if memory runs out or a thread cannot be started, and with the faults 42 and
+/// 43 of the search and of the check.
+pub fn fit<R: Threads + Wait + Sync>(
+    rt: &R,
+    alloc: Global,
+    sizes_form: SizesForm,
+    input: &[u8],
+) -> Result<Output, ServeFault>
+    ensures answer { IfOk result (spec.IsFitAnswer sizes_form input.now) }
+    ensures fault { IfErr result (λ fault. IsTrue (is_of_search fault.number)) }
+{
+    if input.len() > MAX_INPUT_BYTES {
+        return Ok(Output::of(input_too_long(alloc)?));
+    }
+    match plan_in(alloc, input)? {
+        Ok(plan) => fit_plan(rt, alloc, sizes_form, &plan),
+        Err(fault) => Ok(Output::of(plan_fault(alloc, fault)?)),
+    }
+}
+
+fn fit_plan<R: Threads + Wait + Sync>(
+    rt: &R,
+    alloc: Global,
+    sizes_form: SizesForm,
+    plan: &Plan,
+) -> Result<Output, ServeFault>
+    ensures answer { IfOk result (spec.AnswersPlan sizes_form plan.now) }
+    ensures fault { IfErr result (λ fault. IsTrue (is_of_search fault.number)) }
+{
+    let found = sizes_of(rt, alloc, plan)?;
+    answer_of_sizes(rt, alloc, sizes_form, plan, &found)
+}
+
+/// Returns the answer for what a search for sizes found: the lines of the sizes or the bundle, or
+/// the reason why there are none.
+///
+/// # Errors
+///
+/// Fails with fault 20 if memory runs out or a thread cannot be started, and with the faults 42 and
+/// 43 of the check of the bundle.
+pub fn answer_of_sizes<R: Threads + Wait + Sync>(
+    rt: &R,
+    alloc: Global,
+    sizes_form: SizesForm,
+    plan: &Plan,
+    found: &SizesFound,
+) -> Result<Output, ServeFault>
+    ensures answer { IfOk result (spec.AnswersFound sizes_form plan.now found.now) }
+    ensures fault { IfErr result (λ fault. IsTrue (is_of_search fault.number)) }
+{
+    match sizes_form {
+        SizesForm::Sizes => Ok(Output::of(lines_of(alloc, plan, found)?)),
+        SizesForm::Bundle => bundle(rt, alloc, plan, found),
+    }
+}
+
+/// Searches for sizes. They are those of the plan if a certificate accepts it as it is.
+fn sizes_of<R: Threads + Wait + Sync>(
+    rt: &R,
+    alloc: Global,
+    plan: &Plan,
+) -> Result<SizesFound, ServeFault>
+    ensures found { IfOk result (IsFound plan.now) }
+    ensures decided { IfOk result (IsDecided plan.now) }
+    ensures unchanged { IfOk result (λ found.
+        IsTrue (accepted plan.now (steady_cert plan.now)) → spec.IsAsDeclared plan.now found) }
+    ensures fault { IfErr result (λ fault. IsTrue (is_of_search fault.number)) }
+{
+    let first = search(rt, alloc, plan, WORKERS, &NoopGate)?;
+    Ok(search_sizes(alloc, plan, first)?)
+}
+
+/// Writes the sizes that were found as lines.
+fn lines_of(alloc: Global, plan: &Plan, found: &SizesFound) -> Result<Answer, AllocError>
+    ensures { IfOk result (λ answer. answer ≡ spec.lines_answer plan.now found.now) }
+{
+    match found {
+        SizesFound::Found { plan: fit, .. } => sizes(alloc, plan, fit),
+        SizesFound::NotFound(cause) => no_sizes(alloc, plan, *cause),
+    }
+}
+
+/// Writes the sizes of the fitted plan. The answer is a no if they differ from the plan's.
+fn sizes(alloc: Global, plan: &Plan, fit: &Plan) -> Result<Answer, AllocError>
+    ensures { IfOk result (λ answer. answer ≡ spec.sizes_answer plan.now fit.now) }
+{
+    let mut text = String::new(alloc);
+    let changes = push_sizes(&mut text, plan, fit)?;
+    Ok(Answer {
+        text,
+        status: Status::of_question(changes == 0),
+    })
+}
+
+/// Writes that no sizes were found, and why.
+fn no_sizes(alloc: Global, plan: &Plan, cause: NoSizes) -> Result<Answer, AllocError>
+    ensures { IfOk result (λ answer. answer ≡ spec.no_sizes_answer plan.now cause) }
+{
+    let mut text = String::new(alloc);
+    push_no_sizes(&mut text, plan, cause)?;
+    Ok(Answer {
+        text,
+        status: Status::Refused,
+    })
+}
+
+/// Writes the bundle for what the search found.
+fn bundle<R: Threads + Wait + Sync>(
+    rt: &R,
+    alloc: Global,
+    plan: &Plan,
+    found: &SizesFound,
+) -> Result<Output, ServeFault>
+    ensures answer { IfOk result (spec.AnswersFound SizesForm.Bundle plan.now found.now) }
+    ensures fault { IfErr result (λ fault. IsTrue (is_of_search fault.number)) }
+{
+    match found {
+        SizesFound::Found { plan: fit, cert } => bundle_of_sizes(rt, alloc, fit, cert),
+        SizesFound::NotFound(cause) => Ok(Output::of(no_sizes(alloc, plan, *cause)?)),
+    }
+}
+
+/// Writes the bundle of the fitted plan and its certificate.
+fn bundle_of_sizes<R: Threads + Wait + Sync>(
+    rt: &R,
+    alloc: Global,
+    fit: &Plan,
+    cert: &Cert,
+) -> Result<Output, ServeFault>
+    ensures answer { IfOk result (spec.BundlesSizes fit.now cert.now) }
+    ensures fault { IfErr result (λ fault. IsTrue (is_of_search fault.number)) }
+{
+    let fit_text = write_plan(alloc, fit)?;
+    if fit_text.len() > MAX_PLAN_BYTES {
+        return Ok(Output::of(text_too_long(alloc)?));
+    }
+    let mut cert_text = write_cert(alloc, cert)?;
+    if cert_text.len() >= MAX_CERT_BYTES {
+        return Ok(Output::of(text_too_long(alloc)?));
+    }
+    cert_text.extend_from_slice(b"\n")?;
+    match certified_bundle(rt, alloc, WORKERS, fit_text.into_bytes(), cert_text)? {
+        Some(bytes) => Ok(Output {
+            bytes,
+            status: Status::Done,
+        }),
+        // The check on threads contradicts the search, which a check on one thread cannot do.
+        None => Err(ServeFault { number: MIXED }),
+    }
+}
+
+fn text_too_long(alloc: Global) -> Result<Answer, AllocError>
+    ensures { IfOk result (λ answer. answer ≡ spec.text_too_long) }
+{
+    Answer::no(alloc, "no bundle: text too long\n")
+}

@@ -1,0 +1,219 @@
+//! The `learn` command: derives a plan from a recording.
+
+ghost use Rattle.std.specs.Prelude.{◌≡◌, ◌≤◌, ◌++◌, IfOk, IfSome, IsTrue, None, length, string_bytes};
+ghost use Rattle.std.specs.List.{list_any};
+ghost use Rattle.support.specs.Pushed.{Pushes};
+ghost use Rattle.plan_text.specs.PlanOf.{plan_of};
+ghost use Rattle.job_bodies.specs.declared.limits.TheConstants.{MAX_PLAN_BYTES};
+ghost use Rattle.recordings.specs.RecordingLine.{lines_read};
+ghost use Rattle.recordings.specs.Faults.{IsFirstFault};
+ghost use Rattle.conformance.specs.Findings.{is_of_actors};
+ghost use Rattle.conformance.specs.Lines.{lines_of};
+ghost use Rattle.sizing_cli.specs.Learn as spec;
+
+use crate::Status;
+use crate::answer::{Answer, bad_recording, input_too_long};
+use crate::texts::plan_in;
+use conformance::{Conformance, Finding, conform, push_finding};
+use job_bodies::{MAX_PATH_STEPS, MAX_PLAN_BYTES, MAX_RECORDED_BYTES, Plan};
+use learning::{Extent, InferenceResult, START_BYTES, InferredPlan, InferenceLimit, learn};
+use plan_text::write_plan;
+use std::alloc::{AllocError, Global};
+
+/// Returns the plan that a recording shows. The input is the recording.
+///
+/// The bodies of a long recording are first derived from its start and compared with all of it.
+/// They are derived from the whole recording only if they do not explain all of it.
+///
+/// # Errors
+///
+/// [`AllocError`] if memory runs out.
+pub fn learn_report(alloc: Global, input: &[u8]) -> Result<Answer, AllocError>
+    ensures { IfOk result (spec.IsLearnAnswer input.now) }
+{
+    if input.len() > MAX_RECORDED_BYTES {
+        return input_too_long(alloc);
+    }
+    if input.len() > START_BYTES {
+        if let Some(answer) = learn_from_start(alloc, input)? {
+            return Ok(answer);
+        }
+    }
+    learn_from_all(alloc, input)
+}
+
+/// Returns the answer with bodies derived from the start of the recording, if they explain all of
+/// it.
+fn learn_from_start(alloc: Global, recording: &[u8]) -> Result<Option<Answer>, AllocError>
+    ensures { IfOk result (λ found. IfSome found (spec.AnswersLines recording.now)) }
+{
+    match learn(alloc, recording, Extent::Start, MAX_PATH_STEPS)? {
+        InferenceResult::Invalid(fault) => Ok(Some(bad_recording(alloc, fault)?)),
+        InferenceResult::InferenceLimit(_) => Ok(None),
+        InferenceResult::Inferred(seen) => plan_answer(alloc, recording, &seen),
+    }
+}
+
+/// Returns the answer with bodies derived from the whole recording.
+fn learn_from_all(alloc: Global, recording: &[u8]) -> Result<Answer, AllocError>
+    ensures { IfOk result (spec.AnswersLines recording.now) }
+{
+    match learn(alloc, recording, Extent::Whole, MAX_PATH_STEPS)? {
+        InferenceResult::Invalid(fault) => bad_recording(alloc, fault),
+        InferenceResult::InferenceLimit(reason) => not_learned(alloc, reason),
+        InferenceResult::Inferred(seen) => match plan_answer(alloc, recording, &seen)? {
+            Some(answer) => Ok(answer),
+            None => not_learned(alloc, InferenceLimit::Paths),
+        },
+    }
+}
+
+/// Writes the inferred plan. Comments at its head list what the recording shows beyond it. Returns
+/// `None` if a job or a round did not follow its body, or if there are more rounds of a kind than
+/// the plan allows.
+fn plan_answer(alloc: Global, recording: &[u8], seen: &InferredPlan) -> Result<Option<Answer>, AllocError>
+    requires no_fault { IsFirstFault (lines_read recording.now) None }
+    requires seen { spec.IsSeen (lines_of recording.now) seen.now }
+    ensures { IfOk result (λ found. IfSome found (spec.AnswersLines recording.now)) }
+{
+    let Conformance::Compared(findings) = conform(alloc, &seen.plan, recording, MAX_PATH_STEPS)?
+    else {
+        return Ok(None);
+    };
+    if are_of_actors(&findings) {
+        return Ok(None);
+    }
+    match commented_plan(alloc, seen, &findings)? {
+        Some(text) => Ok(Some(Answer {
+            text,
+            status: Status::Done,
+        })),
+        None => Ok(Some(not_learned(alloc, InferenceLimit::Text)?)),
+    }
+}
+
+/// Returns the plan's text after comments that list what the recording shows beyond the plan.
+/// Returns `None` if that text is too long or does not read back as the plan.
+fn commented_plan(
+    alloc: Global,
+    seen: &InferredPlan,
+    findings: &[Finding],
+) -> Result<Option<String>, AllocError>
+    ensures { IfOk result
+        (λ found. IfSome found (λ text. spec.IsTextOf seen.now findings.now (string_bytes text))) }
+{
+    let plan = write_plan(alloc, &seen.plan)?;
+    let mut text = head_of(alloc, seen, findings)?;
+    text.push('\n')?;
+    text.push_str(&plan)?;
+    if reads_as(alloc, text.as_bytes(), plan.as_bytes())? {
+        Ok(Some(text))
+    } else {
+        Ok(None)
+    }
+}
+
+/// Returns whether the two texts have the same plan, and the second is as [`write_plan`] writes it
+/// and not too long.
+fn reads_as(alloc: Global, text: &[u8], written: &[u8]) -> Result<bool, AllocError>
+    ensures same { IfOk result (λ yes. IsTrue yes → plan_of text.now ≡ plan_of written.now) }
+    ensures short { IfOk result (λ yes. IsTrue yes → length written.now ≤ MAX_PLAN_BYTES) }
+{
+    if written.len() > MAX_PLAN_BYTES {
+        return Ok(false);
+    }
+    match plan_in(alloc, text)? {
+        Ok(plan) => Ok(write_plan(alloc, &plan)?.as_bytes() == written),
+        Err(_) => Ok(false),
+    }
+}
+
+/// Returns the comments at the head of a plan.
+fn head_of(alloc: Global, seen: &InferredPlan, findings: &[Finding]) -> Result<String, AllocError>
+    ensures { IfOk result (λ text.
+        string_bytes text
+        ≡ spec.head_comment seen.now ++ spec.comments seen.now.plan findings.now) }
+{
+    let mut text = String::new(alloc);
+    push_head(&mut text, seen)?;
+    push_comments(&mut text, &seen.plan, findings)?;
+    Ok(text)
+}
+
+/// Appends the comments about the extent of the recording and about what the plan does not contain.
+fn push_head(text: &mut String, seen: &InferredPlan) -> Result<(), AllocError>
+    ensures { Pushes result text.old text.new (spec.head_comment seen.now) }
+{
+    push_extent(text, seen.rounds, seen.jobs)?;
+    text.push_str(
+        "# What was not taken is not here: another path, class, kind or pool. Each count is what was seen at once.\n",
+    )?;
+    push_unfinished(text, seen.unfinished_rounds, seen.unfinished_jobs)
+}
+
+/// Appends the comment with the number of rounds and jobs that the plan was derived from.
+fn push_extent(text: &mut String, rounds: usize, jobs: usize) -> Result<(), AllocError>
+    ensures { Pushes result text.old text.new (spec.extent_comment rounds jobs) }
+{
+    write!(
+        text,
+        "# Learned from a recording. Rounds: {rounds}. Jobs: {jobs}.\n"
+    )
+}
+
+/// Appends the comment with the number of unfinished rounds and jobs, if there are any. A service
+/// that hung has some.
+fn push_unfinished(text: &mut String, rounds: usize, jobs: usize) -> Result<(), AllocError>
+    ensures { Pushes result text.old text.new (spec.unfinished_comment rounds jobs) }
+{
+    if rounds == 0 && jobs == 0 {
+        return Ok(());
+    }
+    write!(
+        text,
+        "# Not at their ends yet. Rounds: {rounds}. Jobs: {jobs}. What they wait for, and what comes behind it, is not here.\n"
+    )
+}
+
+fn push_comments(text: &mut String, plan: &Plan, findings: &[Finding]) -> Result<(), AllocError>
+    ensures { Pushes result text.old text.new (spec.comments plan.now findings.now) }
+{
+    for finding in findings {
+        push_comment(text, plan, finding)?;
+    }
+    Ok(())
+}
+
+fn push_comment(text: &mut String, plan: &Plan, finding: &Finding) -> Result<(), AllocError>
+    ensures { Pushes result text.old text.new (spec.comment_line plan.now finding.now) }
+{
+    text.push_str("# ")?;
+    push_finding(text, plan, finding)?;
+    text.push('\n')
+}
+
+fn are_of_actors(findings: &[Finding]) -> bool
+    ensures { result ≡ list_any is_of_actors findings.now }
+{
+    findings.iter().any(|finding| is_of_actors(finding))
+}
+
+/// Returns whether the finding is about the steps of one job or round, or about the number of
+/// rounds.
+fn is_of_actors(finding: &Finding) -> bool
+    ensures { result ≡ is_of_actors finding.now }
+{
+    !matches!(
+        finding,
+        Finding::Pool(_) | Finding::ForeignGet { .. } | Finding::Invalidation(_)
+    )
+}
+
+fn not_learned(alloc: Global, reason: InferenceLimit) -> Result<Answer, AllocError>
+    ensures { IfOk result (λ answer. (answer ≡ spec.not_learned reason)) }
+{
+    Ok(Answer {
+        text: format!(in alloc; "no plan was learned: {reason}\n")?,
+        status: Status::Refused,
+    })
+}

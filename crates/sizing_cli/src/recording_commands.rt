@@ -1,0 +1,49 @@
+//! The entry point of the commands on recordings.
+
+ghost use Rattle.std.specs.Prelude.{IfOk};
+ghost use Rattle.command_line.specs.declared.command.Command.TheVariants.{OnRecording};
+ghost use Rattle.sizing_cli.specs.CommandResult.{IsRecordingAnswer, Serves, stream_change};
+
+use crate::answer::Answer;
+use crate::conform::conform_report;
+use crate::learn::learn_report;
+use crate::status::{ServeFault, Status};
+use byte_streams::{Sink, Source, read_up_to, write_all};
+use command_line::RecordingCommand;
+use job_bodies::MAX_RECORDED_BYTES;
+use std::alloc::{AllocError, Global};
+
+/// Reads an input, and writes the answer to it. The whole answer is computed before its first byte
+/// is written.
+///
+/// It reads at most 268,435,457 bytes. Each read except the last takes at least one byte, so the
+/// call returns whatever the source and the sink do.
+///
+/// # Errors
+///
+/// Fails with fault 20 if memory runs out, with 60 if the source fails during this call, and with
+/// 61 if the sink fails. After 61 a prefix of the answer was written; after any other fault nothing
+/// was.
+pub fn serve_recording<S: Source, K: Sink>(
+    alloc: Global,
+    reading: RecordingCommand,
+    source: &mut S,
+    sink: &mut K,
+) -> Result<Status, ServeFault>
+    ensures { Serves (OnRecording reading) (stream_change S.remaining S.failures source.old source.new)
+        (stream_change K.written K.failures sink.old sink.new) result }
+{
+    let input = read_up_to(alloc, source, MAX_RECORDED_BYTES + 1)?;
+    let answer = report(alloc, reading, input.as_slice())?;
+    write_all(sink, answer.text.as_bytes())?;
+    Ok(answer.status)
+}
+
+fn report(alloc: Global, reading: RecordingCommand, input: &[u8]) -> Result<Answer, AllocError>
+    ensures { IfOk result (IsRecordingAnswer reading input.now) }
+{
+    match reading {
+        RecordingCommand::Conform => conform_report(alloc, input),
+        RecordingCommand::Learn => learn_report(alloc, input),
+    }
+}

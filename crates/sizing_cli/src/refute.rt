@@ -1,0 +1,206 @@
+//! The `refute` command: searches for a witness, and writes it as a story or as a bundle.
+
+ghost use Rattle.std.specs.Prelude.{◌≡◌, ◌++◌, ◌∷◌, IfOk, IfErr, IfSome, IfNone, IsTrue, codes};
+ghost use Rattle.sizing_cli.specs.Certify.{IsUncertified};
+ghost use Rattle.sizing_cli.specs.Refute as spec;
+ghost use Rattle.sizing_cli.specs.ServeFault.{is_of_search};
+
+use crate::answer::{Answer, input_too_long, plan_fault};
+use crate::certificate::{WORKERS, certificate_of};
+use crate::certify::whole_lines;
+use crate::output::Output;
+use crate::texts::plan_in;
+use crate::witness::{WitnessSearch, witness_of};
+use crate::{ServeFault, Status};
+use command_line::RefuteFormat;
+use counterexample::{Witness, describe, push_event_lines};
+use job_bodies::{MAX_EVENT_BYTES, MAX_INPUT_BYTES, Plan};
+use std::alloc::{AllocError, Global};
+use std::sync::Wait;
+use std::thread::Threads;
+
+/// Returns that the plan is safe if a certificate is found; otherwise a witness, as a story or as a
+/// bundle with its events; otherwise that it is undecided, with the number of states searched,
+/// which is at most `states`. The input is a plan's text.
+///
+/// # Errors
+///
+/// Fails with fault 20 if memory runs out or a thread cannot be started, and with the faults 42 and
+/// 43 of the search for a certificate.
+pub fn refute<R: Threads + Wait + Sync>(
+    rt: &R,
+    alloc: Global,
+    states: usize,
+    refute_format: RefuteFormat,
+    input: Vec<u8>,
+) -> Result<Output, ServeFault>
+    ensures answer { IfOk result (spec.IsRefuteAnswer states refute_format input.items) }
+    ensures fault { IfErr result (λ fault. IsTrue (is_of_search fault.number)) }
+{
+    if input.len() > MAX_INPUT_BYTES {
+        return Ok(Output::of(input_too_long(alloc)?));
+    }
+    let text = whole_lines(input)?;
+    match plan_in(alloc, &text)? {
+        Ok(plan) => refute_plan(rt, alloc, states, refute_format, &plan, text),
+        Err(fault) => Ok(Output::of(plan_fault(alloc, fault)?)),
+    }
+}
+
+/// Returns the answer for this plan, whose text is `text`.
+fn refute_plan<R: Threads + Wait + Sync>(
+    rt: &R,
+    alloc: Global,
+    states: usize,
+    refute_format: RefuteFormat,
+    plan: &Plan,
+    text: Vec<u8>,
+) -> Result<Output, ServeFault>
+    ensures answer { IfOk result (spec.AnswersPlan states refute_format text.items plan.now) }
+    ensures fault { IfErr result (λ fault. IsTrue (is_of_search fault.number)) }
+{
+    match certificate_of(rt, alloc, WORKERS, plan)? {
+        Some(_cert) => Ok(Output::of(safe(alloc, refute_format)?)),
+        None => Ok(without_certificate(alloc, states, refute_format, plan, text)?),
+    }
+}
+
+/// Searches for a witness against a plan for which no certificate was found.
+fn without_certificate(
+    alloc: Global,
+    states: usize,
+    refute_format: RefuteFormat,
+    plan: &Plan,
+    text: Vec<u8>,
+) -> Result<Output, AllocError>
+    requires { IsUncertified plan.now }
+    ensures { IfOk result (spec.AnswersPlan states refute_format text.items plan.now) }
+{
+    let search = witness_of(alloc, plan, states)?;
+    Ok(answer_of(alloc, refute_format, plan, search, text)?)
+}
+
+/// Writes the answer for the result of the search for a witness.
+fn answer_of(
+    alloc: Global,
+    refute_format: RefuteFormat,
+    plan: &Plan,
+    search: WitnessSearch,
+    text: Vec<u8>,
+) -> Result<Output, AllocError>
+    ensures some { IfSome search.witness
+        (λ witness. IfOk result (spec.ShowsWitness refute_format text.items plan.now witness)) }
+    ensures none { IfNone search.witness
+        (IfOk result (λ answer. answer ≡ spec.not_decided refute_format search.states)) }
+{
+    let WitnessSearch { witness, states } = search;
+    match witness {
+        Some(witness) => show(alloc, refute_format, plan, &witness, text),
+        None => Ok(Output::of(not_decided(alloc, refute_format, states)?)),
+    }
+}
+
+/// Writes the witness in this form.
+fn show(
+    alloc: Global,
+    refute_format: RefuteFormat,
+    plan: &Plan,
+    witness: &Witness,
+    text: Vec<u8>,
+) -> Result<Output, AllocError>
+    ensures { IfOk result (spec.ShowsWitness refute_format text.items plan.now witness.now) }
+{
+    match refute_format {
+        RefuteFormat::Story => Ok(Output::of(story(alloc, plan, witness)?)),
+        RefuteFormat::Bundle => bundle(alloc, plan, witness, text),
+    }
+}
+
+fn story(alloc: Global, plan: &Plan, witness: &Witness) -> Result<Answer, AllocError>
+    ensures { IfOk result (spec.TellsWitness plan.now witness.now) }
+{
+    let text = describe(alloc, plan, witness)?;
+    Ok(Answer {
+        text,
+        status: Status::Refused,
+    })
+}
+
+/// Writes the plan's text followed by the events of the witness.
+fn bundle(
+    alloc: Global,
+    plan: &Plan,
+    witness: &Witness,
+    mut text: Vec<u8>,
+) -> Result<Output, AllocError>
+    ensures { IfOk result (spec.ShowsWitness RefuteFormat.Bundle text.items plan.now witness.now) }
+{
+    let mut events = String::new(alloc);
+    push_event_lines(&mut events, plan, witness)?;
+    if events.len() > MAX_EVENT_BYTES {
+        return Ok(Output::of(events_too_long(alloc)?));
+    }
+    text.extend_from_slice(b"%%\n")?;
+    text.extend_from_slice(events.as_bytes())?;
+    Ok(Output {
+        bytes: text,
+        status: Status::Done,
+    })
+}
+
+/// Writes that a certificate accepts the plan.
+fn safe(alloc: Global, refute_format: RefuteFormat) -> Result<Answer, AllocError>
+    ensures { IfOk result (λ answer. answer ≡ spec.safe_answer refute_format) }
+{
+    line(
+        alloc,
+        "safe: a certificate was found\n",
+        without_bundle(refute_format, Status::Done),
+    )
+}
+
+/// Writes that neither a certificate nor a witness was found in this many states.
+fn not_decided(alloc: Global, refute_format: RefuteFormat, states: usize) -> Result<Answer, AllocError>
+    ensures { IfOk result (λ answer. answer ≡ spec.not_decided refute_format states) }
+{
+    let text_after_count = were_searched(states);
+    let text = format!(in alloc; "not decided: {states}{text_after_count}\n")?;
+    Ok(Answer {
+        text,
+        status: without_bundle(refute_format, Status::Undecided),
+    })
+}
+
+fn were_searched(states: usize) -> &'static str
+    ensures { result.now ≡ spec.were_searched states }
+{
+    if states == 1 {
+        " state was searched"
+    } else {
+        " states were searched"
+    }
+}
+
+fn events_too_long(alloc: Global) -> Result<Answer, AllocError>
+    ensures { IfOk result (λ answer. answer ≡ spec.events_too_long) }
+{
+    Answer::no(alloc, "no bundle: too many events\n")
+}
+
+/// Returns the status of an answer without a bundle: a no if a bundle was wanted.
+fn without_bundle(refute_format: RefuteFormat, status: Status) -> Status
+    ensures { result ≡ spec.without_bundle refute_format status }
+{
+    match refute_format {
+        RefuteFormat::Story => status,
+        RefuteFormat::Bundle => Status::Refused,
+    }
+}
+
+fn line(alloc: Global, words: &str, status: Status) -> Result<Answer, AllocError>
+    ensures { IfOk result (λ answer. answer ≡ record { text = words.now; status = status }) }
+{
+    let mut text = String::new(alloc);
+    text.push_str(words)?;
+    Ok(Answer { text, status })
+}

@@ -1,0 +1,37 @@
+//! The entry point of the reviews, which need no threads.
+
+ghost use Rattle.command_line.specs.declared.command.Command.TheVariants.{Sequential};
+ghost use Rattle.sizing_cli.specs.CommandResult.{Serves, stream_change};
+
+use crate::review_answer::report;
+use crate::status::{ServeFault, Status};
+use byte_streams::{Sink, Source, read_up_to, write_all};
+use command_line::ReviewCommand;
+use job_bodies::MAX_INPUT_BYTES;
+use std::alloc::Global;
+
+/// Reads an input, and writes the review's answer to it. The whole answer is computed before its
+/// first byte is written.
+///
+/// It reads at most 2,097,156 bytes. Each read except the last takes at least one byte, so the call
+/// returns whatever the source and the sink do.
+///
+/// # Errors
+///
+/// Fails with fault 20 if memory runs out, with 60 if the source fails during this call, and with
+/// 61 if the sink fails. After 61 a prefix of the answer was written; after any other fault nothing
+/// was.
+pub fn serve_alone<S: Source, K: Sink>(
+    alloc: Global,
+    review: ReviewCommand,
+    source: &mut S,
+    sink: &mut K,
+) -> Result<Status, ServeFault>
+    ensures { Serves (Sequential review) (stream_change S.remaining S.failures source.old source.new)
+        (stream_change K.written K.failures sink.old sink.new) result }
+{
+    let input = read_up_to(alloc, source, MAX_INPUT_BYTES + 1)?;
+    let answer = report(alloc, review, input.as_slice())?;
+    write_all(sink, answer.text.as_bytes())?;
+    Ok(answer.status)
+}
