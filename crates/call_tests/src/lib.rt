@@ -16,11 +16,11 @@ mod judged_plans;
 #[cfg(test)]
 mod limits;
 #[cfg(test)]
+mod note_lines;
+#[cfg(test)]
 mod pools;
 #[cfg(test)]
 mod stairs;
-#[cfg(test)]
-mod note_lines;
 #[cfg(test)]
 mod witnesses;
 #[cfg(test)]

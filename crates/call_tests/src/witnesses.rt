@@ -155,7 +155,10 @@ fn a_witness_ends_at_its_first_refusal(rt: HostRuntime) -> Result<(), Fail> {
     events.push(Event::Take(0))?;
     events.push(Event::Take(5))?;
     let found = confirmed(rt.alloc(), &plan, events, Vec::new(rt.alloc()), &[])?;
-    assert_eq!(rt; witness_text(rt.alloc(), found)?.as_str(), "Refused(0) after 7");
+    assert_eq!(rt;
+        witness_text(rt.alloc(), found)?.as_str(),
+        "Refused(0) after 7"
+    );
     Ok(())
 }
 

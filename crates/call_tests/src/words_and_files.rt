@@ -3,9 +3,7 @@
 ghost use Rattle.std.specs.Prelude.{None};
 
 use byte_streams::{InputError, IoFault};
-use sizing_cli::{
-    MemorySink, MemorySource, ServeFault, Status, TextFiles, CliError, serve_words,
-};
+use sizing_cli::{CliError, MemorySink, MemorySource, ServeFault, Status, TextFiles, serve_words};
 use std::alloc::Global;
 use std::test::*;
 

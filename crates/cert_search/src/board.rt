@@ -35,7 +35,11 @@ pub(crate) enum BoardEvent {
 fn initial_status(has_rank: bool) -> PoolStatus
     ensures { result ≡ spec.initial_status has_rank }
 {
-    if has_rank { PoolStatus::Done } else { PoolStatus::Free }
+    if has_rank {
+        PoolStatus::Done
+    } else {
+        PoolStatus::Free
+    }
 }
 
 /// Returns whether a pool in this state is free.

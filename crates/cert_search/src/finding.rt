@@ -7,8 +7,8 @@ ghost use Rattle.size_search.specs.Steady.{steady_cert};
 ghost use Rattle.cert_search.specs.declared.finding.SearchFault.TheVariants.{Memory};
 
 use crate::draft::Draft;
-use crate::round::Round;
 use crate::fallback::steady_if_accepted;
+use crate::round::Round;
 use crate::workers::search_pools;
 use cert_check::{PoolGate, accepts};
 use cert_text::Cert;

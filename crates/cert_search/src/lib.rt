@@ -6,10 +6,10 @@
 
 mod board;
 mod draft;
+mod fallback;
 mod finding;
 mod results;
 mod round;
-mod fallback;
 mod workers;
 
 pub use finding::{SearchFault, search};

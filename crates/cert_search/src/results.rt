@@ -38,7 +38,8 @@ fn are_complete(has_rank: &[bool], found: &[PoolVectors]) -> bool
 fn have_right_counts(has_rank: &[bool], found: &[PoolVectors]) -> bool
     ensures { result ≡ spec.have_right_counts has_rank.now found.now }
 {
-    has_rank.iter().enumerate().all(|(pool, has_rank)| count_of(found, pool) == expected_count(*has_rank))
+    has_rank.iter().enumerate().all(|(pool, has_rank)| count_of(found, pool)
+        == expected_count(*has_rank))
 }
 
 /// Returns how many of the results are for the pool.

@@ -14,7 +14,8 @@ ghost use Rattle.cert_text.specs.CertText as spec;
 ghost use Rattle.cert_text.specs.Canonical.{BeginsAs, bound_text, version_text, IsCanonical};
 
 use crate::canonical_numbers::{
-    CanonicalError, strip_bytes, strip_byte, strip_comma, parse_numbers, list_with_capacity, non_canonical_error,
+    CanonicalError, list_with_capacity, non_canonical_error, parse_numbers, strip_byte,
+    strip_bytes, strip_comma,
 };
 use crate::canonical_vectors::parse_vector;
 use crate::version::version_number;

@@ -60,7 +60,11 @@ pub fn strip_comma(text: &[u8], place: usize) -> Result<&[u8], CanonicalError>
 
 /// Creates an empty list with room for `count` elements. Fails if the text has fewer than `count`
 /// bytes, so that a short text never causes a large allocation.
-pub fn list_with_capacity<T>(alloc: Global, count: usize, text: &[u8]) -> Result<Vec<T>, CanonicalError>
+pub fn list_with_capacity<T>(
+    alloc: Global,
+    count: usize,
+    text: &[u8],
+) -> Result<Vec<T>, CanonicalError>
     ensures items { IfOk result (λ list. list.items ≡ []) }
     ensures len { IfOk result (λ list. vec_len list ≡ 0) }
     ensures capacity { IfOk result (λ list. vec_capacity list ≡ count) }

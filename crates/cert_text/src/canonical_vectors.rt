@@ -8,7 +8,7 @@ ghost use Rattle.cert_text.specs.CertText as spec;
 ghost use Rattle.cert_text.specs.Canonical.{BeginsAs, AreRows};
 
 use crate::canonical_numbers::{
-    CanonicalError, strip_bytes, strip_byte, strip_comma, parse_numbers, list_with_capacity,
+    CanonicalError, list_with_capacity, parse_numbers, strip_byte, strip_bytes, strip_comma,
 };
 use crate::vectors::{class_points, client_points};
 use job_bodies::Plan;

@@ -40,7 +40,10 @@ fn with_tasks<'a>(alloc: Global, program: Command<'a>) -> Result<Command<'a>, Al
 }
 
 // Adds a subcommand for each command on recordings.
-fn with_recording_commands<'a>(alloc: Global, program: Command<'a>) -> Result<Command<'a>, AllocError>
+fn with_recording_commands<'a>(
+    alloc: Global,
+    program: Command<'a>,
+) -> Result<Command<'a>, AllocError>
     ensures { IfOk result (λ made. app_of made ≡ with_recording_commands (app_of program.entry)) }
 {
     let conformed = with_subcommand(program, conform(alloc))?;

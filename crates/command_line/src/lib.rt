@@ -14,5 +14,6 @@ mod recording_help;
 mod search_help;
 
 pub use command::{
-    Cli, Command, Form, AskInput, AskOptions, RecordingCommand, ReviewCommand, RefuteFormat, SizesForm, Task, read_words,
+    AskInput, AskOptions, Cli, Command, Form, RecordingCommand, RefuteFormat, ReviewCommand,
+    SizesForm, Task, read_words,
 };

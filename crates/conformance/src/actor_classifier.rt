@@ -13,11 +13,11 @@ ghost use Rattle.conformance.specs.ClassifiedActor.{AreResultsSoFarOf, AddsSettl
 ghost use Rattle.conformance.specs.Represents.{IsClassifierOf, AreTablesOf};
 ghost use Rattle.conformance.specs.ClassificationResults.{IsProgressOf, IsReady, IsStep, ended_path_of, submitter_of as spec_submitter_of};
 
-use crate::actor_table::{ActorTable, UnsettledActor, EndedPath};
 use crate::actor_path::ActorPath;
+use crate::actor_table::{ActorTable, EndedPath, UnsettledActor};
+use crate::classified_actor::ClassifiedActor;
 use crate::ended_actor::ended_by;
 use crate::job_classes::ClassTable;
-use crate::classified_actor::ClassifiedActor;
 use crate::{PathState, PathStep};
 use job_bodies::Plan;
 use recordings::{Line, Paths, RecordedActor};
@@ -146,7 +146,8 @@ impl ActorClassifier {
                 Ok(())
             }
             Line::RoundEnds { round } => {
-                self.actors.set_ended(RecordedActor::Round(round), ended_path);
+                self.actors
+                    .set_ended(RecordedActor::Round(round), ended_path);
                 Ok(())
             }
             Line::JobEnds { job } | Line::JobThrew { job } => {
@@ -163,7 +164,9 @@ impl ActorClassifier {
             IsProgressOf self.now.actors self.now.known actor progress.known progress.is_ready) }
     {
         let ended_path = self.actors.ended_path(actor)?;
-        let known = self.known.first_unsettled(&ended_path.path, ended_path.known);
+        let known = self
+            .known
+            .first_unsettled(&ended_path.path, ended_path.known);
         Some(Progress {
             known,
             is_ready: known >= ended_path.path.len(),

@@ -64,7 +64,11 @@ impl ActorTable {
     }
 
     /// Inserts an actor.
-    pub(crate) fn insert(&mut self, actor: RecordedActor, kept: UnsettledActor) -> Result<(), AllocError>
+    pub(crate) fn insert(
+        &mut self,
+        actor: RecordedActor,
+        kept: UnsettledActor,
+    ) -> Result<(), AllocError>
         ensures { OnOk result
             ((one : RecordedActor)
             → in_table self.new one

@@ -7,12 +7,12 @@ ghost use Rattle.recordings.specs.Path.{path_of};
 ghost use Rattle.conformance.specs.RemainingActors.{IsAt, IsActorPathOf};
 ghost use Rattle.conformance.specs.ClassificationResults.{IsFamilyOf, AddsResult};
 
-use crate::actor_table::EndedPath;
 use crate::actor_classifier::ActorClassifier;
 use crate::actor_path::ActorPath;
-use crate::job_classes::both_hold;
+use crate::actor_table::EndedPath;
 use crate::classified_actor::ClassifiedActor;
-use crate::{PathState, PathStep, FamilyMatch, classes_of_path, kinds_of_path};
+use crate::job_classes::both_hold;
+use crate::{FamilyMatch, PathState, PathStep, classes_of_path, kinds_of_path};
 use job_bodies::Plan;
 use recordings::{RecordedActor, RecordedStep};
 use std::alloc::{AllocError, Global};
@@ -126,7 +126,9 @@ fn members_of(
     ensures { IfOk result (IsFamilyOf plan.now budget actor label.now pool.now path_state steps.now) }
 {
     match actor {
-        RecordedActor::Job(_) => classes_of_path(alloc, plan, label, pool, steps, path_state, budget),
+        RecordedActor::Job(_) => classes_of_path(
+            alloc, plan, label, pool, steps, path_state, budget,
+        ),
         RecordedActor::Round(_) => kinds_of_path(alloc, plan, label, steps, path_state, budget),
     }
 }

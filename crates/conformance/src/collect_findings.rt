@@ -13,11 +13,11 @@ ghost use Rattle.conformance.specs.declared.finding.Finding.TheVariants as kinds
 use crate::describe_mismatch::{describe_mismatch, label_of};
 use crate::finding::Finding;
 use crate::job_set::JobSet;
-use crate::survey::{ActorSurvey, Survey, LineSurvey};
+use crate::survey::{ActorSurvey, LineSurvey, Survey};
 use crate::unplanned::{NotPlanned, UnplannedLabels};
 use crate::verdicts::Verdicts;
-use crate::{PoolDeviation, RoundExcess, ClassifiedActor};
-use recordings::{RecordedNotes, Invalidation, InvalidatingEvent};
+use crate::{ClassifiedActor, PoolDeviation, RoundExcess};
+use recordings::{InvalidatingEvent, Invalidation, RecordedNotes};
 use std::alloc::{AllocError, Global};
 
 /// Returns all findings, unsorted.
@@ -145,7 +145,10 @@ fn push_mismatches(
     Ok(())
 }
 
-fn push_undecided(findings: &mut Vec<Finding>, undecided: Vec<ClassifiedActor>) -> Result<(), AllocError>
+fn push_undecided(
+    findings: &mut Vec<Finding>,
+    undecided: Vec<ClassifiedActor>,
+) -> Result<(), AllocError>
     ensures { OnOk result
         (findings.new.items ≡ findings.old.items ++ map spec.not_decided undecided.items) }
 {
@@ -200,7 +203,10 @@ fn push_invalidations(
     push_path_independent(findings, &invalidations)
 }
 
-fn push_path_independent(findings: &mut Vec<Finding>, invalidations: &[Invalidation]) -> Result<(), AllocError>
+fn push_path_independent(
+    findings: &mut Vec<Finding>,
+    invalidations: &[Invalidation],
+) -> Result<(), AllocError>
     ensures { OnOk result
         (findings.new.items
         ≡ findings.old.items ++ map kinds.Invalidation (filter spec.is_path_independent invalidations.now)) }

@@ -13,9 +13,9 @@ ghost use Rattle.conformance.specs.FirstKinds.{AreFirstKinds};
 ghost use Rattle.conformance.specs.Survey.{IsSurveyOf};
 ghost use Rattle.conformance.specs.Outcome as spec;
 
+use crate::collect_findings::collect_findings;
 use crate::excess_tracker::excesses;
 use crate::finding::Finding;
-use crate::collect_findings::collect_findings;
 use crate::survey::{Survey, survey_recording};
 use crate::{RoundExcess, pools_are_as_planned, rounds_are_within_plan};
 use job_bodies::Plan;
@@ -80,7 +80,9 @@ pub fn conform(
     ensures ascending { IfOk result (λ reported. spec.IfCompared reported spec.AreInOrder) }
 {
     match survey_recording(alloc, plan, recording, budget)? {
-        Ok(survey) => Ok(Conformance::Compared(findings_of_survey(alloc, plan, recording, survey)?)),
+        Ok(survey) => Ok(Conformance::Compared(findings_of_survey(
+            alloc, plan, recording, survey,
+        )?)),
         Err(fault) => Ok(Conformance::Invalid(fault)),
     }
 }

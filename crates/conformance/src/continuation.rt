@@ -22,7 +22,11 @@ pub(crate) enum Continuation {
 
 /// Returns the ways to continue. `places` has the path index of each earlier submit of the body, or
 /// `None` if it was skipped.
-pub(crate) fn next_continuation(places: &[Option<usize>], action: Action, next: Option<&PathStep>) -> Continuation
+pub(crate) fn next_continuation(
+    places: &[Option<usize>],
+    action: Action,
+    next: Option<&PathStep>,
+) -> Continuation
     ensures { result ≡ spec.next_continuation places.now action (option_copied next.entry) }
 {
     match action {

@@ -9,8 +9,8 @@ ghost use Rattle.conformance.specs.Description as spec;
 
 use crate::ClassifiedActor;
 use crate::job_set::JobSet;
-use crate::mismatch::{NamedStep, PathMismatch, DeviatingStep};
 use crate::line_query::{LineQuery, first_line, label_in};
+use crate::mismatch::{DeviatingStep, NamedStep, PathMismatch};
 use recordings::{Line, RecordedActor, RecordedStep};
 use std::alloc::{AllocError, Global};
 

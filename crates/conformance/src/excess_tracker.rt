@@ -9,10 +9,10 @@ ghost use Rattle.conformance.specs.Lines.{lines_of};
 ghost use Rattle.conformance.specs.OtherKinds.{AreKindsBy};
 ghost use Rattle.conformance.specs.UnplannedLabels.{IsNext};
 
-use crate::well_formed_lines::WellFormedLines;
 use crate::open_rounds::OpenRounds;
 use crate::other_kinds::OtherKinds;
-use crate::{RoundExcess, RoundComparison, rounds_are_within_plan};
+use crate::well_formed_lines::WellFormedLines;
+use crate::{RoundComparison, RoundExcess, rounds_are_within_plan};
 use job_bodies::Plan;
 use recordings::Line;
 use std::alloc::{AllocError, Global};
@@ -66,7 +66,8 @@ impl ExcessTracker {
     {
         rounds_are_within_plan();
         let kind = self.rounds.take(plan, others, line)?;
-        self.comparison_state.take(kind, number, line, &mut self.found)
+        self.comparison_state
+            .take(kind, number, line, &mut self.found)
     }
 }
 

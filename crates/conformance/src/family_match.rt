@@ -7,7 +7,7 @@ ghost use Rattle.conformance.specs.declared.step.PathStep.{PathStep};
 ghost use Rattle.conformance.specs.declared.step.PathState.{PathState};
 ghost use Rattle.conformance.specs.FamilyResult.{IsCorrectMatch};
 
-use crate::{PathState, PathStep, PathMatch, match_path};
+use crate::{PathMatch, PathState, PathStep, match_path};
 use job_bodies::Action;
 use std::alloc::{AllocError, Global};
 

@@ -6,7 +6,7 @@ ghost use Rattle.conformance.specs.Finding as spec;
 use crate::mismatch::PathMismatch;
 use crate::unplanned::NotPlanned;
 use crate::{PoolDeviation, RoundExcess};
-use recordings::{ForeignGet, RecordedActor, Invalidation};
+use recordings::{ForeignGet, Invalidation, RecordedActor};
 
 /// A difference between a recording and a plan, or an event that invalidates a SAFE answer. Lines
 /// are numbered from 1.
@@ -18,16 +18,25 @@ pub enum Finding {
     NotPlanned(NotPlanned),
     /// Of the actors of one label whose path matches no body, the one with the smallest number, and
     /// the line of its first deviating step. The label is in the plan.
-    PathMismatch { line: Option<usize>, mismatch: PathMismatch },
+    PathMismatch {
+        line: Option<usize>,
+        mismatch: PathMismatch,
+    },
     /// Of the actors of one label for which the budget was too small to decide which bodies their
     /// path matches, the one with the smallest number. The label is in the plan. The result for
     /// this label is neither yes nor no.
-    NotDecided { actor: RecordedActor, label: String },
+    NotDecided {
+        actor: RecordedActor,
+        label: String,
+    },
     /// More rounds of a kind than the plan allows, where each round counts as the first kind that
     /// it can belong to.
     TooMany(RoundExcess),
     /// The first get of a job by an actor that did not submit it.
-    ForeignGet { get: ForeignGet, label: String },
+    ForeignGet {
+        get: ForeignGet,
+        label: String,
+    },
     /// The first line of an event type that invalidates a SAFE answer.
     Invalidation(Invalidation),
 }

@@ -13,8 +13,8 @@ ghost use Rattle.conformance.specs.ClassifiedActor.{IsCorrectResult, AreResultsS
 ghost use Rattle.conformance.specs.Represents.{IsClassifierOf};
 ghost use Rattle.conformance.specs.ClassificationResults.{AddsResults};
 
-use crate::actor_table::UnsettledActor;
 use crate::actor_classifier::ActorClassifier;
+use crate::actor_table::UnsettledActor;
 use crate::classified_actor::ClassifiedActor;
 use job_bodies::Plan;
 use recordings::RecordedActor;
@@ -27,7 +27,11 @@ impl ActorClassifier {
     /// # Errors
     ///
     /// Returns `AllocError` if memory runs out.
-    pub fn finish(mut self, plan: &Plan, reported: &mut Vec<ClassifiedActor>) -> Result<(), AllocError>
+    pub fn finish(
+        mut self,
+        plan: &Plan,
+        reported: &mut Vec<ClassifiedActor>,
+    ) -> Result<(), AllocError>
         ensures { (budget : ℕ) (lines : List RecordedLine) (earlier : List ClassifiedActor)
             → KeepsRules lines
             → IsClassifierOf plan.now budget self lines
@@ -37,7 +41,11 @@ impl ActorClassifier {
         self.classify_remaining_actors(plan, reported)
     }
 
-    fn classify_remaining_actors(&mut self, plan: &Plan, reported: &mut Vec<ClassifiedActor>) -> Result<(), AllocError>
+    fn classify_remaining_actors(
+        &mut self,
+        plan: &Plan,
+        reported: &mut Vec<ClassifiedActor>,
+    ) -> Result<(), AllocError>
         ensures remaining { (lines : List RecordedLine)
             → KeepsRules lines
             → IsPathsOf self.old.paths lines

@@ -8,7 +8,7 @@ ghost use Rattle.job_bodies.specs.Plan.{Plan};
 ghost use Rattle.conformance.specs.Classes.{AreClassesOf, AreStepsOf};
 ghost use Rattle.conformance.specs.ActorTables.{Keeps, AreRemoved, classes_in, is_settled_step, AreClassesIn, AreDecidedIn, AreAllIn, AreOnce, AreSettledBefore, IsUnsettledAt};
 
-use crate::{PathStep, FamilyMatch};
+use crate::{FamilyMatch, PathStep};
 use recordings::{RecordedActor, RecordedStep};
 use std::alloc::{AllocError, Global};
 use support::IdMap;
@@ -131,7 +131,11 @@ impl ClassTable {
 
     // Appends the step to the list and removes its job. Returns true if the classes of the job are
     // decided.
-    fn take_step(&mut self, step: RecordedStep, steps: &mut Vec<PathStep>) -> Result<bool, AllocError>
+    fn take_step(
+        &mut self,
+        step: RecordedStep,
+        steps: &mut Vec<PathStep>,
+    ) -> Result<bool, AllocError>
         ensures represents { (plan : Plan) (lines : List RecordedLine) (path : List RecordedStep)
             → AreClassesIn plan lines self.old
             → AreStepsOf plan lines path steps.old.items

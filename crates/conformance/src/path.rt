@@ -21,7 +21,12 @@ const FEW_ACTIONS: usize = 16;
 /// may come from several submits of the body, the first one is tried, and the next one only if that
 /// fails. So the search usually takes at most one step more than the body has actions. In the worst
 /// case each submit doubles the number of steps.
-pub fn match_path(body: &[Action], path: &[PathStep], path_state: PathState, budget: u64) -> PathMatch
+pub fn match_path(
+    body: &[Action],
+    path: &[PathStep],
+    path_state: PathState,
+    budget: u64,
+) -> PathMatch
     requires { length body.now ≤ MAX_ACTIONS }
     ensures fits { OnFits result (IsPathOf path_state body.now path.now) }
     ensures deviates { OnDeviates result (¬ IsPathOf path_state body.now path.now) }

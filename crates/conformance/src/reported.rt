@@ -36,7 +36,9 @@ impl ReportedDifferences {
     pub(crate) fn contains(&self, pool: usize, difference: Difference) -> bool
         ensures { result ≡ is_reported self.now pool difference }
     {
-        self.items.iter().any(|reported| reported.is_of(pool, difference))
+        self.items
+            .iter()
+            .any(|reported| reported.is_of(pool, difference))
     }
 
     /// Adds these differences of the pool.

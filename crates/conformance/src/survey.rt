@@ -16,9 +16,11 @@ use crate::excess_tracker::ExcessTracker;
 use crate::other_kinds::OtherKinds;
 use crate::unplanned::UnplannedLabels;
 use crate::verdicts::Verdicts;
-use crate::{ActorClassifier, PoolDeviation, PoolComparison, ClassifiedActor, pools_are_as_planned};
+use crate::{
+    ActorClassifier, ClassifiedActor, PoolComparison, PoolDeviation, pools_are_as_planned,
+};
 use job_bodies::Plan;
-use recordings::{Line, RecordedNotes, RecordingFault, CheckedLines};
+use recordings::{CheckedLines, Line, RecordedNotes, RecordingFault};
 use std::alloc::{AllocError, Global};
 
 /// The part of a survey that each line updates on its own.
@@ -145,7 +147,12 @@ pub(crate) struct Survey {
 impl Survey {
     // Completes the survey at the end of the recording, with the actors that are still
     // unclassified.
-    fn finish(&mut self, alloc: Global, plan: &Plan, classes: ActorClassifier) -> Result<(), AllocError>
+    fn finish(
+        &mut self,
+        alloc: Global,
+        plan: &Plan,
+        classes: ActorClassifier,
+    ) -> Result<(), AllocError>
         ensures { (budget : ℕ) (lines : List RecordedLine)
             → KeepsRules lines
             → spec.IsLineSurveyOf plan.now lines self.old.line_survey

@@ -8,9 +8,9 @@ ghost use Rattle.conformance.specs.Walk.{ends, IsWalkResult};
 ghost use Rattle.conformance.specs.PathMatch.{IsDecided};
 ghost use Rattle.conformance.specs.StepBudget.{IsDecidedWithin};
 
+use crate::continuation::{Continuation, next_continuation};
 use crate::path_match::PathMatch;
 use crate::step::{PathState, PathStep};
-use crate::continuation::{Continuation, next_continuation};
 use job_bodies::Action;
 
 /// Matches the path from the index `place` on against the body from the index `position` on.
@@ -47,21 +47,53 @@ pub(crate) fn walk(
         Continuation::Stops => PathMatch::Deviates(place),
         Continuation::Passes => {
             places[position] = None;
-            walk(body, path, path_state, places, position + 1, place, steps_left)
+            walk(
+                body,
+                path,
+                path_state,
+                places,
+                position + 1,
+                place,
+                steps_left,
+            )
         }
         Continuation::Gets => {
             places[position] = None;
-            walk(body, path, path_state, places, position + 1, place + 1, steps_left)
+            walk(
+                body,
+                path,
+                path_state,
+                places,
+                position + 1,
+                place + 1,
+                steps_left,
+            )
         }
         Continuation::SubmitsOrPasses => {
             places[position] = Some(place);
-            let submitted = walk(body, path, path_state, places, position + 1, place + 1, steps_left);
+            let submitted = walk(
+                body,
+                path,
+                path_state,
+                places,
+                position + 1,
+                place + 1,
+                steps_left,
+            );
             match submitted {
                 PathMatch::Fits => PathMatch::Fits,
                 PathMatch::Undecided => PathMatch::Undecided,
                 PathMatch::Deviates(explained) => {
                     places[position] = None;
-                    let passed = walk(body, path, path_state, places, position + 1, place, steps_left);
+                    let passed = walk(
+                        body,
+                        path,
+                        path_state,
+                        places,
+                        position + 1,
+                        place,
+                        steps_left,
+                    );
                     passed.with_explained(explained)
                 }
             }

@@ -3,9 +3,9 @@
 
 use crate::branches::Branch;
 use crate::choices::Choices;
-use crate::vectors::Potential;
 use crate::scripts::Script;
-use crate::walks::{Violation, WalkStep, Walk};
+use crate::vectors::Potential;
+use crate::walks::{Violation, Walk, WalkStep};
 use job_bodies::Plan;
 use std::alloc::{AllocError, Global};
 use std::collections::{BinaryHeap, HashSet};
@@ -101,10 +101,7 @@ impl<'a> BestFirst<'a> {
             left: states.saturating_sub(1),
             stuck_now: None,
         };
-        let start = Branch {
-            place: 0,
-            newer: 0,
-        };
+        let start = Branch { place: 0, newer: 0 };
         search.add_node(0, start)?;
         Ok(search)
     }

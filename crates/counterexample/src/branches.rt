@@ -1,11 +1,11 @@
 //! The branches from a state.
 
-use crate::fingerprints::fingerprint;
 use crate::choices::Choice;
+use crate::fingerprints::fingerprint;
 use crate::losses::Losses;
 use crate::machine::Phase;
-use crate::vectors::Potential;
 use crate::scripts::Script;
+use crate::vectors::Potential;
 use crate::walks::Walk;
 use std::alloc::{AllocError, Global};
 use written_machine::Parent;

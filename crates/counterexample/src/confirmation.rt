@@ -10,9 +10,9 @@ ghost use Rattle.counterexample.specs.Witness.{IsWitness};
 ghost use Rattle.counterexample.specs.ReplayResult.{ComesTo};
 ghost use Rattle.counterexample.specs.Confirmed.{IsAnswer, IsReason};
 
+use crate::no_thread_starts::all_start_no_thread;
 use crate::replaying::{ReplayResult, replay};
 use crate::rising::are_rising;
-use crate::no_thread_starts::all_start_no_thread;
 use crate::{Ending, Reason, Witness};
 use interleaving::{Event, World};
 use job_bodies::Plan;

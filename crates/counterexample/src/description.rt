@@ -4,8 +4,8 @@ ghost use Rattle.std.specs.Prelude.{◌++◌, IfOk, codes, string_bytes};
 ghost use Rattle.support.specs.Pushed.{Pushes};
 ghost use Rattle.counterexample.specs.Description as spec;
 
-use crate::event_texts::stuck_members;
 use crate::active_clients::active_client_count;
+use crate::event_texts::stuck_members;
 use crate::stories::story;
 use crate::{Ending, Reason, Witness};
 use job_bodies::Plan;

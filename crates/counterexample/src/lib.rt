@@ -4,20 +4,21 @@
 //! trusted: a witness is replayed before it is reported.
 #![tactic(auto)]
 
-mod steps;
+mod active_clients;
 mod best_first;
 mod branches;
+mod choices;
 mod confirmation;
+mod description;
 mod ending;
 mod event_texts;
 mod fingerprints;
-mod choices;
 mod laws;
 mod losses;
 mod machine;
-mod vectors;
-mod active_clients;
+mod no_thread_starts;
 mod orders;
+mod pool_lines;
 mod pools;
 mod replaying;
 mod replays;
@@ -25,17 +26,17 @@ mod rising;
 mod scripts;
 mod search;
 mod shorten;
-mod pool_lines;
-mod no_thread_starts;
+mod steps;
 mod stories;
-mod description;
 mod turns;
+mod vectors;
 mod waiting_lines;
 mod waiting_sets;
 mod walks;
 mod witness;
 
 pub use confirmation::confirmed;
+pub use description::describe;
 pub use ending::{Ending, Reason};
 pub use event_texts::push_event_lines;
 pub use interleaving::Event;
@@ -43,7 +44,6 @@ pub use laws::{
     permanent_waiting_sets_stay, standing_pools_stay_at_core, witnessed_plans_are_not_accepted,
     witnessed_plans_are_not_safe,
 };
-pub use search::{SearchResult, CandidateWitness, search_witness};
-pub use description::describe;
+pub use search::{CandidateWitness, SearchResult, search_witness};
 pub use weights::Vector;
 pub use witness::Witness;

@@ -3,8 +3,8 @@
 
 use crate::choices::Choice;
 use crate::machine::Machine;
-use crate::vectors::Potential;
 use crate::pools::Admission;
+use crate::vectors::Potential;
 use job_bodies::{Action, MAX_ACTIONS};
 use written_machine::Parent;
 
@@ -181,9 +181,7 @@ impl<'a> Losses<'a> {
             let weighted = self.weighted_actor(parent)?;
             let (next, is_end) = weighted.settled(position.saturating_add(1));
             before = before.saturating_add(weighted.weight_at(position));
-            after = after
-                .saturating_sub(self.done(class))
-                .saturating_add(next);
+            after = after.saturating_sub(self.done(class)).saturating_add(next);
             ends = is_end;
             let Parent::Job(number) = parent else {
                 break;

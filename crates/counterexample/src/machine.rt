@@ -213,7 +213,12 @@ impl<'a> Machine<'a> {
         Some(job)
     }
 
-    fn submit(&mut self, actor: Parent, position: usize, class: usize) -> Result<StepOutcome, AllocError> {
+    fn submit(
+        &mut self,
+        actor: Parent,
+        position: usize,
+        class: usize,
+    ) -> Result<StepOutcome, AllocError> {
         let number = self.jobs.len();
         let Some(pool) = self.plan.class_at(class).map(|class| class.pool) else {
             return Ok(StepOutcome::Nothing);

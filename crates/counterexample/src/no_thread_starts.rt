@@ -21,9 +21,7 @@ pub(crate) fn all_start_no_thread(
     requires { IsReachableView plan.now world.now.view }
     ensures { result ≡ spec.all_start_no_thread plan.now world.now.view standing.now members.now }
 {
-    members
-        .iter()
-        .all(|&member| job_starts_no_thread(plan, world, member, standing))
+    members.iter().all(|&member| job_starts_no_thread(plan, world, member, standing))
 }
 
 fn job_starts_no_thread(plan: &Plan, world: &World, member: usize, standing: &[Vector]) -> bool

@@ -1,6 +1,6 @@
 //! Replays of selected events of a script. Events that are no longer possible are skipped.
 
-use crate::machine::{StepOutcome, Machine};
+use crate::machine::{Machine, StepOutcome};
 use crate::scripts::Script;
 use crate::waiting_sets::JobSet;
 use crate::walks::Violation;
@@ -47,7 +47,11 @@ impl<'a> Replay<'a> {
     }
 
     /// Returns `true` if the replay ended in this violation.
-    pub(crate) fn has_violation(&self, alloc: Global, wanted: Violation) -> Result<bool, AllocError> {
+    pub(crate) fn has_violation(
+        &self,
+        alloc: Global,
+        wanted: Violation,
+    ) -> Result<bool, AllocError> {
         if self.is_refused {
             return Ok(true);
         }

@@ -1,6 +1,6 @@
 //! Lists of events in which clients are numbered in the order of their first moves.
 
-use crate::machine::{StepOutcome, Machine};
+use crate::machine::{Machine, StepOutcome};
 use job_bodies::Plan;
 use std::alloc::{AllocError, Global};
 use written_machine::{Event, Parent};

@@ -4,13 +4,13 @@ ghost use Rattle.std.specs.Prelude.{◌≤◌, IfOk};
 
 use crate::best_first::{BestFirstResult, best_first};
 use crate::choices::Choices;
-use crate::vectors::{Potential, missed_vectors};
-use crate::orders::{Rng, FIXED_ORDERS, fixed_order, shuffle};
+use crate::orders::{FIXED_ORDERS, Rng, fixed_order, shuffle};
 use crate::replays::Replay;
 use crate::scripts::Script;
 use crate::shorten::shorten_script;
+use crate::vectors::{Potential, missed_vectors};
 use crate::waiting_sets::JobSet;
-use crate::walks::{Violation, Rules, perform_walk};
+use crate::walks::{Rules, Violation, perform_walk};
 use job_bodies::Plan;
 use std::alloc::{AllocError, Global};
 use written_machine::Event;
@@ -158,7 +158,10 @@ impl Search<'_> {
     }
 
     /// Performs the best-first search.
-    fn best_first(&mut self, potentials: &[Potential]) -> Result<Option<CandidateWitness>, AllocError> {
+    fn best_first(
+        &mut self,
+        potentials: &[Potential],
+    ) -> Result<Option<CandidateWitness>, AllocError> {
         if self.left == 0 {
             return Ok(None);
         }
@@ -173,7 +176,9 @@ impl Search<'_> {
             self.stuck_now = stuck_now;
         }
         match found {
-            Some((script, violation)) => Ok(Some(answer_of(self.alloc, self.plan, script, violation)?)),
+            Some((script, violation)) => Ok(Some(answer_of(
+                self.alloc, self.plan, script, violation,
+            )?)),
             None => Ok(None),
         }
     }
@@ -205,7 +210,12 @@ impl Search<'_> {
                 }
                 Ok(None)
             }
-            Some(violation) => Ok(Some(answer_of(self.alloc, self.plan, walk_result.script, violation)?)),
+            Some(violation) => Ok(Some(answer_of(
+                self.alloc,
+                self.plan,
+                walk_result.script,
+                violation,
+            )?)),
             None => Ok(None),
         }
     }

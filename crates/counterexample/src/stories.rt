@@ -2,8 +2,8 @@
 
 ghost use Rattle.interleaving.specs.OfPlan.{IsReachableView};
 
-use crate::steps::describe_step;
 use crate::pool_lines::push_pools;
+use crate::steps::describe_step;
 use crate::turns::{Run, RunBuilder};
 use crate::waiting_lines::push_waits;
 use interleaving::{Event, World};

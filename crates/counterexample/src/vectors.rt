@@ -1,7 +1,7 @@
 //! The vectors of a plan that miss their bounds.
 
 use job_bodies::Plan;
-use least_vectors::{ResizedPlan, Kind, Levels, reach};
+use least_vectors::{Kind, Levels, ResizedPlan, reach};
 use std::alloc::{AllocError, Global};
 use weights::Vector;
 

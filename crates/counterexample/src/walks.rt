@@ -3,10 +3,10 @@
 
 use crate::choices::{Choice, Choices};
 use crate::losses::Losses;
-use crate::machine::{StepOutcome, Machine};
-use crate::vectors::Potential;
+use crate::machine::{Machine, StepOutcome};
 use crate::orders::{Rng, shuffle};
 use crate::scripts::Script;
+use crate::vectors::Potential;
 use crate::waiting_sets::JobSet;
 use job_bodies::{Action, Plan};
 use std::alloc::{AllocError, Global};
@@ -159,7 +159,11 @@ impl<'a> Walk<'a> {
     }
 
     /// Makes the first possible choice.
-    fn step(&mut self, rules: &Rules, potential: Option<&Potential>) -> Result<WalkStep, AllocError> {
+    fn step(
+        &mut self,
+        rules: &Rules,
+        potential: Option<&Potential>,
+    ) -> Result<WalkStep, AllocError> {
         match self.first_possible(rules, potential) {
             Some(place) => self.choose(place, 0),
             None => Ok(WalkStep::Nothing),
@@ -210,7 +214,10 @@ impl<'a> Walk<'a> {
                 continue;
             }
             let lost = match potential {
-                Some(potential) => Losses::new(&self.machine, potential).of(*choice, ready.last().copied()),
+                Some(potential) => Losses::new(&self.machine, potential).of(
+                    *choice,
+                    ready.last().copied(),
+                ),
                 None => 0,
             };
             let key = lost.saturating_mul(FOR_A_LOSS).saturating_add(*key);

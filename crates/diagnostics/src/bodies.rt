@@ -1,10 +1,10 @@
 //! The checks of bodies: each action is well-formed, names an existing class, and gets a job that
 //! was submitted.
 
+use crate::actions::{ParsedAction, action_error, parse_action};
+use crate::collector::FaultCollector;
 use crate::entry::PlacedEntry;
 use crate::suggestions::{comma_list, suggestion};
-use crate::collector::FaultCollector;
-use crate::actions::{ParsedAction, parse_action, action_error};
 use std::alloc::{AllocError, Global};
 use support::number::{BAD_ACTION, NO_SUCH_CLASS, SLOT_EMPTY, SLOT_OPEN};
 
@@ -27,7 +27,12 @@ struct CheckedAction<'a> {
 }
 
 impl CheckedAction<'_> {
-    fn report(&self, collector: &mut FaultCollector, number: u8, words: &str) -> Result<(), AllocError> {
+    fn report(
+        &self,
+        collector: &mut FaultCollector,
+        number: u8,
+        words: &str,
+    ) -> Result<(), AllocError> {
         self.entry
             .report_action(collector, self.action, number, self.text, words)
     }

@@ -53,7 +53,13 @@ fn push_each(text: &mut String, file: &str, mut diagnostic: &[Diagnostic]) -> Re
 fn push_diagnostic(text: &mut String, file: &str, diagnostic: &Diagnostic) -> Result<(), AllocError>
     ensures { Pushes result text.old text.new (spec.diagnostic_line file.now diagnostic.now) }
 {
-    push_line(text, file, diagnostic.place, &diagnostic.what, diagnostic.fault.number)
+    push_line(
+        text,
+        file,
+        diagnostic.place,
+        &diagnostic.what,
+        diagnostic.fault.number,
+    )
 }
 
 fn push_line(

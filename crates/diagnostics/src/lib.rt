@@ -5,22 +5,22 @@
 //! of the plan. The contracts promise nothing about messages and places.
 #![tactic(auto)]
 
-mod diagnostic;
-mod bodies;
-mod entry;
-mod names;
-mod suggestions;
-mod collector;
-mod numbers;
-mod lints;
-mod lint;
 mod actions;
+mod bodies;
+mod collector;
+mod diagnostic;
+mod entry;
+mod lint;
+mod lint_conditions;
+mod lints;
+mod names;
+mod numbers;
+mod plan_faults;
 mod rules;
 mod shapes;
-mod lint_conditions;
+mod suggestions;
 mod syntax;
 mod tables;
-mod plan_faults;
 mod warning_lines;
 mod warning_places;
 mod warning_words;

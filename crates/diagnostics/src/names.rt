@@ -1,7 +1,7 @@
 //! The checks of names: each is well-formed, and unique in its list.
 
-use crate::entry::{PlacedEntry, list_of};
 use crate::collector::FaultCollector;
+use crate::entry::{PlacedEntry, list_of};
 use job_bodies::is_valid_name;
 use std::alloc::{AllocError, Global};
 use support::number::{BAD_NAME, DOUBLE_NAME};
@@ -24,7 +24,9 @@ pub(crate) fn name(
         if other.text("name") == Some(name) {
             let line = other.place().line;
             let list = list_of(entry.part);
-            let words = format!(in collector.alloc; "the {list} of line {line} has this name already")?;
+            let words = format!(in collector.alloc;
+                "the {list} of line {line} has this name already"
+            )?;
             return entry.report(collector, DOUBLE_NAME, place, &words);
         }
     }

@@ -1,7 +1,7 @@
 //! The checks of sizes and counts: each is in its range.
 
-use crate::entry::PlacedEntry;
 use crate::collector::FaultCollector;
+use crate::entry::PlacedEntry;
 use job_bodies::MAX_SIZE;
 use std::alloc::AllocError;
 use support::number::BAD_NUMBER;
@@ -35,7 +35,10 @@ fn out_of_range(
 }
 
 /// Reports the invalid sizes of a pool.
-pub(crate) fn sizes(collector: &mut FaultCollector, pool: &PlacedEntry<'_>) -> Result<(), AllocError> {
+pub(crate) fn sizes(
+    collector: &mut FaultCollector,
+    pool: &PlacedEntry<'_>,
+) -> Result<(), AllocError> {
     if out_of_range(collector, pool, &["core", "max", "queue"])? {
         return Ok(());
     }
@@ -52,7 +55,10 @@ pub(crate) fn sizes(collector: &mut FaultCollector, pool: &PlacedEntry<'_>) -> R
 }
 
 /// Reports the count of a kind of clients if it is invalid.
-pub(crate) fn count(collector: &mut FaultCollector, client: &PlacedEntry<'_>) -> Result<(), AllocError> {
+pub(crate) fn count(
+    collector: &mut FaultCollector,
+    client: &PlacedEntry<'_>,
+) -> Result<(), AllocError> {
     out_of_range(collector, client, &["count"])?;
     Ok(())
 }

@@ -2,9 +2,9 @@
 
 ghost use Rattle.std.specs.Prelude.{◌≡◌, IfOk};
 
+use crate::collector::FaultCollector;
 use crate::diagnostic::{Diagnostic, Faults};
 use crate::entry::BEGINNING;
-use crate::collector::FaultCollector;
 use crate::rules::rule_of;
 use crate::syntax::{not_text, not_toml};
 use crate::tables::document;

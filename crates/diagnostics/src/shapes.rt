@@ -1,8 +1,8 @@
 //! The checks of an entry's keys: which it has, and the types of their values.
 
+use crate::collector::FaultCollector;
 use crate::entry::{PlacedEntry, list_of};
 use crate::suggestions::suggestion;
-use crate::collector::FaultCollector;
 use job_bodies::{MAX_ACTIONS, Part};
 use std::alloc::AllocError;
 use support::number::{MISSING_KEY, TOO_MANY, UNKNOWN_KEY, WRONG_TYPE};
@@ -100,7 +100,10 @@ fn plan_key_for(key: &str) -> Option<&'static str> {
 }
 
 /// Reports the unknown keys of an entry.
-pub(crate) fn unknown_keys(collector: &mut FaultCollector, entry: &PlacedEntry<'_>) -> Result<(), AllocError> {
+pub(crate) fn unknown_keys(
+    collector: &mut FaultCollector,
+    entry: &PlacedEntry<'_>,
+) -> Result<(), AllocError> {
     for key in entry.table.keys() {
         let key = key.as_str();
         if !has_key(entry.part, key) {
@@ -115,7 +118,11 @@ pub(crate) fn has_key(part: Part, key: &str) -> bool {
     keys_of(part).iter().any(|rule| *rule == key)
 }
 
-fn unknown_key(collector: &mut FaultCollector, entry: &PlacedEntry<'_>, key: &str) -> Result<(), AllocError> {
+fn unknown_key(
+    collector: &mut FaultCollector,
+    entry: &PlacedEntry<'_>,
+    key: &str,
+) -> Result<(), AllocError> {
     let alloc = collector.alloc;
     let list = list_of(entry.part);
     let keys = keys_of(entry.part);
@@ -132,7 +139,10 @@ fn unknown_key(collector: &mut FaultCollector, entry: &PlacedEntry<'_>, key: &st
 }
 
 /// Reports the keys that the entry lacks, and the values of the wrong type.
-pub(crate) fn values(collector: &mut FaultCollector, entry: &PlacedEntry<'_>) -> Result<(), AllocError> {
+pub(crate) fn values(
+    collector: &mut FaultCollector,
+    entry: &PlacedEntry<'_>,
+) -> Result<(), AllocError> {
     for key in keys_of(entry.part).iter().copied() {
         if let Some(rule) = key_rule(key) {
             value(collector, entry, rule)?;
@@ -141,7 +151,11 @@ pub(crate) fn values(collector: &mut FaultCollector, entry: &PlacedEntry<'_>) ->
     Ok(())
 }
 
-fn value(collector: &mut FaultCollector, entry: &PlacedEntry<'_>, rule: KeyRule) -> Result<(), AllocError> {
+fn value(
+    collector: &mut FaultCollector,
+    entry: &PlacedEntry<'_>,
+    rule: KeyRule,
+) -> Result<(), AllocError> {
     let key = rule.key;
     let Some(value) = entry.value(key) else {
         if rule.hint.is_empty() {
@@ -182,7 +196,11 @@ fn rule_of(wanted: ValueKind) -> &'static str {
 }
 
 /// Reports a body that is not a list, is too long, or has elements that are not strings.
-fn body(collector: &mut FaultCollector, entry: &PlacedEntry<'_>, value: &Value) -> Result<(), AllocError> {
+fn body(
+    collector: &mut FaultCollector,
+    entry: &PlacedEntry<'_>,
+    value: &Value,
+) -> Result<(), AllocError> {
     let place = entry.value_place("body");
     let Some(actions) = value.as_array() else {
         let words =
@@ -196,7 +214,9 @@ fn body(collector: &mut FaultCollector, entry: &PlacedEntry<'_>, value: &Value) 
     for (number, action) in actions.iter().enumerate() {
         if !action.is_str() {
             let found = action.type_str();
-            let words = format!(in collector.alloc; "it is a {found}, and is to be a text in quotes")?;
+            let words = format!(in collector.alloc;
+                "it is a {found}, and is to be a text in quotes"
+            )?;
             entry.report_action(collector, number, WRONG_TYPE, "..", &words)?;
         }
     }

@@ -8,7 +8,11 @@ use std::alloc::{AllocError, Global};
 use support::number::NOT_TOML;
 
 /// Returns the fault of bytes that are not UTF-8.
-pub(crate) fn not_text(alloc: Global, bytes: &[u8], valid: usize) -> Result<Diagnostic, AllocError> {
+pub(crate) fn not_text(
+    alloc: Global,
+    bytes: &[u8],
+    valid: usize,
+) -> Result<Diagnostic, AllocError> {
     let is_wide = matches!(bytes, [0xFF, 0xFE, ..] | [0xFE, 0xFF, ..]);
     let what = if is_wide {
         "the text is UTF-16: save it as UTF-8"

@@ -1,9 +1,9 @@
 //! The checks of a plan's lists.
 
-use crate::entry::{BEGINNING, PlacedEntry, list_of};
-use crate::suggestions::{comma_list, suggestion};
 use crate::collector::FaultCollector;
+use crate::entry::{BEGINNING, PlacedEntry, list_of};
 use crate::shapes::{has_key, keys_of};
+use crate::suggestions::{comma_list, suggestion};
 use crate::{bodies, names, numbers, shapes};
 use job_bodies::{Part, PlanFault};
 use plan_text::Places;
@@ -77,7 +77,11 @@ fn all_bodies(collector: &mut FaultCollector, lists: &Lists<'_>) -> Result<(), A
 }
 
 /// Reports an unknown key at the top level.
-fn unknown_list(collector: &mut FaultCollector, key: &str, places: &Places<'_>) -> Result<(), AllocError> {
+fn unknown_list(
+    collector: &mut FaultCollector,
+    key: &str,
+    places: &Places<'_>,
+) -> Result<(), AllocError> {
     let alloc = collector.alloc;
     if has_key(Part::Text, key) {
         return Ok(());
@@ -119,7 +123,11 @@ fn entries<'a>(
 }
 
 /// Reports that the entries are not a list.
-fn no_list(collector: &mut FaultCollector, part: Part, places: &Places<'_>) -> Result<(), AllocError> {
+fn no_list(
+    collector: &mut FaultCollector,
+    part: Part,
+    places: &Places<'_>,
+) -> Result<(), AllocError> {
     let list = list_of(part);
     let what = format!(in collector.alloc;
         "{list} is a list of tables: write [[{list}]], with two brackets"
@@ -177,7 +185,11 @@ fn names_of<'a>(alloc: Global, entries: &[PlacedEntry<'a>]) -> Result<Vec<&'a st
 }
 
 /// Reports a pool that does not exist.
-fn pool_of(collector: &mut FaultCollector, class: &PlacedEntry<'_>, pools: &[&str]) -> Result<(), AllocError> {
+fn pool_of(
+    collector: &mut FaultCollector,
+    class: &PlacedEntry<'_>,
+    pools: &[&str],
+) -> Result<(), AllocError> {
     let Some(pool) = class.text("pool") else {
         return Ok(());
     };

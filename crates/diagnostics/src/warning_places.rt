@@ -8,10 +8,8 @@ use plan_text::{Places, TextPlace};
 /// Returns the place of the lint.
 pub(crate) fn place_of(places: &Places<'_>, lint: Lint) -> TextPlace {
     match lint {
-        Lint::NothingToAsk
-        | Lint::NoClients
-        | Lint::NothingSubmitted
-        | Lint::StaleCertificate => BEGINNING,
+        Lint::NothingToAsk | Lint::NoClients | Lint::NothingSubmitted | Lint::StaleCertificate =>
+            BEGINNING,
         Lint::PoolWithoutJobs(pool) => entry_place(places, Part::Pool, pool),
         Lint::UselessMax(pool) => value_place(places, Part::Pool, pool, "max"),
         Lint::QueueFarAbove(pool, _) => value_place(places, Part::Pool, pool, "queue"),

@@ -3,8 +3,8 @@
 ghost use Rattle.std.specs.Prelude.{◌≡◌, IfOk};
 ghost use Rattle.diagnostics.specs.Lints as spec;
 
-use crate::lints::lints_of;
 use crate::lint::Lint;
+use crate::lints::lints_of;
 use crate::warning_places::place_of;
 use crate::warning_words::words_of;
 use job_bodies::Plan;
@@ -70,9 +70,5 @@ fn warning_about(
 {
     let what = words_of(alloc, plan, lint)?;
     let place = place_of(places, lint);
-    Ok(Warning {
-        lint,
-        place,
-        what,
-    })
+    Ok(Warning { lint, place, what })
 }

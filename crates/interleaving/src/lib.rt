@@ -4,10 +4,12 @@
 //! definition in `written_machine`.
 #![tactic(auto)]
 
-mod submit_map;
+mod activities;
 mod clients;
 mod finish;
 mod get;
+mod job_ring;
+mod job_table;
 mod job_view;
 mod latest_jobs;
 mod laws;
@@ -16,14 +18,12 @@ mod members;
 mod moved_clients;
 mod moves;
 mod next_action;
-mod job_ring;
-mod job_table;
 mod plans;
 mod pools;
-mod activities;
 mod step;
 mod stuck;
 mod submit;
+mod submit_map;
 mod world;
 
 pub use clients::Clients;

@@ -6,8 +6,8 @@ ghost use Rattle.interleaving.specs.declared.job_view.Phase.TheVariants.{At};
 ghost use Rattle.interleaving.specs.ViewStep.{live_job, live_child, is_done, is_unfinished_job, may_get_in, with_phase, in_phase, drop_if_stale, drop_if_orphan, finished_if_gettable};
 ghost use Rattle.interleaving.specs.LiveJobs.{room_for, WasMade, DoneAreLatest, NoOtherIsStale, IsOnlyLiveJob, places_made, jobs_in, AreSubmitBounds, SubmitBoundsStay, HasSubmitBound, OrphansAreFound, AreOrphaned, AreFound, IsGone, RemovesOrphan, is_done_job};
 
-use crate::latest_jobs::LatestJobs;
 use crate::job_table::{JobEntry, JobTable};
+use crate::latest_jobs::LatestJobs;
 use crate::{JobView, Phase};
 use std::alloc::{AllocError, Global};
 use std::marker::Model;
@@ -141,7 +141,10 @@ impl LiveJobs {
         free_stale(&mut self.kept, latest, job.parent, job.slot);
         let number = self.kept.made();
         raise_submit_bound(&mut self.kept, job.parent, job.slot + 1);
-        self.kept.push(JobEntry { job, submit_bound: 0 });
+        self.kept.push(JobEntry {
+            job,
+            submit_bound: 0,
+        });
         self.latest.set(job.parent, job.slot, number);
         self.unfinished += 1;
     }
@@ -232,7 +235,13 @@ fn raise_submit_bound(kept: &mut JobTable, actor: Parent, submit_bound: usize)
         && let Some(place) = kept.get(number)
         && place.submit_bound < submit_bound
     {
-        kept.set(number, JobEntry { submit_bound, ..place });
+        kept.set(
+            number,
+            JobEntry {
+                submit_bound,
+                ..place
+            },
+        );
     }
 }
 

@@ -12,9 +12,9 @@ ghost use Rattle.interleaving.specs.Waiting.{is_waiting_set_in};
 ghost use Rattle.interleaving.specs.Stuck.{job_waits_unless_queued, unqueued_wait, QueuesWait};
 ghost use Rattle.interleaving.specs.PoolActivity.{pool_queue_waits};
 
+use crate::activities::PoolActivity;
 use crate::members::Members;
 use crate::plans::body_of_class;
-use crate::activities::PoolActivity;
 use crate::{Phase, World};
 use job_bodies::{Action, Plan};
 use written_machine::Parent;

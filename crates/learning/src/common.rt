@@ -1,6 +1,6 @@
 //! The longest common subsequence of a body and a path.
 
-use crate::correspondence::{may_correspond, get_in_body, get_of};
+use crate::correspondence::{get_in_body, get_of, may_correspond};
 use conformance::PathStep;
 use job_bodies::Action;
 use std::alloc::{AllocError, Global};

@@ -9,8 +9,8 @@ ghost use Rattle.learning.specs.LearningState.{IsCountOf, AreCountsOf, ChangesOn
 ghost use Rattle.learning.specs.InferenceResult.{lines_of};
 
 use crate::entries::Entry;
-use crate::learn_error::LearnError;
 use crate::inference_limit::InferenceLimit;
+use crate::learn_error::LearnError;
 use conformance::is_of_family;
 use recordings::{Line, RecordingLines};
 use std::alloc::{AllocError, Global};

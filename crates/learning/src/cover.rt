@@ -8,10 +8,10 @@ ghost use Rattle.learning.specs.Covers.{Covers, Extends, IsSurelyOf, work_of};
 ghost use Rattle.learning.specs.ValidGets.{HasValidGets};
 
 use crate::common::partners_of;
-use crate::valid_gets::has_valid_gets;
-use crate::merge::with_missing_steps;
 use crate::match_check::matches_at;
-use conformance::{PathState, PathStep, PathMatch, match_path};
+use crate::merge::with_missing_steps;
+use crate::valid_gets::has_valid_gets;
+use conformance::{PathMatch, PathState, PathStep, match_path};
 use job_bodies::{Action, MAX_ACTIONS, MAX_PATH_STEPS};
 use std::alloc::{AllocError, Global};
 
@@ -52,7 +52,11 @@ pub fn covering_body(
 }
 
 /// Returns the body if the path matches it, or the body extended by the path.
-fn extend_body(alloc: Global, body: &[Action], path: &[PathStep]) -> Result<Option<Vec<Action>>, AllocError>
+fn extend_body(
+    alloc: Global,
+    body: &[Action],
+    path: &[PathStep],
+) -> Result<Option<Vec<Action>>, AllocError>
     requires { length body.now ≤ MAX_ACTIONS }
     ensures fits { IfOk result (λ found. IfSome found (λ new. IsPathOf Whole new.items path.now)) }
     ensures extends { IfOk result (λ found. IfSome found (λ new. Extends body.now new.items)) }

@@ -5,11 +5,11 @@ ghost use Rattle.recordings.specs.RecordingLine.{RecordedLine};
 ghost use Rattle.learning.specs.LearningState.{IsDraftOf, IsLearnError};
 ghost use Rattle.learning.specs.InferenceLimit.{HasActors};
 
-use crate::extent::RecordingPart;
-use crate::pass::run_pass;
-use crate::learn_error::LearnError;
-use crate::inference_limit::InferenceLimit;
 use crate::draft::PlanDraft;
+use crate::extent::RecordingPart;
+use crate::inference_limit::InferenceLimit;
+use crate::learn_error::LearnError;
+use crate::pass::run_pass;
 use job_bodies::Pool;
 use std::alloc::Global;
 

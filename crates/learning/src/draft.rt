@@ -9,10 +9,10 @@ ghost use Rattle.learning.specs.InferenceLimit.{HasActors};
 ghost use Rattle.learning.specs.declared.inference_limit.InferenceLimit.TheVariants as reason;
 
 use crate::entries::{Entries, Entry};
-use crate::growth::{ObservedPath, Assignment, reachable_classes};
-use crate::pools::pool_number;
-use crate::learn_error::LearnError;
+use crate::growth::{Assignment, ObservedPath, reachable_classes};
 use crate::inference_limit::InferenceLimit;
+use crate::learn_error::LearnError;
+use crate::pools::pool_number;
 use job_bodies::{Class, Client, MAX_CLASSES, MAX_CLIENT_KINDS, Plan, Pool};
 use recordings::Line;
 use std::alloc::{AllocError, Global};
@@ -146,7 +146,11 @@ impl PlanDraft {
     ///
     /// - [`LearnError::InferenceLimit`] if a plan cannot have one more kind.
     /// - [`LearnError::Memory`] if memory runs out.
-    pub(crate) fn learn_round(&mut self, label: &str, observed_path: &ObservedPath) -> Result<Option<Assignment>, LearnError>
+    pub(crate) fn learn_round(
+        &mut self,
+        label: &str,
+        observed_path: &ObservedPath,
+    ) -> Result<Option<Assignment>, LearnError>
         ensures ok { (lines : List RecordedLine)
             → IsDraftOf lines self.old
             → OnOk result (IsDraftOf lines self.new) }

@@ -8,9 +8,9 @@ ghost use Rattle.recordings.specs.RecordingLine.{RecordedLine};
 ghost use Rattle.learning.specs.declared.inference_limit.InferenceLimit.{InferenceLimit as Reason};
 ghost use Rattle.learning.specs.LearningState.{AreEntriesOf, IsGiven, IsLearnError};
 
-use crate::names::free_name;
-use crate::learn_error::LearnError;
 use crate::inference_limit::InferenceLimit;
+use crate::learn_error::LearnError;
+use crate::names::free_name;
 use job_bodies::Action;
 use std::alloc::{AllocError, Global};
 
@@ -88,7 +88,12 @@ impl Entries {
     ///
     /// - [`LearnError::InferenceLimit`] if a plan cannot have one more entry, or if the name would be too long.
     /// - [`LearnError::Memory`] if memory runs out.
-    pub(crate) fn add(&mut self, label: &str, pool: usize, body: Vec<Action>) -> Result<(), LearnError>
+    pub(crate) fn add(
+        &mut self,
+        label: &str,
+        pool: usize,
+        body: Vec<Action>,
+    ) -> Result<(), LearnError>
         ensures ok { (lines : List RecordedLine) (beyond : Reason)
             → IsGiven lines beyond label.now pool
             → AreEntriesOf lines beyond self.old

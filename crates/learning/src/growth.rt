@@ -8,7 +8,7 @@ ghost use Rattle.learning.specs.LearningState.{AreEntriesOf, IsGiven, IsLearnErr
 use crate::entries::Entries;
 use crate::learn_error::LearnError;
 use crate::{body_of_path, covering_body};
-use conformance::{PathState, PathStep, PathMatch, match_path};
+use conformance::{PathMatch, PathState, PathStep, match_path};
 use job_bodies::{Action, MAX_ACTIONS, MAX_PATH_STEPS};
 use std::alloc::{AllocError, Global};
 
@@ -29,7 +29,12 @@ pub(crate) struct Assignment {
 
 impl Entries {
     /// Returns the first entry of this label and pool whose body the path matches.
-    pub(crate) fn matching_entry(&self, label: &str, pool: usize, observed_path: &ObservedPath) -> Option<Assignment> {
+    pub(crate) fn matching_entry(
+        &self,
+        label: &str,
+        pool: usize,
+        observed_path: &ObservedPath,
+    ) -> Option<Assignment> {
         let number = self.entries.iter().position(|entry| entry.is_of(label, pool)
             && is_path_of(&entry.body, observed_path))?;
         Some(Assignment {
@@ -61,7 +66,11 @@ impl Entries {
     {
         for number in 0..self.entries.len() {
             if self.is_free(number, label, pool, reachable) {
-                if let Some(body) = covering_body(self.alloc, self.body(number), &observed_path.steps)? {
+                if let Some(body) = covering_body(
+                    self.alloc,
+                    self.body(number),
+                    &observed_path.steps,
+                )? {
                     let is_changed = body.len() > self.body(number).len();
                     self.set_body(number, body);
                     return Ok(Some(Assignment { number, is_changed }));
@@ -112,7 +121,12 @@ impl Entries {
 
 fn is_path_of(body: &[Action], observed_path: &ObservedPath) -> bool {
     body.len() <= MAX_ACTIONS
-        && match_path(body, &observed_path.steps, observed_path.path_state, MAX_PATH_STEPS) == PathMatch::Fits
+        && match_path(
+            body,
+            &observed_path.steps,
+            observed_path.path_state,
+            MAX_PATH_STEPS,
+        ) == PathMatch::Fits
 }
 
 /// Returns, for each class, whether jobs of it are submitted by these steps, directly or through

@@ -17,13 +17,13 @@ ghost use Rattle.learning.specs.Unfinished.{unfinished_rounds, unfinished_jobs};
 
 use crate::counts::{KindCount, kind_counts};
 use crate::covering::cover_all;
+use crate::draft::client_of;
 use crate::entries::Entry;
 use crate::extent::{Extent, RecordingPart};
-use crate::inference_result::{InferenceResult, InferredPlan};
-use crate::recorded_names::{RecordedNames, recorded_names};
-use crate::learn_error::LearnError;
 use crate::inference_limit::InferenceLimit;
-use crate::draft::client_of;
+use crate::inference_result::{InferenceResult, InferredPlan};
+use crate::learn_error::LearnError;
+use crate::recorded_names::{RecordedNames, recorded_names};
 use job_bodies::{Client, MAX_SIZE, Plan};
 use std::alloc::{AllocError, Global};
 
@@ -65,13 +65,20 @@ pub fn learn(
     }
 }
 
-fn inference_result(alloc: Global, recording: &[u8], extent: Extent, budget: u64) -> Result<InferenceResult, LearnError>
+fn inference_result(
+    alloc: Global,
+    recording: &[u8],
+    extent: Extent,
+    budget: u64,
+) -> Result<InferenceResult, LearnError>
     ensures ok { IfOk result (IsCorrectResult recording.now) }
     ensures err { IfErr result (IsLearnErrorAt (lines_read recording.now)) }
 {
     match recorded_names(alloc, recording)? {
         Err(fault) => Ok(InferenceResult::Invalid(fault)),
-        Ok(names) => Ok(InferenceResult::Inferred(infer_plan(alloc, recording, extent, budget, names)?)),
+        Ok(names) => Ok(InferenceResult::Inferred(infer_plan(
+            alloc, recording, extent, budget, names,
+        )?)),
     }
 }
 

@@ -65,7 +65,11 @@ fn with_action(
 
 /// Returns the actions with the indices of their gets adjusted for an insertion at index `at`, or
 /// `None` if an index overflows.
-fn shifted_actions(alloc: Global, body: &[Action], at: usize) -> Result<Option<Vec<Action>>, AllocError>
+fn shifted_actions(
+    alloc: Global,
+    body: &[Action],
+    at: usize,
+) -> Result<Option<Vec<Action>>, AllocError>
     ensures { IfOk result
         (λ found. IfSome found (λ new. new.items ≡ map (spec.shifted_action at) body.now)) }
 {

@@ -12,8 +12,8 @@ ghost use Rattle.learning.specs.Names.{HasBegun};
 
 use crate::counts::{KindCount, count_begin, count_end, zero_counts};
 use crate::entries::Entry;
-use crate::learn_error::LearnError;
 use crate::inference_limit::InferenceLimit;
+use crate::learn_error::LearnError;
 use conformance::is_of_family;
 use job_bodies::MAX_CLIENT_KINDS;
 use recordings::Line;

@@ -4,35 +4,35 @@
 //! recording.
 #![tactic(auto)]
 
-mod correspondence;
+mod assigned_classes;
 mod common;
+mod correspondence;
 mod counts;
 mod cover;
 mod covering;
+mod draft;
 mod ended_actors;
 mod entries;
 mod extent;
 mod growth;
 mod inference;
+mod inference_limit;
+mod inference_result;
 mod insertion;
 mod label_rounds;
-mod valid_gets;
-mod inference_result;
-mod assigned_classes;
+mod learn_error;
+mod match_check;
 mod merge;
 mod names;
 mod pass;
 mod path_body;
 mod pools;
 mod recorded_names;
-mod match_check;
-mod learn_error;
-mod inference_limit;
-mod draft;
+mod valid_gets;
 
 pub use cover::covering_body;
 pub use extent::{Extent, START_BYTES};
 pub use inference::learn;
+pub use inference_limit::InferenceLimit;
 pub use inference_result::{InferenceResult, InferredPlan};
 pub use path_body::body_of_path;
-pub use inference_limit::InferenceLimit;

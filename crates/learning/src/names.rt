@@ -6,8 +6,8 @@ ghost use Rattle.conformance.specs.Family.{IsOfFamily};
 ghost use Rattle.learning.specs.LearningState.{IsNameError};
 
 use crate::entries::Entry;
-use crate::learn_error::LearnError;
 use crate::inference_limit::InferenceLimit;
+use crate::learn_error::LearnError;
 use job_bodies::MAX_NAME_BYTES;
 use std::alloc::{AllocError, Global};
 

@@ -4,14 +4,14 @@ ghost use Rattle.std.specs.Prelude.{◌≡◌, List, OnOk, IfErr};
 ghost use Rattle.recordings.specs.RecordingLine.{RecordedLine};
 ghost use Rattle.learning.specs.LearningState.{IsDraftOf, IsLearnError};
 
+use crate::assigned_classes::AssignedClasses;
+use crate::draft::PlanDraft;
 use crate::ended_actors::EndedActors;
 use crate::extent::RecordingPart;
-use crate::growth::{ObservedPath, Assignment};
-use crate::assigned_classes::AssignedClasses;
-use crate::pools::pool_number;
+use crate::growth::{Assignment, ObservedPath};
 use crate::learn_error::LearnError;
-use crate::draft::PlanDraft;
-use conformance::{ActorClassifier, PathState, ClassifiedActor};
+use crate::pools::pool_number;
+use conformance::{ActorClassifier, ClassifiedActor, PathState};
 use job_bodies::{Plan, Pool};
 use recordings::{Line, RecordedActor, RecordingLines};
 use std::alloc::{AllocError, Global};
@@ -87,7 +87,10 @@ impl PassClassifier {
 
     // Returns the actors that are still unclassified at the end of the lines.
     fn finish(self, plan: &Plan) -> Result<Vec<ClassifiedActor>, AllocError> {
-        let PassClassifier { classes, mut reported } = self;
+        let PassClassifier {
+            classes,
+            mut reported,
+        } = self;
         classes.finish(plan, &mut reported)?;
         Ok(reported)
     }
@@ -132,7 +135,9 @@ impl Pass {
             → IfErr result (IsLearnError lines) }
     {
         self.note(line)?;
-        classifier.classes.take(plan, line, &mut classifier.reported)?;
+        classifier
+            .classes
+            .take(plan, line, &mut classifier.reported)?;
         self.process_classified(pools, &classifier.reported, draft)?;
         classifier.reported.clear();
         Ok(())
@@ -200,7 +205,11 @@ impl Pass {
     }
 
     // Records the kind of a round, or assigns the class to a job.
-    fn record_assignment(&mut self, one: &ClassifiedActor, class: Option<usize>) -> Result<(), AllocError> {
+    fn record_assignment(
+        &mut self,
+        one: &ClassifiedActor,
+        class: Option<usize>,
+    ) -> Result<(), AllocError> {
         let member = one.family.members.first().copied();
         if member.is_none() {
             self.is_explained = false;

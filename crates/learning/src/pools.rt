@@ -7,8 +7,8 @@ ghost use Rattle.std.specs.Str.{bytes_eq};
 ghost use Rattle.learning.specs.LearningState.{IsLearnError};
 ghost use Rattle.learning.specs.Pools as spec;
 
-use crate::learn_error::LearnError;
 use crate::inference_limit::InferenceLimit;
+use crate::learn_error::LearnError;
 use job_bodies::{MAX_POOLS, MAX_SIZE, Pool};
 use recordings::{Line, PoolSizes};
 use std::alloc::{AllocError, Global};
@@ -50,7 +50,11 @@ fn has_core_threads(sizes: PoolSizes) -> bool
 ///
 /// - [`LearnError::InferenceLimit`] if a plan cannot have one more pool.
 /// - [`LearnError::Memory`] if memory runs out.
-pub(crate) fn note_pool(alloc: Global, pools: &mut Vec<Pool>, line: &Line<'_>) -> Result<(), LearnError>
+pub(crate) fn note_pool(
+    alloc: Global,
+    pools: &mut Vec<Pool>,
+    line: &Line<'_>,
+) -> Result<(), LearnError>
     ensures ok { OnOk result
         (pools.new.items
         ≡ spec.with_first_of (spec.pool_of_line (line_view line.now)) pools.old.items) }
@@ -66,7 +70,12 @@ pub(crate) fn note_pool(alloc: Global, pools: &mut Vec<Pool>, line: &Line<'_>) -
     }
 }
 
-fn add_pool(alloc: Global, pools: &mut Vec<Pool>, name: &str, sizes: PoolSizes) -> Result<(), LearnError>
+fn add_pool(
+    alloc: Global,
+    pools: &mut Vec<Pool>,
+    name: &str,
+    sizes: PoolSizes,
+) -> Result<(), LearnError>
     ensures ok { OnOk result
         (pools.new.items ≡ spec.with_first pools.old.items (spec.recorded_pool name.now sizes)) }
     ensures few { length pools.old.items ≤ MAX_POOLS

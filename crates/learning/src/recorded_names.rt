@@ -9,12 +9,12 @@ ghost use Rattle.learning.specs.LabelRounds.{AreLabelRoundsOf};
 ghost use Rattle.learning.specs.FirstPass.{IsNamed, IsLearnErrorAt, Counts, well_formed};
 ghost use Rattle.learning.specs.Unfinished as unfinished;
 
-use crate::label_rounds::LabelRounds;
-use crate::pools::note_pool;
-use crate::learn_error::LearnError;
 use crate::draft::PlanDraft;
+use crate::label_rounds::LabelRounds;
+use crate::learn_error::LearnError;
+use crate::pools::note_pool;
 use job_bodies::Pool;
-use recordings::{Line, RecordingFault, CheckedLines, first_fault};
+use recordings::{CheckedLines, Line, RecordingFault, first_fault};
 use std::alloc::{AllocError, Global};
 
 /// The pools, classes and client kinds that the lines name, and counts of rounds and jobs.

@@ -6,21 +6,21 @@
 //! `cert_check::accepts`. Tests show that the vectors are the intended ones.
 #![tactic(auto)]
 
-mod resized_plan;
-mod minimize_total;
 mod levels;
+mod minimize_total;
 mod numbers;
 mod reached;
 mod relief;
+mod resized_plan;
 mod rows;
 mod sketch;
+mod sketch_cache;
 mod submitted;
 mod target;
-mod sketch_cache;
 mod vectors;
 mod weight;
 
-pub use resized_plan::{ResizedPlan, Kind, VectorSummary};
 pub use levels::Levels;
 pub use reached::reach;
+pub use resized_plan::{Kind, ResizedPlan, VectorSummary};
 pub use vectors::{blocked_vector, pool_bound};

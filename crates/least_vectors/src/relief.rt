@@ -30,7 +30,10 @@ pub(crate) fn relieving_loan(
     let plan = sketch_cache.plan;
     let target = sketch_cache.target;
     let mut best = None;
-    let mut fewest = sketch_cache.sketch(place).overweight_unsubmitted.saturating_sub(1);
+    let mut fewest = sketch_cache
+        .sketch(place)
+        .overweight_unsubmitted
+        .saturating_sub(1);
     let mut least = u64::MAX;
     for pool in 0..plan.pools().len() {
         if !target.may_lend(pool) {

@@ -5,11 +5,10 @@
 #![tactic(auto)]
 
 mod certified_world;
+mod compact_receipt;
 mod completeness;
 mod gate;
 mod history_laws;
-mod run_check;
-mod compact_receipt;
 mod limits;
 mod numbers;
 mod owner;
@@ -18,23 +17,24 @@ mod receipts;
 mod replay;
 mod report;
 mod rounds;
+mod run_check;
 mod running;
-mod viewed_world;
 mod shared;
 mod starting;
 mod threads;
+mod viewed_world;
 mod world_laws;
 
 pub use certified_world::{CertifiedWorld, TracedWorld};
+pub use compact_receipt::CompactReceipt;
 pub use gate::{Actor, Gate, GateFault};
 pub use held_machines::{Held, Locked, Machine, Receipt};
-pub use history_laws::{totals_add_up, numbers_are_of_the_plan};
-pub use run_check::check_run;
-pub use compact_receipt::CompactReceipt;
+pub use history_laws::{numbers_are_of_the_plan, totals_add_up};
 pub use numbers::{RunNumbers, run_numbers};
 pub use owner::{Owner, kinds_of, lists_of};
-pub use report::{ThreadResults, RunFault, RunReport, ThreadFault};
+pub use report::{RunFault, RunReport, ThreadFault, ThreadResults};
 pub use rounds::rounds_of_client;
+pub use run_check::check_run;
 pub use running::run;
 pub use viewed_world::ViewedWorld;
 pub use world_laws::{held_worlds_refuse_nothing, reached_worlds_refuse_nothing};

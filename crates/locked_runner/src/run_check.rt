@@ -13,7 +13,7 @@ use crate::numbers::RunNumbers;
 use crate::owner::{kinds_of, lists_of};
 use crate::receipts::{each_once, lists_fit};
 use crate::replay::{Replay, are_as_many, replay_history};
-use crate::{ThreadResults, RunFault, RunReport, ViewedWorld, reached_worlds_refuse_nothing};
+use crate::{RunFault, RunReport, ThreadResults, ViewedWorld, reached_worlds_refuse_nothing};
 use cert_check::Certified;
 use job_bodies::Plan;
 use std::alloc::{AllocError, Global};
@@ -71,7 +71,12 @@ pub fn check_run(
 }
 
 /// Returns the report of a run whose history leads to the world.
-fn report(certified: &Certified, numbers: RunNumbers, world: &ViewedWorld, results: ThreadResults) -> RunReport
+fn report(
+    certified: &Certified,
+    numbers: RunNumbers,
+    world: &ViewedWorld,
+    results: ThreadResults,
+) -> RunReport
     requires { IsReachedBy certified.now.plan results.history world.now }
     ensures { result
         ≡ record {

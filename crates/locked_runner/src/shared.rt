@@ -153,7 +153,12 @@ impl<'a> Shared<'a> {
     }
 
     /// Returns the work of a worker thread. If its job was not found, stops the run.
-    fn check_work<R: Wait>(&self, rt: &R, guard: MachineGuard<'a, '_>, work: Option<Work>) -> Option<Work> {
+    fn check_work<R: Wait>(
+        &self,
+        rt: &R,
+        guard: MachineGuard<'a, '_>,
+        work: Option<Work>,
+    ) -> Option<Work> {
         drop(guard);
         if work.is_none() {
             self.end(rt);
@@ -196,7 +201,8 @@ impl<'a> Shared<'a> {
 
     /// Returns `true` if no client has an event left and no job is unfinished.
     fn is_at_end<R: Wait>(&self, rt: &R, guard: &MachineGuard<'a, '_>) -> bool {
-        self.progress.lock(rt).clients_are_complete() && guard.state().world.world().unfinished() == 0
+        self.progress.lock(rt).clients_are_complete()
+            && guard.state().world.world().unfinished() == 0
     }
 
     /// Returns the threads to wake after the last event. If the event started a job, puts the job
@@ -275,7 +281,11 @@ fn work_taken(guard: &MachineGuard<'_, '_>, receipt: Receipt<Event>) -> Option<W
     }
 }
 
-fn work_on(guard: &MachineGuard<'_, '_>, job: usize, taken: Option<Receipt<Event>>) -> Option<Work> {
+fn work_on(
+    guard: &MachineGuard<'_, '_>,
+    job: usize,
+    taken: Option<Receipt<Event>>,
+) -> Option<Work> {
     let class = guard.state().world.world().job(job)?.class;
     Some(Work { job, class, taken })
 }

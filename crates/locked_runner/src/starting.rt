@@ -3,7 +3,7 @@
 use crate::shared::Shared;
 use crate::threads::Runner;
 use crate::{
-    CertifiedWorld, Gate, CompactReceipt, ThreadResults, Owner, ThreadFault, kinds_of, lists_of,
+    CertifiedWorld, CompactReceipt, Gate, Owner, ThreadFault, ThreadResults, kinds_of, lists_of,
     rounds_of_client,
 };
 use cert_check::Certified;

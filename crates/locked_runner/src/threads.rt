@@ -1,7 +1,7 @@
 //! The work of each thread of a run.
 
 use crate::shared::Shared;
-use crate::{Actor, Gate, CompactReceipt, ThreadFault};
+use crate::{Actor, CompactReceipt, Gate, ThreadFault};
 use held_machines::Receipt;
 use interleaving::Event;
 use job_bodies::{Action, Client};

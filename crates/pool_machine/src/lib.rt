@@ -6,6 +6,8 @@ mod laws;
 mod offer;
 mod pool_state;
 
-pub use laws::{load_is_offered, failure_conditions, pools_stay_sound, queues_only_at_core, sizes_stay};
+pub use laws::{
+    failure_conditions, load_is_offered, pools_stay_sound, queues_only_at_core, sizes_stay,
+};
 pub use offer::Offer;
 pub use pool_state::PoolState;

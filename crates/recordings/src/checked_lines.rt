@@ -5,8 +5,8 @@ ghost use Rattle.recordings.specs.RecordingLine.{RecordedLine, lines_read};
 ghost use Rattle.recordings.specs.CheckedLines.{IsCheckerState, IsNext};
 
 use crate::fault::{FaultReason, RecordingFault};
-use crate::trace_validator::TraceValidator;
 use crate::rule::LineRule;
+use crate::trace_validator::TraceValidator;
 use crate::{BadLine, Line, RecordingLines};
 use std::alloc::{AllocError, Global};
 

@@ -63,12 +63,21 @@ impl fmt::Display for InvalidatingEvent {
         match *self {
             InvalidatingEvent::Refused { job, .. } => write!(f, "job {job} was refused"),
             InvalidatingEvent::TimedOut { job, .. } => write!(f, "a get of job {job} timed out"),
-            InvalidatingEvent::Interrupted { job, .. } => write!(f, "a get of job {job} was interrupted"),
+            InvalidatingEvent::Interrupted { job, .. } => write!(
+                f,
+                "a get of job {job} was interrupted"
+            ),
             InvalidatingEvent::Cancelled { job, .. } => write!(f, "job {job} was cancelled"),
             InvalidatingEvent::AnyInvoked { .. } => write!(f, "invokeAny was called"),
             InvalidatingEvent::Removed { job } => write!(f, "job {job} was taken out of its queue"),
-            InvalidatingEvent::Threw { job } => write!(f, "job {job} ended its thread by an exception"),
-            InvalidatingEvent::Unseen { jobs } => write!(f, "{jobs} jobs were run of which no line tells"),
+            InvalidatingEvent::Threw { job } => write!(
+                f,
+                "job {job} ended its thread by an exception"
+            ),
+            InvalidatingEvent::Unseen { jobs } => write!(
+                f,
+                "{jobs} jobs were run of which no line tells"
+            ),
         }
     }
 }

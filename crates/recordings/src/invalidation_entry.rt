@@ -6,7 +6,7 @@ ghost use Rattle.recordings.specs.LineParts.{is_same_actor, is_of};
 ghost use Rattle.recordings.specs.Invalidations as spec;
 ghost use Rattle.recordings.specs.InvalidationList as stored;
 
-use crate::invalidation::{Invalidation, InvalidatingEvent};
+use crate::invalidation::{InvalidatingEvent, Invalidation};
 use crate::{Line, RecordedActor};
 
 /// An event that invalidates a SAFE answer, by the lines so far.
@@ -65,7 +65,10 @@ pub(crate) fn event_of(line: &Line<'_>) -> Option<InvalidatingEvent>
 pub(crate) fn can_be_excused(event: InvalidatingEvent) -> bool
     ensures { result ≡ stored.can_be_excused event }
 {
-    matches!(event, InvalidatingEvent::TimedOut { .. } | InvalidatingEvent::Interrupted { .. })
+    matches!(
+        event,
+        InvalidatingEvent::TimedOut { .. } | InvalidatingEvent::Interrupted { .. }
+    )
 }
 
 /// Returns true if both are of the same event type.
@@ -79,9 +82,8 @@ fn excuses(event: InvalidatingEvent, line: &Line<'_>) -> bool
     ensures { result ≡ stored.excuses (line_view line.now) event }
 {
     match event {
-        InvalidatingEvent::TimedOut { actor, job } | InvalidatingEvent::Interrupted { actor, job } => {
-            repeats_get(actor, job, line)
-        }
+        InvalidatingEvent::TimedOut { actor, job }
+        | InvalidatingEvent::Interrupted { actor, job } => { repeats_get(actor, job, line) }
         _ => false,
     }
 }
@@ -90,9 +92,8 @@ fn ends_pending(event: InvalidatingEvent, line: &Line<'_>) -> bool
     ensures { result ≡ stored.ends_pending (line_view line.now) event }
 {
     match event {
-        InvalidatingEvent::TimedOut { actor, .. } | InvalidatingEvent::Interrupted { actor, .. } => {
-            is_line_of(actor, line)
-        }
+        InvalidatingEvent::TimedOut { actor, .. } | InvalidatingEvent::Interrupted { actor, .. } =>
+            { is_line_of(actor, line) }
         _ => false,
     }
 }

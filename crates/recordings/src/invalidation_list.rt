@@ -7,8 +7,8 @@ ghost use Rattle.recordings.specs.Invalidations as spec;
 ghost use Rattle.recordings.specs.InvalidationList as stored;
 
 use crate::Line;
-use crate::invalidation_entry::{InvalidationEntry, can_be_excused, is_same_type, event_of};
-use crate::invalidation::{Invalidation, InvalidatingEvent};
+use crate::invalidation::{InvalidatingEvent, Invalidation};
+use crate::invalidation_entry::{InvalidationEntry, can_be_excused, event_of, is_same_type};
 use std::alloc::{AllocError, Global};
 
 /// The first line of each invalidating event type, and the pending lines that may precede it.
@@ -44,7 +44,10 @@ impl InvalidationList {
             Some(event) => push_first(
                 &mut self.kept,
                 InvalidationEntry {
-                    invalidation: Invalidation { line: number, event },
+                    invalidation: Invalidation {
+                        line: number,
+                        event,
+                    },
                     pending: can_be_excused(event),
                 },
             ),
@@ -108,7 +111,10 @@ fn firsts_of(alloc: Global, kept: &[InvalidationEntry]) -> Result<Vec<Invalidati
 }
 
 /// Appends the event, unless there is one of its type.
-fn push_new_type(invalidations: &mut Vec<Invalidation>, invalidation: Invalidation) -> Result<(), AllocError>
+fn push_new_type(
+    invalidations: &mut Vec<Invalidation>,
+    invalidation: Invalidation,
+) -> Result<(), AllocError>
     ensures { OnOk result (invalidations.new.items ≡ stored.with_new_type invalidation invalidations.old.items) }
 {
     if !has_type(invalidations, invalidation.event) {
@@ -120,5 +126,7 @@ fn push_new_type(invalidations: &mut Vec<Invalidation>, invalidation: Invalidati
 fn has_type(invalidations: &[Invalidation], event: InvalidatingEvent) -> bool
     ensures { result ≡ list_any (spec.has_type event) invalidations.now }
 {
-    invalidations.iter().any(|one| is_same_type(one.event, event))
+    invalidations
+        .iter()
+        .any(|one| is_same_type(one.event, event))
 }

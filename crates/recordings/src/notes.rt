@@ -10,9 +10,9 @@ ghost use Rattle.recordings.specs.NotesOfLines.{IsNotesOf};
 
 use crate::Line;
 use crate::foreign_get::ForeignGet;
+use crate::invalidation::Invalidation;
 use crate::invalidation_list::InvalidationList;
 use crate::unclaimed::UnclaimedJobs;
-use crate::invalidation::Invalidation;
 use std::alloc::{AllocError, Global};
 
 /// The events that invalidate a SAFE answer, and the first get of a job by an actor that did not

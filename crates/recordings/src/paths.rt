@@ -8,8 +8,8 @@ ghost use Rattle.recordings.specs.PathChanges.{Changes, change_of, no_change, at
 ghost use Rattle.recordings.specs.LastLine.{last_path_of, last_path_in};
 ghost use Rattle.recordings.specs.PathsOfLines.{KeepsRules, IsPathsOf, live_path_of};
 
-use crate::step::RecordedStep;
 use crate::path_table::PathTable;
+use crate::step::RecordedStep;
 use crate::{Line, RecordedActor};
 use std::alloc::{AllocError, Global};
 

@@ -3,7 +3,7 @@
 ghost use Rattle.std.specs.Prelude.{◌≡◌, option_map};
 ghost use Rattle.recordings.specs.PoolSizes as spec;
 
-use crate::words::{strip_word, is_word, parse_word_and_number, parse_number};
+use crate::words::{is_word, parse_number, parse_word_and_number, strip_word};
 use line_words::split_space;
 
 /// The configuration of a pool. A value above the maximum of a line's number is stored as that

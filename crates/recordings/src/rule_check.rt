@@ -7,8 +7,8 @@ ghost use Rattle.recordings.specs.Rules as spec;
 ghost use Rattle.recordings.specs.StateOfLines.{Represents};
 
 use crate::line_parts::{actor_of, is_head, job_of, pool_of};
-use crate::trace_validator::TraceValidator;
 use crate::rule::LineRule;
+use crate::trace_validator::TraceValidator;
 use crate::{Line, RecordedActor};
 
 /// Returns the first rule that the line breaks.

@@ -6,11 +6,11 @@ ghost use Rattle.recordings.specs.StateOfLines.{Represents, IsAccepted};
 
 use crate::Line;
 use crate::jobs::Jobs;
-use crate::rule_check::first_broken_rule;
-use crate::state_update::apply_line;
 use crate::pools::Pools;
 use crate::rounds::Rounds;
 use crate::rule::LineRule;
+use crate::rule_check::first_broken_rule;
+use crate::state_update::apply_line;
 use std::alloc::{AllocError, Global};
 
 /// The state of the rule check: everything that the rules need to know about the lines so far.

@@ -4,8 +4,8 @@ ghost use Rattle.std.specs.Prelude.{IfOk};
 ghost use Rattle.recordings.specs.RecordingLine.{lines_read};
 ghost use Rattle.recordings.specs.Faults.{IsFirstFault};
 
-use crate::fault::RecordingFault;
 use crate::checked_lines::CheckedLines;
+use crate::fault::RecordingFault;
 use std::alloc::{AllocError, Global};
 
 /// Returns the first bad line of a recording, or `None` if it has none. Ignores the text after the

@@ -9,5 +9,5 @@ mod line_text;
 
 pub use collect::notes;
 pub use explained::push_explanation;
-pub use soundness::{Note, Section};
 pub use line_text::{line, push_line};
+pub use soundness::{Note, Section};

@@ -7,7 +7,7 @@ ghost use Rattle.serde_json.specs.View.{view as data_of};
 ghost use Rattle.report.specs.Json as spec;
 
 use crate::PlanFinding;
-use crate::json_faults::{single_fault, faults_value};
+use crate::json_faults::{faults_value, single_fault};
 use crate::json_pools::{bounded_pools, no_pools};
 use crate::json_sizes::sizes_value;
 use crate::json_warnings::warnings_value;

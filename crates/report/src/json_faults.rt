@@ -46,7 +46,13 @@ fn diagnostic_value(alloc: Global, diagnostic: &Diagnostic) -> Result<Value, All
 {
     let line = Value::from(diagnostic.place.line);
     let column = Value::from(diagnostic.place.column);
-    fault_value(alloc, column, diagnostic.fault.number, line, &diagnostic.what)
+    fault_value(
+        alloc,
+        column,
+        diagnostic.fault.number,
+        line,
+        &diagnostic.what,
+    )
 }
 
 #[tactic(auto, unfolding(crate::specs::Json::fault_data))]

@@ -39,11 +39,27 @@ impl Suite for Served {
             "check" => answered(alloc, Query::ReviewCommand(ReviewCommand::Check), input),
             "explain" => answered(alloc, Query::ReviewCommand(ReviewCommand::Explain), input),
             "check and explain" => checked_and_explained(alloc, input),
-            "fronts of a replay" => fronts(alloc, Query::ReviewCommand(ReviewCommand::Replay), input),
+            "fronts of a replay" => fronts(
+                alloc,
+                Query::ReviewCommand(ReviewCommand::Replay),
+                input,
+            ),
             "fronts of a check" => fronts(alloc, Query::ReviewCommand(ReviewCommand::Check), input),
-            "fronts of an explain" => fronts(alloc, Query::ReviewCommand(ReviewCommand::Explain), input),
-            "conform" => answered(alloc, Query::RecordingCommand(RecordingCommand::Conform), input),
-            "learn" => answered(alloc, Query::RecordingCommand(RecordingCommand::Learn), input),
+            "fronts of an explain" => fronts(
+                alloc,
+                Query::ReviewCommand(ReviewCommand::Explain),
+                input,
+            ),
+            "conform" => answered(
+                alloc,
+                Query::RecordingCommand(RecordingCommand::Conform),
+                input,
+            ),
+            "learn" => answered(
+                alloc,
+                Query::RecordingCommand(RecordingCommand::Learn),
+                input,
+            ),
             "words" => asked(alloc, input),
             _ => String::from_str(alloc, "no such kind of input"),
         }

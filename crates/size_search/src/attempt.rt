@@ -2,10 +2,10 @@
 
 use crate::certified::cert_of;
 use crate::found::AttemptError;
-use crate::pool_threads::{PoolThreads, declared_threads};
-use crate::vector_cache::VectorCache;
-use crate::rounds::assign_ranks_to_fixpoint;
 use crate::least_sizes::least_sizes;
+use crate::pool_threads::{PoolThreads, declared_threads};
+use crate::rounds::assign_ranks_to_fixpoint;
+use crate::vector_cache::VectorCache;
 use cert_text::Cert;
 use job_bodies::Plan;
 use std::alloc::Global;

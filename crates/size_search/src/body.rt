@@ -42,7 +42,13 @@ fn done(plan: &Plan, vector: &Vector, class: usize) -> u64
 }
 
 /// Returns the weight of the open jobs after the action at this position, given that before it.
-fn open_weight_after(plan: &Plan, vector: &Vector, body: &[Action], position: usize, current_weight: u64) -> u64
+fn open_weight_after(
+    plan: &Plan,
+    vector: &Vector,
+    body: &[Action],
+    position: usize,
+    current_weight: u64,
+) -> u64
     requires valid { IsValidBody plan.now body.now }
     requires small { JobsAreSmall vector.now }
     requires inside { position < length body.now }

@@ -38,7 +38,10 @@ pub(crate) fn bound_of(
     } else {
         Kind::Standing
     };
-    match cache.resized_plan(maxes).vector(alloc, number, kind, workers)? {
+    match cache
+        .resized_plan(maxes)
+        .vector(alloc, number, kind, workers)?
+    {
         Some(vector) if is_lifetime => Ok(Bound::Lifetime(vector)),
         Some(vector) => Ok(Bound::Standing(vector)),
         None => Err(AttemptError::Obstacle(Obstacle::Pool(number))),

@@ -8,8 +8,8 @@ ghost use Rattle.size_search.specs.Reaching.{Has};
 ghost use Rattle.size_search.specs.Causes.{IsCause};
 
 use crate::cause::Cause;
-use crate::submitted_classes::SubmittedClasses;
 use crate::submitted::submitted_by_repeating_clients;
+use crate::submitted_classes::SubmittedClasses;
 use job_bodies::{Action, Plan, has_get_of};
 use std::alloc::{AllocError, Global};
 

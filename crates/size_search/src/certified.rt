@@ -3,8 +3,8 @@
 use crate::bounds::bound_of;
 use crate::found::{AttemptError, Obstacle};
 use crate::pool_threads::maxes_of;
-use crate::vector_cache::{CacheHit, VectorCache};
 use crate::rounds::RankAssignment;
+use crate::vector_cache::{CacheHit, VectorCache};
 use cert_text::{Cert, PoolCert};
 use least_vectors::{Kind, reach};
 use std::alloc::{AllocError, Global};

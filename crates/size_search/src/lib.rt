@@ -13,21 +13,21 @@ mod certificate;
 mod certified;
 mod existence_laws;
 mod fit;
+mod fit_steady;
 mod fitted_laws;
 mod found;
-mod stabilize;
+mod least_sizes;
 mod levels;
 mod pool_threads;
-mod submitted_classes;
-mod vector_cache;
 mod rounds;
 mod rows;
 mod search;
-mod least_sizes;
-mod fit_steady;
+mod stabilize;
 mod steady_laws;
 mod submitted;
+mod submitted_classes;
 mod unfit;
+mod vector_cache;
 mod wide;
 
 pub use cause::Cause;
@@ -36,8 +36,8 @@ pub use certificate::steady;
 pub use existence_laws::{no_sizes_help, sizes_exist};
 pub use fit::{fitted, smallest};
 pub use fitted_laws::{
-    accepted_plans_fit, fitted_sizes_are_least, larger_sizes_are_accepted, smallest_fit_is_least,
-    reported_cores_need_larger_maxes, widened_maxes_are_least,
+    accepted_plans_fit, fitted_sizes_are_least, larger_sizes_are_accepted,
+    reported_cores_need_larger_maxes, smallest_fit_is_least, widened_maxes_are_least,
 };
 pub use found::{NoSizes, SizesFound};
 pub use search::search_sizes;

@@ -58,7 +58,12 @@ impl RankAssignment {
             lending,
         };
         let mut hits = Vec::new(alloc);
-        for (pool, (pool_threads, assigned)) in self.threads.iter().zip(&self.assigned).enumerate() {
+        for (pool, (pool_threads, assigned)) in self
+            .threads
+            .iter()
+            .zip(&self.assigned)
+            .enumerate()
+        {
             if assigned.is_none() {
                 let enough = pool_threads.core.saturating_sub(1);
                 let hit = cache.lightest(alloc, pool, kind, &maxes, enough)?;
@@ -82,7 +87,12 @@ impl RankAssignment {
 
     /// Gives the rank to the `choice`-th pool, ordered by shortfall, and raises its core to what it
     /// needs.
-    fn assign_one(&mut self, hits: &[CacheHit], rank: u64, choice: usize) -> Result<(), AttemptError> {
+    fn assign_one(
+        &mut self,
+        hits: &[CacheHit],
+        rank: u64,
+        choice: usize,
+    ) -> Result<(), AttemptError> {
         let Some(hit) = self.choice_of(hits, choice) else {
             return Err(AttemptError::Obstacle(Obstacle::Unknown));
         };
@@ -143,8 +153,7 @@ fn core_for(hit: &CacheHit) -> u64 {
 
 /// Returns the looks whose core is within the limit.
 fn within_limit(alloc: Global, hits: &[CacheHit]) -> Result<Vec<CacheHit>, AllocError> {
-    hits
-        .iter()
+    hits.iter()
         .filter(|hit| core_for(hit) <= MAX_SIZE)
         .copied()
         .collect(alloc)
@@ -172,7 +181,11 @@ pub(crate) fn assign_ranks(
             if choices.is_empty() {
                 return Err(AttemptError::Obstacle(assignment.obstacle_of(&hits)));
             }
-            let choice = if assignment.choices == 0 { passed_over } else { 0 };
+            let choice = if assignment.choices == 0 {
+                passed_over
+            } else {
+                0
+            };
             assignment.choices = assignment.choices.max(choices.len());
             assignment.assign_one(&choices, rank, choice)?;
         }

@@ -10,12 +10,12 @@ ghost use Rattle.size_search.specs.declared.found.SizesFound.TheVariants.{Found}
 
 use crate::attempt::{Attempt, attempt_from};
 use crate::cause_of;
-use crate::found::{AttemptError, NoSizes, Obstacle, SizesFound};
-use crate::stabilize::stabilize;
-use crate::pool_threads::{PoolThreads, declared_threads};
-use crate::vector_cache::VectorCache;
-use crate::least_sizes::least_sizes;
 use crate::fit_steady::fit_steady;
+use crate::found::{AttemptError, NoSizes, Obstacle, SizesFound};
+use crate::least_sizes::least_sizes;
+use crate::pool_threads::{PoolThreads, declared_threads};
+use crate::stabilize::stabilize;
+use crate::vector_cache::VectorCache;
 use cert_check::accepts;
 use cert_text::Cert;
 use job_bodies::{MAX_POOLS, Plan};
@@ -113,7 +113,10 @@ fn sizes_by_rounds(alloc: Global, plan: &Plan) -> Result<Result<(Plan, Cert), Ob
 }
 
 /// Returns a certificate that other sizes make acceptable. It has not been checked.
-pub(crate) fn unchecked_certificate(alloc: Global, plan: &Plan) -> Result<Result<Cert, Obstacle>, AllocError> {
+pub(crate) fn unchecked_certificate(
+    alloc: Global,
+    plan: &Plan,
+) -> Result<Result<Cert, Obstacle>, AllocError> {
     let Some(levels) = Levels::of(alloc, plan)? else {
         return Ok(Err(Obstacle::Unknown));
     };
@@ -204,7 +207,9 @@ fn cheaper_attempt(first: Attempt, second: Result<Attempt, Obstacle>) -> Attempt
 }
 
 /// Separates running out of memory from the obstacle of an attempt.
-fn outcome(attempt: Result<Attempt, AttemptError>) -> Result<Result<Attempt, Obstacle>, AllocError> {
+fn outcome(
+    attempt: Result<Attempt, AttemptError>,
+) -> Result<Result<Attempt, Obstacle>, AllocError> {
     match attempt {
         Ok(attempt) => Ok(Ok(attempt)),
         Err(AttemptError::Obstacle(obstacle)) => Ok(Err(obstacle)),

@@ -6,10 +6,10 @@ ghost use Rattle.job_bodies.specs.WellFormed.{IsWellFormed};
 ghost use Rattle.size_search.specs.Sized.{IsSized, IsFound};
 
 use crate::attempt::growth;
-use crate::found::{Obstacle, SizesFound};
-use crate::search::unchecked_certificate;
-use crate::least_sizes::least_sizes;
 use crate::fit_steady::fit_steady;
+use crate::found::{Obstacle, SizesFound};
+use crate::least_sizes::least_sizes;
+use crate::search::unchecked_certificate;
 use cert_check::accepts;
 use cert_text::Cert;
 use job_bodies::Plan;
@@ -82,7 +82,12 @@ fn recheck(alloc: Global, plan: &Plan, fit: &Plan) -> Result<Recheck, AllocError
 }
 
 /// Returns the least sizes for the steady certificate, or the current sizes if those are too large.
-fn or_fit_steady(alloc: Global, plan: &Plan, fit: Plan, cert: Cert) -> Result<SizesFound, AllocError>
+fn or_fit_steady(
+    alloc: Global,
+    plan: &Plan,
+    fit: Plan,
+    cert: Cert,
+) -> Result<SizesFound, AllocError>
     requires free { IsWithoutCause plan.now }
     requires well_formed { IsWellFormed plan.now }
     requires sized { IsSized plan.now cert fit }

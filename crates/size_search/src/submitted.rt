@@ -25,7 +25,10 @@ pub fn submitted_by_clients(alloc: Global, plan: &Plan) -> Result<Vec<bool>, All
 }
 
 /// Returns the classes that repeating clients submit, directly or through other jobs.
-pub(crate) fn submitted_by_repeating_clients(alloc: Global, plan: &Plan) -> Result<SubmittedClasses, AllocError>
+pub(crate) fn submitted_by_repeating_clients(
+    alloc: Global,
+    plan: &Plan,
+) -> Result<SubmittedClasses, AllocError>
     ensures { IfOk result
         (λ submitted_classes. (k : ℕ) → Has submitted_classes k ↔ IsSubmitted plan.now (repeated_bodies plan.now) k) }
 {

@@ -2,7 +2,7 @@
 
 use crate::found::{AttemptError, Obstacle};
 use job_bodies::{Action, Plan};
-use least_vectors::{ResizedPlan, Kind, Levels, VectorSummary};
+use least_vectors::{Kind, Levels, ResizedPlan, VectorSummary};
 use std::alloc::{AllocError, Global};
 use weights::submitted_class;
 
@@ -219,9 +219,7 @@ impl PoolCache {
 
     /// Returns the index of the answer to the question.
     fn index_of(&self, key: &CacheKey) -> Option<usize> {
-        self.entries
-            .iter()
-            .position(|entry| entry.matches_key(key))
+        self.entries.iter().position(|entry| entry.matches_key(key))
     }
 
     /// Returns the total of the answer at this index.

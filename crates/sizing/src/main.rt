@@ -2,7 +2,7 @@
 #![tactic(auto)]
 
 use clap::error::ErrorKind;
-use sizing_cli::{ServeFault, StdFiles, StdSink, StdSource, CliError, serve_words};
+use sizing_cli::{CliError, ServeFault, StdFiles, StdSink, StdSource, serve_words};
 use std::alloc::AllocError;
 use std::process::ExitCode;
 use std::{env, io};

@@ -103,7 +103,13 @@ fn ask_text<R: Threads + Wait + Sync>(
 {
     match plan_in(alloc, text)? {
         Ok(plan) => ask_plan(rt, alloc, options, file, text, &plan, cert),
-        Err(fault) => Ok(AskOutput::without(faults_answer(alloc, options.form, file, text, fault)?)),
+        Err(fault) => Ok(AskOutput::without(faults_answer(
+            alloc,
+            options.form,
+            file,
+            text,
+            fault,
+        )?)),
     }
 }
 

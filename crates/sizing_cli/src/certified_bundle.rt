@@ -7,8 +7,8 @@ ghost use Rattle.sizing_cli.specs.CertifiedSplit.{IsCertifiedSplit};
 ghost use Rattle.sizing_cli.specs.ServeFault.{is_of_search};
 
 use crate::ServeFault;
-use crate::noop_gate::NoopGate;
 use crate::bundle::{Bundle, bundle_of};
+use crate::noop_gate::NoopGate;
 use cert_check::{CheckFault, check_on};
 use std::alloc::{AllocError, Global};
 use std::sync::Wait;

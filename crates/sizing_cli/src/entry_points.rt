@@ -7,7 +7,6 @@ ghost use Rattle.sizing_cli.specs.ServeFault.{is_of_search, is_of_threads};
 ghost use Rattle.sizing_cli.specs.Ask.{IsAskAnswer};
 ghost use Rattle.sizing_cli.specs.CommandResult.{IsTaskAnswerWith, IsTaskAnswer, WritesWithCertificate, Serves, stream_change};
 
-use crate::sequential::serve_alone;
 use crate::ask_answer::{AskOutput, ask};
 use crate::certify::certify;
 use crate::fit::fit;
@@ -15,9 +14,10 @@ use crate::output::Output;
 use crate::recording_commands::serve_recording;
 use crate::refute::refute;
 use crate::run::run_report;
+use crate::sequential::serve_alone;
 use crate::status::{ServeFault, Status};
 use byte_streams::{Sink, Source, read_up_to, write_all};
-use command_line::{Command, AskInput, AskOptions, Task};
+use command_line::{AskInput, AskOptions, Command, Task};
 use job_bodies::MAX_INPUT_BYTES;
 use std::alloc::Global;
 use std::sync::Wait;
@@ -142,7 +142,10 @@ fn answer_on_threads<R: Threads + Wait + Sync>(
         Task::Certify { workers } => certify(rt, alloc, workers, input),
         Task::Fit { sizes_form } => fit(rt, alloc, sizes_form, &input),
         Task::Run { rounds } => Ok(Output::of(run_report(rt, alloc, rounds, &input)?)),
-        Task::Refute { states, refute_format } => refute(rt, alloc, states, refute_format, input),
+        Task::Refute {
+            states,
+            refute_format,
+        } => refute(rt, alloc, states, refute_format, input),
         Task::Ask { given, options } => {
             answer_question(rt, alloc, given, options, file, certificate, &input)
         }

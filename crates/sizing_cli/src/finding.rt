@@ -9,8 +9,8 @@ ghost use Rattle.sizing_cli.specs.Ask as spec;
 ghost use Rattle.sizing_cli.specs.ServeFault.{is_of_search};
 
 use crate::ServeFault;
-use crate::noop_gate::NoopGate;
 use crate::certificate::{SizesComparison, WORKERS, as_declared};
+use crate::noop_gate::NoopGate;
 use crate::witness::witness_of;
 use cert_check::accepts;
 use cert_search::search;

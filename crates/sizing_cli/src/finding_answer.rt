@@ -12,7 +12,7 @@ use crate::answer::Answer;
 use crate::ask_answer::AskOutput;
 use crate::output::Output;
 use cert_text::{Cert, write_cert};
-use command_line::{Form, AskOptions};
+use command_line::{AskOptions, Form};
 use diagnostics::{Lint, Warning, push_warnings, warnings_of};
 use job_bodies::{MAX_CERT_BYTES, Plan};
 use plan_text::TextPlace;

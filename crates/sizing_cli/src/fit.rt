@@ -9,9 +9,9 @@ ghost use Rattle.sizing_cli.specs.Fit as spec;
 ghost use Rattle.sizing_cli.specs.ServeFault.{is_of_search};
 
 use crate::answer::{Answer, input_too_long, plan_fault};
-use crate::noop_gate::NoopGate;
 use crate::certificate::WORKERS;
 use crate::certified_bundle::certified_bundle;
+use crate::noop_gate::NoopGate;
 use crate::output::Output;
 use crate::texts::plan_in;
 use crate::{ServeFault, Status};

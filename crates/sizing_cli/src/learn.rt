@@ -16,7 +16,7 @@ use crate::answer::{Answer, bad_recording, input_too_long};
 use crate::texts::plan_in;
 use conformance::{Conformance, Finding, conform, push_finding};
 use job_bodies::{MAX_PATH_STEPS, MAX_PLAN_BYTES, MAX_RECORDED_BYTES, Plan};
-use learning::{Extent, InferenceResult, START_BYTES, InferredPlan, InferenceLimit, learn};
+use learning::{Extent, InferenceLimit, InferenceResult, InferredPlan, START_BYTES, learn};
 use plan_text::write_plan;
 use std::alloc::{AllocError, Global};
 
@@ -71,7 +71,11 @@ fn learn_from_all(alloc: Global, recording: &[u8]) -> Result<Answer, AllocError>
 /// Writes the inferred plan. Comments at its head list what the recording shows beyond it. Returns
 /// `None` if a job or a round did not follow its body, or if there are more rounds of a kind than
 /// the plan allows.
-fn plan_answer(alloc: Global, recording: &[u8], seen: &InferredPlan) -> Result<Option<Answer>, AllocError>
+fn plan_answer(
+    alloc: Global,
+    recording: &[u8],
+    seen: &InferredPlan,
+) -> Result<Option<Answer>, AllocError>
     requires no_fault { IsFirstFault (lines_read recording.now) None }
     requires seen { spec.IsSeen (lines_of recording.now) seen.now }
     ensures { IfOk result (λ found. IfSome found (spec.AnswersLines recording.now)) }

@@ -4,36 +4,36 @@
 //! writes the answer.
 #![tactic(auto)]
 
-mod sequential;
 mod answer;
-mod ask_faults;
+mod arguments;
 mod ask_answer;
-mod noop_gate;
+mod ask_faults;
 mod bundle;
 mod certificate;
 mod certified_bundle;
 mod certify;
 mod check;
 mod conform;
+mod entry_points;
 mod explain;
 mod fault;
 mod finding;
-mod fit;
 mod finding_answer;
-mod learn;
+mod fit;
 mod input;
 mod input_laws;
 mod input_length;
 mod join;
 mod join_laws;
+mod learn;
+mod noop_gate;
 mod output;
 mod recording_commands;
 mod refute;
 mod replay;
 mod review_answer;
 mod run;
-mod entry_points;
-mod arguments;
+mod sequential;
 mod status;
 mod std_files;
 mod text_files;
@@ -41,13 +41,15 @@ mod texts;
 mod transcript;
 mod witness;
 
-pub use sequential::serve_alone;
+pub use arguments::serve_words;
 pub use ask_answer::{AskOutput, ask};
 pub use byte_streams::{IoFault, MemorySink, MemorySource, Sink, Source, StdSink, StdSource};
 pub use certify::whole_lines;
 pub use command_line::{
-    Command, Form, AskInput, AskOptions, RecordingCommand, ReviewCommand, RefuteFormat, SizesForm, Task, read_words,
+    AskInput, AskOptions, Command, Form, RecordingCommand, RefuteFormat, ReviewCommand, SizesForm,
+    Task, read_words,
 };
+pub use entry_points::{serve, serve_named};
 pub use fault::CliError;
 pub use fit::answer_of_sizes;
 pub use input_laws::{
@@ -58,8 +60,7 @@ pub use join::join_texts;
 pub use join_laws::joined_texts_split_again;
 pub use output::Output;
 pub use recording_commands::serve_recording;
-pub use entry_points::{serve, serve_named};
-pub use arguments::serve_words;
+pub use sequential::serve_alone;
 pub use status::{ServeFault, Status};
 pub use std_files::StdFiles;
 pub use text_files::TextFiles;

@@ -160,7 +160,11 @@ fn safe(alloc: Global, refute_format: RefuteFormat) -> Result<Answer, AllocError
 }
 
 /// Writes that neither a certificate nor a witness was found in this many states.
-fn not_decided(alloc: Global, refute_format: RefuteFormat, states: usize) -> Result<Answer, AllocError>
+fn not_decided(
+    alloc: Global,
+    refute_format: RefuteFormat,
+    states: usize,
+) -> Result<Answer, AllocError>
     ensures { IfOk result (λ answer. answer ≡ spec.not_decided refute_format states) }
 {
     let text_after_count = were_searched(states);

@@ -19,7 +19,11 @@ pub(crate) struct WitnessSearch {
 
 /// Searches at most `states` states for a witness against the plan. A witness that is found is
 /// confirmed by a replay.
-pub(crate) fn witness_of(alloc: Global, plan: &Plan, states: usize) -> Result<WitnessSearch, AllocError>
+pub(crate) fn witness_of(
+    alloc: Global,
+    plan: &Plan,
+    states: usize,
+) -> Result<WitnessSearch, AllocError>
     ensures witness { IfOk result (λ search. IfSome search.witness (IsWitnessOf plan.now)) }
     ensures states { IfOk result (λ search. search.states ≤ states) }
 {

@@ -14,13 +14,12 @@ mod weight_laws;
 
 pub use acceptance_laws::{
     accepted_plans_are_java_safe, accepted_plans_are_safe, accepted_plans_drain,
-    accepted_plans_make_progress, accepted_plans_java_drain, accepted_plans_make_java_progress,
-    accepted_plans_drain_with_skips, accepted_plans_make_progress_with_skips,
-    accepted_plans_may_skip, bounded_plans_java_refuse_nothing, bounded_plans_refuse_nothing,
-    standing_pools_are_not_asked,
+    accepted_plans_drain_with_skips, accepted_plans_java_drain, accepted_plans_make_java_progress,
+    accepted_plans_make_progress, accepted_plans_make_progress_with_skips, accepted_plans_may_skip,
+    bounded_plans_java_refuse_nothing, bounded_plans_refuse_nothing, standing_pools_are_not_asked,
 };
 pub use java_laws::{
-    java_may_refuse_with_room, java_may_start_with_room, atomic_states_are_reached,
+    atomic_states_are_reached, java_may_refuse_with_room, java_may_start_with_room,
 };
 pub use note::{Note, Section};
 pub use skipping_laws::done_within_queued;

@@ -8,7 +8,7 @@ ghost use Rattle.std.specs.Borrow.{sem};
 
 use crate::entry::{Entry, take_value, value_in};
 use crate::overflow::OverflowMap;
-use crate::places::{allocate, can_store, place_of, push_numbers, store, is_in_slot};
+use crate::places::{allocate, can_store, is_in_slot, place_of, push_numbers, store};
 use std::alloc::{AllocError, Global};
 use std::marker::Model;
 

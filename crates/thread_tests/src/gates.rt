@@ -188,7 +188,9 @@ impl<C: Clock + Sync> Gate for Rendezvous<'_, C> {
             Actor::Client(_) => HeldActors::Clients,
             Actor::Job(_) => HeldActors::Jobs,
         };
-        if held_actors != self.held_actors || self.begun.fetch_add(1, Ordering::SeqCst) >= self.enough {
+        if held_actors != self.held_actors
+            || self.begun.fetch_add(1, Ordering::SeqCst) >= self.enough
+        {
             return Ok(());
         }
         for _ in 0..10_000 {

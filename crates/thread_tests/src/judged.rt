@@ -3,7 +3,9 @@
 use crate::plans::certified;
 use held_machines::Receipt;
 use interleaving::Event;
-use locked_runner::{CompactReceipt, ThreadResults, RunFault, RunNumbers, RunReport, ThreadFault, check_run};
+use locked_runner::{
+    CompactReceipt, RunFault, RunNumbers, RunReport, ThreadFault, ThreadResults, check_run,
+};
 use std::alloc::{AllocError, Global};
 use std::process::Abort;
 use std::sync::Wait;

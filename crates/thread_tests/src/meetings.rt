@@ -2,7 +2,7 @@
 //! and neither does a run with fewer carriers than the pool has threads, or one that calls the gate
 //! under the lock.
 
-use crate::gates::{Rendezvous, HeldActors};
+use crate::gates::{HeldActors, Rendezvous};
 use crate::plans::{TWO_CLIENTS, WORKING_CLIENTS, totals};
 use std::test::Fail;
 
@@ -23,10 +23,22 @@ const CASES: &[Case] = &[
 fn all_work_at_once(rt: HostRuntime) -> Result<(), Fail> {
     for (plan, size, held_actors, enough, numbers) in CASES.iter().copied() {
         let plan = plan.replace(rt.alloc(), "= 2", size)?;
-        let run = totals(&rt, rt.alloc(), &plan, 1, &Rendezvous::new(&rt, held_actors, enough));
+        let run = totals(
+            &rt,
+            rt.alloc(),
+            &plan,
+            1,
+            &Rendezvous::new(&rt, held_actors, enough),
+        );
         assert_eq!(rt; run, Ok(numbers), "{plan}");
         let plan = plan.replace(rt.alloc(), "core =", "prestart = true, core =")?;
-        let run = totals(&rt, rt.alloc(), &plan, 1, &Rendezvous::new(&rt, held_actors, enough));
+        let run = totals(
+            &rt,
+            rt.alloc(),
+            &plan,
+            1,
+            &Rendezvous::new(&rt, held_actors, enough),
+        );
         assert_eq!(rt; run, Ok(numbers), "{plan}");
     }
     Ok(())

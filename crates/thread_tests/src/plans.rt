@@ -37,7 +37,11 @@ pub(crate) const WORKING_CLIENTS: &str = "
 
 // Returns a plan with clients that each submit one job once and wait for it, and a pool with the
 // given number of threads.
-pub(crate) fn many_clients(alloc: Global, clients: u64, threads: u64) -> Result<String, AllocError> {
+pub(crate) fn many_clients(
+    alloc: Global,
+    clients: u64,
+    threads: u64,
+) -> Result<String, AllocError> {
     format!(in alloc;
         "
         pool = [{{ name = 'p', core = 1, max = {threads}, queue = {clients} }}]

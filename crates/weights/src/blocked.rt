@@ -12,7 +12,7 @@ ghost use Rattle.weights.specs.Vector.{vector_fits, class_weights, job_weight};
 ghost use Rattle.weights.specs.Visits.{Visits};
 ghost use Rattle.weights.specs.Blocked.{is_get, counted_rows, blocked_rows};
 
-use crate::{GetReturn, Counted, FirstFault, Place, Row, RowVisitor, Rule, Vector};
+use crate::{Counted, FirstFault, GetReturn, Place, Row, RowVisitor, Rule, Vector};
 use job_bodies::{Action, Class, Plan};
 
 /// A row whose `left` is greater than its `right`.

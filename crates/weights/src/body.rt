@@ -67,7 +67,13 @@ fn returned_weight(get_return: GetReturn, plan: &Plan, vector: &Vector, class: u
 }
 
 /// Returns the row of the action at this position.
-fn action_row(get_return: GetReturn, plan: &Plan, vector: &Vector, body: &Body, position: usize) -> Row
+fn action_row(
+    get_return: GetReturn,
+    plan: &Plan,
+    vector: &Vector,
+    body: &Body,
+    position: usize,
+) -> Row
     requires fits { IsTrue (spec.vector_fits plan.now vector.now) }
     requires weighed { IsWeighed plan.now body.now.actions.now body.now.weights.now }
     requires position { position < length body.now.actions.now }

@@ -4,13 +4,13 @@
 //! [`Vector::standing_fault`] return the first condition that fails.
 #![tactic(auto)]
 
-mod get_return;
 mod blocked;
 mod body;
 mod bound;
 mod counted;
 mod counted_by_ranks;
 mod fits;
+mod get_return;
 mod lifetime;
 mod rank_rows;
 mod ranks;
@@ -21,13 +21,13 @@ mod total;
 mod vector;
 mod visitor;
 
-pub use get_return::GetReturn;
 pub use blocked::{BlockedFault, blocked_fault, visit_blocked_rows};
 pub use body::submitted_class;
 pub use bound::Bound;
 pub use counted::Counted;
 pub use counted_by_ranks::RanksOf;
 pub use fits::are_small;
+pub use get_return::GetReturn;
 pub use rank_rows::RankFault;
 pub use ranks::Ranks;
 pub use row::{Place, Row, RowFault, Rule, StandingFault};

@@ -12,7 +12,7 @@ ghost use Rattle.weights.specs.Lifetime as lifetime;
 ghost use Rattle.weights.specs.Vector as spec;
 ghost use Rattle.weights.specs.Visits.{Visits};
 
-use crate::{GetReturn, FirstFault, Place, Row, RowVisitor, Rule, StandingFault, Vector};
+use crate::{FirstFault, GetReturn, Place, Row, RowVisitor, Rule, StandingFault, Vector};
 use job_bodies::{Class, Plan, Pool};
 
 /// Returns the number of jobs that a pool accepts before it can reject one: the capacity of its

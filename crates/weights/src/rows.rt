@@ -124,7 +124,12 @@ fn visit_client_rows<V: RowVisitor>(
 }
 
 /// Visits the rows of all classes.
-fn visit_classes<V: RowVisitor>(get_return: GetReturn, plan: &Plan, vector: &Vector, visitor: &mut V)
+fn visit_classes<V: RowVisitor>(
+    get_return: GetReturn,
+    plan: &Plan,
+    vector: &Vector,
+    visitor: &mut V,
+)
     requires { IsTrue (spec.vector_fits plan.now vector.now) }
     ensures { let all = flat_map (λ entry. class_rows get_return plan.now vector.now entry.0 entry.1) (enumerate_from 0 plan.now.classes) in
         Visits V.HasSeen visitor.old visitor.new all }
@@ -135,7 +140,12 @@ fn visit_classes<V: RowVisitor>(get_return: GetReturn, plan: &Plan, vector: &Vec
 }
 
 /// Visits the rows of all kinds of client.
-fn visit_clients<V: RowVisitor>(get_return: GetReturn, plan: &Plan, vector: &Vector, visitor: &mut V)
+fn visit_clients<V: RowVisitor>(
+    get_return: GetReturn,
+    plan: &Plan,
+    vector: &Vector,
+    visitor: &mut V,
+)
     requires { IsTrue (spec.vector_fits plan.now vector.now) }
     ensures { let all = flat_map (λ entry. client_rows get_return plan.now vector.now entry.0 entry.1) (enumerate_from 0 plan.now.clients) in
         Visits V.HasSeen visitor.old visitor.new all }

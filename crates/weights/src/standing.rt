@@ -12,7 +12,7 @@ ghost use Rattle.weights.specs.Standing.{standing_rows};
 ghost use Rattle.weights.specs.Vector as spec;
 ghost use Rattle.weights.specs.Visits.{Visits};
 
-use crate::{GetReturn, FirstFault, Place, Row, RowFault, RowVisitor, Rule, StandingFault, Vector};
+use crate::{FirstFault, GetReturn, Place, Row, RowFault, RowVisitor, Rule, StandingFault, Vector};
 use job_bodies::{Class, Plan};
 
 /// Visits S1 of a class if the class belongs to the pool.

@@ -4,7 +4,7 @@ ghost use Rattle.command_line.specs.Command.{IsInRange};
 
 use crate::on_threads::ended::Ended;
 use crate::on_threads::fit::served;
-use sizing_cli::{Command, Form, AskInput, AskOptions, Task};
+use sizing_cli::{AskInput, AskOptions, Command, Form, Task};
 use std::alloc::{AllocError, Global};
 use std::sync::Wait;
 use std::thread::Threads;

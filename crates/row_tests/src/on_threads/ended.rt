@@ -3,7 +3,8 @@
 ghost use Rattle.command_line.specs.Command.{IsInRange};
 
 use sizing_cli::{
-    Command, MemorySink, MemorySource, ReviewCommand, ServeFault, Source, Status, serve, serve_alone,
+    Command, MemorySink, MemorySource, ReviewCommand, ServeFault, Source, Status, serve,
+    serve_alone,
 };
 use std::alloc::{AllocError, Global};
 use std::sync::Wait;

@@ -2,7 +2,7 @@
 
 use crate::on_threads::ended::Ended;
 use crate::on_threads::fit::served;
-use sizing_cli::{Command, ReviewCommand, RefuteFormat, Status, Task};
+use sizing_cli::{Command, RefuteFormat, ReviewCommand, Status, Task};
 use std::alloc::{AllocError, Global};
 use std::sync::Wait;
 use std::thread::Threads;
@@ -68,5 +68,11 @@ pub fn refuted_and_replayed<R: Threads + Wait + Sync>(
     if ended.outcome != Ok(Status::Done) {
         return ended.to_text(alloc);
     }
-    Ended::of_input(rt, alloc, Command::Sequential(ReviewCommand::Replay), &ended.written)?.to_text(alloc)
+    Ended::of_input(
+        rt,
+        alloc,
+        Command::Sequential(ReviewCommand::Replay),
+        &ended.written,
+    )?
+    .to_text(alloc)
 }

@@ -1,7 +1,8 @@
 //! Serving inputs from and to memory.
 
 use sizing_cli::{
-    MemorySink, RecordingCommand, ReviewCommand, ServeFault, Sink, Source, Status, serve_alone, serve_recording,
+    MemorySink, RecordingCommand, ReviewCommand, ServeFault, Sink, Source, Status, serve_alone,
+    serve_recording,
 };
 use std::alloc::{AllocError, Global};
 
