@@ -7,12 +7,12 @@ READER = bench/plan_reader/out/plan_reader
 PROGRAM_SOURCES := $(shell python3 tools/crates.py sizing)
 READER_SOURCES := $(shell python3 tools/crates.py plan_reader)
 
-.PHONY: help demo program install test gate gate-all rows mutants names examples checks java bench plan_reader clean
+.PHONY: help demo program install dist release-notes test gate gate-all rows mutants names examples checks java bench plan_reader clean
 
 # Lists the commands, each with what it does.
 help:
-	@awk '/^#/ { said = said (said == "" ? "" : "\n                ") substr($$0, 3) } \
-	      /^[a-z_-]+:/ && said != "" { sub(/:.*/, ""); printf "make %-10s %s\n", $$0, said } \
+	@awk '/^#/ { said = said (said == "" ? "" : "\n                   ") substr($$0, 3) } \
+	      /^[a-z_-]+:/ && said != "" { sub(/:.*/, ""); printf "make %-13s %s\n", $$0, said } \
 	      !/^#/ { said = "" }' Makefile
 
 # Asks about the two plans that README.md shows, before any proof: about two minutes on a fresh machine.
@@ -25,12 +25,25 @@ program: $(PROGRAM)
 $(PROGRAM): $(PROGRAM_SOURCES)
 	@tools/build sizing
 
-# Proves and builds the program, and puts it and its manual page where a shell finds them.
+ifdef DIST
+install:
+	@room=$$(mktemp -d) && trap 'rm -rf "$$room"' EXIT && tar -xzf "$(DIST)" -C "$$room" && DESTDIR="$(DESTDIR)" "$$room"/*/install.sh $(PREFIX)
+else
+# Installs the program and its manual page below PREFIX, after it has proved and built them. DIST=FILE installs a release.
 install: program
 	install -D -m 755 $(PROGRAM) $(DESTDIR)$(PREFIX)/bin/sizing
 	@tools/man $(PROGRAM) $(dir $(PROGRAM))sizing.1
 	install -D -m 644 $(dir $(PROGRAM))sizing.1 $(DESTDIR)$(PREFIX)/share/man/man1/sizing.1
 	@echo "sizing is in $(DESTDIR)$(PREFIX)/bin"
+endif
+
+# Packs what `make gate` built into dist/sizing-VERSION-linux-x86_64.tar.gz: seconds, and the same bytes each time.
+dist:
+	@tools/dist
+
+# Prints what CHANGELOG.md says about the version in the file VERSION.
+release-notes:
+	@tools/version --notes
 
 # Runs every test, every worked row and each program's stored run before any proof: minutes. It proves nothing.
 test:
@@ -101,4 +114,4 @@ $(READER): $(READER_SOURCES)
 
 # Removes what was built and kept in the working tree; the proofs that rt keeps on this machine stay.
 clean:
-	rm -rf out crates/*/out bench/*/out
+	rm -rf dist out crates/*/out bench/*/out
