@@ -1,0 +1,278 @@
+#!/usr/bin/env python3
+"""Packs releases of a copy of this repository, with a stub in the place of the program, and checks what they have.
+
+Needs gcc with binutils, git, and no proof. README.md says what each case is.
+
+Exit status: 0 if all cases are as they should be, 1 if one is not, 2 if gcc or readelf is missing.
+"""
+
+import hashlib
+import os
+import re
+import shutil
+import sys
+import tempfile
+from pathlib import Path
+
+sys.dont_write_bytecode = True
+from releases import (ROOT, KIT, apply_dockerfile, build_stub, commit, copy_of_repository, copied_by_dockerfile, files_below, must,
+                      put_program, run, unpack)
+
+VERSION = (ROOT / "VERSION").read_text().strip()
+NAME = f"sizing-{VERSION}-linux-x86_64"
+ARCHIVE = f"dist/{NAME}.tar.gz"
+# The files of a release, without examples, completions and jars.
+FILES = f"""
+    Dockerfile PROVED SHA256SUMS VERSION install.sh
+    bin/sizing
+    share/man/man1/sizing.1
+    share/doc/sizing/README.md share/doc/sizing/CHANGELOG.md share/doc/sizing/java/README.md
+    share/doc/sizing/docs/COVERAGE.md share/doc/sizing/docs/GUIDE.md share/doc/sizing/docs/MODEL.md
+    share/doc/sizing/docs/PATTERNS.md share/doc/sizing/docs/PERMITS.md share/doc/sizing/docs/PROOFS.md
+    share/doc/sizing/docs/RECORDING.md
+""".split()
+NOT_PACKED = {"check.py", "demo", "pages.py"}
+COMPLETIONS = ["share/bash-completion/completions/sizing", "share/zsh/site-functions/_sizing", "share/fish/vendor_completions.d/sizing.fish"]
+# What a release adds to its own folder, and an installation does not need.
+NOT_INSTALLED = {"Dockerfile", "SHA256SUMS", "install.sh"}
+PARENT = """<project xmlns="http://maven.apache.org/POM/4.0.0"><groupId>sizing</groupId><artifactId>sizing-parent</artifactId>
+<version>{version}</version></project>"""
+MODULE = """<project xmlns="http://maven.apache.org/POM/4.0.0"><parent><groupId>sizing</groupId><artifactId>sizing-parent</artifactId>
+<version>{version}</version></parent><artifactId>sizing-recorder</artifactId></project>"""
+
+
+class Cases:
+    """Counts cases, and prints each with what is wrong with it."""
+
+    def __init__(self):
+        self.ok = self.wrong = 0
+
+    def equal(self, name, found, wanted):
+        differs = f"is {found!r}, not {wanted!r}"
+        if isinstance(found, set):
+            differs = f"has {sorted(found - wanted)} too, and lacks {sorted(wanted - found)}"
+        self.true(name, found == wanted, differs)
+
+    def true(self, name, is_right, differs="no"):
+        self.ok, self.wrong = self.ok + bool(is_right), self.wrong + (not is_right)
+        print(f"{name}: {'ok' if is_right else differs}", flush=True)
+
+
+def main():
+    if lacking := [tool for tool in ("gcc", "readelf", "strip", "git") if not shutil.which(tool)]:
+        print(f"there is no {lacking[0]}", file=sys.stderr)
+        return 2
+    cases = Cases()
+    with tempfile.TemporaryDirectory(prefix="sizing-dist-check-") as folder:
+        room = Path(folder)
+        repository = room / "repository"
+        copy_of_repository(repository, with_one_module)
+        stub = build_stub(room / "stub")
+        put_program(repository, stub)
+        release = same_bytes(cases, room, repository)
+        contents(cases, repository, release)
+        installations(cases, room, repository, release)
+        refusals(cases, room, repository, stub)
+    with tempfile.TemporaryDirectory(prefix="sizing-version-check-") as folder:
+        versions(cases, Path(folder))
+    print(f"{cases.ok} ok, {cases.wrong} wrong")
+    return 1 if cases.wrong else 0
+
+
+# ---- jars
+
+
+def with_one_module(repository):
+    """Adds poms if the copy has none, and a jar of each module, whose bytes no check reads."""
+    java = repository / "java"
+    if not (java / "pom.xml").is_file():
+        (java / "sizing-recorder").mkdir()
+        (java / "pom.xml").write_text(PARENT.format(version=VERSION))
+        (java / "sizing-recorder" / "pom.xml").write_text(MODULE.format(version=VERSION))
+    for module in java.glob("*/pom.xml"):
+        (module.parent / "target").mkdir()
+        (module.parent / "target" / f"{artifact_of(module)}-{java_version(java)}.jar").write_text("a jar\n")
+
+
+def artifact_of(pom):
+    """Returns the artifact of a module, which is the first that its pom names outside its parent."""
+    return re.search(r"<artifactId>(.*?)</artifactId>", re.sub(r"(?s)<parent>.*?</parent>", "", pom.read_text()))[1]
+
+
+def java_version(java):
+    return re.search(r"<version>(.*?)</version>", (java / "pom.xml").read_text())[1]
+
+
+def jars(repository):
+    """Returns where a release has the jars and poms of a repository."""
+    java = repository / "java"
+    version = java_version(java)
+    modules = [artifact_of(pom) for pom in java.glob("*/pom.xml")]
+    found = {f"sizing-parent/{version}/sizing-parent-{version}.pom"}
+    found |= {f"{module}/{version}/{module}-{version}.{ending}" for module in modules for ending in ("jar", "pom")}
+    return {f"share/sizing/maven/sizing/{path}" for path in found}
+
+
+# ---- contents
+
+
+def same_bytes(cases, room, repository):
+    """Packs two releases under different circumstances, compares them, and returns the folder of the unpacked one."""
+    must(["make", "dist"], repository)
+    first = (repository / ARCHIVE).read_bytes()
+    for path in repository.rglob("*.toml"):
+        os.utime(path, (1, 1))
+    shutil.rmtree(repository / "dist")
+    printed = must(["sh", "-c", "umask 077; make dist"], repository, env={**os.environ, "TZ": "Asia/Tokyo", "LC_ALL": "C"})
+    second = (repository / ARCHIVE).read_bytes()
+    cases.true("two runs give the same bytes", first == second)
+    checksum = hashlib.sha256(second).hexdigest()
+    cases.equal("the checksum beside it", (repository / f"{ARCHIVE}.sha256").read_text(), f"{checksum}  {NAME}.tar.gz\n")
+    cases.true("make dist prints the checksum", checksum in printed, printed)
+    return unpack(repository / ARCHIVE, room / "unpacked")
+
+
+def contents(cases, repository, release):
+    """Checks that a release has each file that it should have, and what its own files say."""
+    examples = {f"share/sizing/examples/{path}" for path in files_below(repository / "examples") if path not in NOT_PACKED}
+    pictures = {f"share/doc/sizing/docs/pictures/{path}" for path in files_below(repository / "docs/pictures")}
+    completions = set(COMPLETIONS) if (repository / "tools/completions").is_file() else set()
+    schema = {"share/sizing/plan.schema.json"} if (repository / "share/plan.schema.json").is_file() else set()
+    files = files_below(release)
+    cases.equal("the files of a release", files, {*FILES, *examples, *pictures, *completions, *schema, *jars(repository)})
+    executable = {path for path in files if os.access(release / path, os.X_OK) and (release / path).stat().st_mode & 0o100}
+    cases.equal("the files that can be run", executable, {"bin/sizing", "install.sh"})
+    sums = dict(reversed(line.split("  ")) for line in (release / "SHA256SUMS").read_text().splitlines())
+    cases.equal("SHA256SUMS", sums, {path: hashlib.sha256((release / path).read_bytes()).hexdigest() for path in files - {"SHA256SUMS"}})
+    head = must(["git", "rev-parse", "HEAD"], repository).strip()
+    facts = f"version: {VERSION}\ncommit: {head}\nkit: {KIT}\nsystem: Linux\nglibc: 2.34 or later\nCPU: x86-64-v2\n"
+    cases.equal("VERSION", (release / "VERSION").read_text(), facts)
+    proved = dict(line.split(": ", 1) for line in (release / "PROVED").read_text().splitlines())
+    cases.equal("the facts of PROVED", list(proved), ["commit", "command", "result", "crates", "functions", "kit", "definitions", "sources", "program"])
+    cases.equal("the gate's last line in PROVED", (proved["commit"], proved["result"]), (head, "3 passed, 0 failed"))
+    # as PROVED can be computed by hand
+    below = must(["sh", "-c", "python3 -B tools/crates.py sizing | tr ' ' '\\n' | grep /specs/ | LC_ALL=C sort | xargs sha256sum | sha256sum"], repository)
+    cases.equal("the definitions' checksum", proved["definitions"], below.split()[0])
+    cases.true("the manual page", ".TH SIZING 1" in (release / "share/man/man1/sizing.1").read_text())
+
+
+# ---- installing
+
+
+def installed(release):
+    """Returns the files that an installation of a release has."""
+    moved = {"VERSION": "share/doc/sizing/VERSION", "PROVED": "share/doc/sizing/PROVED"}
+    return {moved.get(path, path) for path in files_below(release) - NOT_INSTALLED}
+
+
+def installations(cases, room, repository, release):
+    """Installs a release in each way, and checks that each gives the same files."""
+    wanted = installed(release)
+    must([release / "install.sh", room / "prefix"], room)
+    cases.equal("install.sh PREFIX", files_below(room / "prefix"), wanted)
+    cases.true("the installed program runs", run([room / "prefix/bin/sizing", "ask"], room) == (0, "SAFE\n"))
+    must([release / "install.sh", "relative"], room, env={**os.environ, "DESTDIR": ""})
+    cases.equal("install.sh, a relative PREFIX", files_below(room / "relative"), wanted)
+    must([release / "install.sh"], room, env={**os.environ, "DESTDIR": str(room / "image")})
+    cases.equal("install.sh with DESTDIR", files_below(room / "image/usr/local"), wanted)
+    must(["make", "install", f"DIST={ARCHIVE}", f"PREFIX={room / 'made'}"], repository)
+    cases.equal("make install DIST=FILE", files_below(room / "made"), wanted)
+    apply_dockerfile(release, room / "docker")
+    cases.equal("what the Dockerfile copies", files_below(room / "docker/usr/local"), wanted)
+    text = (release / "Dockerfile").read_text()
+    cases.true("the Dockerfile names files of the release alone", all((release / it).exists() for names, _ in copied_by_dockerfile(release) for it in names))
+    cases.true("the Dockerfile runs the program", text.rstrip().endswith('ENTRYPOINT ["sizing"]'), text)
+    damaged(cases, room, release)
+
+
+def damaged(cases, room, release):
+    """Checks that install.sh installs nothing of a damaged release, and nothing that does not run here."""
+    broken = room / "broken"
+    shutil.copytree(release, broken)
+    (broken / "share/sizing/examples/shop.toml").write_text("")
+    status, printed = run([broken / "install.sh", room / "none"], room)
+    cases.true("install.sh of a damaged release", status == 1 and "damaged" in printed and not (room / "none").exists(), printed)
+    program = broken / "bin/sizing"
+    program.write_text("#!/bin/sh\nexit 1\n")
+    (broken / "SHA256SUMS").write_text(f"{hashlib.sha256(program.read_bytes()).hexdigest()}  bin/sizing\n")
+    status, printed = run([broken / "install.sh", room / "none"], room)
+    cases.true("install.sh where the program does not run", status == 1 and "does not run here" in printed and not (room / "none").exists(), printed)
+    status, printed = run([broken / "install.sh", "--help"], room)
+    cases.true("install.sh --help", status == 2 and printed == "usage: ./install.sh [PREFIX]\n", printed)
+
+
+# ---- what is refused
+
+
+def refusals(cases, room, repository, stub):
+    """Checks that no release is packed of a program, a record or a tree that does not permit one."""
+    def refused(name, wanted):
+        shutil.rmtree(repository / "dist", ignore_errors=True)
+        status, printed = run(["tools/dist"], repository)
+        cases.true(name, status == 1 and wanted in printed.splitlines() and not (repository / "dist").exists(), f"status {status}, {printed}")
+
+    put_program(repository, with_library(room, "libc.so.6", "GLIBC_2.99"))
+    refused("a program that needs a newer glibc", "dist: the program needs glibc 2.99, and a release at most 2.34")
+    put_program(repository, with_library(room, "libc.so.6", "GLIBC_ABI_DT_RELR"))
+    refused("a program that needs a later addition to glibc", "dist: the program needs glibc ABI_DT_RELR, and a release at most 2.34")
+    put_program(repository, with_library(room, "libother.so.1", "OTHER_1.0"))
+    others = "ld-linux-x86-64.so.2 libc.so.6 libm.so.6"
+    refused("a program that needs another library", f"dist: the program needs the library libother.so.1, and a release only {others}")
+    put_program(repository, build_stub(room / "with_path", "-Wl,-rpath,/opt/lib"))
+    refused("a program that looks for libraries elsewhere", "dist: the program looks for libraries in /opt/lib, which a release does not have")
+    put_program(repository, build_stub(room / "newer_cpu", "-Wl,-z,x86-64-v3"))
+    refused("a program for newer processors", "dist: the program needs a processor with x86-64-v3, and a release only x86-64-v2")
+    put_program(repository, __file__)
+    refused("a text in the place of the program", "dist: the program is no program for x86-64")
+    put_program(repository, stub, "make program")
+    refused("a program without a gate", "dist: the program was built by `make program`: run `make gate`")
+    put_program(repository, stub)
+    shutil.copy(room / "with_path", repository / "crates/sizing/out/sizing")
+    refused("a program that is not that of the record", "dist: the program is not that of its record: run `make gate`")
+    put_program(repository, stub)
+    with open(repository / "crates/sizing/src/main.rt", "a", encoding="utf-8") as file:
+        file.write("// changed\n")
+    refused("sources that have changed", "dist: the sources have changed since the program was built: run `make gate`")
+    refused("uncommitted changes", "dist: uncommitted changes, crates/sizing/src/main.rt among them: commit them")
+    shutil.rmtree(repository / "crates/sizing/out")
+    refused("no program", "dist: no program was built with a record: run `make gate`")
+
+
+def with_library(room, library, version):
+    """Returns a program that needs a symbol of this version of a library of this name."""
+    (room / "versions").write_text(f"{version} {{ global: addition; }};\n")
+    (room / "addition.c").write_text("int addition(void) { return 0; }\n")
+    must(["gcc", "-shared", "-fPIC", f"-Wl,-soname,{library}", "-Wl,--version-script=versions", "-o", "libaddition.so", "addition.c"], room)
+    source = "int addition(void);\nvoid _start(void) { addition(); }\n"
+    return build_stub(room / f"needs_{version}", "-nostdlib", "-L.", "-laddition", source=source)
+
+
+# ---- versions
+
+
+def versions(cases, room):
+    """Checks that one number is the version everywhere, and when a commit is known to change it."""
+    cases.equal("tools/version", must(["tools/version"], ROOT), f"{VERSION}\n")
+    headings = re.findall(r"(?m)^## (.*)$", (ROOT / "CHANGELOG.md").read_text(encoding="utf-8"))
+    cases.true("CHANGELOG.md has a heading for the version", VERSION in headings[:2], f"{headings[:2]}")
+    notes = must(["make", "-s", "release-notes"], ROOT)
+    section = (ROOT / "CHANGELOG.md").read_text(encoding="utf-8").partition(f"## {VERSION}\n")[2].partition("\n## ")[0]
+    cases.equal("make release-notes", notes.strip(), section.strip())
+    if (ROOT / "java/pom.xml").is_file():
+        cases.equal("the version in java/pom.xml", java_version(ROOT / "java"), VERSION)
+    (room / "tools").mkdir()
+    for path in ("tools/version", "tools/crates.py"):
+        shutil.copy(ROOT / path, room / path)
+    must(["git", "init", "-q", "."], room)
+    history = [("0.1.0", 0, "a first commit", 0), ("0.1.0", 5, "the same version", 1), ("0.2.0", 10, "another version", 0),
+               ("0.2.0", 12, "a commit two hours later", 0), ("0.2.0", 20, "a commit ten hours later", 1)]
+    for number, (version, hour, name, status) in enumerate(history):
+        (room / "VERSION").write_text(f"{version}\n")
+        (room / "count").write_text(f"{number}\n")
+        must(["git", "add", "-A"], room)
+        commit(room, f"2026-01-01T{hour:02}:00:00Z")
+        cases.equal(f"tools/version --changed: {name}", run(["tools/version", "--changed"], room), (status, ""))
+
+
+if __name__ == "__main__":
+    sys.exit(main())
