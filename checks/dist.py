@@ -147,12 +147,13 @@ def contents(cases, repository, release):
     head = must(["git", "rev-parse", "HEAD"], repository).strip()
     facts = f"version: {VERSION}\ncommit: {head}\nkit: {KIT}\nsystem: Linux\nglibc: 2.34 or later\nCPU: x86-64-v2\n"
     cases.equal("VERSION", (release / "VERSION").read_text(), facts)
-    proved = dict(line.split(": ", 1) for line in (release / "PROVED").read_text().splitlines())
+    text = (release / "PROVED").read_text()
+    proved = dict(line.split(": ", 1) for line in text.splitlines() if not line.startswith("#"))
     cases.equal("the facts of PROVED", list(proved), ["commit", "command", "result", "crates", "functions", "kit", "definitions", "sources", "program"])
     cases.equal("the gate's last line in PROVED", (proved["commit"], proved["result"]), (head, "3 passed, 0 failed"))
-    # as PROVED can be computed by hand
-    below = must(["sh", "-c", "python3 -B tools/crates.py sizing | tr ' ' '\\n' | grep /specs/ | LC_ALL=C sort | xargs sha256sum | sha256sum"], repository)
-    cases.equal("the definitions' checksum", proved["definitions"], below.split()[0])
+    for name, command in re.findall(r"(?m)^# (\w+): +LIST (.*)$", text):
+        printed = must(["sh", "-c", f"python3 -B tools/crates.py sizing {command}"], repository)
+        cases.equal(f"the checksum `{name}` of PROVED by its command", proved[name], printed.split()[0])
     cases.true("the manual page", ".TH SIZING 1" in (release / "share/man/man1/sizing.1").read_text())
 
 

@@ -46,7 +46,7 @@ def read_record(crate):
 
 
 def faults_of(crate, facts, command):
-    """Yields why this record does not show that the command has proved the crate's program from the sources of now."""
+    """Yields why this record does not show that the command has proved the crate's program from the current sources."""
     program = f"{folder_of(crate)}/out/{crate}"
     if not facts or not os.path.isfile(program):
         yield f"no program was built with a record: run `{command}`"
