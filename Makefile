@@ -74,7 +74,8 @@ examples: program
 	python3 examples/check.py
 
 # What no contract says of the built program: a refused growth of memory, the ends of its streams, that runs end, and how
-# cheap the sizes are that it finds; and what Java's own executors do beside it, where a JDK is there.
+# cheap the sizes are that it finds; that a release is complete and runs in a fresh Debian, if root asks; and what Java's
+# own executors do beside it, where a JDK is there.
 checks: program
 	python3 checks/refused_growths.py
 	python3 checks/ends_of_streams.py
@@ -84,6 +85,8 @@ checks: program
 	python3 checks/witnesses.py
 	python3 checks/mistakes.py
 	python3 checks/forms.py
+	python3 checks/dist.py
+	python3 checks/fresh_system.py
 	python3 checks/java/check.py
 
 # Compiles the recorder and the check of executors, and runs their tests: seconds, and a JDK (17 or later) is all it needs.
