@@ -110,7 +110,7 @@ def jars(repository):
     modules = [artifact_of(pom) for pom in java.glob("*/pom.xml")]
     found = {f"sizing-parent/{version}/sizing-parent-{version}.pom"}
     found |= {f"{module}/{version}/{module}-{version}.{ending}" for module in modules for ending in ("jar", "pom")}
-    return {f"share/sizing/maven/sizing/{path}" for path in found}
+    return {f"share/sizing/maven/sizing/{path}{ending}" for path in found for ending in ("", ".sha1")}
 
 
 # ---- contents
