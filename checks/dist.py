@@ -128,8 +128,10 @@ def same_bytes(cases, room, repository):
     cases.true("two runs give the same bytes", first == second)
     checksum = hashlib.sha256(second).hexdigest()
     cases.equal("the checksum beside it", (repository / f"{ARCHIVE}.sha256").read_text(), f"{checksum}  {NAME}.tar.gz\n")
-    cases.true("make dist prints the checksum", checksum in printed, printed)
-    return unpack(repository / ARCHIVE, room / "unpacked")
+    release = unpack(repository / ARCHIVE, room / "unpacked")
+    program = hashlib.sha256((release / "bin/sizing").read_bytes()).hexdigest()
+    cases.true("make dist prints the checksums of the release and the program", checksum in printed and program in printed, printed)
+    return release
 
 
 def contents(cases, repository, release):

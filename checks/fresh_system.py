@@ -97,6 +97,10 @@ def unpacked(system, at):
     ((_, wanted),) = quoted("docs/GUIDE.md", "sizing ask two-clients.toml")
     status, printed = system.run(ASKED, here)
     system.case(ASKED, printed.replace(f"{EXAMPLES}/", "") == wanted and status == 1, printed)
+    status, printed = system.run("bin/sizing --version", here)
+    if status == 0:
+        version = system.run("sed -n 's/^version: //p' VERSION", here)[1].strip()
+        system.case("bin/sizing --version", version in printed, printed)
     for command, wanted in quoted("README.md"):
         _, printed = system.run(command, f"{here}/{EXAMPLES}", f"{here}/bin:/usr/bin:/bin")
         system.case(f"README: {command}", printed == wanted, printed)
