@@ -23,7 +23,7 @@ use Rattle.written_machine.proofs.Stages.{get_or-staged_same, get_or-staged_othe
 use Rattle.written_machine.proofs.Children.{same_actor_true, same_actor_refl}
 use Rattle.interleaving.specs.LiveView.{may_get, is_number, phase_seen, job_with, job_seen, View, live_view}
 use Rattle.interleaving.specs.ViewStep.{live_job, live_child, is_done, may_get_in, pool_in, with_pool_in, drop_if_orphan, finished_if_gettable, finished_job_in}
-use Rattle.interleaving.proofs.View.{seen, phase_with, job_seen-with, length-view, view_at, jobs_are, pool_at_view, same_views, may_ask_seen, pools-put}
+use Rattle.interleaving.proofs.View.{seen, phase_with, job_seen-with, length-view, view_at, jobs_are, pool_at_view, same_views, may_get_seen, pools-put}
 use Rattle.interleaving.proofs.Changes.{as_seen, seen_same, seen_at, may_get-staged_other, job_standing}
 use Rattle.interleaving.proofs.Children.{made_by_itself, child_seen}
 use Rattle.interleaving.proofs.OlderAreClaimed.{AllOlderAreClaimed, latest_unclaimed}
@@ -110,7 +110,7 @@ seen-finished plan s j i settled after inside stands =
     let seen_now = may_get_in jobs a && is_number (live_child jobs a t) j in
     let stays : now ≡ (may_get s a && is_number (child s a t) j) = ap₂ (λ b o. b && is_number o j) (may_get-staged_other s j Done a not_itself) (child-stage s.jobs a t j Done) in
     let told = and_same (may_get s a) (is_number (child s a t) j) (is_number (live_child jobs a t) j) (λ asks. latest_seen plan s j settled inside (At≢Claimed stands) asks (child s a t) refl) in
-    let same : now ≡ seen_now = stays ∙ told ∙ sym (ap (λ b. b && is_number (live_child jobs a t) j) (may_ask_seen plan s a)) in
+    let same : now ≡ seen_now = stays ∙ told ∙ sym (ap (λ b. b && is_number (live_child jobs a t) j) (may_get_seen plan s a)) in
     ap (job_seen s' j) (get_or-staged_same s.jobs j Done inside) ∙ finished_if job Done now ∙ ap (λ b. if b then Some (as_seen job phase.Done) else None) same ∙ sym (finished_stays j job seen_now not_own)
 
 -- ---- the event

@@ -27,9 +27,9 @@ unfinished_if : (v : JobView) (stale : Bool) → is_unfinished_job (if stale the
 unfinished_if v true e = absurd cc
 unfinished_if v false e = e
 
-unfinished_unless_stale : (a : Parent) (t : ℕ) (x : Option JobView) → is_unfinished_job (drop_if_stale a t x) ≡ true → is_unfinished_job x ≡ true
-unfinished_unless_stale a t None e = e
-unfinished_unless_stale a t (Some v) e = unfinished_if v (is_live_child a t (Some v) && is_done v.phase) e
+unfinished_drop_if_stale : (a : Parent) (t : ℕ) (x : Option JobView) → is_unfinished_job (drop_if_stale a t x) ≡ true → is_unfinished_job x ≡ true
+unfinished_drop_if_stale a t None e = e
+unfinished_drop_if_stale a t (Some v) e = unfinished_if v (is_live_child a t (Some v) && is_done v.phase) e
 
 module _ (jobs : List (Option JobView)) (job : JobView) where
   -- the job at each number
@@ -71,7 +71,7 @@ module _ (jobs : List (Option JobView)) (job : JobView) where
   has_get : (a : Parent) → may_get_in (with_new jobs job) a ≡ true → a ≢ parent.Job (length jobs) → may_get_in jobs a ≡ true
   has_get (parent.Client c) e other = refl
   has_get (parent.Job j) e other = ⊎_elim
-      (λ (inside : j < length jobs). unfinished_unless_stale job.parent job.slot (live_job jobs j) (sym (ap is_unfinished_job (old_job j inside)) ∙ e))
+      (λ (inside : j < length jobs). unfinished_drop_if_stale job.parent job.slot (live_job jobs j) (sym (ap is_unfinished_job (old_job j inside)) ∙ e))
       (λ (past : length jobs ≤ j). ⊎_elim (λ (last : j ≡ length jobs). absurd (other (ap parent.Job last)))
       (λ (behind : j ≢ length jobs). absurd (both_ways (may_get_in (with_new jobs job) (parent.Job j)) (ap is_unfinished_job (none_past j (omega arith))) e))
       (cases_eq j (length jobs)))

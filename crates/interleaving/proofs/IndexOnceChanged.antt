@@ -78,9 +78,9 @@ indexed_got items latest later m n job x live done alone e =
 
 -- ---- a job is created
 
-unless_stale_unfinished : (a : Parent) (t : ℕ) (x : Option JobView) → is_unfinished_job (drop_if_stale a t x) ≡ is_unfinished_job x
-unless_stale_unfinished a t None = refl
-unless_stale_unfinished a t (Some v) = by_test (is_live_child a t (Some v)) (is_done v.phase) refl
+drop_if_stale_unfinished : (a : Parent) (t : ℕ) (x : Option JobView) → is_unfinished_job (drop_if_stale a t x) ≡ is_unfinished_job x
+drop_if_stale_unfinished a t None = refl
+drop_if_stale_unfinished a t (Some v) = by_test (is_live_child a t (Some v)) (is_done v.phase) refl
   where
     by_test : (mine done : Bool) → is_done v.phase ≡ done → is_unfinished_job (if mine && done then None else Some v) ≡ is_unfinished_job (Some v)
     by_test true true e = sym (ap not e)
@@ -94,7 +94,7 @@ count-with_new jobs job begins =
     let whole = sum_by-append test (map f jobs) (Some job ∷ []) in
     let last = sum_by-cons test (Some job) [] in
     let one : cond {A = ℕ} (is_unfinished_job (Some job)) 1 0 ≡ 1 = ap (λ b. cond b 1 0) (ap not begins) in
-    let kept : count_by is_unfinished_job (map f jobs) ≡ count_by is_unfinished_job jobs = count_by-map is_unfinished_job f jobs ∙ count_by-agree (λ x. is_unfinished_job (f x)) is_unfinished_job jobs (unless_stale_unfinished job.parent job.slot) in
+    let kept : count_by is_unfinished_job (map f jobs) ≡ count_by is_unfinished_job jobs = count_by-map is_unfinished_job f jobs ∙ count_by-agree (λ x. is_unfinished_job (f x)) is_unfinished_job jobs (drop_if_stale_unfinished job.parent job.slot) in
     omega (arith, whole, last, one, kept)
 
 module _ (items after : List (Option JobEntry)) (latest later : LatestJobsView) (m : ℕ) (place : JobEntry) (x : AreIndexed items latest m) (stay : SubmitBoundsStay items after)
@@ -109,8 +109,8 @@ module _ (items after : List (Option JobEntry)) (latest later : LatestJobsView) 
   as_long : length after ≡ length (jobs_in items)
   as_long = stay.long ∙ sym (length-jobs items)
 
-  reach_old : (j : ℕ) (p : JobEntry) → j < length after → place_at pushed j ≡ Some p → place_at after j ≡ Some p
-  reach_old j p inside there = sym (get_or_append_left after (Some place ∷ []) None j inside) ∙ there
+  submit_bound_old : (j : ℕ) (p : JobEntry) → j < length after → place_at pushed j ≡ Some p → place_at after j ≡ Some p
+  submit_bound_old j p inside there = sym (get_or_append_left after (Some place ∷ []) None j inside) ∙ there
 
   below_parent : (a : Parent) (j t : ℕ) → a ≡ parent.Job j → t ≡ place.job.slot → WasMade (jobs_in items) a → HasSubmitBound after a (place.job.slot + 1) → (j < length pushed) × ((p : JobEntry) → place_at pushed j ≡ Some p → t < p.submit_bound)
   below_parent (parent.Client c) j t same slot made to = absurd cc
@@ -118,7 +118,7 @@ module _ (items after : List (Option JobEntry)) (latest later : LatestJobsView) 
       let number : i ≡ j = cc in
       let inside : j < length after = omega (arith, made, as_long, number) in (
         let long = length_push after (Some place) in omega (arith, inside, long),
-        λ p there. let low = to p (ap (place_at after) number ∙ reach_old j p inside there) in omega (arith, low, slot),
+        λ p there. let low = to p (ap (place_at after) number ∙ submit_bound_old j p inside there) in omega (arith, low, slot),
       )
 
   reached_pushed : AreSubmitBounds pushed
@@ -132,7 +132,7 @@ module _ (items after : List (Option JobEntry)) (latest later : LatestJobsView) 
       let was = x.reached j t k (sym (other_child (jobs_in items) place.job (parent.Job j) t k apart) ∙ mine) in
       let inside : j < length after = let low = was.0 in omega (arith, low, stay.long) in (
         let long = length_push after (Some place) in omega (arith, inside, long),
-        λ p there. let old = stay.each j p (reach_old j p inside there) in let low = was.1 old.0 old.1 in omega (arith, low, old.2),
+        λ p there. let old = stay.each j p (submit_bound_old j p inside there) in let low = was.1 old.0 old.1 in omega (arith, low, old.2),
       ))
       (cases_Bool (is_call place.job.parent place.job.slot (parent.Job j) t))
 

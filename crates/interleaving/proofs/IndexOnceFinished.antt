@@ -19,9 +19,9 @@ use Rattle.interleaving.proofs.FoundOnceFinished.{fading, fin_finished, found_fi
 pub asks_of : (jobs : List (Option JobView)) (n : ℕ) (job : JobView) → live_job jobs n ≡ Some job → is_done job.phase ≡ false → may_get_in jobs (parent.Job n) ≡ true
 asks_of jobs n job live going = ap is_unfinished_job live ∙ ap not going
 
-unless_orphan_unfinished : (n : ℕ) (x : Option JobView) → is_unfinished_job (drop_if_orphan n x) ≡ is_unfinished_job x
-unless_orphan_unfinished n None = refl
-unless_orphan_unfinished n (Some v) = by_test (same_parent (parent.Job n) v.parent) (is_done v.phase) refl
+drop_if_orphan_unfinished : (n : ℕ) (x : Option JobView) → is_unfinished_job (drop_if_orphan n x) ≡ is_unfinished_job x
+drop_if_orphan_unfinished n None = refl
+drop_if_orphan_unfinished n (Some v) = by_test (same_parent (parent.Job n) v.parent) (is_done v.phase) refl
   where
     by_test : (mine done : Bool) → is_done v.phase ≡ done → is_unfinished_job (if mine && done then None else Some v) ≡ is_unfinished_job (Some v)
     by_test true true e = sym (ap not e)
@@ -54,10 +54,10 @@ indexed_finished items after latest later next m i n job x live going other jobs
     let fin = finished_if_gettable jobs n job in
     let inside : n < length left = let low = made_if_child jobs job.parent job.slot n (ap (is_live_child job.parent job.slot) live ∙ child_itself job) in let long = length-map jobs (drop_if_orphan n) in omega (arith, low, long) in
     let counts = count_by-set is_unfinished_job left n fin None inside in
-    let was : is_unfinished_job (live_job left n) ≡ true = ap is_unfinished_job (get_or-map_at (drop_if_orphan n) jobs n None) ∙ unless_orphan_unfinished n (live_job jobs n) ∙ asks_of jobs n job live going in
+    let was : is_unfinished_job (live_job left n) ≡ true = ap is_unfinished_job (get_or-map_at (drop_if_orphan n) jobs n None) ∙ drop_if_orphan_unfinished n (live_job jobs n) ∙ asks_of jobs n job live going in
     let one : cond {A = ℕ} (is_unfinished_job (live_job left n)) 1 0 ≡ 1 = ap (λ b. cond b 1 0) was in
     let zero : cond {A = ℕ} (is_unfinished_job fin) 1 0 ≡ 0 = ap (λ b. cond b 1 0) (fin_finished jobs n job live other) in
-    let kept : count_by is_unfinished_job left ≡ count_by is_unfinished_job jobs = count_by-map is_unfinished_job (drop_if_orphan n) jobs ∙ count_by-agree (λ y. is_unfinished_job (drop_if_orphan n y)) is_unfinished_job jobs (unless_orphan_unfinished n) in
+    let kept : count_by is_unfinished_job left ≡ count_by is_unfinished_job jobs = count_by-map is_unfinished_job (drop_if_orphan n) jobs ∙ count_by-agree (λ y. is_unfinished_job (drop_if_orphan n y)) is_unfinished_job jobs (drop_if_orphan_unfinished n) in
     let new : count_by is_unfinished_job (jobs_in after) ≡ count_by is_unfinished_job (set left n fin) = ap (count_by is_unfinished_job) jobs_are in
     let all = x.counted in
     record {

@@ -30,9 +30,9 @@ fades_if : (b : Bool) (job : JobView) → Fades (Some job) (if b then None else 
 fades_if true job = tt
 fades_if false job = (refl, refl)
 
-fades_unless_orphan : (j : ℕ) (job : Option JobView) → Fades job (drop_if_orphan j job)
-fades_unless_orphan j None = tt
-fades_unless_orphan j (Some job) = fades_if (same_parent (parent.Job j) job.parent && is_done job.phase) job
+fades_drop_if_orphan : (j : ℕ) (job : Option JobView) → Fades job (drop_if_orphan j job)
+fades_drop_if_orphan j None = tt
+fades_drop_if_orphan j (Some job) = fades_if (same_parent (parent.Job j) job.parent && is_done job.phase) job
 
 -- ---- a list of jobs
 
@@ -62,4 +62,4 @@ fading_map f jobs none fades = record {
 }
 
 pub fading_orphans : (jobs : List (Option JobView)) (j : ℕ) → AreFading jobs (map (drop_if_orphan j) jobs)
-fading_orphans jobs j = fading_map (drop_if_orphan j) jobs refl (fades_unless_orphan j)
+fading_orphans jobs j = fading_map (drop_if_orphan j) jobs refl (fades_drop_if_orphan j)

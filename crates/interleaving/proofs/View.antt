@@ -127,9 +127,9 @@ unfinished_with job asks latest j Claimed = refl
 pub unfinished_seen : (s : State) (j : ℕ) (job : CreatedJob) → is_unfinished_job (job_seen s j job) ≡ is_unfinished job.stage
 unfinished_seen s j job = ap is_unfinished_job (job_seen-with s j job) ∙ unfinished_with job (may_get s job.parent) (child s job.parent job.slot) j job.stage
 
-pub may_ask_seen : (plan : Plan) (s : State) (a : Parent) → may_get_in (live_view plan s).jobs a ≡ may_get s a
-may_ask_seen plan s (parent.Client c) = refl
-may_ask_seen plan s (parent.Job j) = ap is_unfinished_job (view_at plan s j) ∙ unfinished_seen s j (job_at s j)
+pub may_get_seen : (plan : Plan) (s : State) (a : Parent) → may_get_in (live_view plan s).jobs a ≡ may_get s a
+may_get_seen plan s (parent.Client c) = refl
+may_get_seen plan s (parent.Job j) = ap is_unfinished_job (view_at plan s j) ∙ unfinished_seen s j (job_at s j)
 
 point_if : (plan : Plan) (job : CreatedJob) (b : Bool) → point_of_live_job plan (job_with job (if b then Some phase.Done else None)) ≡ None
 point_if plan job true = refl

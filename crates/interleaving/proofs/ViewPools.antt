@@ -9,7 +9,7 @@ use Rattle.written_machine.specs.declared.event.Outcome.TheVariants as outcome
 use Rattle.interleaving.specs.declared.job_view.Phase.TheVariants as phase
 use Rattle.written_machine.specs.State.{Stage, State, PoolPart, no_pool_part, job_at, pool_part, pool_view, pool_seen, is_at, is_unfinished, busy}
 use Rattle.written_machine.specs.State.Stage.{Queued, At}
-use Rattle.written_machine.specs.Step.{with_stage, with_pool, take_head, let_go}
+use Rattle.written_machine.specs.Step.{with_stage, with_pool, take_head, retire_worker}
 use Rattle.written_machine.proofs.Stages.{get_or-staged_same}
 use Rattle.written_machine.proofs.Busy.{one_if, busy-staged_here, busy-staged_elsewhere}
 use Rattle.written_machine.proofs.StateInvariant.{StateInvariant}
@@ -65,12 +65,12 @@ take_commutes plan s p kept =
 -- ---- a retirement
 
 retire_if : (plan : Plan) (s : State) (p : ℕ) (pool : PoolView) (b : Bool) → live_view plan (with_pool p pool s) ≡ with_pool_in p pool (live_view plan s)
-    → option_map (seen_after plan) (let_go s p (if b then Some pool else None)) ≡ retire_worker_in (live_view plan s) p (if b then Some pool else None)
+    → option_map (seen_after plan) (retire_worker s p (if b then Some pool else None)) ≡ retire_worker_in (live_view plan s) p (if b then Some pool else None)
 retire_if plan s p pool true same = ap (λ v. Some (v, outcome.Retired)) same
 retire_if plan s p pool false same = refl
 
 retired_commutes : (plan : Plan) (s : State) (p : ℕ) → StateInvariant plan s → p < length plan.pools → (idle : ℕ) → (pool_part s p).idle ≡ idle
-    → option_map (seen_after plan) (let_go s p (retired_of (pool_seen plan s p) idle)) ≡ retire_worker_in (live_view plan s) p (retired_of (pool_seen plan s p) idle)
+    → option_map (seen_after plan) (retire_worker s p (retired_of (pool_seen plan s p) idle)) ≡ retire_worker_in (live_view plan s) p (retired_of (pool_seen plan s p) idle)
 retired_commutes plan s p kept inside zero is_idle = refl
 retired_commutes plan s p kept inside (suc idle) is_idle =
     let seen_pool = pool_seen plan s p in
@@ -80,11 +80,11 @@ retired_commutes plan s p kept inside (suc idle) is_idle =
     let pools = pools-put plan s s p pool refl kept.as_many inside pool_now (λ q other. refl) in
     retire_if plan s p pool (nat_lt seen_pool.core seen_pool.threads) (same_views (live_view plan (with_pool p pool s)) (with_pool_in p pool (live_view plan s)) refl pools refl refl)
 
-pub retire_commutes : (plan : Plan) (s : State) (p : ℕ) → StateInvariant plan s → option_map (seen_after plan) (let_go s p (retired (pool_seen plan s p))) ≡ retire_worker_in (live_view plan s) p (retired (pool_in (live_view plan s) p))
+pub retire_commutes : (plan : Plan) (s : State) (p : ℕ) → StateInvariant plan s → option_map (seen_after plan) (retire_worker s p (retired (pool_seen plan s p))) ≡ retire_worker_in (live_view plan s) p (retired (pool_in (live_view plan s) p))
 retire_commutes plan s p kept =
     let view = live_view plan s in
     ⊎_elim
     (λ inside. retired_commutes plan s p kept inside (pool_part s p).idle refl ∙ sym (ap (λ pool. retire_worker_in view p (retired pool)) (pool_at_view plan s p inside)))
-    (λ past. ap (λ (part : PoolPart). option_map (seen_after plan) (let_go s p (retired_of (pool_seen plan s p) part.idle))) (no_pool_there plan s p kept past)
+    (λ past. ap (λ (part : PoolPart). option_map (seen_after plan) (retire_worker s p (retired_of (pool_seen plan s p) part.idle))) (no_pool_there plan s p kept past)
     ∙ sym (ap (λ pool. retire_worker_in view p (retired pool)) (no_pool_in_view plan s p past)))
     (cases_lt p (length plan.pools))

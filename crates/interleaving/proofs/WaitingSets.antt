@@ -79,13 +79,13 @@ pub none_without_queues : (plan : Plan) (view : View) (members : List ℕ) (queu
 none_without_queues plan view members queues iff e =
     false_from_ne_true _ (λ set. both_ways queues e (iff.1 (queues_of_all plan view members (and_parts (not (is_none members)) _ set).1)))
 
-waits_as_others : (plan : Plan) (view : View) (members : List ℕ) (others : Bool) → IsReachableView plan view → IsWellFormed plan → QueuesWait plan view members → unqueued_wait plan view members ≡ others → list_all (waits_in plan view members) members ≡ others
-waits_as_others plan view members true of w queues e = all_wait plan view members of w queues e
-waits_as_others plan view members false of w queues e = false_from_ne_true _ (λ all. both_ways _ e (others_of_all plan view members all))
+waits_at_stage_others : (plan : Plan) (view : View) (members : List ℕ) (others : Bool) → IsReachableView plan view → IsWellFormed plan → QueuesWait plan view members → unqueued_wait plan view members ≡ others → list_all (waits_in plan view members) members ≡ others
+waits_at_stage_others plan view members true of w queues e = all_wait plan view members of w queues e
+waits_at_stage_others plan view members false of w queues e = false_from_ne_true _ (λ all. both_ways _ e (others_of_all plan view members all))
 
 -- if the queues wait, the members are a waiting set exactly if the other members wait
 pub set_as_others : (plan : Plan) (view : View) (members : List ℕ) (others : Bool) → IsReachableView plan view → IsWellFormed plan → is_none members ≡ false → QueuesWait plan view members → others ≡ unqueued_wait plan view members → others ≡ is_waiting_set_in plan view members
-set_as_others plan view members others of w some queues e = sym (ap (λ b. not b && list_all (waits_in plan view members) members) some ∙ waits_as_others plan view members others of w queues (sym e))
+set_as_others plan view members others of w some queues e = sym (ap (λ b. not b && list_all (waits_in plan view members) members) some ∙ waits_at_stage_others plan view members others of w queues (sym e))
 
 -- the empty list is not a waiting set
 pub some_members : (members : List ℕ) → (length members == 0) ≡ false → is_none members ≡ false

@@ -18,7 +18,7 @@ impl World {
     pub(crate) fn get(&mut self, actor: Parent, position: usize, submit: usize) -> Option<Outcome>
         requires stands { IsClientAt self.old.view.clients actor position }
         requires begun { 0 < position }
-        requires can_move_on { position + 1 < 2 ^ 64 }
+        requires can_advance { position + 1 < 2 ^ 64 }
         requires asks { may_get_in self.old.view.jobs actor ≡ true }
         requires alone { IsOnlyLiveJob self.old.view.jobs actor submit }
         ensures value { MatchesResult

@@ -25,7 +25,7 @@ pub(crate) struct NextAction {
 impl NextAction {
     fn of(body: &[Action], position: usize) -> NextAction
         ensures value { result ≡ next_action_in body.now position }
-        ensures can_move_on { IsSome result.action → position + 1 < 2 ^ 64 }
+        ensures can_advance { IsSome result.action → position + 1 < 2 ^ 64 }
     {
         let action = body.get(position).copied();
         NextAction {
@@ -43,7 +43,7 @@ impl World {
     /// or if it is a job that does not run.
     pub(crate) fn next_action(&self, plan: &Plan, actor: Parent) -> Option<NextAction>
         ensures value { result ≡ option_map next_action_at (point_in plan.now self.now.view actor) }
-        ensures can_move_on { IfSome result
+        ensures can_advance { IfSome result
             (λ next. IsSome next.action → next.position + 1 < 2 ^ 64) }
         ensures well_formed { IsWellFormed plan.now }
         ensures there { OnSome result
@@ -64,7 +64,7 @@ impl World {
             (λ next. IsClientAt self.now.view.clients (parent.Client client) next.position) }
         ensures value { result
             ≡ option_map next_action_at (point_in plan.now self.now.view (parent.Client client)) }
-        ensures can_move_on { IfSome result
+        ensures can_advance { IfSome result
             (λ next. IsSome next.action → next.position + 1 < 2 ^ 64) }
         ensures well_formed { IsWellFormed plan.now }
     {
@@ -78,7 +78,7 @@ impl World {
         ensures asks { OnSome result (may_get_in self.now.view.jobs (parent.Job number) ≡ true) }
         ensures value { result
             ≡ option_map next_action_at (point_in plan.now self.now.view (parent.Job number)) }
-        ensures can_move_on { IfSome result
+        ensures can_advance { IfSome result
             (λ next. IsSome next.action → next.position + 1 < 2 ^ 64) }
         ensures well_formed { IsWellFormed plan.now }
     {

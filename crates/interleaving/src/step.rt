@@ -102,7 +102,7 @@ impl World {
     // Moves the actor, which is at this position of its body, to the next position.
     fn advance(&mut self, actor: Parent, position: usize) -> Result<(), AllocError>
         requires stands { IsClientAt self.old.view.clients actor position }
-        requires can_move_on { position + 1 < 2 ^ 64 }
+        requires can_advance { position + 1 < 2 ^ 64 }
         requires asks { may_get_in self.old.view.jobs actor ≡ true }
         ensures ok { OnOk result (self.new.view ≡ move_actor actor (position + 1) self.old.view) }
         ensures places { self.new.places ≡ self.old.places }

@@ -32,7 +32,7 @@ impl World {
         requires pool { pool_of plan.now class < length self.old.view.pools }
         requires there { IsAmong (length self.old.view.clients) (length self.old.view.jobs) actor }
         requires stands { IsClientAt self.old.view.clients actor next.position }
-        requires can_move_on { next.position + 1 < 2 ^ 64 }
+        requires can_advance { next.position + 1 < 2 ^ 64 }
         requires asks { may_get_in self.old.view.jobs actor ≡ true }
         requires has_get { next.has_get ≡ true
             → live_child self.old.view.jobs actor next.position ≡ None }

@@ -23,16 +23,16 @@ state_of t = t.state
 abbrev pub stored_state : Plan → StateWithOutcome → TracedWorld
 stored_state plan t = record { world = live_view plan t.state; outcome = t.outcome }
 
-state_of_traced : (x : Option (State × Outcome)) → option_map state_of (with_outcome x) ≡ state_after x
-state_of_traced None = refl
-state_of_traced (Some x) = refl
+state_with_outcome : (x : Option (State × Outcome)) → option_map state_of (with_outcome x) ≡ state_after x
+state_with_outcome None = refl
+state_with_outcome (Some x) = refl
 
 -- both machines have the same replays
 same_replay : (plan : Plan) (t : Option StateWithOutcome) (events : List Event) → reach.replay plan (option_map state_of t) events ≡ option_map state_of (replay (next plan) t events)
 same_replay plan t [] = refl
 same_replay plan None (e ∷ events) = refl
 same_replay plan (Some t) (e ∷ events) =
-    ap (λ s. reach.replay plan s events) (sym (state_of_traced (step plan t.state e))) ∙ same_replay plan (next plan t e) events
+    ap (λ s. reach.replay plan s events) (sym (state_with_outcome (step plan t.state e))) ∙ same_replay plan (next plan t e) events
 
 reached_of : (plan : Plan) (t : StateWithOutcome) → Reaches (next plan) (start plan) t → reach.IsReached plan t.state
 reached_of plan t led = (led.0, same_replay plan (Some (start plan)) led.0 ∙ ap (option_map state_of) led.1)

@@ -74,14 +74,14 @@ name_then_written name rest valid =
 
 -- ---- after a word
 pub after_read : (word text rest : List ℕ) → strip_word word text ≡ Some rest → text ≡ word ++ 32 ∷ rest
-unfolding after
+unfolding strip_word
 after_read word text rest e =
     let words = bind_some (split_space text) (λ words. cond (bytes_eq words.0 word) (Some words.1) None) rest e in
     let found = cond_some (bytes_eq words.0.0 word) words.0.1 rest words.2 in
     split_parts text words.0 words.1 ∙ ap₂ (λ (w r : List ℕ). w ++ 32 ∷ r) ((bytes_eq-Decides words.0.0 word).0 found.0) found.1
 
 pub after_written : (word rest : List ℕ) → has_no 32 word ≡ true → strip_word word (word ++ 32 ∷ rest) ≡ Some rest
-unfolding after
+unfolding strip_word
 after_written word rest none =
     ap (λ o. o >>= λ words. cond (bytes_eq words.0 word) (Some words.1) None) (splits word rest none)
     ∙ cond-true _ _ _ ((bytes_eq-Decides word word).1 refl)

@@ -3,7 +3,7 @@ use Rattle.std.specs.Prelude.{◌≡◌, List, ℕ, [], ◌∷◌, ◌++◌, cod
 use Rattle.job_bodies.specs.Plan.{Plan}
 use Rattle.cert_text.specs.Cert.{Cert}
 use Rattle.counterexample.specs.declared.witness.Witness.{Witness}
-use Rattle.counterexample.specs.AnswerText.{IsTold}
+use Rattle.counterexample.specs.Description.{IsDescription}
 use Rattle.size_search.specs.declared.found.SizesFound.{SizesFound}
 use Rattle.size_search.specs.declared.found.SizesFound.TheVariants.{Found, NotFound}
 use Rattle.report.specs.Sizes.{sizes_text}
@@ -38,7 +38,7 @@ TellsSafe plan cert text = text ≡ safe_head ++ safe_text plan cert
 -- the answer, the witness's story, the sizes, and the advice for them
 pub record TellsNotSafe (plan : Plan) (witness : Witness) (sizes : SizesFound) (text : List ℕ) : Type 0 where
   pub story : List ℕ
-  pub is_story : IsTold plan witness story
+  pub is_story : IsDescription plan witness story
   pub is : text ≡ ((not_safe_head ++ story) ++ sizes_part plan sizes) ++ advice_text plan sizes
 
 -- the answer, the sizes, the advice for them, and what is left undecided

@@ -11,7 +11,7 @@ use Rattle.event_lines.specs.LineText.{lines_text}
 use Rattle.counterexample.specs.declared.witness.Witness.{Witness}
 use Rattle.counterexample.specs.Witness.{IsWitness}
 use Rattle.counterexample.specs.EventLines.{witness_lines}
-use Rattle.counterexample.specs.AnswerText.{IsTold}
+use Rattle.counterexample.specs.Description.{IsDescription}
 use Rattle.command_line.specs.declared.command.RefuteFormat.{RefuteFormat}
 use Rattle.command_line.specs.declared.command.RefuteFormat.TheVariants.{Story, Bundle}
 use Rattle.job_bodies.specs.declared.limits.TheConstants.{MAX_INPUT_BYTES, MAX_EVENT_BYTES}
@@ -60,7 +60,7 @@ events_too_long = record { text = codes "no bundle: too many events" ++ 10 ∷ [
 
 -- the answer reports the witness: how it ends, and then its story
 pub record TellsWitness (plan : Plan) (witness : Witness) (answer : Answer) : Type 0 where
-  pub reported : IsTold plan witness answer.text
+  pub reported : IsDescription plan witness answer.text
   pub status : answer.status ≡ Refused
 
 -- the lines of the witness's events

@@ -100,34 +100,34 @@ looped_happens plan s c body i at (Some client) is_client s' o e =
     let looped = cond_some (client_at plan client.kind).repeat (with_position (parent.Client c) 0 s, outcome.Looped) (s', o) e in
     subst (λ (y : State × Outcome). Happens plan s (event.Client c) y.0 y.1) looped.1 (loops c client body i at is_client looped.0)
 
-acted_happens : (plan : Plan) (s : State) (a : Parent) (body : List Action) (i : ℕ) (there : Option Action) → IsAtAction plan s a body i there
+step_action_happens : (plan : Plan) (s : State) (a : Parent) (body : List Action) (i : ℕ) (there : Option Action) → IsAtAction plan s a body i there
     → (s' : State) (o : Outcome) → step_action plan s a i there ≡ Some (s', o) → Happens plan s (event_of a) s' o
-acted_happens plan s (parent.Client c) body i None at s' o e = looped_happens plan s c body i at (slice_get s.clients c) refl s' o e
-acted_happens plan s (parent.Job j) body i None at s' o e = same_outcome plan s (event.Job j) _ s' o e (finishes j body i at)
-acted_happens plan s a body i (Some (action.Work u)) at s' o e = same_outcome plan s (event_of a) _ s' o e (works a body i u at)
-acted_happens plan s a body i (Some (action.Submit k)) at s' o e =
+step_action_happens plan s (parent.Client c) body i None at s' o e = looped_happens plan s c body i at (slice_get s.clients c) refl s' o e
+step_action_happens plan s (parent.Job j) body i None at s' o e = same_outcome plan s (event.Job j) _ s' o e (finishes j body i at)
+step_action_happens plan s a body i (Some (action.Work u)) at s' o e = same_outcome plan s (event_of a) _ s' o e (works a body i u at)
+step_action_happens plan s a body i (Some (action.Submit k)) at s' o e =
     same_outcome plan s (event_of a) _ s' o e (answered_happens plan s a body i k at (answer (pool_seen plan s (pool_of plan k))) refl)
-acted_happens plan s a body i (Some (action.Get t)) at s' o e = got_child_happens plan s a body i t at (child s a t) refl s' o e
+step_action_happens plan s a body i (Some (action.Get t)) at s' o e = got_child_happens plan s a body i t at (child s a t) refl s' o e
 
-stepped_happens : (plan : Plan) (s : State) (a : Parent) (found : Option Point) → point plan s a ≡ found → (s' : State) (o : Outcome) → step_at_point plan s a found ≡ Some (s', o) → Happens plan s (event_of a) s' o
-stepped_happens plan s a None stands s' o e = absurd (none-some (s', o) e)
-stepped_happens plan s a (Some at) stands s' o e = acted_happens plan s a at.body at.position (slice_get at.body at.position) (record { stands = stands; is_there = refl }) s' o e
+step_at_point_happens : (plan : Plan) (s : State) (a : Parent) (found : Option Point) → point plan s a ≡ found → (s' : State) (o : Outcome) → step_at_point plan s a found ≡ Some (s', o) → Happens plan s (event_of a) s' o
+step_at_point_happens plan s a None stands s' o e = absurd (none-some (s', o) e)
+step_at_point_happens plan s a (Some at) stands s' o e = step_action_happens plan s a at.body at.position (slice_get at.body at.position) (record { stands = stands; is_there = refl }) s' o e
 
-took_happens : (plan : Plan) (s : State) (p : ℕ) (found : Option (ℕ × PoolView)) → taken (pool_seen plan s p) ≡ found → (s' : State) (o : Outcome) → take_head s p found ≡ Some (s', o) → Happens plan s (event.Take p) s' o
-took_happens plan s p None is_taken s' o e = absurd (none-some (s', o) e)
-took_happens plan s p (Some (j, after)) is_taken s' o e =
+take_head_happens : (plan : Plan) (s : State) (p : ℕ) (found : Option (ℕ × PoolView)) → taken (pool_seen plan s p) ≡ found → (s' : State) (o : Outcome) → take_head s p found ≡ Some (s', o) → Happens plan s (event.Take p) s' o
+take_head_happens plan s p None is_taken s' o e = absurd (none-some (s', o) e)
+take_head_happens plan s p (Some (j, after)) is_taken s' o e =
     let taking = taken_takes (pool_seen plan s p) after j is_taken in
     same_outcome plan s (event.Take p) _ s' o e (takes p j after.queue after.idle taking.queue taking.idle)
 
-let_go_happens : (plan : Plan) (s : State) (p : ℕ) (found : Option PoolView) → retired (pool_seen plan s p) ≡ found → (s' : State) (o : Outcome) → retire_worker s p found ≡ Some (s', o) → Happens plan s (event.Retire p) s' o
-let_go_happens plan s p None is_retired s' o e = absurd (none-some (s', o) e)
-let_go_happens plan s p (Some after) is_retired s' o e =
+retire_worker_happens : (plan : Plan) (s : State) (p : ℕ) (found : Option PoolView) → retired (pool_seen plan s p) ≡ found → (s' : State) (o : Outcome) → retire_worker s p found ≡ Some (s', o) → Happens plan s (event.Retire p) s' o
+retire_worker_happens plan s p None is_retired s' o e = absurd (none-some (s', o) e)
+retire_worker_happens plan s p (Some after) is_retired s' o e =
     let ending = retired_retires (pool_seen plan s p) after is_retired in
     same_outcome plan s (event.Retire p) _ s' o e
     (subst (λ (queue : List ℕ). Happens plan s (event.Retire p) (with_part p queue after.idle s) outcome.Retired) (sym ending.queue) (retires p after.idle ending.idle ending.above_core))
 
 pub happens : (plan : Plan) (s : State) (e : Event) (s' : State) (o : Outcome) → step plan s e ≡ Some (s', o) → Happens plan s e s' o
-happens plan s (event.Client c) s' o e = stepped_happens plan s (parent.Client c) (point plan s (parent.Client c)) refl s' o e
-happens plan s (event.Job j) s' o e = stepped_happens plan s (parent.Job j) (point plan s (parent.Job j)) refl s' o e
-happens plan s (event.Take p) s' o e = took_happens plan s p (taken (pool_seen plan s p)) refl s' o e
-happens plan s (event.Retire p) s' o e = let_go_happens plan s p (retired (pool_seen plan s p)) refl s' o e
+happens plan s (event.Client c) s' o e = step_at_point_happens plan s (parent.Client c) (point plan s (parent.Client c)) refl s' o e
+happens plan s (event.Job j) s' o e = step_at_point_happens plan s (parent.Job j) (point plan s (parent.Job j)) refl s' o e
+happens plan s (event.Take p) s' o e = take_head_happens plan s p (taken (pool_seen plan s p)) refl s' o e
+happens plan s (event.Retire p) s' o e = retire_worker_happens plan s p (retired (pool_seen plan s p)) refl s' o e
