@@ -26,7 +26,11 @@ use std::alloc::{AllocError, Global};
 /// A classifier for the actors of a recording.
 ///
 /// It stores the path of each open actor, the path of each ended actor that waits for a job of its
-/// path, and the classes of each settled job whose submitter is not settled.
+/// path, and the classes of each settled job whose submitter is not settled. A job that was
+/// refused, cancelled or removed and never ran stays open until the recording ends.
+///
+/// The path of an actor that waits is scanned only once in all, from one unsettled job to the next.
+/// No contract states the time for a line, or the order of the actors that become settled with it.
 #[derive(Drop)]
 pub struct ActorClassifier {
     pub(crate) paths: Paths,

@@ -42,7 +42,11 @@ pub struct SearchResult {
 
 /// Searches for a witness against the plan: events that end in a rejected submit, or in jobs that
 /// wait only for each other, possibly not permanently. Visits at most `states` states. If no
-/// witness is found, the plan may still have one.
+/// witness is found, the plan may still have one. The result is the same for each call with the
+/// same arguments.
+///
+/// The contract promises nothing about a witness that is found: [`confirmed`](crate::confirmed)
+/// replays it.
 ///
 /// # Errors
 ///

@@ -32,6 +32,13 @@ use std::alloc::{AllocError, Global};
 /// `extent` selects the part of the recording from which bodies are learned. `budget` limits the
 /// steps of each check of one path against one body.
 ///
+/// The whole recording is read once, for its names, counts and first invalid line. The selected
+/// part is read a few more times, usually twice, while the bodies grow. If a label has several
+/// kinds, the bodies must come from all lines, and one more pass counts the rounds of each kind.
+/// The memory grows with the open actors, the plan and the rounds of the part. The contract
+/// promises that the bodies form a plan, and not that the recording matches them: the caller
+/// compares the recording with the plan. Nor does it promise a plan whenever one exists.
+///
 /// # Errors
 ///
 /// Returns `AllocError` if memory runs out.

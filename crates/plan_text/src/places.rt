@@ -6,6 +6,11 @@ use crate::tokens::tokens_of;
 use std::alloc::{AllocError, Global};
 
 /// An index of the positions of the parts of a text.
+///
+/// Any text has an index. If the text is not TOML, or does not write its plan with `[[pool]]`,
+/// `[[class]]` and `[[client]]`, the index may lack the position of a part. The caller then takes
+/// that of a larger part. The contracts do not state at which byte a part begins; only
+/// [`place_at`] promises the line and the column of a byte.
 #[derive(Drop)]
 pub struct Places<'a> {
     text: &'a [u8],

@@ -17,6 +17,11 @@ use std::alloc::{AllocError, Global};
 
 /// The events that invalidate a SAFE answer, and the first get of a job by an actor that did not
 /// submit it, for the lines read so far.
+///
+/// Stores a line for each event type, a line for each actor whose last line is a `timeout` or
+/// `interrupted`, and the submitter of each job that this submitter has not got. So the size grows
+/// with the jobs that are never got. A line takes one look-up in a table and a scan of the stored
+/// lines. No contract states the size or the time.
 #[derive(Drop)]
 pub struct RecordedNotes {
     pub(crate) invalidations: InvalidationList,

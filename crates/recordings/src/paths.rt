@@ -15,6 +15,10 @@ use std::alloc::{AllocError, Global};
 
 /// The paths of the live actors after the lines so far: of the rounds that began and have not
 /// ended, and of the jobs that were submitted and are not done.
+///
+/// A job that was refused, cancelled or removed and never ran stays live, with an empty path. A
+/// line takes one look-up in a table. A `got` line also searches the path of its actor backwards
+/// for the submit of the job. No contract states the size or the time.
 #[derive(Drop)]
 pub struct Paths {
     rounds: PathTable,

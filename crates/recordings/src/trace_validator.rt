@@ -16,7 +16,9 @@ use std::alloc::{AllocError, Global};
 /// The state of the rule check: everything that the rules need to know about the lines so far.
 ///
 /// Its size grows with the names of the pools, the rounds that have not ended and the jobs that are
-/// not done.
+/// not done. A job that was refused, cancelled or removed and never ran is not done. A line takes a
+/// few look-ups in tables, whatever the lines before it are. No contract states the size or the
+/// time.
 #[derive(Drop)]
 pub struct TraceValidator {
     pub(crate) begun: bool,

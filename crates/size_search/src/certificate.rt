@@ -87,6 +87,9 @@ fn pools_of(alloc: Global, plan: &Plan, vector: &Vector) -> Result<Vec<PoolCert>
 /// Returns the steady certificate of the plan, or `None` exactly if a number of its vector is above
 /// [`MAX_WEIGHT`](job_bodies::MAX_WEIGHT).
 ///
+/// With large enough sizes, this certificate accepts the plan if no repeating client causes a
+/// submit that is never got.
+///
 /// # Errors
 ///
 /// [`AllocError`] if memory runs out.

@@ -12,7 +12,8 @@ use crate::places::{allocate, can_store, is_in_slot, place_of, push_numbers, sto
 use std::alloc::{AllocError, Global};
 use std::marker::Model;
 
-/// A map from numbers to values.
+/// A map from numbers to values, for numbers of which few are in use at once, most of them close to
+/// each other. Most look-ups then take an index and no hash.
 ///
 /// The slot of a number is the number modulo the length of the table. A look-up checks that slot
 /// first. If another number occupies it, the value is in a map.
