@@ -12,7 +12,7 @@ use job_bodies::Plan;
 use std::alloc::{AllocError, Global};
 
 /// Returns the classes that a job of this label in this pool may belong to, by its path. `budget`
-/// limits the steps of [`match_path`](crate::path_fits) for each body of the family.
+/// limits the steps of [`match_path`](crate::match_path) for each body of the family.
 ///
 /// # Errors
 ///
@@ -49,7 +49,7 @@ pub fn classes_of_path(
 }
 
 /// Returns the client kinds that a round of this label may belong to, by its path. `budget` limits
-/// the steps of [`match_path`](crate::path_fits) for each body of the family.
+/// the steps of [`match_path`](crate::match_path) for each body of the family.
 ///
 /// # Errors
 ///
