@@ -89,7 +89,7 @@ checks: program
 	python3 checks/fresh_system.py
 	python3 checks/java/check.py
 
-# Compiles the recorder and the check of executors, and runs their tests: seconds, and a JDK (17 or later) is all it needs.
+# Builds and tests the Java modules with Maven, offline, from Debian's packages: about a minute. java/README.md names them.
 java:
 	@tools/java
 

@@ -36,7 +36,7 @@ PARTS = {"replays": replays.part, "interleavings": interleavings.part, "bursts":
          "permits": permits.part, "services": services.part, "learned": learned.part}
 # The parts that ask the program.
 ASKING = {"replays", "learned"}
-LIBRARY = HERE.parent.parent / "java" / "src" / "sizing"
+LIBRARY = HERE.parent.parent / "java" / "sizing-recorder" / "src" / "main" / "java" / "sizing"
 SECONDS = 1800
 
 

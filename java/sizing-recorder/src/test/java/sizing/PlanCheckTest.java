@@ -1,0 +1,185 @@
+package sizing;
+
+import static org.junit.jupiter.api.Assertions.assertEquals;
+import static org.junit.jupiter.api.Assertions.assertTrue;
+import static sizing.RecordingAssertions.thrownBy;
+
+import java.nio.file.Files;
+import java.nio.file.Path;
+import java.util.LinkedHashMap;
+import java.util.List;
+import java.util.Map;
+import java.util.concurrent.LinkedBlockingQueue;
+import java.util.concurrent.ScheduledThreadPoolExecutor;
+import java.util.concurrent.SynchronousQueue;
+import java.util.concurrent.ThreadPoolExecutor;
+import java.util.concurrent.TimeUnit;
+import org.junit.jupiter.api.Test;
+
+/** Each difference between executors and a plan. */
+class PlanCheckTest {
+    private static final String PLAN = """
+            # two pools
+            [[pool]]
+            name = "web"
+            core = 2
+            max = 4
+            queue = 8
+
+            [[pool]]
+            name = "db"
+            core = 1
+            max = 1
+            queue = 3
+            prestart = true
+
+            [[class]]
+            name = "query"
+            pool = "db"
+            body = ["work 1"]
+            """;
+
+    @Test
+    void executorsOfThePlanHaveNoDifference() throws Exception {
+        Map<String, ThreadPoolExecutor> executors = executors();
+        PlanCheck.check(file(PLAN), executors);
+        same(executors);
+        String inline = "pool = [{name = 'web', core = 2, max = 4, queue = 8},\n {name = 'db', core = 1, max = 1, queue = 3, prestart = true}]";
+        assertEquals(List.of(), PlanCheck.differences(file(inline), executors));
+        executors.put("web", Recording.executor(2, 4, new LinkedBlockingQueue<>(8)));
+        same(executors);
+    }
+
+    @Test
+    void differentSizesAreListed() throws Exception {
+        Map<String, ThreadPoolExecutor> executors = executors();
+        executors.put("web", Recording.executor(1, 5, 9));
+        same(executors, "pool web: core 1, plan 2", "pool web: max 5, plan 4", "pool web: queue 9, plan 8");
+    }
+
+    @Test
+    void sizesThatWereChangedAndCoreTimeoutsAreListed() throws Exception {
+        Map<String, ThreadPoolExecutor> executors = executors();
+        executors.get("web").setCorePoolSize(3);
+        executors.get("web").setMaximumPoolSize(6);
+        executors.get("db").allowCoreThreadTimeOut(true);
+        same(executors, "pool web: core 3, plan 2", "pool web: max 6, plan 4", "pool db: allowCoreThreadTimeOut is true, which no plan has");
+    }
+
+    @Test
+    void queuesOfAnotherKindOrCapacityAreListed() throws Exception {
+        Map<String, ThreadPoolExecutor> executors = executors();
+        executors.put("web", Recording.executor(2, 4, new SynchronousQueue<>()));
+        same(executors, "pool web: queue 0, plan 8", "pool web: queue is of SynchronousQueue, plan ArrayBlockingQueue");
+        executors.put("web", Recording.executor(2, 4, new LinkedBlockingQueue<>()));
+        same(executors, "pool web: queue 2147483647, plan 8");
+    }
+
+    @Test
+    void poolsThatOnlyOneSideHasAreListed() throws Exception {
+        Map<String, ThreadPoolExecutor> executors = executors();
+        executors.put("mail", executors.remove("web"));
+        same(executors, "pool web: in the plan alone", "pool mail: not in the plan");
+    }
+
+    @Test
+    void prestartedThreadsAreCompared() throws Exception {
+        Map<String, ThreadPoolExecutor> executors = executors();
+        executors.get("web").prestartCoreThread();
+        RecorderTest.waitUntilDone(executors.get("web"), 0);
+        executors.put("db", Recording.executor(1, 1, 3));
+        same(executors, "pool web: threads 1 before the first job, plan no prestart", "pool db: threads 0, plan prestart");
+        executors.get("db").prestartAllCoreThreads();
+        executors.put("web", Recording.executor(2, 4, 8));
+        executors.get("web").submit(() -> 1).get();
+        same(executors);
+    }
+
+    @Test
+    void anExecutorThatOverridesExecuteIsListed() throws Exception {
+        Map<String, ThreadPoolExecutor> executors = executors();
+        executors.put("web", new ThreadPoolExecutor(2, 4, 1, TimeUnit.SECONDS, new LinkedBlockingQueue<>(8)) {
+            @Override
+            public void execute(Runnable task) {
+                task.run();
+            }
+        });
+        same(executors, "pool web: sizing.PlanCheckTest$1 has an execute of its own");
+        executors.put("web", new ScheduledThreadPoolExecutor(2));
+        assertTrue(PlanCheck.differences(file(PLAN), executors).contains("pool web: ScheduledThreadPoolExecutor has an execute of its own"));
+        executors.put("web", new ThreadPoolExecutor(2, 4, 1, TimeUnit.SECONDS, new LinkedBlockingQueue<>(8)) {
+            @Override
+            protected void afterExecute(Runnable task, Throwable thrown) {}
+        });
+        same(executors);
+    }
+
+    @Test
+    void aHandlerIsListedButDoesNotFailTheCheck() throws Exception {
+        Map<String, ThreadPoolExecutor> executors = executors();
+        executors.get("web").setRejectedExecutionHandler(new ThreadPoolExecutor.CallerRunsPolicy());
+        assertEquals(List.of("pool web: handler CallerRunsPolicy, which never matters after a yes"), PlanCheck.differences(file(PLAN), executors));
+        PlanCheck.check(file(PLAN), executors);
+    }
+
+    @Test
+    void recordedExecutorsHaveNoDifference() throws Exception {
+        Map<String, ThreadPoolExecutor> executors = executors();
+        Recording recording = new Recording();
+        executors.forEach(recording.recorder::pool);
+        same(executors);
+        recording.recorder.close();
+    }
+
+    @Test
+    void theExceptionListsEveryDifference() throws Exception {
+        Map<String, ThreadPoolExecutor> executors = executors();
+        executors.put("web", Recording.executor(3, 4, 9));
+        String lines = "pool web: core 3, plan 2" + System.lineSeparator() + "pool web: queue 9, plan 8";
+        assertEquals("PlanDiffers: " + lines, thrownBy(() -> PlanCheck.check(file(PLAN), executors)));
+    }
+
+    @Test
+    void unreadablePlansAreRefused() throws Exception {
+        wrong("pools = 1", "a plan has tables [[pool]], [[class]] and [[client]], and not [pools]");
+        wrong("pool = 1", "pool is no list of tables: write [[pool]]");
+        wrong("[pool]\nname = 'p'", "pool is no list of tables: write [[pool]]");
+        wrong("pool = [1]", "a pool is a table with name, core, max, queue and prestart, and not 1");
+        wrong("[[pool]]\nname = 'p'\ncorePoolSize = 1", "a pool is a table with name, core, max, queue and prestart, and not {name=p, corePoolSize=1}");
+        wrong("[[pool]]\nname = 'p'\ncore = '1'", "a pool has no lawful core: {name=p, core=1}");
+        wrong("[[pool]]\nname = 'p'\ncore = 1\nmax = 1", "a pool has no lawful queue: {name=p, core=1, max=1}");
+        String pool = "[[pool]]\nname = 'p'\ncore = 1\nmax = 1\nqueue = 1\n";
+        wrong(pool + "prestart = 1", "a pool has no lawful prestart: {name=p, core=1, max=1, queue=1, prestart=1}");
+        wrong(pool + pool, "two pools have the name p");
+        wrong("core = 08", "line 1: no value that is read here: 08");
+    }
+
+    private static Map<String, ThreadPoolExecutor> executors() {
+        Map<String, ThreadPoolExecutor> executors = new LinkedHashMap<>();
+        executors.put("web", Recording.executor(2, 4, 8));
+        executors.put("db", Recording.executor(1, 1, 3));
+        executors.get("db").prestartAllCoreThreads();
+        return executors;
+    }
+
+    private static void same(Map<String, ThreadPoolExecutor> executors, String... lines) throws Exception {
+        Path plan = file(PLAN);
+        assertEquals(List.of(lines), PlanCheck.differences(plan, executors));
+        if (lines.length == 0) {
+            PlanCheck.check(plan, executors);
+        } else {
+            assertEquals("PlanDiffers: " + String.join(System.lineSeparator(), lines), thrownBy(() -> PlanCheck.check(plan, executors)));
+        }
+    }
+
+    private static void wrong(String text, String why) throws Exception {
+        Path plan = file(text);
+        assertEquals("IllegalArgumentException: " + plan + ": " + why, thrownBy(() -> PlanCheck.check(plan, Map.of())));
+    }
+
+    private static Path file(String text) throws Exception {
+        Path file = Files.createTempFile("sizing", ".toml");
+        file.toFile().deleteOnExit();
+        return Files.writeString(file, text);
+    }
+}

@@ -1,0 +1,23 @@
+package sizing;
+
+import static org.junit.jupiter.api.Assertions.assertEquals;
+import static org.junit.jupiter.api.Assertions.assertThrows;
+
+import java.util.List;
+import org.junit.jupiter.api.function.Executable;
+
+/** Assertions on lines and exceptions. */
+final class RecordingAssertions {
+    private RecordingAssertions() {}
+
+    /** Compares lines as one text, so that a failure shows all of them. */
+    static void assertLines(List<String> found, String... wanted) {
+        assertEquals(String.join("\n", wanted), String.join("\n", found));
+    }
+
+    /** Returns the simple name of the exception that the body throws, and its message. */
+    static String thrownBy(Executable body) {
+        Exception thrown = assertThrows(Exception.class, body);
+        return thrown.getClass().getSimpleName() + ": " + thrown.getMessage();
+    }
+}
