@@ -1,75 +1,150 @@
 package sizing;
 
-/** Whoever submits and gets: a job while it runs, or a round of a thread outside. */
-final class Actor {
-    /** What its class or kind is named after: see {@link Names#of}. To make the name is left to the thread that writes. */
-    final Object source;
-    /** The pool of a job, null of a round. */
-    final Pool pool;
-    /** Given by the thread that writes, when it comes to the first line, and known to that thread alone. */
-    int number = -1;
-    /** Of a job: it was submitted. A future that never was is seen by no other thread before. */
-    boolean offered;
-    /** Of a job: the thread that is offering it, or null. Other threads may see an older value, and never themselves in it. */
-    Thread offering;
-    /** Of a job: the offering was refused, and a line says so. Known to the thread that offers it. */
-    boolean refused;
-    /** Of a job: it began to run. Known to the thread that runs it. */
-    boolean started;
-    private final boolean hasLabel;
-    /** Of a round without a label: how many futures it holds. Known to its own thread. */
-    private int held;
-    /** Of a job: the round without a label that holds its future, or null. A round finds itself here, or any other value. */
-    private Actor holder;
+import java.util.LinkedHashSet;
+import java.util.List;
+import java.util.Set;
 
-    private Actor(Object source, Pool pool, boolean hasLabel) {
+/**
+ * Something that submits and gets: a job while it runs, a round of a thread, or a permit.
+ *
+ * <p>Most actors are used by one thread only. An actor is shared once other threads may write lines for it: a permit from its
+ * start, a job or a round once it has a job whose get the recorder cannot see. The lock of a shared actor guards its unclaimed
+ * jobs and its end.
+ */
+final class Actor {
+    /** What its class or kind is named after ({@link Names#of}). The writing thread makes the name. */
+    final Object source;
+    /** The semaphore of a permit, else null. */
+    final RecordedSemaphore semaphore;
+    /** Set and read by the writing thread, at the actor's first line. */
+    int number = -1;
+    /** The thread that it runs on, or that took the permit; null once it has ended. */
+    Thread thread;
+    /** Whether its last line is recorded. */
+    volatile boolean ended;
+    /** Whether it is a round for the submit of an actor that has ended. */
+    boolean isAfterEnd;
+    private final boolean isJob;
+    private final boolean hasLabel;
+    /** The number of futures that a round without a label holds. Used by its own thread. */
+    private int held;
+    /** The jobs that count as got as soon as they are done, and of a permit all its jobs; null unless shared. */
+    private Set<Job> unclaimed;
+
+    private Actor(Object source, boolean isJob, boolean hasLabel, RecordedSemaphore semaphore) {
         this.source = source;
-        this.pool = pool;
+        this.isJob = isJob;
         this.hasLabel = hasLabel;
+        this.semaphore = semaphore;
+        this.unclaimed = semaphore == null ? null : new LinkedHashSet<>();
     }
 
-    static Actor job(Object source, Pool pool) {
-        return new Actor(source, pool, true);
+    static Actor job(Object source) {
+        return new Actor(source, true, true, null);
     }
 
     static Actor round(String kind) {
-        return new Actor(kind, null, true);
+        return new Actor(kind, false, true, null);
     }
 
     static Actor roundWithoutLabel(Thread thread) {
-        return new Actor(new Names.OfThread(thread.getName()), null, false);
+        return new Actor(new Names.OfThread(thread.getName()), false, false, null);
     }
 
-    /** Of a job: the thread that offers it runs it, as by CallerRunsPolicy, and no thread of its pool. */
-    boolean isRunWhereOffered() {
-        return offering == Thread.currentThread();
+    static Actor permit(String kind, RecordedSemaphore semaphore) {
+        return new Actor(kind, false, true, semaphore);
+    }
+
+    boolean isJob() {
+        return isJob;
+    }
+
+    boolean isPermit() {
+        return semaphore != null;
     }
 
     boolean hasLabel() {
         return hasLabel;
     }
 
-    void holds(Actor job) {
+    // ---- jobs whose get the recorder cannot see
+
+    boolean isShared() {
+        return unclaimed != null;
+    }
+
+    /** Makes it shared. Called by its own thread, before another thread may know it. */
+    void share() {
+        if (unclaimed == null) {
+            unclaimed = new LinkedHashSet<>();
+        }
+    }
+
+    synchronized void addUnclaimed(Job job) {
+        unclaimed.add(job);
+    }
+
+    /** Removes a job and returns whether it was unclaimed. */
+    boolean removeUnclaimed(Job job) {
+        if (!isShared()) {
+            return false;
+        }
+        synchronized (this) {
+            return unclaimed.remove(job);
+        }
+    }
+
+    boolean hasUnclaimed() {
+        return !unclaimed().isEmpty();
+    }
+
+    List<Job> finishedUnclaimed() {
+        return unclaimed().stream().filter(job -> job.actor.ended).toList();
+    }
+
+    /** Returns whether it has unclaimed jobs and all of them are done. */
+    boolean hasOnlyFinishedUnclaimed() {
+        List<Job> jobs = unclaimed();
+        return !jobs.isEmpty() && jobs.stream().allMatch(job -> job.actor.ended);
+    }
+
+    private List<Job> unclaimed() {
+        if (!isShared()) {
+            return List.of();
+        }
+        synchronized (this) {
+            return List.copyOf(unclaimed);
+        }
+    }
+
+    // ---- rounds without a label
+
+    void hold(Job job) {
         if (!hasLabel) {
             job.holder = this;
             held++;
         }
     }
 
-    void leaves(Actor job) {
+    void release(Job job) {
         if (job.holder == this) {
             job.holder = null;
             held--;
         }
     }
 
-    /** Without a label a round is over where it holds no future. */
+    /** Returns whether it is a round without a label that has nothing left to get. */
     boolean isOver() {
-        return !hasLabel && held == 0;
+        return !hasLabel && held == 0 && !hasUnclaimed();
+    }
+
+    /** Returns whether it is a round without a label whose remaining gets would not wait. */
+    boolean isReadyToEnd() {
+        return !hasLabel && held == 0 && isShared() && (!hasUnclaimed() || hasOnlyFinishedUnclaimed());
     }
 
     @Override
     public String toString() {
-        return (pool == null ? "round " : "job ") + number;
+        return (isJob ? "job " : "round ") + number;
     }
 }

@@ -8,33 +8,97 @@ import java.util.concurrent.AbstractExecutorService;
 import java.util.concurrent.Callable;
 import java.util.concurrent.CancellationException;
 import java.util.concurrent.ExecutionException;
+import java.util.concurrent.ExecutorCompletionService;
 import java.util.concurrent.Executors;
 import java.util.concurrent.Future;
+import java.util.concurrent.RunnableFuture;
+import java.util.concurrent.ThreadPoolExecutor;
 import java.util.concurrent.TimeUnit;
 import java.util.concurrent.TimeoutException;
+import java.util.function.UnaryOperator;
 
-/** An executor whose submits are recorded, and the futures that it gives. */
+/** A recorded executor. Its futures record how a get ends. */
 final class RecordedPool extends AbstractExecutorService {
     private final Recorder recorder;
     private final Lines lines;
     private final Pool pool;
     /** The class of all jobs that are submitted here, or null. */
     private final String label;
+    private final UnaryOperator<Runnable> decorator;
+    /** The same pool for {@code invokeAny}, whose futures have no lines. */
+    private final boolean isForInvokeAny;
 
-    RecordedPool(Recorder recorder, Lines lines, Pool pool, String label) {
+    RecordedPool(Recorder recorder, Lines lines, Pool pool, String label, UnaryOperator<Runnable> decorator) {
+        this(recorder, lines, pool, label, decorator, false);
+    }
+
+    private RecordedPool(Recorder recorder, Lines lines, Pool pool, String label, UnaryOperator<Runnable> decorator, boolean isForInvokeAny) {
         this.recorder = recorder;
         this.lines = lines;
         this.pool = pool;
         this.label = label;
+        this.decorator = decorator;
+        this.isForInvokeAny = isForInvokeAny;
     }
 
     RecordedPool labelled(String other) {
-        return new RecordedPool(recorder, lines, pool, Objects.requireNonNull(other));
+        return new RecordedPool(recorder, lines, pool, Objects.requireNonNull(other), decorator);
     }
+
+    ThreadPoolExecutor executor() {
+        return pool.executor;
+    }
+
+    // ---- submits
 
     @Override
     public void execute(Runnable task) {
-        offer(new RecordedCommand(recorder, job(task), task), false);
+        Job announced = takeAnnounced(task);
+        Stages.Stage stage = recorder.stages().of(task);
+        if (announced != null) {
+            offer(announced, isForInvokeAny ? new RecordedCommand(recorder, announced, task) : task, false);
+        } else if (stage != null) {
+            offer(stage);
+        } else {
+            Job job = job(task);
+            offer(job, new RecordedCommand(recorder, job, task), false);
+        }
+    }
+
+    /** Makes the future of a task that the same thread submits next by {@code execute}, as ExecutorCompletionService does. */
+    @Override
+    protected <T> RunnableFuture<T> newTaskFor(Callable<T> call) {
+        Job job = job(call);
+        recorder.state().announced = job;
+        if (isForInvokeAny) {
+            return super.newTaskFor(call);
+        }
+        job.isGotWhenDone = true;
+        return new RecordedTask<>(recorder, lines, job, call);
+    }
+
+    @Override
+    protected <T> RunnableFuture<T> newTaskFor(Runnable task, T value) {
+        Job job = job(task);
+        recorder.state().announced = job;
+        if (isForInvokeAny) {
+            return super.newTaskFor(task, value);
+        }
+        job.isGotWhenDone = true;
+        return new RecordedTask<>(recorder, lines, job, Executors.callable(task, value));
+    }
+
+    /** Returns the job of the future that this task runs, if {@code newTaskFor} made it on this thread, else null. */
+    private Job takeAnnounced(Runnable task) {
+        ThreadState state = recorder.state();
+        Job announced = state.announced;
+        if (announced == null) {
+            return null;
+        }
+        state.announced = null;
+        boolean runsIt = task instanceof RecordedTask<?> recorded ? recorded.job() == announced
+                : task.getClass().getEnclosingClass() == ExecutorCompletionService.class;
+        return runsIt ? announced : null;
     }
 
     @Override
@@ -56,24 +120,56 @@ final class RecordedPool extends AbstractExecutorService {
         return new RecordedTask<>(recorder, lines, job(task), task);
     }
 
-    private Actor job(Object task) {
+    private Job job(Object task) {
         Objects.requireNonNull(task);
-        return Actor.job(label == null ? Labelled.sourceOf(task) : label, pool);
+        return new Job(label == null ? Labelled.sourceOf(task) : label, pool);
     }
 
     private <T> Future<T> submitted(RecordedTask<T> task) {
-        offer(task, true);
+        offer(task.job(), task, true);
         return task;
     }
 
-    /** The line of the submit has its place before the executor is asked, and the line of a refusal before this returns. */
-    private <T extends Runnable & Recorded> void offer(T task, boolean isHeld) {
-        Actor actor = recorder.actor();
-        Actor job = task.job();
-        pool.look();
-        lines.submits(actor, job);
+    private void offer(Job job, Runnable task, boolean isHeld) {
+        Runnable decorated = decorate(job, task);
+        offer(job, decorated, recorder.submitter(), List.of(), isHeld);
+    }
+
+    /** Offers a stage for the actor that built its chain. */
+    private void offer(Stages.Stage stage) {
+        Job job = job(stage.function());
+        job.isStage = true;
+        job.isGotWhenDone = true;
+        recorder.stages().attach(stage, job);
+        Runnable decorated = decorate(job, new RecordedCommand(recorder, job, (Runnable) stage.completion()));
+        Job here = recorder.state().job;
+        List<Job> sources = new ArrayList<>(stage.sources());
+        if (here != null && here.isStage && here.actor.ended && !sources.contains(here)) {
+            // the thread completed a stage and now starts those that depend on it
+            sources.add(here);
+        }
+        Actor submitter = sources.isEmpty() ? recorder.submitter() : sources.get(0).submitter;
+        if (sources.isEmpty() && stage.isDependent()) {
+            List<Job> finished = submitter.finishedUnclaimed();
+            if (finished.size() == 1) {
+                // the source is a stage in no pool, and comes after the only job that is done
+                sources.addAll(finished);
+            }
+        }
+        offer(job, decorated, submitter, sources, false);
+    }
+
+    private Runnable decorate(Job job, Runnable task) {
+        Runnable decorated = decorator.apply(task);
+        return decorated instanceof Recorded ? decorated : new WrappedTask(job, decorated);
+    }
+
+    /** Offers a job to the executor. The line of the submit comes before that, and the line of a refusal before this returns. */
+    private void offer(Job job, Runnable task, Actor submitter, List<Job> sources, boolean isHeld) {
+        pool.recordChanges();
+        Actor actor = recorder.submit(submitter, sources, job);
         if (isHeld) {
-            actor.holds(job);
+            actor.hold(job);
         }
         job.offered = true;
         job.offering = Thread.currentThread();
@@ -83,14 +179,13 @@ final class RecordedPool extends AbstractExecutorService {
             offered = true;
         } finally {
             if (!offered && !job.refused) {
-                recorder.refused(job);
+                recorder.recordRefusal(job);
             }
-            job.offering = null;
-            recorder.endIfOver(actor);
+            recorder.endSubmit(actor, job);
         }
     }
 
-    // ---- all of some tasks, or any
+    // ---- invokeAll and invokeAny
 
     @Override
     public <T> List<Future<T>> invokeAll(Collection<? extends Callable<T>> tasks) throws InterruptedException {
@@ -161,38 +256,42 @@ final class RecordedPool extends AbstractExecutorService {
 
     @Override
     public <T> T invokeAny(Collection<? extends Callable<T>> tasks) throws InterruptedException, ExecutionException {
-        invokesAny();
-        return super.invokeAny(tasks);
+        if (isForInvokeAny) {
+            return super.invokeAny(tasks);
+        }
+        recorder.recordInvokeAny(pool);
+        return forInvokeAny().invokeAny(tasks);
     }
 
     @Override
     public <T> T invokeAny(Collection<? extends Callable<T>> tasks, long timeout, TimeUnit unit)
             throws InterruptedException, ExecutionException, TimeoutException {
-        invokesAny();
-        return super.invokeAny(tasks, timeout, unit);
+        if (isForInvokeAny) {
+            return super.invokeAny(tasks, timeout, unit);
+        }
+        recorder.recordInvokeAny(pool);
+        return forInvokeAny().invokeAny(tasks, timeout, unit);
     }
 
-    private void invokesAny() {
-        Actor actor = recorder.actor();
-        lines.invokesAny(actor, pool);
-        recorder.endIfOver(actor);
+    private RecordedPool forInvokeAny() {
+        return new RecordedPool(recorder, lines, pool, label, decorator, true);
     }
 
-    // ---- its end
+    // ---- shutdown
 
     @Override
     public void shutdown() {
-        lines.shutsDown(pool);
+        lines.shutdown(pool);
         pool.executor.shutdown();
     }
 
     @Override
     public List<Runnable> shutdownNow() {
-        lines.shutsDown(pool);
+        lines.shutdown(pool);
         List<Runnable> taken = pool.executor.shutdownNow();
         for (Runnable task : taken) {
             if (task instanceof Recorded recorded) {
-                lines.removes(recorded.job());
+                lines.remove(recorded.job());
             }
         }
         return taken;

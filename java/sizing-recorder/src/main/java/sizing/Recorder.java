@@ -6,11 +6,14 @@ import java.nio.charset.StandardCharsets;
 import java.nio.file.Files;
 import java.nio.file.Path;
 import java.util.LinkedHashMap;
+import java.util.List;
 import java.util.Map;
 import java.util.Objects;
 import java.util.concurrent.Callable;
 import java.util.concurrent.ExecutorService;
+import java.util.concurrent.Semaphore;
 import java.util.concurrent.ThreadPoolExecutor;
+import java.util.function.UnaryOperator;
 
 /**
  * Records what a service does with its pools, as the lines of docs/RECORDING.md.
@@ -26,23 +29,56 @@ import java.util.concurrent.ThreadPoolExecutor;
  * }
  * }</pre>
  *
- * <p>Submit through what {@link #pool} gives, and through nothing else: the executor itself records nothing.
+ * <p>Submit through what {@link #pool(String, ThreadPoolExecutor) pool} returns. The executor itself records nothing.
  *
- * <p><b>What it costs.</b> Each line is one entry in a lock-free queue: an allocation and a compare-and-set by the thread that
- * does it. No lock is taken there, around none of the executor's calls either, and nothing is waited for; a thread of the
- * recorder's own (a daemon, {@code recorder}) makes the words and writes. A job that is submitted and got has four lines, and
- * a few small objects; a submit also reads four volatile fields of the executor, to see whether its sizes changed. The queue
- * has no bound: where the writer is slower than the service for long, memory fills. Threads that record meet at the end of
- * that queue, so under a recorder they may meet in another order than without; each order can happen without, too.
+ * <p><b>Stages of CompletableFutures.</b> The recorder sees that {@code supplyAsync(.., pool)}, {@code thenApplyAsync(.., pool)} and
+ * the other stages on a recorded pool belong to one chain, and when they are got, if the JVM runs with
+ * {@code --add-opens java.base/java.util.concurrent=ALL-UNNAMED} ({@code =sizing} on the module path). Without that option it logs
+ * one warning, and each stage is a submit that nobody gets. The option gives it access to private fields of the JDK. It was tried
+ * on OpenJDK 17 only; if another JDK has other fields, the recorder logs the same warning.
  *
- * <p>Of one actor, a job or a round, the lines are in its order (docs/RECORDING.md, "Order").
+ * <p>A stage is submitted by the round, job or permit that built the chain, after the get of the stage before it. A get of a stage
+ * ({@code join}, {@code get}, {@code allOf(..).join()}) is recorded as the stage ends if its submitter waits for it at that moment,
+ * and else at the end of the submitter, where a get of a job that is done would not wait. So a future that nobody joins is not
+ * noticed if its job happens to be done by the end of the round. A stage that is submitted after the end of its round is recorded
+ * as a round of kind {@code KIND_after_end}, which no plan has.
  *
- * <p>It puts a handler of its own around the executor's handler, until it is closed.
+ * <p><b>Cost.</b> Each line is one entry in a lock-free queue: one allocation and one compare-and-set on the thread that acts. A
+ * daemon thread of the recorder formats and writes the lines. No lock is taken for jobs that are submitted and got, except by jobs
+ * and rounds that have stages or jobs of an {@code ExecutorCompletionService}, and by permits: these take a lock of their own for
+ * each such job, which no other actor uses. A stage also takes the lock of one map. The queue of lines has no bound: if the writer
+ * is slower than the service for long, memory fills. Threads that record meet at the end of that queue, so they may meet in another
+ * order than without a recorder; each such order can happen without one, too.
+ *
+ * <p>The lines of one actor are in its own order (docs/RECORDING.md, "Order").
+ *
+ * <p>Until it is closed, the recorder puts a handler of its own around the executor's handler.
  */
 public final class Recorder implements AutoCloseable {
+    private static final String AFTER_END = "_after_end";
     private final Lines lines;
     private final Map<String, Pool> pools = new LinkedHashMap<>();
-    private final ThreadLocal<Actor> current = new ThreadLocal<>();
+    private final ThreadLocal<ThreadState> threads = ThreadLocal.withInitial(ThreadState::new);
+    private final Stages stages = new Stages(this);
+
+    /** A task with a value. As an overload of its own it makes {@code label("x", this::overloaded)} unambiguous. */
+    @FunctionalInterface
+    public interface Task<V> extends Callable<V>, Runnable {
+        @Override
+        V call() throws Exception;
+
+        /** Runs the task and drops its value. */
+        @Override
+        default void run() {
+            try {
+                call();
+            } catch (RuntimeException unchecked) {
+                throw unchecked;
+            } catch (Exception checked) {
+                throw new IllegalStateException(checked);
+            }
+        }
+    }
 
     private Recorder(Writer writer) {
         lines = new Lines(writer);
@@ -53,70 +89,110 @@ public final class Recorder implements AutoCloseable {
         return new Recorder(Objects.requireNonNull(writer));
     }
 
-    /** Records to a new file, or in place of an old one. */
+    /** Records to a file, which is created or overwritten. */
     public static Recorder toFile(Path file) throws IOException {
         return new Recorder(Files.newBufferedWriter(file, StandardCharsets.US_ASCII));
     }
 
     /**
-     * The executor as it is to be used from now on, so that what is done with it is recorded. Its threads that are there are
-     * recorded as prestarted, so call it after {@code prestartAllCoreThreads} and before the first submit.
+     * Returns a view of the executor that records what is done with it. Threads that the executor has already are recorded as
+     * prestarted, so call this after {@code prestartAllCoreThreads} and before the first submit.
      *
-     * @throws IllegalArgumentException where this executor is recorded already, or here one whose name becomes the same
+     * @throws IllegalArgumentException if the executor is recorded already, or if the recorder has a pool of the same name
      */
     public ExecutorService pool(String name, ThreadPoolExecutor executor) {
-        String lawful = Names.of(name);
+        return pool(name, executor, UnaryOperator.identity());
+    }
+
+    /**
+     * Returns a view of the executor that records what is done with it. The decorator is applied to each task on the thread that
+     * submits it, before the submit is recorded, as Spring's {@code TaskDecorator} is. So it may acquire a permit.
+     *
+     * @throws IllegalArgumentException if the executor is recorded already, or if the recorder has a pool of the same name
+     */
+    public ExecutorService pool(String name, ThreadPoolExecutor executor, UnaryOperator<Runnable> decorator) {
+        String poolName = Names.of(name);
         synchronized (pools) {
-            if (pools.containsKey(lawful) || executor.getRejectedExecutionHandler() instanceof NotedHandler) {
-                throw new IllegalArgumentException("pool " + lawful + " is recorded already");
+            if (pools.containsKey(poolName)) {
+                throw new IllegalArgumentException("pool " + poolName + " is recorded already");
             }
-            Pool pool = new Pool(lawful, executor, this, lines);
-            pools.put(lawful, pool);
-            return new RecordedPool(this, lines, pool, null);
+            if (executor.getRejectedExecutionHandler() instanceof NotedHandler) {
+                throw new IllegalArgumentException("the executor of pool " + poolName + " is recorded already");
+            }
+            Pool pool = new Pool(poolName, executor, this, lines);
+            pools.put(poolName, pool);
+            return new RecordedPool(this, lines, pool, null, decorator);
         }
     }
 
     /**
-     * Begins a round of a client of this kind, on the thread that calls: put it around a request, or around one run of a
-     * scheduled task. Within a job, or within another round, it is a part of that and has no lines.
+     * Begins a round of a client of this kind on the calling thread. Put it around a request, or around one run of a scheduled task.
+     * Within a job or another round it has no effect.
      *
-     * <p>A thread that submits or gets outside a round has rounds without a label: each begins with what it does first, and ends
-     * where all futures that it holds were got. Their kind is the thread's name without its digits.
+     * <p>A thread that submits or gets outside a round has rounds without a label. Each begins with the first action and ends when
+     * all futures that it holds were got. Its kind is the name of the thread without digits.
      */
     public Round round(String kind) {
-        Actor around = current.get();
-        if (around != null && around.hasLabel()) {
+        Objects.requireNonNull(kind);
+        ThreadState state = threads.get();
+        if (state.actor != null && state.actor.hasLabel()) {
             return new Round(this, null);
         }
-        if (around != null) {
-            lines.ends(around);
+        if (state.actor != null) {
+            end(state.actor);
         }
-        return new Round(this, begun(Actor.round(Objects.requireNonNull(kind))));
+        return new Round(this, begin(state, Actor.round(kind)));
     }
 
-    /** The task as a job of this class. (For {@code execute} give a lambda that has a value its braces: else it is a Callable.) */
+    /**
+     * Returns a semaphore whose permits are clients of the plan: {@code acquire} begins a round of this kind, and {@code release}
+     * ends it. The next submit of the thread that holds a permit belongs to the permit, as long as no other job of the permit is
+     * open. To the plan the permit gets its job when it is released, and a {@code get} of the job by a round is no action.
+     *
+     * <p>The permit that a {@code release} gives back is that of the job that runs on the thread, and the job's last line comes
+     * before it; else that of the job that ran there last, as in {@code afterExecute}; else one that the thread acquired; else any
+     * whose jobs are done. A bulkhead with two open jobs at a time needs a {@link #round} inside in place of this: its second submit
+     * would be recorded as the thread's own.
+     */
+    public Semaphore permits(String kind, int permits) {
+        return permits(kind, permits, false);
+    }
+
+    /** Returns the same as {@link #permits(String, int)}, with the fairness that {@link Semaphore} defines. */
+    public Semaphore permits(String kind, int permits, boolean fair) {
+        return new RecordedSemaphore(this, Objects.requireNonNull(kind), permits, fair);
+    }
+
+    /** Returns the task with the label as the class of its jobs. */
     public static Runnable label(String label, Runnable task) {
         return new Labelled.Command(Objects.requireNonNull(label), Objects.requireNonNull(task));
     }
 
-    /** The task as a job of this class. */
+    /** Returns the task with the label as the class of its jobs. */
     public static <V> Callable<V> label(String label, Callable<V> task) {
         return new Labelled.Call<>(Objects.requireNonNull(label), Objects.requireNonNull(task));
     }
 
     /**
-     * The same pool, whose tasks are jobs of this class: for {@code CompletableFuture.supplyAsync(.., pool)} and its like, which
-     * put tasks of their own around what they are given. A pool that is not recorded is given back as it is.
+     * Returns the task with the label as the class of its jobs. A lambda that may be a {@code Runnable} or a {@code Callable} is
+     * this, so for {@code execute} write the lambda's body in braces.
+     */
+    public static <V> Callable<V> label(String label, Task<V> task) {
+        return new Labelled.Call<>(Objects.requireNonNull(label), Objects.requireNonNull(task));
+    }
+
+    /**
+     * Returns a view of the pool whose jobs all have the label as their class: for {@code CompletableFuture.supplyAsync(.., pool)}
+     * and others that wrap the tasks that they are given. Returns a pool that is not recorded unchanged.
      */
     public static ExecutorService label(String label, ExecutorService pool) {
         return pool instanceof RecordedPool recorded ? recorded.labelled(label) : pool;
     }
 
     /**
-     * Ends the recording, and waits until it is written; only the thread that calls this waits. The pools go on, and what they do
-     * is recorded no more.
+     * Ends the recording and waits until it is written. Only the calling thread waits. The pools keep working, unrecorded.
      *
-     * @throws IOException where the writer failed: the recording is cut off there
+     * @throws IOException if the writer failed: the recording is cut off there
      */
     @Override
     public void close() throws IOException {
@@ -126,78 +202,273 @@ public final class Recorder implements AutoCloseable {
         lines.close();
     }
 
-    // ---- who acts
+    // ---- actors
 
-    /** The job that runs on this thread, else its round, which begins here where there is none. */
-    Actor actor() {
-        Actor actor = current.get();
-        return actor == null ? begun(Actor.roundWithoutLabel(Thread.currentThread())) : actor;
+    ThreadState state() {
+        return threads.get();
     }
 
-    private Actor begun(Actor round) {
-        current.set(round);
-        lines.begins(round);
+    Stages stages() {
+        return stages;
+    }
+
+    /** Returns what acts on this thread: its job or its round, else a round without a label that begins here. */
+    Actor actor() {
+        ThreadState state = threads.get();
+        Actor actor = state.actor;
+        if (actor != null && !actor.ended && actor.isReadyToEnd()) {
+            end(actor);
+        }
+        return actor == null || actor.ended ? begin(state, Actor.roundWithoutLabel(Thread.currentThread())) : actor;
+    }
+
+    /** Returns the actor of the thread's next submit: a permit that it holds and that has no open job, else what acts here. */
+    Actor submitter() {
+        Actor permit = threads.get().freePermit();
+        return permit == null ? actor() : permit;
+    }
+
+    private Actor begin(ThreadState state, Actor round) {
+        round.thread = Thread.currentThread();
+        state.actor = round;
+        lines.begin(round);
         return round;
     }
 
-    /** A round without a label is over as soon as it holds no future. */
+    /** Ends a round without a label if it has nothing left to get. */
     void endIfOver(Actor actor) {
-        if (actor.isOver() && current.get() == actor) {
+        ThreadState state = threads.get();
+        if (state.actor == actor && actor.isOver()) {
             end(actor);
+            state.actor = null;
         }
     }
 
     private void end(Actor round) {
-        lines.ends(round);
-        current.remove();
+        end(round, () -> lines.end(round));
     }
 
-    /** Whoever acted on this thread before the job. */
-    Actor starts(Actor job) {
-        Actor before = current.get();
-        job.started = true;
-        current.set(job);
-        lines.starts(job);
-        job.pool.look();
-        return before;
-    }
-
-    void isDone(Actor job, String word, Actor before) {
-        job.pool.look();
-        lines.isDone(job, word);
-        if (before == null) {
-            current.remove();
+    private void end(Actor actor, Runnable lastLine) {
+        if (actor.isShared()) {
+            synchronized (actor) {
+                actor.finishedUnclaimed().forEach(job -> claim(actor, job));
+                lastLine.run();
+                actor.ended = true;
+            }
         } else {
-            current.set(before);
+            lastLine.run();
+            actor.ended = true;
+        }
+        actor.thread = null;
+    }
+
+    // ---- jobs
+
+    /** Records the start of a job on this thread. */
+    void start(Job job) {
+        ThreadState state = threads.get();
+        job.started = true;
+        job.outerActor = state.actor;
+        job.outerJob = state.job;
+        job.actor.thread = Thread.currentThread();
+        state.actor = job.actor;
+        state.job = job;
+        state.lastJob = null;
+        lines.start(job);
+        job.pool.recordChanges();
+    }
+
+    /** Records the end of the job that runs on this thread. */
+    void finish(Job job, String word) {
+        end(job, word);
+        ThreadState state = threads.get();
+        Actor now = state.actor;
+        if (now != null && now != job.actor && !now.hasLabel() && !now.ended) {
+            // a round without a label that began after the job's last line
+            end(now);
+        }
+        state.actor = job.outerActor;
+        state.job = job.outerJob;
+        state.lastJob = job;
+        job.outerActor = null;
+        job.outerJob = null;
+    }
+
+    /** Adds the last line of a job, unless it has one. */
+    private void end(Job job, String word) {
+        if (!job.actor.ended) {
+            job.pool.recordChanges();
+            end(job.actor, () -> lines.finish(job, word));
         }
     }
 
-    // ---- what it does
+    /** Ends a stage whose function has returned, before its future is done. */
+    void endStage(Job job, Stages.Stage stage) {
+        end(job, "end");
+        Actor submitter = job.submitter;
+        Thread waiting = submitter.thread;
+        boolean isAwaited = stages.recordDependents(stage, job, waiting);
+        if (isAwaited) {
+            claim(submitter, job);
+        }
+    }
 
-    /** What this thread did with the future of a job: `got`, `timeout`, `interrupted` or `cancel`. */
-    void tells(String word, Actor job) {
+    // ---- submits
+
+    /**
+     * Records a submit and returns its actor. Sources are jobs that a stage comes after: they are got before it. If the submitter
+     * has ended, the submit is that of a new round.
+     */
+    Actor submit(Actor submitter, List<Job> sources, Job job) {
+        if (job.isGotWhenDone) {
+            submitter.share();
+        }
+        Actor actor = submitter;
+        if (!actor.isShared()) {
+            lines.submit(actor, job);
+        } else if (!submitFromShared(actor, sources, job)) {
+            actor = Actor.round(Names.of(submitter.source) + AFTER_END);
+            actor.isAfterEnd = true;
+            actor.share();
+            lines.begin(actor);
+            submitFromShared(actor, List.of(), job);
+        }
+        job.submitter = actor;
+        return actor;
+    }
+
+    /** Returns false if the actor has ended. */
+    private boolean submitFromShared(Actor actor, List<Job> sources, Job job) {
+        synchronized (actor) {
+            if (actor.ended) {
+                return false;
+            }
+            sources.forEach(source -> claim(actor, source));
+            if (actor.isPermit() || job.isGotWhenDone) {
+                actor.addUnclaimed(job);
+            }
+            lines.submit(actor, job);
+            return true;
+        }
+    }
+
+    /** Records the get of a job that is done, unless its submitter got it before. */
+    private void claim(Actor submitter, Job job) {
+        synchronized (submitter) {
+            if (!submitter.ended && job.actor.ended && submitter.removeUnclaimed(job)) {
+                lines.action(submitter, "got", job);
+            }
+        }
+    }
+
+    /** Ends what {@link #submit} began, once the executor has answered. */
+    void endSubmit(Actor submitter, Job job) {
+        job.offering = null;
+        if (!submitter.isShared()) {
+            // the job keeps no reference to its submitter, so a job that submits the next one does not keep all before it
+            job.submitter = null;
+        }
+        if (submitter.isAfterEnd) {
+            end(submitter);
+        } else {
+            endIfOver(submitter);
+        }
+    }
+
+    /** Records a refusal. Called by the executor's handler; only the thread that offers the job records it. */
+    void recordRefusal(Job job) {
+        if (job.offering == Thread.currentThread()) {
+            job.refused = true;
+            Actor actor = job.submitter;
+            actor.removeUnclaimed(job);
+            lines.action(actor, "refused", job);
+            actor.release(job);
+        }
+    }
+
+    void recordInvokeAny(Pool pool) {
+        Actor actor = actor();
+        lines.invokeAny(actor, pool);
+        endIfOver(actor);
+    }
+
+    // ---- futures
+
+    /** Records how a get of a job by this thread ended: `got`, `timeout` or `interrupted`. */
+    void recordGet(String word, Job job, boolean hasTimeout) {
         if (!job.offered) {
             return;
         }
-        Actor actor = actor();
-        lines.tells(actor, word, job);
-        if (word.equals("got") || word.equals("cancel")) {
-            actor.leaves(job);
+        Actor submitter = job.submitter;
+        if (submitter != null && submitter.isPermit()) {
+            recordGetFromPermit(submitter, word, job, hasTimeout);
+            return;
+        }
+        boolean isOwn = submitter != null && submitter == threads.get().actor && !submitter.ended;
+        Actor actor = isOwn ? submitter : actor();
+        lines.action(actor, word, job);
+        if (word.equals("got")) {
+            actor.removeUnclaimed(job);
+            actor.release(job);
         }
         endIfOver(actor);
     }
 
-    /** Called by the executor's handler: only the thread that is offering the job tells of it. */
-    void refused(Actor job) {
-        if (job.offering == Thread.currentThread()) {
-            job.refused = true;
-            Actor actor = actor();
-            lines.tells(actor, "refused", job);
-            actor.leaves(job);
+    /** To the plan the permit gets its job, and a round that waits for it meanwhile does nothing. A job may not wait for it. */
+    private void recordGetFromPermit(Actor permit, String word, Job job, boolean hasTimeout) {
+        ThreadState state = threads.get();
+        if (word.equals("got") && state.permits.contains(permit)) {
+            claim(permit, job);
+        } else if (!hasTimeout && state.actor != null && state.actor.isJob() && !state.actor.ended) {
+            lines.action(state.actor, word, job);
         }
     }
 
-    /** One round of a client, up to its {@link #close}. */
+    void recordCancel(Job job) {
+        if (job.offered) {
+            Actor actor = actor();
+            lines.action(actor, "cancel", job);
+            actor.release(job);
+            endIfOver(actor);
+        }
+    }
+
+    // ---- permits
+
+    void acquire(Actor permit) {
+        permit.thread = Thread.currentThread();
+        permit.semaphore.taken.add(permit);
+        lines.begin(permit);
+        threads.get().permits.push(permit);
+    }
+
+    /** Ends the round of the permit that this thread gives back. */
+    void release(RecordedSemaphore semaphore) {
+        ThreadState state = threads.get();
+        Actor permit = permitOf(state.job, semaphore);
+        if (permit != null) {
+            end(state.job, "end");
+        } else {
+            permit = permitOf(state.lastJob, semaphore);
+        }
+        if (permit == null) {
+            permit = semaphore.choose(state.permits);
+        }
+        if (permit == null) {
+            permit = semaphore.choose(semaphore.taken);
+        }
+        if (permit != null && semaphore.taken.remove(permit)) {
+            state.permits.remove(permit);
+            end(permit);
+        }
+    }
+
+    private static Actor permitOf(Job job, RecordedSemaphore semaphore) {
+        Actor permit = job == null ? null : job.submitter;
+        return permit != null && permit.semaphore == semaphore && !permit.ended ? permit : null;
+    }
+
+    /** One round of a client, until {@link #close}. */
     public static final class Round implements AutoCloseable {
         private final Recorder recorder;
         private Actor round;
@@ -207,14 +478,16 @@ public final class Recorder implements AutoCloseable {
             this.round = round;
         }
 
-        /** @throws IllegalStateException on another thread than that which began it */
+        /** @throws IllegalStateException on another thread than the one that began the round */
         @Override
         public void close() {
             if (round != null) {
-                if (recorder.current.get() != round) {
+                ThreadState state = recorder.state();
+                if (state.actor != round) {
                     throw new IllegalStateException("a round is closed by the thread that began it");
                 }
                 recorder.end(round);
+                state.actor = null;
                 round = null;
             }
         }

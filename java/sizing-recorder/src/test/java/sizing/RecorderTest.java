@@ -1,6 +1,7 @@
 package sizing;
 
 import static org.junit.jupiter.api.Assertions.assertEquals;
+import static org.junit.jupiter.api.Assertions.assertTrue;
 import static org.junit.jupiter.api.Assertions.assertNull;
 import static sizing.RecordingAssertions.assertLines;
 import static sizing.RecordingAssertions.thrownBy;
@@ -13,6 +14,7 @@ import java.nio.file.Path;
 import java.util.List;
 import java.util.concurrent.ArrayBlockingQueue;
 import java.util.concurrent.BlockingQueue;
+import java.util.concurrent.Callable;
 import java.util.concurrent.CompletableFuture;
 import java.util.concurrent.CountDownLatch;
 import java.util.concurrent.ExecutorService;
@@ -24,6 +26,7 @@ import java.util.concurrent.ThreadPoolExecutor;
 import java.util.concurrent.TimeUnit;
 import java.util.concurrent.atomic.AtomicBoolean;
 import org.junit.jupiter.api.Test;
+import org.junit.jupiter.api.function.Executable;
 
 /** Pools, jobs, rounds and labels. */
 class RecorderTest {
@@ -87,7 +90,7 @@ class RecorderTest {
         ThreadPoolExecutor executor = Recording.executor(1, 1, 1);
         recording.pool("Web Pool", executor);
         assertEquals("IllegalArgumentException: pool web_pool is recorded already", thrownBy(() -> recording.pool("web_pool")));
-        assertEquals("IllegalArgumentException: pool db is recorded already", thrownBy(() -> recording.pool("db", executor)));
+        assertEquals("IllegalArgumentException: the executor of pool db is recorded already", thrownBy(() -> recording.pool("db", executor)));
         assertEquals(3, recording.lines().size());
     }
 
@@ -362,8 +365,51 @@ class RecorderTest {
             CompletableFuture.supplyAsync(() -> 1, pool).join();
         }
         assertEquals(List.of(
-                "round 0 begin nightly_run_2", "round 0 submit 0 price_query p", "round 0 got 0", "round 0 submit 1 stock p", "round 0 got 1",
-                "round 0 submit 2 tax p", "round 0 got 2", "round 0 submit 3 tax p", "round 0 submit 4 async_supply p", "round 0 end"), recording.acts().stream().filter(line -> line.startsWith("round")).toList());
+                "round 0 begin nightly_run_2", "round 0 submit 0 price_query p", "round 0 submit 1 stock p", "round 0 submit 2 tax p",
+                "round 0 submit 3 tax p", "round 0 submit 4 recorder_test p"),
+                recording.acts().stream().filter(line -> line.contains(" begin ") || line.contains(" submit ")).toList());
+    }
+
+    private int overloaded() {
+        return 7;
+    }
+
+    private int overloaded(int number) {
+        return number;
+    }
+
+    private void nothing() {}
+
+    @Test
+    void labelsTakeMethodReferencesLambdasAndVariables() throws Exception {
+        ThreadPoolExecutor executor = Recording.executor(1, 1, 9);
+        Callable<Integer> call = () -> 7;
+        Runnable command = () -> {};
+        assertEquals(7, executor.submit(Recorder.label("a", this::overloaded)).get());
+        assertEquals(7, executor.submit(Recorder.label("a", () -> overloaded(7))).get());
+        assertEquals(7, executor.submit(Recorder.label("a", call)).get());
+        executor.execute(Recorder.label("a", command));
+        executor.execute(Recorder.label("a", this::nothing));
+        executor.execute(Recorder.label("a", () -> {
+            nothing();
+        }));
+        executor.shutdown();
+        assertTrue(executor.awaitTermination(60, TimeUnit.SECONDS));
+    }
+
+    @Test
+    void theMessageOfARefusalNamesTheClassAndThePool() throws Exception {
+        Recording recording = new Recording();
+        ThreadPoolExecutor executor = Recording.executor(1, 1, 1);
+        ExecutorService pool = recording.pool("web", executor);
+        executor.shutdown();
+        for (Executable submit : List.<Executable>of(() -> pool.submit(Recorder.label("price", () -> 1)),
+                () -> pool.execute(Recorder.label("price", () -> {})),
+                () -> CompletableFuture.runAsync(() -> {}, Recorder.label("price", pool)).join())) {
+            String message = thrownBy(submit);
+            assertTrue(message.contains("Task job of class price in pool web rejected from"), message);
+        }
+        recording.lines();
     }
 
     @Test

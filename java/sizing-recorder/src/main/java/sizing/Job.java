@@ -1,0 +1,43 @@
+package sizing;
+
+/** A task that is submitted to a recorded pool. */
+final class Job {
+    /** The job as an actor, while it runs. */
+    final Actor actor;
+    final Pool pool;
+    /** Whether it is a stage of a {@code CompletableFuture} whose fields are readable. */
+    boolean isStage;
+    /** Whether it counts as got once it is done: nothing shows that its submitter waits for it. */
+    boolean isGotWhenDone;
+    /** The actor that submitted it, while it is offered; afterwards only if that actor is shared. */
+    Actor submitter;
+    /** The round without a label that holds its future. A round finds itself here, or any other value. */
+    Actor holder;
+    /** Whether it was submitted. No other thread sees a future that never was. */
+    boolean offered;
+    /** The thread that offers it, or null. Other threads may see an older value, and never themselves in it. */
+    Thread offering;
+    /** Whether a line says that it was refused. Used by the thread that offers it. */
+    boolean refused;
+    /** Whether it began to run. Used by the thread that runs it. */
+    boolean started;
+    /** What acted and ran on its thread before it, while it runs. */
+    Actor outerActor;
+    Job outerJob;
+
+    Job(Object source, Pool pool) {
+        this.actor = Actor.job(source);
+        this.pool = pool;
+    }
+
+    /** Returns whether the thread that offers it also runs it, as CallerRunsPolicy does. */
+    boolean isRunByItsOfferer() {
+        return offering == Thread.currentThread();
+    }
+
+    /** Returns its class and pool, for the message of a refusal. */
+    @Override
+    public String toString() {
+        return "job of class " + Names.of(actor.source) + " in pool " + pool.name;
+    }
+}

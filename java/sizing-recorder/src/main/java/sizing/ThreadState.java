@@ -1,0 +1,28 @@
+package sizing;
+
+import java.util.ArrayDeque;
+import java.util.Deque;
+
+/** What a recorder knows of one thread. */
+final class ThreadState {
+    /** What acts on the thread, or null. */
+    Actor actor;
+    /** The job that runs on the thread, or null. */
+    Job job;
+    /** The job that ran on it before, until the next one starts. */
+    Job lastJob;
+    /** A job that {@code newTaskFor} made and that the next {@code execute} submits, or null. */
+    Job announced;
+    /** The permits that the thread acquired, the latest first, without those that it is known to have given back. */
+    final Deque<Actor> permits = new ArrayDeque<>(2);
+
+    /** Returns the permit for the thread's next submit: the latest that has no open job, else null. */
+    Actor freePermit() {
+        if (permits.isEmpty()) {
+            return null;
+        }
+        permits.removeIf(permit -> permit.ended);
+        Actor permit = permits.peek();
+        return permit != null && !permit.hasUnclaimed() ? permit : null;
+    }
+}

@@ -1,0 +1,49 @@
+package sizing;
+
+import static org.junit.jupiter.api.Assertions.assertEquals;
+import static org.junit.jupiter.api.Assertions.assertTrue;
+import static sizing.RecordingAssertions.assertLines;
+
+import java.io.StringWriter;
+import java.nio.charset.StandardCharsets;
+import java.nio.file.Path;
+import java.util.List;
+import java.util.concurrent.CompletableFuture;
+import java.util.concurrent.ExecutorService;
+import java.util.concurrent.ThreadPoolExecutor;
+import java.util.concurrent.TimeUnit;
+import org.junit.jupiter.api.Test;
+
+/** A JVM in which {@code java.util.concurrent} is not open to the recorder. */
+class ClosedPackageTest {
+    /** Records two chains and prints the lines of the actors. */
+    public static void main(String[] none) throws Exception {
+        StringWriter text = new StringWriter();
+        Recorder recorder = Recorder.to(text);
+        ThreadPoolExecutor executor = Recording.executor(1, 1, 9);
+        ExecutorService pool = recorder.pool("p", executor);
+        for (int turn = 0; turn < 2; turn++) {
+            CompletableFuture.supplyAsync(() -> 1, pool).join();
+        }
+        executor.shutdown();
+        executor.awaitTermination(60, TimeUnit.SECONDS);
+        recorder.close();
+        text.toString().lines().filter(line -> line.startsWith("round ")).forEach(System.out::println);
+    }
+
+    @Test
+    void stagesAreSubmitsWithoutGetsAndOneWarningIsLogged() throws Exception {
+        String classes = System.getProperty("sizing.classes", System.getProperty("java.class.path"));
+        Process java = new ProcessBuilder(Path.of(System.getProperty("java.home"), "bin", "java").toString(), "-XX:TieredStopAtLevel=1",
+                "-cp", classes, ClosedPackageTest.class.getName()).start();
+        String lines = new String(java.getInputStream().readAllBytes(), StandardCharsets.UTF_8);
+        String log = new String(java.getErrorStream().readAllBytes(), StandardCharsets.UTF_8);
+        assertEquals(0, java.waitFor(), log);
+        assertLines(lines.lines().toList(), "round 0 begin main", "round 0 submit 0 async_supply p", "round 0 end",
+                "round 1 begin main", "round 1 submit 1 async_supply p", "round 1 end");
+        List<String> warnings = log.lines().filter(line -> line.startsWith("WARNING: ")).toList();
+        assertEquals(List.of("WARNING: stages of CompletableFutures are recorded as submits without gets: run the JVM with "
+                + "--add-opens java.base/java.util.concurrent=ALL-UNNAMED (tried on OpenJDK 17)"), warnings);
+        assertTrue(log.lines().count() == 2, log);
+    }
+}

@@ -1,0 +1,259 @@
+package sizing;
+
+import static org.junit.jupiter.api.Assertions.assertEquals;
+import static org.junit.jupiter.api.Assertions.assertFalse;
+import static org.junit.jupiter.api.Assertions.assertTrue;
+import static sizing.RecordingAssertions.assertLines;
+import static sizing.RecordingAssertions.thrownBy;
+
+import java.util.ArrayList;
+import java.util.List;
+import java.util.concurrent.ArrayBlockingQueue;
+import java.util.concurrent.CompletableFuture;
+import java.util.concurrent.CountDownLatch;
+import java.util.concurrent.ExecutorCompletionService;
+import java.util.concurrent.ExecutorService;
+import java.util.concurrent.FutureTask;
+import java.util.concurrent.Semaphore;
+import java.util.concurrent.ThreadPoolExecutor;
+import java.util.concurrent.TimeUnit;
+import org.junit.jupiter.api.Test;
+
+/** Permits as rounds. */
+class PermitsTest {
+    private static final String[] ONE_MAIL = {"round 0 begin permit", "round 0 submit 0 send mail", "job 0 start", "job 0 end",
+        "round 0 got 0", "round 0 end"};
+    private final Recording recording = new Recording();
+    private final Semaphore permits = recording.recorder.permits("permit", 2);
+
+    private ExecutorService mail() {
+        return recording.pool("mail", Recording.executor(1, 1, 9));
+    }
+
+    private void awaitPermits(int count) throws InterruptedException {
+        assertTrue(permits.tryAcquire(count, 60, TimeUnit.SECONDS));
+    }
+
+    /** Returns the lines without those of the two permits that {@link #awaitPermits} took at the end. */
+    private List<String> actsOfJobs() throws Exception {
+        List<String> acts = recording.acts();
+        return acts.subList(0, acts.size() - 2);
+    }
+
+    @Test
+    void releaseInTheTaskEndsTheJobAndTheRound() throws Exception {
+        ExecutorService mail = mail();
+        permits.acquire();
+        mail.submit(Recorder.label("send", () -> {
+            try {
+                return 1;
+            } finally {
+                permits.release();
+            }
+        }));
+        awaitPermits(2);
+        assertLines(actsOfJobs(), ONE_MAIL);
+    }
+
+    @Test
+    void releaseInAfterExecuteEndsTheRoundOfTheLastJob() throws Exception {
+        ThreadPoolExecutor executor = new ThreadPoolExecutor(1, 1, 1, TimeUnit.HOURS, new ArrayBlockingQueue<>(9)) {
+            @Override
+            protected void afterExecute(Runnable task, Throwable thrown) {
+                permits.release();
+            }
+        };
+        ExecutorService mail = recording.pool("mail", executor);
+        permits.acquire();
+        mail.execute(Recorder.label("send", () -> { }));
+        awaitPermits(2);
+        assertLines(actsOfJobs(), ONE_MAIL);
+    }
+
+    @Test
+    void releaseAfterTheGetEndsTheRoundOfTheThread() throws Exception {
+        ExecutorService mail = mail();
+        Recording.on("client", () -> {
+            permits.acquireUninterruptibly();
+            try {
+                mail.submit(Recorder.label("send", () -> 1)).get();
+            } finally {
+                permits.release();
+            }
+        });
+        assertLines(recording.acts(), ONE_MAIL);
+    }
+
+    @Test
+    void releaseInAStageEndsTheRoundOfTheChain() throws Exception {
+        ExecutorService mail = Recorder.label("send", mail());
+        permits.acquire();
+        CompletableFuture.supplyAsync(() -> 1, mail).thenApplyAsync(x -> x + 1, mail)
+                .whenComplete((value, failed) -> permits.release()).copy().orTimeout(60, TimeUnit.SECONDS).join();
+        awaitPermits(2);
+        assertLines(actsOfJobs(), "round 0 begin permit", "round 0 submit 0 send mail", "job 0 start", "job 0 end", "round 0 got 0",
+                "round 0 submit 1 send mail", "job 1 start", "job 1 end", "round 0 got 1", "round 0 end");
+    }
+
+    @Test
+    void releaseByTheThreadThatTakesFromACompletionServiceEndsAFinishedPermit() throws Exception {
+        ExecutorCompletionService<Integer> service = new ExecutorCompletionService<>(mail());
+        Recording.on("importer", () -> {
+            for (int row = 0; row < 5; row++) {
+                if (row >= 2) {
+                    service.take();
+                    permits.release();
+                }
+                assertTrue(permits.tryAcquire());
+                service.submit(Recorder.label("row", () -> 1));
+            }
+            for (int open = 0; open < 2; open++) {
+                service.take();
+                permits.release();
+            }
+        });
+        List<String> acts = recording.acts();
+        for (int number = 0; number < 5; number++) {
+            String round = "round " + number + " ";
+            assertEquals(List.of(round + "begin permit", round + "submit " + number + " row mail", round + "got " + number, round + "end"),
+                    acts.stream().filter(line -> line.startsWith(round)).toList());
+        }
+    }
+
+    @Test
+    void aTimedGetOfAPermitsJobIsNoAction() throws Exception {
+        ExecutorService mail = mail();
+        CountDownLatch ended = new CountDownLatch(1);
+        FutureTask<Integer> inner = new FutureTask<>(() -> {
+            Recording.await(ended);
+            return 1;
+        });
+        Recording.on("client", () -> {
+            permits.acquire();
+            mail.execute(Recorder.label("send", () -> {
+                try {
+                    inner.run();
+                } finally {
+                    permits.release();
+                }
+            }));
+            assertEquals("TimeoutException: null", thrownBy(() -> inner.get(1, TimeUnit.MILLISECONDS)));
+            assertTrue(inner.cancel(false));
+            ended.countDown();
+        });
+        awaitPermits(2);
+        assertLines(actsOfJobs(), ONE_MAIL);
+    }
+
+    @Test
+    void releaseWhileTheJobIsOpenLeavesItWithoutAGet() throws Exception {
+        ExecutorService mail = mail();
+        CountDownLatch ended = new CountDownLatch(1);
+        Recording.on("client", () -> {
+            permits.acquire();
+            try {
+                thrownBy(() -> mail.submit(Recorder.label("send", () -> Recording.await(ended))).get(1, TimeUnit.MILLISECONDS));
+            } finally {
+                permits.release();
+            }
+        });
+        ended.countDown();
+        List<String> acts = recording.acts();
+        assertEquals(List.of("round 0 begin permit", "round 0 submit 0 send mail", "round 0 end"),
+                acts.stream().filter(line -> line.startsWith("round 0 ")).toList());
+    }
+
+    @Test
+    void aPermitThatIsTakenByAJobHasTheSubmit() throws Exception {
+        ExecutorService mail = mail();
+        ExecutorService web = recording.pool("web");
+        try (Recorder.Round round = recording.recorder.round("request")) {
+            web.submit(Recorder.label("page", () -> {
+                if (permits.tryAcquire()) {
+                    mail.submit(Recorder.label("send", () -> {
+                        permits.release();
+                        return 1;
+                    }));
+                }
+                return 1;
+            })).get();
+        }
+        awaitPermits(2);
+        List<String> acts = recording.acts();
+        assertEquals(List.of("job 0 start", "job 0 end"), acts.stream().filter(line -> line.startsWith("job 0 ")).toList());
+        assertEquals(List.of("round 1 begin permit", "round 1 submit 1 send mail", "round 1 got 1", "round 1 end"),
+                acts.stream().filter(line -> line.startsWith("round 1 ")).toList());
+    }
+
+    @Test
+    void aPermitThatIsNotUsedHasNoSubmit() throws Exception {
+        permits.acquire();
+        permits.release();
+        assertFalse(permits.tryAcquire(3));
+        assertEquals(2, permits.drainPermits());
+        permits.release(2);
+        assertLines(recording.acts(), "round 0 begin permit", "round 0 end", "round 1 begin permit", "round 2 begin permit", "round 2 end",
+                "round 1 end");
+    }
+
+    @Test
+    void whatAJobSubmitsAfterItsReleaseIsAnotherRound() throws Exception {
+        ExecutorService mail = mail();
+        CountDownLatch done = new CountDownLatch(1);
+        permits.acquire();
+        mail.execute(Recorder.label("send", () -> {
+            permits.release();
+            mail.execute(Recorder.label("more", done::countDown));
+        }));
+        Recording.await(done);
+        List<String> acts = recording.acts();
+        assertEquals(List.of("round 1 begin thread", "round 1 submit 1 more mail", "round 1 end"),
+                acts.stream().filter(line -> line.startsWith("round 1 ")).toList());
+    }
+
+    @Test
+    void aRefusedSubmitOfAPermitIsRecorded() throws Exception {
+        ExecutorService mail = mail();
+        mail.shutdown();
+        Recording.on("client", () -> {
+            permits.acquire();
+            try {
+                thrownBy(() -> mail.execute(Recorder.label("send", () -> { })));
+            } finally {
+                permits.release();
+            }
+        });
+        assertLines(recording.acts(), "round 0 begin permit", "round 0 submit 0 send mail", "round 0 refused 0", "round 0 end");
+    }
+
+    @Test
+    void manyThreadsNeverHaveMorePermitsAtOnce() throws Exception {
+        ExecutorService mail = recording.pool("mail", Recording.executor(2, 2, 2));
+        List<Thread> threads = new ArrayList<>();
+        for (int client = 0; client < 8; client++) {
+            threads.add(new Thread(() -> {
+                for (int turn = 0; turn < 200; turn++) {
+                    permits.acquireUninterruptibly();
+                    mail.execute(Recorder.label("send", () -> {
+                        permits.release();
+                    }));
+                }
+            }));
+        }
+        threads.forEach(Thread::start);
+        for (Thread thread : threads) {
+            thread.join();
+        }
+        awaitPermits(2);
+        permits.release(2);
+        int open = 0;
+        int most = 0;
+        List<String> acts = recording.acts();
+        for (String line : acts) {
+            open += line.endsWith(" begin permit") ? 1 : line.startsWith("round ") && line.endsWith(" end") ? -1 : 0;
+            most = Math.max(most, open);
+        }
+        assertEquals(2, most);
+        assertEquals(8 * 200, acts.stream().filter(line -> line.contains(" got ")).count());
+    }
+}
