@@ -108,7 +108,8 @@ final class Actor {
         return !jobs.isEmpty() && jobs.stream().allMatch(job -> job.actor.ended);
     }
 
-    private List<Job> unclaimed() {
+    /** Returns its unclaimed jobs in the order of their submits. */
+    List<Job> unclaimed() {
         if (!isShared()) {
             return List.of();
         }

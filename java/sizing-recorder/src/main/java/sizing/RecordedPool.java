@@ -149,9 +149,9 @@ final class RecordedPool extends AbstractExecutorService {
             sources.add(here);
         }
         Actor submitter = sources.isEmpty() ? recorder.submitter() : sources.get(0).submitter;
-        if (sources.isEmpty() && stage.isDependent()) {
+        if (sources.isEmpty()) {
             List<Job> finished = submitter.finishedUnclaimed();
-            if (finished.size() == 1) {
+            if (finished.size() == 1 && (stage.isDependent() || Stages.isInFunctionOfStage())) {
                 // the source is a stage in no pool, and comes after the only job that is done
                 sources.addAll(finished);
             }

@@ -307,9 +307,10 @@ public final class Recorder implements AutoCloseable {
         end(job, "end");
         Actor submitter = job.submitter;
         Thread waiting = submitter.thread;
-        boolean isAwaited = stages.recordDependents(stage, job, waiting);
-        if (isAwaited) {
-            claim(submitter, job);
+        switch (stages.recordDependents(stage, job, waiting)) {
+            case FOR_STAGE -> claim(submitter, job);
+            case FOR_ALL -> claimInOrder(submitter);
+            case NONE -> { }
         }
     }
 
@@ -343,7 +344,7 @@ public final class Recorder implements AutoCloseable {
             if (actor.ended) {
                 return false;
             }
-            sources.forEach(source -> claim(actor, source));
+            actor.finishedUnclaimed().stream().filter(sources::contains).forEach(source -> claim(actor, source));
             if (actor.isPermit() || job.isGotWhenDone) {
                 actor.addUnclaimed(job);
             }
@@ -357,6 +358,18 @@ public final class Recorder implements AutoCloseable {
         synchronized (submitter) {
             if (!submitter.ended && job.actor.ended && submitter.removeUnclaimed(job)) {
                 lines.action(submitter, "got", job);
+            }
+        }
+    }
+
+    /** Records the gets of the jobs that are done, in the order of their submits, up to the first job that is not. */
+    private void claimInOrder(Actor submitter) {
+        synchronized (submitter) {
+            for (Job job : submitter.unclaimed()) {
+                if (!job.actor.ended) {
+                    return;
+                }
+                claim(submitter, job);
             }
         }
     }

@@ -2,12 +2,10 @@ package sizing;
 
 import java.lang.System.Logger;
 import java.lang.System.Logger.Level;
-import java.lang.reflect.Field;
 import java.util.ArrayDeque;
 import java.util.ArrayList;
 import java.util.Collections;
 import java.util.Deque;
-import java.util.HashMap;
 import java.util.List;
 import java.util.Map;
 import java.util.WeakHashMap;
@@ -31,7 +29,9 @@ import java.util.function.Supplier;
  */
 final class Stages {
     private static final Logger LOGGER = System.getLogger("sizing");
+    private static final String FUTURE = CompletableFuture.class.getName();
     private static final int MAX_FUTURES = 1000;
+    private static final int MAX_FRAMES = 50;
     private final Recorder recorder;
     private final AtomicBoolean warned = new AtomicBoolean();
     /** The job that completes each future, also through stages that run in no pool. */
@@ -57,16 +57,16 @@ final class Stages {
         if (!(task instanceof CompletableFuture.AsynchronousCompletionTask)) {
             return null;
         }
-        Object function = Fields.get(task, "fn");
-        CompletableFuture<?> future = (CompletableFuture<?>) Fields.get(task, "dep");
-        if (function == null || future == null || !Fields.areOpen()) {
+        Object function = JdkFields.get(task, "fn");
+        CompletableFuture<?> future = (CompletableFuture<?>) JdkFields.get(task, "dep");
+        if (function == null || future == null || !JdkFields.areOpen()) {
             warn();
             return null;
         }
         List<Job> sources = new ArrayList<>(2);
-        Object source = Fields.get(task, "src");
+        Object source = JdkFields.get(task, "src");
         addSource(sources, source);
-        addSource(sources, Fields.get(task, "snd"));
+        addSource(sources, JdkFields.get(task, "snd"));
         return new Stage(task, function, future, sources, source != null);
     }
 
@@ -80,45 +80,54 @@ final class Stages {
     private void warn() {
         if (warned.compareAndSet(false, true)) {
             LOGGER.log(Level.WARNING, "stages of CompletableFutures are recorded as submits without gets: run the JVM with "
-                    + "--add-opens java.base/java.util.concurrent=" + moduleName() + " (tried on OpenJDK 17)");
+                    + "--add-opens java.base/java.util.concurrent=" + JdkFields.moduleName() + " (tried on OpenJDK 17)");
         }
-    }
-
-    private static String moduleName() {
-        Module module = Stages.class.getModule();
-        return module.isNamed() ? module.getName() : "ALL-UNNAMED";
     }
 
     /** Makes the stage record the end of this job before its future is done. */
     void attach(Stage stage, Job job) {
         jobs.put(stage.future, job);
-        Fields.set(stage.completion, "fn", around(stage.function, () -> recorder.endStage(job, stage)));
+        JdkFields.set(stage.completion, "fn", around(stage.function, () -> recorder.endStage(job, stage)));
     }
 
+    /** Returns whether this thread runs a function of a stage whose source was done when the stage was built, as in thenCompose. */
+    static boolean isInFunctionOfStage() {
+        return StackWalker.getInstance().walk(frames -> frames.limit(MAX_FRAMES).map(StackWalker.StackFrame::getClassName)
+                .dropWhile(name -> !name.equals(FUTURE)).dropWhile(FUTURE::equals).anyMatch(FUTURE::equals));
+    }
+
+    /** How a thread waits for a stage. */
+    enum Wait { NONE, FOR_ALL, FOR_STAGE }
+
+    private record Dependent(CompletableFuture<?> future, boolean hasOtherSources) {}
+
     /**
-     * Notes which futures the stage completes besides its own, through stages that run in no pool. Returns whether the thread waits
-     * for one of them, or for a future that depends on them.
+     * Notes which futures the stage completes besides its own, through stages that run in no pool. Returns how the thread waits for
+     * one of them or a future that depends on them: for all of several sources, as with {@code allOf}, or for this stage.
      */
-    boolean recordDependents(Stage stage, Job job, Thread thread) {
-        boolean isAwaited = false;
-        Deque<CompletableFuture<?>> futures = new ArrayDeque<>();
-        futures.add(stage.future);
-        for (int count = 0; count < MAX_FUTURES && !futures.isEmpty(); count++) {
-            CompletableFuture<?> future = futures.poll();
-            boolean isOfJob = jobs.get(future) == job;
-            for (Object next = Fields.get(future, "stack"); next != null; next = Fields.get(next, "next")) {
-                isAwaited |= thread != null && Fields.get(next, "thread") == thread;
-                Object base = Fields.get(next, "base");
+    Wait recordDependents(Stage stage, Job job, Thread thread) {
+        Wait wait = Wait.NONE;
+        Deque<Dependent> dependents = new ArrayDeque<>();
+        dependents.add(new Dependent(stage.future, false));
+        for (int count = 0; count < MAX_FUTURES && !dependents.isEmpty(); count++) {
+            Dependent dependent = dependents.poll();
+            boolean isOfJob = jobs.get(dependent.future) == job;
+            for (Object next = JdkFields.get(dependent.future, "stack"); next != null; next = JdkFields.get(next, "next")) {
+                if (thread != null && JdkFields.get(next, "thread") == thread && wait != Wait.FOR_STAGE) {
+                    wait = dependent.hasOtherSources ? Wait.FOR_ALL : Wait.FOR_STAGE;
+                }
+                Object base = JdkFields.get(next, "base");
                 Object completion = base == null ? next : base;
-                if (Fields.get(completion, "dep") instanceof CompletableFuture<?> dependent) {
-                    if (isOfJob && Fields.get(completion, "executor") == null) {
-                        jobs.putIfAbsent(dependent, job);
+                if (JdkFields.get(completion, "dep") instanceof CompletableFuture<?> future) {
+                    if (isOfJob && JdkFields.get(completion, "executor") == null) {
+                        jobs.putIfAbsent(future, job);
                     }
-                    futures.add(dependent);
+                    boolean hasOtherSources = JdkFields.get(completion, "snd") != null;
+                    dependents.add(new Dependent(future, dependent.hasOtherSources || hasOtherSources));
                 }
             }
         }
-        return isAwaited;
+        return wait;
     }
 
     /** Returns a function of the same kind that also runs this after it. */
@@ -177,45 +186,5 @@ final class Stages {
                 after.run();
             }
         };
-    }
-
-    /** The fields of the JDK's classes by their names. */
-    private static final class Fields {
-        private static final ClassValue<Map<String, Field>> OF_CLASS = new ClassValue<>() {
-            @Override
-            protected Map<String, Field> computeValue(Class<?> type) {
-                Map<String, Field> fields = new HashMap<>();
-                for (Class<?> each = type; each != null && each != Object.class; each = each.getSuperclass()) {
-                    for (Field field : each.getDeclaredFields()) {
-                        if (field.trySetAccessible()) {
-                            fields.putIfAbsent(field.getName(), field);
-                        }
-                    }
-                }
-                return fields;
-            }
-        };
-
-        static boolean areOpen() {
-            return OF_CLASS.get(CompletableFuture.class).containsKey("stack");
-        }
-
-        /** Returns the value of a field, or null if there is no such field or it is not readable. */
-        static Object get(Object object, String name) {
-            Field field = OF_CLASS.get(object.getClass()).get(name);
-            try {
-                return field == null ? null : field.get(object);
-            } catch (IllegalAccessException closed) {
-                throw new AssertionError(closed);
-            }
-        }
-
-        static void set(Object object, String name, Object value) {
-            try {
-                OF_CLASS.get(object.getClass()).get(name).set(object, value);
-            } catch (IllegalAccessException closed) {
-                throw new AssertionError(closed);
-            }
-        }
     }
 }

@@ -6,10 +6,13 @@ import static sizing.RecordingAssertions.assertLines;
 
 import java.io.StringWriter;
 import java.nio.charset.StandardCharsets;
+import java.nio.file.Files;
 import java.nio.file.Path;
 import java.util.List;
+import java.util.Map;
 import java.util.concurrent.CompletableFuture;
 import java.util.concurrent.ExecutorService;
+import java.util.concurrent.Executors;
 import java.util.concurrent.ThreadPoolExecutor;
 import java.util.concurrent.TimeUnit;
 import org.junit.jupiter.api.Test;
@@ -29,6 +32,11 @@ class ClosedPackageTest {
         executor.awaitTermination(60, TimeUnit.SECONDS);
         recorder.close();
         text.toString().lines().filter(line -> line.startsWith("round ")).forEach(System.out::println);
+        Path plan = Files.writeString(Files.createTempFile("sizing", ".toml"), "pool = [{name = 'p', core = 1, max = 1, queue = 7}]");
+        ExecutorService single = Executors.newSingleThreadExecutor();
+        PlanCheck.differences(plan, Map.of("p", single)).forEach(System.out::println);
+        single.shutdown();
+        Files.delete(plan);
     }
 
     @Test
@@ -40,7 +48,9 @@ class ClosedPackageTest {
         String log = new String(java.getErrorStream().readAllBytes(), StandardCharsets.UTF_8);
         assertEquals(0, java.waitFor(), log);
         assertLines(lines.lines().toList(), "round 0 begin main", "round 0 submit 0 async_supply p", "round 0 end",
-                "round 1 begin main", "round 1 submit 1 async_supply p", "round 1 end");
+                "round 1 begin main", "round 1 submit 1 async_supply p", "round 1 end",
+                "pool p: FinalizableDelegatedExecutorService hides its executor: pass new ThreadPoolExecutor(1, 1, 0, SECONDS, "
+                + "new LinkedBlockingQueue<>(7)), or run the JVM with --add-opens java.base/java.util.concurrent=ALL-UNNAMED");
         List<String> warnings = log.lines().filter(line -> line.startsWith("WARNING: ")).toList();
         assertEquals(List.of("WARNING: stages of CompletableFutures are recorded as submits without gets: run the JVM with "
                 + "--add-opens java.base/java.util.concurrent=ALL-UNNAMED (tried on OpenJDK 17)"), warnings);

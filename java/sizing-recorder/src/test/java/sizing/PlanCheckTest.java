@@ -9,6 +9,9 @@ import java.nio.file.Path;
 import java.util.LinkedHashMap;
 import java.util.List;
 import java.util.Map;
+import java.util.concurrent.ExecutorService;
+import java.util.concurrent.Executors;
+import java.util.concurrent.ForkJoinPool;
 import java.util.concurrent.LinkedBlockingQueue;
 import java.util.concurrent.ScheduledThreadPoolExecutor;
 import java.util.concurrent.SynchronousQueue;
@@ -63,14 +66,14 @@ class PlanCheckTest {
         executors.get("web").setCorePoolSize(3);
         executors.get("web").setMaximumPoolSize(6);
         executors.get("db").allowCoreThreadTimeOut(true);
-        same(executors, "pool web: core 3, plan 2", "pool web: max 6, plan 4", "pool db: allowCoreThreadTimeOut is true, which no plan has");
+        same(executors, "pool web: core 3, plan 2", "pool web: max 6, plan 4", "pool db: allowCoreThreadTimeOut true, plan false");
     }
 
     @Test
     void queuesOfAnotherKindOrCapacityAreListed() throws Exception {
         Map<String, ThreadPoolExecutor> executors = executors();
         executors.put("web", Recording.executor(2, 4, new SynchronousQueue<>()));
-        same(executors, "pool web: queue 0, plan 8", "pool web: queue is of SynchronousQueue, plan ArrayBlockingQueue");
+        same(executors, "pool web: queue 0, plan 8", "pool web: queue SynchronousQueue, plan ArrayBlockingQueue or LinkedBlockingQueue");
         executors.put("web", Recording.executor(2, 4, new LinkedBlockingQueue<>()));
         same(executors, "pool web: queue 2147483647, plan 8");
     }
@@ -79,7 +82,7 @@ class PlanCheckTest {
     void poolsThatOnlyOneSideHasAreListed() throws Exception {
         Map<String, ThreadPoolExecutor> executors = executors();
         executors.put("mail", executors.remove("web"));
-        same(executors, "pool web: in the plan alone", "pool mail: not in the plan");
+        same(executors, "pool web: no executor given", "pool mail: not in the plan");
     }
 
     @Test
@@ -88,7 +91,7 @@ class PlanCheckTest {
         executors.get("web").prestartCoreThread();
         RecorderTest.waitUntilDone(executors.get("web"), 0);
         executors.put("db", Recording.executor(1, 1, 3));
-        same(executors, "pool web: threads 1 before the first job, plan no prestart", "pool db: threads 0, plan prestart");
+        same(executors, "pool web: prestart true, plan false", "pool db: prestart false, plan true");
         executors.get("db").prestartAllCoreThreads();
         executors.put("web", Recording.executor(2, 4, 8));
         executors.get("web").submit(() -> 1).get();
@@ -104,9 +107,9 @@ class PlanCheckTest {
                 task.run();
             }
         });
-        same(executors, "pool web: sizing.PlanCheckTest$1 has an execute of its own");
+        same(executors, "pool web: sizing.PlanCheckTest$1 overrides execute");
         executors.put("web", new ScheduledThreadPoolExecutor(2));
-        assertTrue(PlanCheck.differences(file(PLAN), executors).contains("pool web: ScheduledThreadPoolExecutor has an execute of its own"));
+        assertTrue(PlanCheck.differences(file(PLAN), executors).contains("pool web: ScheduledThreadPoolExecutor overrides execute"));
         executors.put("web", new ThreadPoolExecutor(2, 4, 1, TimeUnit.SECONDS, new LinkedBlockingQueue<>(8)) {
             @Override
             protected void afterExecute(Runnable task, Throwable thrown) {}
@@ -118,16 +121,38 @@ class PlanCheckTest {
     void aHandlerIsListedButDoesNotFailTheCheck() throws Exception {
         Map<String, ThreadPoolExecutor> executors = executors();
         executors.get("web").setRejectedExecutionHandler(new ThreadPoolExecutor.CallerRunsPolicy());
-        assertEquals(List.of("pool web: handler CallerRunsPolicy, which never matters after a yes"), PlanCheck.differences(file(PLAN), executors));
+        assertEquals(List.of("pool web: handler CallerRunsPolicy, which a safe plan never calls"), PlanCheck.differences(file(PLAN), executors));
         PlanCheck.check(file(PLAN), executors);
+    }
+
+    @Test
+    void executorsThatAreWrappedAreComparedOrNamed() throws Exception {
+        Path plan = file("pool = [{name = 'web', core = 1, max = 1, queue = 2147483647}]");
+        ExecutorService single = Executors.newSingleThreadExecutor();
+        assertEquals(List.of(), PlanCheck.differences(plan, Map.of("web", single)));
+        assertEquals(List.of(), PlanCheck.differences(plan, Map.of("web", Executors.unconfigurableExecutorService(Executors.newFixedThreadPool(1)))));
+        assertEquals(List.of("pool web: ForkJoinPool is not a ThreadPoolExecutor"), PlanCheck.differences(plan, Map.of("web", ForkJoinPool.commonPool())));
+        single.shutdown();
+    }
+
+    @Test
+    void executorsHaveTheSizesOfThePlan() throws Exception {
+        Path plan = file(PLAN);
+        Map<String, ThreadPoolExecutor> executors = Map.of("web", PlanCheck.newExecutor(plan, "web"), "db", PlanCheck.newExecutor(plan, "db"));
+        PlanCheck.check(plan, executors);
+        assertEquals(List.of("web", "db"), PlanCheck.poolNames(plan));
+        assertEquals("IllegalArgumentException: " + plan + ": no pool mail", thrownBy(() -> PlanCheck.newExecutor(plan, "mail")));
+        executors.values().forEach(ThreadPoolExecutor::shutdown);
     }
 
     @Test
     void recordedExecutorsHaveNoDifference() throws Exception {
         Map<String, ThreadPoolExecutor> executors = executors();
         Recording recording = new Recording();
-        executors.forEach(recording.recorder::pool);
+        Map<String, ExecutorService> recorded = new LinkedHashMap<>();
+        executors.forEach((name, executor) -> recorded.put(name, recording.recorder.pool(name, executor)));
         same(executors);
+        assertEquals(List.of(), PlanCheck.differences(file(PLAN), recorded));
         recording.recorder.close();
     }
 
@@ -136,22 +161,22 @@ class PlanCheckTest {
         Map<String, ThreadPoolExecutor> executors = executors();
         executors.put("web", Recording.executor(3, 4, 9));
         String lines = "pool web: core 3, plan 2" + System.lineSeparator() + "pool web: queue 9, plan 8";
-        assertEquals("PlanDiffers: " + lines, thrownBy(() -> PlanCheck.check(file(PLAN), executors)));
+        assertEquals("PlanMismatchException: " + lines, thrownBy(() -> PlanCheck.check(file(PLAN), executors)));
     }
 
     @Test
     void unreadablePlansAreRefused() throws Exception {
-        wrong("pools = 1", "a plan has tables [[pool]], [[class]] and [[client]], and not [pools]");
-        wrong("pool = 1", "pool is no list of tables: write [[pool]]");
-        wrong("[pool]\nname = 'p'", "pool is no list of tables: write [[pool]]");
-        wrong("pool = [1]", "a pool is a table with name, core, max, queue and prestart, and not 1");
-        wrong("[[pool]]\nname = 'p'\ncorePoolSize = 1", "a pool is a table with name, core, max, queue and prestart, and not {name=p, corePoolSize=1}");
-        wrong("[[pool]]\nname = 'p'\ncore = '1'", "a pool has no lawful core: {name=p, core=1}");
-        wrong("[[pool]]\nname = 'p'\ncore = 1\nmax = 1", "a pool has no lawful queue: {name=p, core=1, max=1}");
+        wrong("pools = 1", "a plan has [[pool]], [[class]] and [[client]], not [pools]");
+        wrong("pool = 1", "pool is not a list of tables: write [[pool]]");
+        wrong("[pool]\nname = 'p'", "pool is not a list of tables: write [[pool]]");
+        wrong("pool = [1]", "a pool is a table with name, core, max, queue and prestart, not 1");
+        wrong("[[pool]]\nname = 'p'\ncorePoolSize = 1", "a pool is a table with name, core, max, queue and prestart, not {name=p, corePoolSize=1}");
+        wrong("[[pool]]\nname = 'p'\ncore = '1'", "invalid core in pool {name=p, core=1}");
+        wrong("[[pool]]\nname = 'p'\ncore = 1\nmax = 1", "invalid queue in pool {name=p, core=1, max=1}");
         String pool = "[[pool]]\nname = 'p'\ncore = 1\nmax = 1\nqueue = 1\n";
-        wrong(pool + "prestart = 1", "a pool has no lawful prestart: {name=p, core=1, max=1, queue=1, prestart=1}");
-        wrong(pool + pool, "two pools have the name p");
-        wrong("core = 08", "line 1: no value that is read here: 08");
+        wrong(pool + "prestart = 1", "invalid prestart in pool {name=p, core=1, max=1, queue=1, prestart=1}");
+        wrong(pool + pool, "duplicate pool p");
+        wrong("core = 08", "line 1: unsupported value: 08");
     }
 
     private static Map<String, ThreadPoolExecutor> executors() {
@@ -168,7 +193,7 @@ class PlanCheckTest {
         if (lines.length == 0) {
             PlanCheck.check(plan, executors);
         } else {
-            assertEquals("PlanDiffers: " + String.join(System.lineSeparator(), lines), thrownBy(() -> PlanCheck.check(plan, executors)));
+            assertEquals("PlanMismatchException: " + String.join(System.lineSeparator(), lines), thrownBy(() -> PlanCheck.check(plan, executors)));
         }
     }
 

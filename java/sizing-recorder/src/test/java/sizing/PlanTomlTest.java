@@ -37,29 +37,29 @@ class PlanTomlTest {
 
     @Test
     void unsupportedAndInvalidTomlIsRefusedWithItsLine() throws Exception {
-        wrong("a = '''x'''", "line 1: a text in three quotes is not read here");
-        wrong("\na.b = 1", "line 2: a dotted key is not read here");
-        wrong("[a.b]", "line 1: ] is wanted");
-        wrong("a = 1.5", "line 1: no value that is read here: 1.5");
-        wrong("a = 2024-01-01", "line 1: no value that is read here: 2024-01-01");
-        wrong("a = 08", "line 1: no value that is read here: 08");
-        wrong("a = yes", "line 1: no value that is read here: yes");
-        wrong("a = ", "line 1: no value that is read here: there is none");
-        wrong("a = 9223372036854775808", "line 1: a number past 64 bits: 9223372036854775808");
-        wrong("a = 1\n\n\na = 2", "line 4: a stands twice");
-        wrong("[a]\n[a]", "line 2: a stands twice");
-        wrong("p = []\n[[p]]", "line 2: [[p]] stands beside another p");
-        wrong("a = \"x\nb = 1", "line 1: \" is wanted");
-        wrong("a = 'x", "line 1: ' is wanted");
-        wrong("a = \"\\q\"", "line 1: no escape of TOML");
-        wrong("a = \"\\u12\"", "line 1: no escape of TOML");
-        wrong("a = 1 b = 2", "line 1: the end of the line is wanted");
-        wrong("a = [1 2]", "line 1: a comma or ] is wanted");
-        wrong("a = [1,", "line 1: no value that is read here: there is none");
-        wrong("a = [", "line 1: no value that is read here: there is none");
-        wrong("a", "line 1: = is wanted");
-        wrong("= 1", "line 1: a key is wanted");
-        wrong("%%", "line 1: a key is wanted");
+        wrong("a = '''x'''", "line 1: multi-line strings are not supported");
+        wrong("\na.b = 1", "line 2: dotted keys are not supported");
+        wrong("[a.b]", "line 1: expected ]");
+        wrong("a = 1.5", "line 1: unsupported value: 1.5");
+        wrong("a = 2024-01-01", "line 1: unsupported value: 2024-01-01");
+        wrong("a = 08", "line 1: unsupported value: 08");
+        wrong("a = yes", "line 1: unsupported value: yes");
+        wrong("a = ", "line 1: missing value");
+        wrong("a = 9223372036854775808", "line 1: number out of range: 9223372036854775808");
+        wrong("a = 1\n\n\na = 2", "line 4: duplicate key a");
+        wrong("[a]\n[a]", "line 2: duplicate key a");
+        wrong("p = []\n[[p]]", "line 2: [[p]] conflicts with another p");
+        wrong("a = \"x\nb = 1", "line 1: expected \"");
+        wrong("a = 'x", "line 1: expected '");
+        wrong("a = \"\\q\"", "line 1: invalid escape");
+        wrong("a = \"\\u12\"", "line 1: invalid escape");
+        wrong("a = 1 b = 2", "line 1: expected the end of the line");
+        wrong("a = [1 2]", "line 1: expected a comma or ]");
+        wrong("a = [1,", "line 1: missing value");
+        wrong("a = [", "line 1: missing value");
+        wrong("a", "line 1: expected =");
+        wrong("= 1", "line 1: expected a key");
+        wrong("%%", "line 1: expected a key");
     }
 
     @Test

@@ -165,6 +165,51 @@ class StagesTest {
     }
 
     @Test
+    void aStageThatComposesAfterAFinishedOneSubmitsForTheChain() throws Exception {
+        try (Recorder.Round round = recording.recorder.round("chain")) {
+            CompletableFuture<Integer> loaded = CompletableFuture.supplyAsync(() -> 1, load);
+            awaitDone(loaded);
+            loaded.thenCompose(x -> CompletableFuture.supplyAsync(() -> x + 1, render)).join();
+        }
+        assertLines(round("0"), "round 0 begin chain", "round 0 submit 0 load io", "round 0 got 0", "round 0 submit 1 render cpu",
+                "round 0 got 1", "round 0 end");
+    }
+
+    @Test
+    void submitsBesideAFinishedStageDoNotGetIt() throws Exception {
+        try (Recorder.Round round = recording.recorder.round("c")) {
+            CompletableFuture<Integer> first = CompletableFuture.supplyAsync(() -> 1, load);
+            awaitDone(first);
+            CompletableFuture.allOf(first, CompletableFuture.supplyAsync(() -> 1, render)).join();
+        }
+        assertLines(round("0"), "round 0 begin c", "round 0 submit 0 load io", "round 0 submit 1 render cpu", "round 0 got 0",
+                "round 0 got 1", "round 0 end");
+    }
+
+    @Test
+    void getsOfAllOfAreInTheOrderOfTheSubmits() throws Exception {
+        CountDownLatch second = new CountDownLatch(1);
+        try (Recorder.Round round = recording.recorder.round("c")) {
+            Thread thread = Thread.currentThread();
+            CompletableFuture<Void> one = CompletableFuture.runAsync(() -> await(second), load);
+            CompletableFuture<Void> other = CompletableFuture.runAsync(() -> {
+                whenWaiting(thread, 1);
+            }, load);
+            other.thenRun(second::countDown);
+            CompletableFuture.allOf(one, other).join();
+        }
+        assertLines(round("0"), "round 0 begin c", "round 0 submit 0 load io", "round 0 submit 1 load io", "round 0 got 0", "round 0 got 1",
+                "round 0 end");
+    }
+
+    /** Waits without a join, which a recorder would see. */
+    private static void awaitDone(CompletableFuture<?> future) {
+        for (int turn = 0; turn < 60_000 && !future.isDone(); turn++) {
+            pause();
+        }
+    }
+
+    @Test
     void aStageAfterAFailedOneIsNotSubmitted() throws Exception {
         try (Recorder.Round round = recording.recorder.round("chain")) {
             CompletableFuture<Integer> failing = CompletableFuture.supplyAsync(() -> {

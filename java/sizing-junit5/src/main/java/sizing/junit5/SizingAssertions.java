@@ -1,0 +1,49 @@
+package sizing.junit5;
+
+import java.io.IOException;
+import java.nio.file.Path;
+import java.util.Map;
+import java.util.concurrent.ExecutorService;
+import org.opentest4j.AssertionFailedError;
+import sizing.PlanCheck;
+import sizing.PlanMismatchException;
+
+/**
+ * Assertions on plans, recordings and executors. The message of a failure is what the program prints.
+ *
+ * <p>The program {@code sizing} is the file that the property {@code sizing.program} or the environment variable {@code SIZING}
+ * names, or it is on the path. If it is not found, the assertion fails; with {@code -Dsizing.optional=true} the test is skipped.
+ */
+public final class SizingAssertions {
+    private SizingAssertions() {}
+
+    /** Asserts that the plan is safe and has no warning: {@code sizing ask --strict PLAN}. */
+    public static void assertSafe(Path plan) {
+        assertSuccess(plan + " is not safe, or has warnings", SizingProgram.run("ask", "--strict", plan));
+    }
+
+    /** Asserts the same with a certificate, which takes no search: {@code sizing ask --strict PLAN CERTIFICATE}. */
+    public static void assertSafe(Path plan, Path certificate) {
+        assertSuccess(plan + " is not safe by " + certificate + ", or has warnings", SizingProgram.run("ask", "--strict", plan, certificate));
+    }
+
+    /** Asserts that the service did what the plan says: {@code sizing conform PLAN RECORDING}. */
+    public static void assertConforms(Path plan, Path recording) {
+        assertSuccess(recording + " does not conform to " + plan, SizingProgram.run("conform", plan, recording));
+    }
+
+    /** Asserts that the executors have the sizes of the plan's pools ({@link PlanCheck#check}). */
+    public static void assertExecutors(Path plan, Map<String, ? extends ExecutorService> executors) throws IOException {
+        try {
+            PlanCheck.check(plan, executors);
+        } catch (PlanMismatchException differs) {
+            throw new AssertionFailedError("the executors are not those of " + plan + ":\n  " + String.join("\n  ", differs.lines()), differs);
+        }
+    }
+
+    private static void assertSuccess(String message, SizingProgram.Answer answer) {
+        if (answer.status() != 0) {
+            throw new AssertionFailedError(message + " (exit status " + answer.status() + "):\n  " + String.join("\n  ", answer.lines()));
+        }
+    }
+}

@@ -1,0 +1,123 @@
+package sizing.junit5;
+
+import java.io.IOException;
+import java.nio.file.Path;
+import java.util.ArrayList;
+import java.util.List;
+import java.util.Queue;
+import java.util.concurrent.ConcurrentLinkedQueue;
+import java.util.concurrent.CountDownLatch;
+import java.util.concurrent.ExecutorService;
+import java.util.concurrent.RejectedExecutionException;
+import java.util.concurrent.Semaphore;
+import java.util.concurrent.ThreadPoolExecutor;
+import java.util.concurrent.TimeUnit;
+import java.util.function.UnaryOperator;
+import sizing.PlanCheck;
+import sizing.Recorder;
+
+/** One recorded run of a small service. */
+final class ServiceRun {
+    /** A part of the service. */
+    interface Body {
+        void run() throws Exception;
+    }
+
+    final Recorder recorder;
+    private final Path plan;
+    private final List<ThreadPoolExecutor> executors = new ArrayList<>();
+    private final Queue<Throwable> failures = new ConcurrentLinkedQueue<>();
+    /** Opens at the end, for jobs that outlive the round that submitted them. */
+    private final CountDownLatch gate = new CountDownLatch(1);
+
+    ServiceRun(Path plan, Path recording) throws IOException {
+        this.plan = plan;
+        recorder = Recorder.toFile(recording);
+    }
+
+    /** Returns a recorded pool with the sizes of the plan. */
+    ExecutorService pool(String name) throws IOException {
+        return pool(name, PlanCheck.newExecutor(plan, name));
+    }
+
+    ExecutorService pool(String name, ThreadPoolExecutor executor) {
+        executors.add(executor);
+        return recorder.pool(name, executor);
+    }
+
+    ExecutorService pool(String name, ThreadPoolExecutor executor, UnaryOperator<Runnable> decorator) {
+        executors.add(executor);
+        return recorder.pool(name, executor, decorator);
+    }
+
+    Semaphore permits(String kind, int count) {
+        return recorder.permits(kind, count);
+    }
+
+    /** Runs the body as rounds of this kind, on this number of threads. */
+    void rounds(String kind, int threads, int rounds, Body body) throws InterruptedException {
+        threads(kind, threads, rounds, () -> {
+            try (Recorder.Round round = recorder.round(kind)) {
+                body.run();
+            }
+        });
+    }
+
+    /** Runs the body on this number of threads, without a round around it. A refused submit does not fail the run. */
+    void threads(String name, int count, int turns, Body body) throws InterruptedException {
+        List<Thread> threads = new ArrayList<>();
+        for (int number = 0; number < count; number++) {
+            threads.add(new Thread(() -> {
+                for (int turn = 0; turn < turns; turn++) {
+                    try {
+                        body.run();
+                    } catch (RejectedExecutionException refused) {
+                        continue;
+                    } catch (Exception | AssertionError failed) {
+                        failures.add(failed);
+                    }
+                }
+            }, name + "-" + number));
+        }
+        threads.forEach(Thread::start);
+        for (Thread thread : threads) {
+            thread.join();
+        }
+    }
+
+    /** Waits until the run ends. */
+    void awaitEnd() {
+        try {
+            if (!gate.await(60, TimeUnit.SECONDS)) {
+                throw new AssertionError("waited too long");
+            }
+        } catch (InterruptedException interrupted) {
+            Thread.currentThread().interrupt();
+        }
+    }
+
+    /** Does some work. */
+    static <T> T work(T value) {
+        try {
+            TimeUnit.MICROSECONDS.sleep(200);
+        } catch (InterruptedException interrupted) {
+            Thread.currentThread().interrupt();
+        }
+        return value;
+    }
+
+    /** Ends the run: jobs that wait for the end go on, and all jobs are done. */
+    void end() throws Exception {
+        gate.countDown();
+        for (ThreadPoolExecutor executor : executors) {
+            executor.shutdown();
+            if (!executor.awaitTermination(60, TimeUnit.SECONDS)) {
+                throw new AssertionError("jobs do not end");
+            }
+        }
+        recorder.close();
+        if (!failures.isEmpty()) {
+            throw new AssertionError(failures.peek());
+        }
+    }
+}

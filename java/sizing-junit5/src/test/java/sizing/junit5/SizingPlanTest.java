@@ -1,0 +1,259 @@
+package sizing.junit5;
+
+import static org.junit.jupiter.api.Assertions.assertEquals;
+import static org.junit.jupiter.api.Assertions.assertThrows;
+import static org.junit.jupiter.api.Assertions.assertTrue;
+import static org.junit.platform.engine.discovery.DiscoverySelectors.selectClass;
+import static sizing.Recorder.label;
+
+import java.io.IOException;
+import java.io.PrintWriter;
+import java.io.StringWriter;
+import java.net.URISyntaxException;
+import java.nio.file.Files;
+import java.nio.file.Path;
+import java.util.List;
+import java.util.Map;
+import java.util.concurrent.ExecutorService;
+import java.util.concurrent.LinkedBlockingQueue;
+import java.util.concurrent.ThreadPoolExecutor;
+import java.util.concurrent.TimeUnit;
+import org.junit.jupiter.api.AfterEach;
+import org.junit.jupiter.api.BeforeEach;
+import org.junit.jupiter.api.Nested;
+import org.junit.jupiter.api.Test;
+import org.junit.jupiter.api.extension.ExtendWith;
+import org.junit.platform.launcher.core.LauncherDiscoveryRequestBuilder;
+import org.junit.platform.launcher.core.LauncherFactory;
+import org.junit.platform.launcher.listeners.SummaryGeneratingListener;
+import org.junit.platform.launcher.listeners.TestExecutionSummary;
+import org.opentest4j.AssertionFailedError;
+
+/** Classes with {@link SizingPlan}, run by the launcher. */
+class SizingPlanTest {
+    private static final String SHOP = resource("shop.toml");
+    private static final String SMALL_SHOP = resource("shop-small.toml");
+    private String program;
+    private String optional;
+
+    /** The service: a page asks the database and waits. */
+    static String visit(ExecutorService web, ExecutorService database) throws Exception {
+        return web.submit(label("request", () -> database.submit(label("query", () -> "rows")).get() + " as a page")).get();
+    }
+
+    private static String resource(String name) {
+        try {
+            return Path.of(SizingPlanTest.class.getResource("/" + name).toURI()).toString();
+        } catch (URISyntaxException impossible) {
+            throw new AssertionError(impossible);
+        }
+    }
+
+    @BeforeEach
+    void keepProperties() {
+        program = System.getProperty("sizing.program");
+        optional = System.getProperty("sizing.optional");
+        System.clearProperty("sizing.optional");
+    }
+
+    @AfterEach
+    void restoreProperties() {
+        StubProgram.restore(program);
+        System.clearProperty("sizing.optional");
+        if (optional != null) {
+            System.setProperty("sizing.optional", optional);
+        }
+    }
+
+    @SizingPlan("shop.toml")
+    static class Visitors {
+        @Test
+        void visitors(Sizing sizing) throws Exception {
+            ExecutorService web = sizing.pool("web");
+            ExecutorService database = sizing.pool("database");
+            sizing.clients("visitor", 6, 20, () -> assertEquals("rows as a page", visit(web, database)));
+        }
+
+        @Nested
+        class Others {
+            @Test
+            void oneMore(Sizing sizing) throws Exception {
+                assertEquals(SHOP, sizing.plan().toString());
+                sizing.clients("visitor", 1, 1, () -> assertEquals("rows as a page", visit(sizing.pool("web"), sizing.pool("database"))));
+            }
+        }
+    }
+
+    @SizingPlan(value = "shop.toml", certificate = "shop.toml")
+    static class Certified {
+        @Test
+        void nothing() {}
+    }
+
+    @SizingPlan(value = "shop.toml", ask = false)
+    static class NotAsked {
+        @Test
+        void nothing() {}
+    }
+
+    /** The page is not waited for, which is another path than that of the plan. */
+    @SizingPlan("shop.toml")
+    static class Hurried {
+        @Test
+        void visitors(Sizing sizing) throws Exception {
+            ExecutorService web = sizing.pool("web");
+            sizing.pool("database");
+            sizing.clients("visitor", 1, 2, () -> web.submit(label("request", () -> "no rows")));
+        }
+    }
+
+    @SizingPlan("shop-small.toml")
+    static class Small {
+        @Test
+        void nothing() {}
+    }
+
+    @SizingPlan("missing.toml")
+    static class Missing {
+        @Test
+        void nothing() {}
+    }
+
+    @SizingPlan("shop.toml")
+    static class OtherSizes {
+        @Test
+        void visitors(Sizing sizing) throws Exception {
+            sizing.pool("web", new ThreadPoolExecutor(2, 4, 1, TimeUnit.SECONDS, new LinkedBlockingQueue<>(6), new ThreadPoolExecutor.CallerRunsPolicy()));
+        }
+    }
+
+    @SizingPlan("shop.toml")
+    static class FailingClient {
+        @Test
+        void visitors(Sizing sizing) throws Exception {
+            sizing.clients("visitor", 2, 2, () -> {
+                throw new IOException("planned");
+            });
+        }
+    }
+
+    static class NoPlan {
+        @Test
+        @ExtendWith(SizingExtension.class)
+        void visitors(Sizing sizing) {}
+    }
+
+    private static TestExecutionSummary run(Class<?> tests) {
+        SummaryGeneratingListener listener = new SummaryGeneratingListener();
+        LauncherFactory.create().execute(LauncherDiscoveryRequestBuilder.request().selectors(selectClass(tests)).build(), listener);
+        return listener.getSummary();
+    }
+
+    private static void assertPasses(Class<?> tests, int count) {
+        TestExecutionSummary summary = run(tests);
+        StringWriter text = new StringWriter();
+        summary.printFailuresTo(new PrintWriter(text));
+        assertEquals(0, summary.getTotalFailureCount(), text.toString());
+        assertEquals(count, summary.getTestsSucceededCount());
+    }
+
+    private static String failureOf(Class<?> tests) {
+        List<TestExecutionSummary.Failure> failures = run(tests).getFailures();
+        assertEquals(1, failures.size());
+        return failures.get(0).getException().getMessage();
+    }
+
+    @Test
+    void theProgramIsAskedBeforeAndAfterTheTests() throws Exception {
+        try (StubProgram stub = new StubProgram(0, "SAFE", 0, "conforms")) {
+            assertPasses(Visitors.class, 2);
+            Path recording = Path.of("target", "sizing", Visitors.class.getName() + ".recording");
+            assertEquals(List.of("ask --strict " + SHOP, "conform " + SHOP + " " + recording), stub.runs());
+            List<String> lines = Files.readAllLines(recording);
+            assertEquals("end", lines.get(lines.size() - 1));
+            assertEquals(121, lines.stream().filter(line -> line.endsWith(" begin visitor")).count());
+        }
+    }
+
+    @Test
+    void aCertificateIsPassedOnAndAskMayBeSwitchedOff() throws Exception {
+        try (StubProgram stub = new StubProgram(0, "SAFE", 0, "conforms")) {
+            assertPasses(Certified.class, 1);
+            assertPasses(NotAsked.class, 1);
+            assertEquals(List.of("ask --strict " + SHOP + " " + SHOP), stub.runs());
+        }
+    }
+
+    @Test
+    void aPlanThatIsNotSafeFailsTheClassWithWhatAskPrints() throws Exception {
+        try (StubProgram stub = new StubProgram(1, "NOT SAFE: web refuses a submit", 0, "conforms")) {
+            assertEquals(SMALL_SHOP + " is not safe, or has warnings (exit status 1):\n  NOT SAFE: web refuses a submit", failureOf(Small.class));
+            assertEquals(1, stub.runs().size());
+        }
+    }
+
+    @Test
+    void anotherPathFailsTheClassWithWhatConformPrints() throws Exception {
+        try (StubProgram stub = new StubProgram(0, "SAFE", 1, "line 9: round 0 of kind visitor ended")) {
+            Path recording = Path.of("target", "sizing", Hurried.class.getName() + ".recording");
+            assertEquals(recording + " does not conform to " + SHOP + " (exit status 1):\n  line 9: round 0 of kind visitor ended", failureOf(Hurried.class));
+            assertEquals(2, stub.runs().size());
+        }
+    }
+
+    @Test
+    void theProgramItselfAnswersTheSame() {
+        System.setProperty("sizing.optional", "true");
+        SizingAssertions.assertSafe(Path.of(SHOP));
+        assertPasses(Visitors.class, 2);
+        assertTrue(failureOf(Hurried.class).contains("of kind visitor ended"));
+        assertTrue(failureOf(Small.class).contains("NOT SAFE"));
+    }
+
+    @Test
+    void aMissingPlanIsNamed() throws Exception {
+        try (StubProgram stub = new StubProgram(0, "SAFE", 0, "conforms")) {
+            assertEquals("no file " + Path.of("missing.toml").toAbsolutePath() + ", and no resource missing.toml on the class path", failureOf(Missing.class));
+            assertEquals(List.of(), stub.runs());
+        }
+    }
+
+    @Test
+    void anExecutorOfOtherSizesFailsTheTest() throws Exception {
+        try (StubProgram stub = new StubProgram(0, "SAFE", 0, "conforms")) {
+            assertEquals("the executor is not that of " + SHOP + ":\n  pool web: max 4, plan 2", failureOf(OtherSizes.class));
+            assertEquals(1, stub.runs().size());
+        }
+    }
+
+    @Test
+    void aFailingClientFailsTheTest() throws Exception {
+        try (StubProgram stub = new StubProgram(0, "SAFE", 0, "conforms")) {
+            assertEquals("a client of kind visitor failed: java.io.IOException: planned", failureOf(FailingClient.class));
+            assertEquals(1, stub.runs().size());
+        }
+    }
+
+    @Test
+    void aParameterWithoutAPlanFailsTheTest() {
+        assertTrue(failureOf(NoPlan.class).contains("a parameter of type Sizing needs @SizingPlan on the class of the test"));
+    }
+
+    @Test
+    void withoutTheProgramTheClassFailsOrIsSkipped() {
+        System.setProperty("sizing.program", "/nonexistent/sizing");
+        assertEquals("no program at /nonexistent/sizing", failureOf(Visitors.class));
+        System.setProperty("sizing.optional", "true");
+        TestExecutionSummary summary = run(Visitors.class);
+        assertEquals(0, summary.getTotalFailureCount());
+        assertEquals(0, summary.getTestsSucceededCount());
+    }
+
+    @Test
+    void executorsAreCompared() throws Exception {
+        ThreadPoolExecutor web = new ThreadPoolExecutor(2, 2, 1, TimeUnit.SECONDS, new LinkedBlockingQueue<>(6));
+        AssertionFailedError thrown = assertThrows(AssertionFailedError.class, () -> SizingAssertions.assertExecutors(Path.of(SHOP), Map.of("web", web)));
+        assertEquals("the executors are not those of " + SHOP + ":\n  pool database: no executor given", thrown.getMessage());
+        SizingAssertions.assertExecutors(Path.of(SHOP), Map.of("web", web, "database", new ThreadPoolExecutor(1, 1, 1, TimeUnit.SECONDS, new LinkedBlockingQueue<>(2))));
+    }
+}

@@ -1,0 +1,257 @@
+package sizing.spring;
+
+import static org.junit.jupiter.api.Assertions.assertEquals;
+import static org.junit.jupiter.api.Assertions.assertFalse;
+import static org.junit.jupiter.api.Assertions.assertSame;
+import static org.junit.jupiter.api.Assertions.assertThrows;
+import static org.junit.jupiter.api.Assertions.assertTrue;
+
+import java.nio.file.Files;
+import java.nio.file.Path;
+import java.util.ArrayList;
+import java.util.List;
+import java.util.Map;
+import java.util.concurrent.ArrayBlockingQueue;
+import java.util.concurrent.CompletableFuture;
+import java.util.concurrent.ExecutorService;
+import java.util.concurrent.Semaphore;
+import java.util.concurrent.ThreadPoolExecutor;
+import java.util.concurrent.TimeUnit;
+import java.util.function.Consumer;
+import org.junit.jupiter.api.Test;
+import org.springframework.context.annotation.AnnotationConfigApplicationContext;
+import org.springframework.context.annotation.Bean;
+import org.springframework.scheduling.annotation.Async;
+import org.springframework.scheduling.annotation.AsyncAnnotationBeanPostProcessor;
+import org.springframework.scheduling.concurrent.ThreadPoolTaskExecutor;
+import sizing.PlanCheck;
+import sizing.PlanMismatchException;
+import sizing.Recorder;
+import sizing.junit5.SizingAssertions;
+
+/** Contexts with the plans `async-joined` and `permits`. */
+class SizingBeansTest {
+    private static final Path EXAMPLES = Path.of(System.getProperty("sizing.root"), "examples");
+    private static final Path ASYNC = EXAMPLES.resolve("async-joined.toml");
+    private static final Path PERMITS = EXAMPLES.resolve("permits.toml");
+
+    /** Calls two methods and waits for both. */
+    public interface Profiles {
+        CompletableFuture<String> profile(int user);
+    }
+
+    /** Another service of the same executor. */
+    public interface Orders {
+        CompletableFuture<String> orders(int user);
+    }
+
+    public static class AsyncProfiles implements Profiles {
+        @Override
+        @Async
+        public CompletableFuture<String> profile(int user) {
+            return CompletableFuture.completedFuture("profile " + user);
+        }
+    }
+
+    @Async
+    public static class AsyncOrders implements Orders {
+        @Override
+        public CompletableFuture<String> orders(int user) {
+            return CompletableFuture.completedFuture("orders " + user);
+        }
+    }
+
+    private static ThreadPoolTaskExecutor tasks(int core, int queue) {
+        ThreadPoolTaskExecutor tasks = new ThreadPoolTaskExecutor();
+        tasks.setCorePoolSize(core);
+        tasks.setMaxPoolSize(core);
+        tasks.setQueueCapacity(queue);
+        tasks.setWaitForTasksToCompleteOnShutdown(true);
+        tasks.setAwaitTerminationSeconds(60);
+        return tasks;
+    }
+
+    /** The service. (No `@Configuration`: Spring 4.3 cannot make its subclasses on Java 17.) */
+    static class Service {
+        static int core;
+        static Recorder recorder;
+
+        @Bean
+        static AsyncAnnotationBeanPostProcessor async() {
+            return new AsyncAnnotationBeanPostProcessor();
+        }
+
+        @Bean
+        static SizingBeans sizing() {
+            return new SizingBeans(ASYNC, recorder).pool("tasks", "taskExecutor");
+        }
+
+        @Bean
+        static AsyncLabels labels() {
+            return new AsyncLabels();
+        }
+
+        @Bean
+        ThreadPoolTaskExecutor taskExecutor() {
+            return tasks(core, 100);
+        }
+
+        @Bean
+        Profiles profiles() {
+            return new AsyncProfiles();
+        }
+
+        @Bean
+        Orders orders() {
+            return new AsyncOrders();
+        }
+    }
+
+    private static AnnotationConfigApplicationContext service(int core, Recorder recorder) {
+        Service.core = core;
+        Service.recorder = recorder;
+        return new AnnotationConfigApplicationContext(Service.class);
+    }
+
+    @Test
+    void theContextStartsWithTheExecutorsOfThePlan() {
+        AnnotationConfigApplicationContext context = service(8, null);
+        assertSame(ThreadPoolTaskExecutor.class, context.getBean("taskExecutor").getClass());
+        context.close();
+    }
+
+    @Test
+    void theContextDoesNotStartWithOtherExecutors() {
+        PlanMismatchException thrown = assertThrows(PlanMismatchException.class, () -> service(4, null));
+        assertEquals(List.of("pool tasks: core 4, plan 8", "pool tasks: max 4, plan 8"), thrown.lines());
+        assertEquals(String.join(System.lineSeparator(), thrown.lines()), thrown.getMessage());
+    }
+
+    @Test
+    void asyncMethodsThatAreJoinedConform() throws Exception {
+        Path recording = Files.createDirectories(Path.of("target", "sizing")).resolve("async.recording");
+        Recorder recorder = Recorder.toFile(recording);
+        AnnotationConfigApplicationContext context = service(8, recorder);
+        Profiles profiles = context.getBean(Profiles.class);
+        Orders orders = context.getBean(Orders.class);
+        List<Thread> threads = new ArrayList<>();
+        for (int thread = 0; thread < 50; thread++) {
+            int user = thread;
+            threads.add(new Thread(() -> {
+                for (int at = 0; at < 5; at++) {
+                    try (Recorder.Round round = recorder.round("request")) {
+                        CompletableFuture.allOf(profiles.profile(user), orders.orders(user)).join();
+                    }
+                }
+            }));
+        }
+        threads.forEach(Thread::start);
+        for (Thread thread : threads) {
+            thread.join();
+        }
+        context.close();
+        List<String> lines = Files.readAllLines(recording);
+        assertEquals("end", lines.get(lines.size() - 1));
+        assertEquals(250, lines.stream().filter(line -> line.endsWith(" profile tasks")).count());
+        assertEquals(250, lines.stream().filter(line -> line.endsWith(" orders tasks")).count());
+        assertEquals(500, lines.stream().filter(line -> line.contains(" got ")).count());
+        SizingAssertions.assertConforms(ASYNC, recording);
+    }
+
+    /** A bean that is named as the pool, with the decorator of docs/PERMITS.md. */
+    static class Mails {
+        static Recorder recorder;
+        static Semaphore permits;
+
+        @Bean
+        static SizingBeans sizing() {
+            return new SizingBeans(PERMITS, recorder);
+        }
+
+        @Bean
+        ThreadPoolTaskExecutor mail() {
+            ThreadPoolTaskExecutor tasks = tasks(2, 20);
+            tasks.setTaskDecorator(task -> {
+                permits.acquireUninterruptibly();
+                return () -> {
+                    try {
+                        task.run();
+                    } finally {
+                        permits.release();
+                    }
+                };
+            });
+            return tasks;
+        }
+    }
+
+    @Test
+    void aDecoratorWithPermitsConforms() throws Exception {
+        Path recording = Files.createDirectories(Path.of("target", "sizing")).resolve("decorator.recording");
+        Mails.recorder = Recorder.toFile(recording);
+        Mails.permits = Mails.recorder.permits("permit", 20);
+        AnnotationConfigApplicationContext context = new AnnotationConfigApplicationContext(Mails.class);
+        ThreadPoolTaskExecutor mail = context.getBean(ThreadPoolTaskExecutor.class);
+        Runnable send = () -> { };
+        List<Consumer<ThreadPoolTaskExecutor>> submits = List.of(
+                it -> it.execute(Recorder.label("send", send)),
+                it -> it.submit(Recorder.label("send", send)),
+                it -> it.submit(Recorder.label("send", () -> 1)));
+        for (int turn = 0; turn < 300; turn++) {
+            submits.get(turn % submits.size()).accept(mail);
+        }
+        context.close();
+        List<String> lines = Files.readAllLines(recording);
+        assertEquals("end", lines.get(lines.size() - 1));
+        assertEquals(300, lines.stream().filter(line -> line.startsWith("round ") && line.endsWith(" send mail")).count());
+        assertEquals(300, lines.stream().filter(line -> line.endsWith(" begin permit")).count());
+        assertFalse(lines.stream().anyMatch(line -> line.contains(" begin main")), "a submit of the thread itself");
+        SizingAssertions.assertConforms(PERMITS, recording);
+    }
+
+    /** A bean of the JDK's class. */
+    static class Plain {
+        static Recorder recorder;
+        static Object bean;
+
+        @Bean
+        static SizingBeans sizing() {
+            return new SizingBeans(PERMITS, recorder);
+        }
+
+        @Bean
+        Object mail() {
+            return bean;
+        }
+    }
+
+    @Test
+    void aThreadPoolExecutorBecomesARecordedExecutorService() throws Exception {
+        Path recording = Files.createDirectories(Path.of("target", "sizing")).resolve("plain.recording");
+        Plain.recorder = Recorder.toFile(recording);
+        ThreadPoolExecutor executor = new ThreadPoolExecutor(2, 2, 1, TimeUnit.SECONDS, new ArrayBlockingQueue<>(20));
+        Plain.bean = executor;
+        AnnotationConfigApplicationContext context = new AnnotationConfigApplicationContext(Plain.class);
+        assertEquals(7, ((ExecutorService) context.getBean("mail")).submit(Recorder.label("send", () -> 7)).get());
+        context.close();
+        assertTrue(Files.readAllLines(recording).contains("round 0 submit 0 send mail"));
+        executor.shutdown();
+    }
+
+    @Test
+    void aBeanOfAnotherClassStopsTheStart() {
+        Plain.recorder = null;
+        Plain.bean = "mail";
+        Exception thrown = assertThrows(Exception.class, () -> new AnnotationConfigApplicationContext(Plain.class));
+        assertTrue(thrown.getMessage().contains("bean mail is pool mail of the plan, but java.lang.String is not a ThreadPoolTaskExecutor"), thrown.getMessage());
+    }
+
+    @Test
+    void theDecoratorOfSpringIsNoOverriddenExecute() throws Exception {
+        ThreadPoolTaskExecutor mail = tasks(2, 20);
+        mail.setTaskDecorator(task -> task);
+        mail.afterPropertiesSet();
+        assertEquals(List.of(), PlanCheck.differences(PERMITS, Map.of("mail", mail.getThreadPoolExecutor())));
+        mail.shutdown();
+    }
+}
