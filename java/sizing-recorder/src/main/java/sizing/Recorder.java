@@ -34,13 +34,13 @@ import java.util.function.UnaryOperator;
  * <p><b>Stages of CompletableFutures.</b> The recorder sees that {@code supplyAsync(.., pool)}, {@code thenApplyAsync(.., pool)} and
  * the other stages on a recorded pool belong to one chain, and when they are got, if the JVM runs with
  * {@code --add-opens java.base/java.util.concurrent=ALL-UNNAMED} ({@code =sizing} on the module path). Without that option it logs
- * one warning, and each stage is a submit that nobody gets. The option gives it access to private fields of the JDK. It was tried
+ * one warning, and each stage is a submit without a get. The option gives it access to private fields of the JDK. It was tried
  * on OpenJDK 17 only; if another JDK has other fields, the recorder logs the same warning.
  *
  * <p>A stage is submitted by the round, job or permit that built the chain, after the get of the stage before it. A get of a stage
  * ({@code join}, {@code get}, {@code allOf(..).join()}) is recorded as the stage ends if its submitter waits for it at that moment,
- * and else at the end of the submitter, where a get of a job that is done would not wait. So a future that nobody joins is not
- * noticed if its job happens to be done by the end of the round. A stage that is submitted after the end of its round is recorded
+ * and else at the end of the submitter, where a get of a job that is done would not wait. So a future that is never joined is
+ * not noticed if its job happens to be done by the end of the round. A stage that is submitted after the end of its round is recorded
  * as a round of kind {@code KIND_after_end}, which no plan has.
  *
  * <p><b>Cost.</b> Each line is one entry in a lock-free queue: one allocation and one compare-and-set on the thread that acts. A

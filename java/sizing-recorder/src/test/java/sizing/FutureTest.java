@@ -16,7 +16,7 @@ import java.util.concurrent.ThreadPoolExecutor;
 import java.util.concurrent.TimeUnit;
 import org.junit.jupiter.api.Test;
 
-/** What comes of a get, of a cancel, and of several tasks at once. */
+/** Gets, cancels, `invokeAll` and `invokeAny`. */
 class FutureTest {
     @Test
     void aJobThatThrowsIsRecordedAsEndedAndGot() throws Exception {

@@ -4,7 +4,7 @@ import static org.junit.jupiter.api.Assertions.assertEquals;
 
 import org.junit.jupiter.api.Test;
 
-/** The names that docs/RECORDING.md says. */
+/** The names of docs/RECORDING.md. */
 class NamesTest {
     private static final class PriceQuery {}
 

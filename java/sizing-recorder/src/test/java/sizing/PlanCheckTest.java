@@ -19,7 +19,7 @@ import java.util.concurrent.ThreadPoolExecutor;
 import java.util.concurrent.TimeUnit;
 import org.junit.jupiter.api.Test;
 
-/** Each difference between executors and a plan. */
+/** Differences between executors and a plan. */
 class PlanCheckTest {
     private static final String PLAN = """
             # two pools

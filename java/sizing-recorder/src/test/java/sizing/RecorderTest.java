@@ -35,7 +35,7 @@ class RecorderTest {
         public void run() {}
     }
 
-    /** A queue with an order of its own, as far as anyone knows. */
+    /** A queue of another class, which may have another order. */
     private static final class OwnQueue extends LinkedBlockingQueue<Runnable> {
         private static final long serialVersionUID = 1;
     }
@@ -193,7 +193,7 @@ class RecorderTest {
         assertLines(lines.subList(lines.size() - 2, lines.size()), "unseen p 1", "end");
     }
 
-    /** The counts of an executor are late: a job that is done may be at work, by them, or both. */
+    /** Waits until the counts of the executor include these jobs: it updates them after a job is done. */
     static void waitUntilDone(ThreadPoolExecutor executor, long jobs) throws InterruptedException {
         for (int turn = 0; (executor.getCompletedTaskCount() < jobs || executor.getActiveCount() > 0) && turn < 10_000; turn++) {
             Thread.sleep(1);

@@ -6,7 +6,7 @@ import java.util.ArrayList;
 import java.util.List;
 import org.junit.jupiter.api.Test;
 
-/** The check of recordings finds what breaks each rule. */
+/** Recordings that break each rule. */
 class RecordingCheckTest {
     private static final String POOL = "pool p core 1 max 2 queue array 3 timeout no prestarted 0 handler abort";
     private static final List<String> WHOLE = List.of("recording 1", POOL, "round 0 begin c", "round 0 submit 0 a p", "job 0 start",
@@ -79,7 +79,7 @@ class RecordingCheckTest {
         }
     }
 
-    /** The last of these lines, put before the line of that number, breaks the rule, and those before it do not. */
+    /** Asserts that the last of these lines, put before the line of this number, breaks the rule, and that those before it do not. */
     private static void finds(String rule, int before, String... lines) {
         List<String> all = new ArrayList<>(WHOLE.subList(0, before - 1));
         for (int at = 0; at < lines.length - 1; at++) {

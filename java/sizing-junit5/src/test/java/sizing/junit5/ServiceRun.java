@@ -106,7 +106,7 @@ final class ServiceRun {
         return value;
     }
 
-    /** Ends the run: jobs that wait for the end go on, and all jobs are done. */
+    /** Ends the run: jobs that wait for the end continue, and all jobs are done. */
     void end() throws Exception {
         gate.countDown();
         for (ThreadPoolExecutor executor : executors) {

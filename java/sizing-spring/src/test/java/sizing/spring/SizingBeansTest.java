@@ -6,6 +6,7 @@ import static org.junit.jupiter.api.Assertions.assertSame;
 import static org.junit.jupiter.api.Assertions.assertThrows;
 import static org.junit.jupiter.api.Assertions.assertTrue;
 
+import java.nio.charset.StandardCharsets;
 import java.nio.file.Files;
 import java.nio.file.Path;
 import java.util.ArrayList;
@@ -113,6 +114,17 @@ class SizingBeansTest {
         return new AnnotationConfigApplicationContext(Service.class);
     }
 
+    /** Compares by the second implementation, and with the program if there is one. */
+    private static void assertConforms(Path plan, Path recording) throws Exception {
+        Path conform = Path.of(System.getProperty("sizing.root"), "checks", "java", "conform.py");
+        Process python = new ProcessBuilder("python3", conform.toString(), plan.toString(), recording.toString()).redirectErrorStream(true).start();
+        assertEquals("conforms\n", new String(python.getInputStream().readAllBytes(), StandardCharsets.UTF_8));
+        assertEquals(0, python.waitFor());
+        if (!System.getProperty("sizing.program", "").isBlank()) {
+            SizingAssertions.assertConforms(plan, recording);
+        }
+    }
+
     @Test
     void theContextStartsWithTheExecutorsOfThePlan() {
         AnnotationConfigApplicationContext context = service(8, null);
@@ -155,7 +167,7 @@ class SizingBeansTest {
         assertEquals(250, lines.stream().filter(line -> line.endsWith(" profile tasks")).count());
         assertEquals(250, lines.stream().filter(line -> line.endsWith(" orders tasks")).count());
         assertEquals(500, lines.stream().filter(line -> line.contains(" got ")).count());
-        SizingAssertions.assertConforms(ASYNC, recording);
+        assertConforms(ASYNC, recording);
     }
 
     /** A bean that is named as the pool, with the decorator of docs/PERMITS.md. */
@@ -206,7 +218,7 @@ class SizingBeansTest {
         assertEquals(300, lines.stream().filter(line -> line.startsWith("round ") && line.endsWith(" send mail")).count());
         assertEquals(300, lines.stream().filter(line -> line.endsWith(" begin permit")).count());
         assertFalse(lines.stream().anyMatch(line -> line.contains(" begin main")), "a submit of the thread itself");
-        SizingAssertions.assertConforms(PERMITS, recording);
+        assertConforms(PERMITS, recording);
     }
 
     /** A bean of the JDK's class. */
