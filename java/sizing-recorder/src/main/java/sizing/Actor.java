@@ -24,6 +24,8 @@ final class Actor {
     volatile boolean ended;
     /** Whether it is a round for the submit of an actor that has ended. */
     boolean isAfterEnd;
+    /** The number of lines that submits and gets of a shared actor have. Guarded by this. */
+    int sharedLines;
     private final boolean isJob;
     private final boolean hasLabel;
     /** The number of futures that a round without a label holds. Used by its own thread. */

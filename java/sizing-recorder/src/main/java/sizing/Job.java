@@ -11,6 +11,8 @@ final class Job {
     boolean isGotWhenDone;
     /** The actor that submitted it, while it is offered; afterwards only if that actor is shared. */
     Actor submitter;
+    /** The number of its submit among the lines of a shared actor. */
+    int submitLine;
     /** The round without a label that holds its future. A round finds itself here, or any other value. */
     Actor holder;
     /** Whether it was submitted. No other thread sees a future that never was. */

@@ -349,6 +349,7 @@ public final class Recorder implements AutoCloseable {
                 actor.addUnclaimed(job);
             }
             lines.submit(actor, job);
+            job.submitLine = ++actor.sharedLines;
             return true;
         }
     }
@@ -358,6 +359,7 @@ public final class Recorder implements AutoCloseable {
         synchronized (submitter) {
             if (!submitter.ended && job.actor.ended && submitter.removeUnclaimed(job)) {
                 lines.action(submitter, "got", job);
+                submitter.sharedLines++;
             }
         }
     }
@@ -393,8 +395,12 @@ public final class Recorder implements AutoCloseable {
         if (job.offering == Thread.currentThread()) {
             job.refused = true;
             Actor actor = job.submitter;
-            actor.removeUnclaimed(job);
-            lines.action(actor, "refused", job);
+            synchronized (actor) {
+                actor.removeUnclaimed(job);
+                // a `refused` line follows its submit at once, and another thread may have added a line of a shared actor
+                boolean follows = !actor.isShared() || actor.sharedLines == job.submitLine;
+                lines.action(actor, follows ? "refused" : "cancel", job);
+            }
             actor.release(job);
         }
     }
