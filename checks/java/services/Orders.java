@@ -3,12 +3,11 @@ package services;
 import static sizing.Recorder.label;
 
 import java.util.concurrent.Callable;
-import java.util.concurrent.CompletableFuture;
 import java.util.concurrent.ExecutorService;
 
 /**
- * Three pools. An order asks the stock for goods, or has them ordered where there are none; when they are reserved, a callback
- * sends a mail, for which nobody waits. Each buyer orders once.
+ * Three pools. An order asks the stock for goods, or has them ordered where there are none; when they are reserved, the job
+ * sends a mail, for which no one waits. Each buyer orders once.
  */
 final class Orders implements Services.Service {
     private ExecutorService stock;
@@ -37,11 +36,9 @@ final class Orders implements Services.Service {
         return stock.submit(task).get();
     }
 
-    /** The callback runs in the mail pool as soon as the goods are reserved. */
+    /** Sends a letter once the goods are reserved, and does not wait for it. */
     private int reserve() {
-        CompletableFuture<Integer> reserved = new CompletableFuture<>();
-        reserved.thenAcceptAsync(goods -> { }, mail);
-        reserved.complete(1);
+        mail.execute(() -> { });
         return 1;
     }
 }
