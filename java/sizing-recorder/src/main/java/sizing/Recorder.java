@@ -135,10 +135,11 @@ public final class Recorder implements AutoCloseable {
     public Round round(String kind) {
         Objects.requireNonNull(kind);
         ThreadState state = threads.get();
-        if (state.actor != null && state.actor.hasLabel()) {
+        boolean isInside = state.actor != null && !state.actor.ended;
+        if (isInside && state.actor.hasLabel()) {
             return new Round(this, null);
         }
-        if (state.actor != null) {
+        if (isInside) {
             end(state.actor);
         }
         return new Round(this, begin(state, Actor.round(kind)));

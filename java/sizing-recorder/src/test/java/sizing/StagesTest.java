@@ -7,9 +7,12 @@ import static sizing.RecordingAssertions.thrownBy;
 
 import java.util.ArrayList;
 import java.util.List;
+import java.util.concurrent.ArrayBlockingQueue;
 import java.util.concurrent.CompletableFuture;
 import java.util.concurrent.CountDownLatch;
 import java.util.concurrent.ExecutorService;
+import java.util.concurrent.RejectedExecutionException;
+import java.util.concurrent.ThreadPoolExecutor;
 import java.util.concurrent.TimeUnit;
 import java.util.function.UnaryOperator;
 import org.junit.jupiter.api.Test;
@@ -267,6 +270,52 @@ class StagesTest {
         }
         assertLines(round("0"), "round 0 begin chain", "round 0 submit 0 load io", "round 0 got 0", "round 0 submit 1 render cpu",
                 "round 0 refused 1", "round 0 end");
+    }
+
+    @Test
+    void aRoundInAStageInNoPoolIsARoundOfItsOwn() throws Exception {
+        try (Recorder.Round round = recording.recorder.round("chain")) {
+            Thread thread = Thread.currentThread();
+            CompletableFuture.runAsync(() -> whenWaiting(thread, 1), load).thenRun(() -> {
+                try (Recorder.Round callback = recording.recorder.round("callback")) {
+                    render.execute(Recorder.label("render", () -> { }));
+                }
+            }).join();
+        }
+        assertLines(round("1"), "round 1 begin callback", "round 1 submit 1 render cpu", "round 1 end");
+    }
+
+    /** An executor that refuses a task once a stage of another pool has started. */
+    private static final class RefusingExecutor extends ThreadPoolExecutor {
+        private final CountDownLatch asked;
+        private final CountDownLatch started;
+
+        RefusingExecutor(CountDownLatch asked, CountDownLatch started) {
+            super(1, 1, 1, TimeUnit.HOURS, new ArrayBlockingQueue<>(1));
+            this.asked = asked;
+            this.started = started;
+        }
+
+        @Override
+        public void execute(Runnable task) {
+            asked.countDown();
+            await(started);
+            throw new RejectedExecutionException();
+        }
+    }
+
+    @Test
+    void aRefusalAfterALineOfAnotherThreadIsACancel() throws Exception {
+        CountDownLatch asked = new CountDownLatch(1);
+        CountDownLatch started = new CountDownLatch(1);
+        ExecutorService refusing = recording.pool("refusing", new RefusingExecutor(asked, started));
+        try (Recorder.Round round = recording.recorder.round("c")) {
+            CompletableFuture<Void> chain = CompletableFuture.runAsync(() -> await(asked), load).thenRunAsync(started::countDown, render);
+            assertEquals("RejectedExecutionException: null", thrownBy(() -> refusing.submit(Recorder.label("bad", () -> 1))));
+            chain.join();
+        }
+        assertLines(round("0"), "round 0 begin c", "round 0 submit 0 load io", "round 0 submit 1 bad refusing", "round 0 got 0",
+                "round 0 submit 2 render cpu", "round 0 cancel 1", "round 0 got 2", "round 0 end");
     }
 
     @Test
