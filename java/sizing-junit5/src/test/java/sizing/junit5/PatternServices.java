@@ -96,6 +96,12 @@ final class PatternServices {
         });
     }
 
+    static void asyncWithAnyOf(ServiceRun run) throws Exception {
+        ExecutorService tasks = run.pool("tasks");
+        run.rounds("request", 1, 1, () -> CompletableFuture.anyOf(CompletableFuture.supplyAsync(() -> work(1), label("profile", tasks)),
+                CompletableFuture.runAsync(run::awaitEnd, label("orders", tasks))).join());
+    }
+
     static void asyncJoinThatThrows(ServiceRun run) throws Exception {
         ExecutorService tasks = run.pool("tasks");
         run.rounds("request", 1, 1, () -> {
@@ -529,12 +535,6 @@ final class PatternServices {
     static void chainThatIsLeft(ServiceRun run) throws Exception {
         Chain chain = Chain.of(run);
         run.rounds("chain", 4, 1, () -> CompletableFuture.runAsync(run::awaitEnd, chain.load).thenApplyAsync(x -> work(1), chain.render));
-    }
-
-    static void chainWithAnyOf(ServiceRun run) throws Exception {
-        Chain chain = Chain.of(run);
-        run.rounds("chain", 1, 1, () -> CompletableFuture.anyOf(CompletableFuture.supplyAsync(() -> work(1), chain.load),
-                CompletableFuture.runAsync(run::awaitEnd, chain.render)).join());
     }
 
     static void chainWithTimeout(ServiceRun run) throws Exception {
