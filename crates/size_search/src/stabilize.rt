@@ -47,7 +47,7 @@ pub(crate) fn stabilize(
     let mut fit = fit;
     let mut cert = cert;
     for _turn in 0..MAX_TURNS {
-        let more = match recheck(alloc, plan, &fit)? {
+        let more = match recheck_plan(alloc, plan, &fit)? {
             Recheck::Same => return Ok(SizesFound::Found { plan: fit, cert }),
             Recheck::More(more) => more,
             Recheck::Nothing => return or_fit_steady(alloc, plan, fit, cert),
@@ -65,7 +65,7 @@ pub(crate) fn stabilize(
 
 /// Searches for a certificate of the fitted plan. A plan without a larger size keeps its
 /// certificate.
-fn recheck(alloc: Global, plan: &Plan, fit: &Plan) -> Result<Recheck, AllocError> {
+fn recheck_plan(alloc: Global, plan: &Plan, fit: &Plan) -> Result<Recheck, AllocError> {
     if growth(plan, fit) == 0 {
         return Ok(Recheck::Same);
     }
