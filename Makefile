@@ -84,6 +84,7 @@ checks: program
 	python3 checks/fit.py
 	python3 checks/witnesses.py
 	python3 checks/mistakes.py
+	python3 checks/schema.py
 	python3 checks/forms.py
 	python3 checks/dist.py
 	python3 checks/fresh_system.py

@@ -1,0 +1,86 @@
+"""A validator for the part of JSON Schema draft-07 that share/plan.schema.json uses.
+
+A keyword that it does not know is an error, so that a schema never says more than is checked.
+"""
+
+import re
+
+# Keywords that describe a value and do not restrict it.
+ANNOTATIONS = {"$schema", "$id", "title", "description", "default", "examples", "definitions"}
+KEYWORDS = {
+    "$ref", "type", "properties", "additionalProperties", "required", "items", "maxItems", "minimum", "maximum", "pattern",
+}
+
+
+def errors(schema, value, root=None, path=()):
+    """Yields each error of `value` as its path and a message."""
+    root = schema if root is None else root
+    if unknown := set(schema) - ANNOTATIONS - KEYWORDS:
+        raise ValueError(f"the schema uses {', '.join(sorted(unknown))}, which this validator does not check")
+    if "$ref" in schema:
+        yield from errors(resolved(root, schema["$ref"]), value, root, path)
+        return
+    if not is_of_type(value, schema.get("type")):
+        yield path, f"{value!r} is not of type {schema['type']}"
+        return
+    if isinstance(value, dict):
+        yield from object_errors(schema, value, root, path)
+    elif isinstance(value, list):
+        yield from array_errors(schema, value, root, path)
+    else:
+        yield from scalar_errors(schema, value, path)
+
+
+def resolved(root, reference):
+    """Returns the part of the schema that a reference such as #/definitions/pool names."""
+    part = root
+    for name in reference.removeprefix("#/").split("/"):
+        part = part[name]
+    return part
+
+
+def is_of_type(value, name):
+    """Returns whether a value has a type. An integer may be written as 1.0, as draft-07 says; a boolean is no number."""
+    if name is None:
+        return True
+    if name == "integer":
+        return not isinstance(value, bool) and (isinstance(value, int) or isinstance(value, float) and value.is_integer())
+    return isinstance(value, {"object": dict, "array": list, "string": str, "boolean": bool}[name])
+
+
+def object_errors(schema, value, root, path):
+    """Yields the errors of an object and of its values."""
+    properties = schema.get("properties", {})
+    for name in schema.get("required", []):
+        if name not in value:
+            yield path, f"{name} is missing"
+    for name, each in value.items():
+        if name in properties:
+            yield from errors(properties[name], each, root, (*path, name))
+        elif schema.get("additionalProperties") is False:
+            yield path, f"{name} is no key here"
+
+
+def array_errors(schema, value, root, path):
+    """Yields the errors of a list and of its items."""
+    if len(value) > schema.get("maxItems", len(value)):
+        yield path, f"{len(value)} items are more than {schema['maxItems']}"
+    for index, each in enumerate(value):
+        yield from errors(schema.get("items", {}), each, root, (*path, index))
+
+
+def scalar_errors(schema, value, path):
+    """Yields the errors of a number or a text."""
+    if "minimum" in schema and value < schema["minimum"]:
+        yield path, f"{value} is below {schema['minimum']}"
+    if "maximum" in schema and value > schema["maximum"]:
+        yield path, f"{value} is above {schema['maximum']}"
+    if "pattern" in schema and not re.fullmatch(whole(schema["pattern"]), value, re.ASCII):
+        yield path, f"{value!r} does not match {schema['pattern']}"
+
+
+def whole(pattern):
+    """Returns a pattern without its anchors, for a match of the whole text: Python's `$` allows a newline after it."""
+    if not (pattern.startswith("^") and pattern.endswith("$")):
+        raise ValueError(f"the pattern {pattern} does not match whole texts")
+    return pattern[1:-1]

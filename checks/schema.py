@@ -1,0 +1,231 @@
+#!/usr/bin/env python3
+"""Checks share/plan.schema.json against plans and against the program.
+
+    python3 checks/schema.py
+
+- Each plan of examples/ and each sound plan of mistakes/ is valid.
+- Of the mistakes, the schema finds exactly those that SCHEMA lists. Those of SYNTAX are no TOML, so the editor reports them
+  before it uses the schema. Each of BEYOND says why a schema cannot find it.
+- On plans at the boundary of each rule, the schema and `sizing ask` agree, except for those of DIFFERENT.
+
+The Python package jsonschema checks the same, if it is installed. The boundaries need the program crates/sizing/out/sizing, or
+the one that the environment variable SIZING names; without it they are left out.
+
+Exit status: 0 if all of this holds, 1 if not.
+"""
+
+import json
+import os
+import subprocess
+import sys
+import tomllib
+from concurrent.futures import ThreadPoolExecutor
+from pathlib import Path
+
+sys.dont_write_bytecode = True
+
+from asking import built_program
+from json_schema import errors
+
+HERE = Path(__file__).resolve().parent
+ROOT = HERE.parent
+SCHEMA_FILE = ROOT / "share" / "plan.schema.json"
+
+SOUND = ["sound", "crlf_and_tab"]
+
+# Mistakes that the schema finds, each with the path of its first error.
+SCHEMA = {
+    "plural_table": "",
+    "misspelled_key": "pool.1",
+    "java_key": "pool.0",
+    "missing_key": "pool.1",
+    "count_missing": "client.0",
+    "quoted_number": "pool.1.core",
+    "body_is_text": "class.1.body",
+    "name_with_dash": "pool.1.name",
+    "size_zero": "pool.0.queue",
+    "work_without_number": "class.1.body.0",
+    "two_spaces": "class.1.body.0",
+    "get_with_timeout": "client.0.body.1",
+    "execute_for_submit": "client.0.body.0",
+    # the second slip, a get of a slot that is not open, is beyond a schema
+    "two_slips": "client.0.count",
+}
+
+# Mistakes that leave no TOML.
+SYNTAX = [
+    "unclosed_quote",
+    "slash_comment",
+    "smart_quotes",
+    "one_bracket",
+    "yes_for_true",
+    "capital_true",
+    "utf16",
+    "a_bundle_for_a_plan",
+]
+
+# Mistakes that a schema of draft-07 cannot find, each with the reason.
+COMPARES = "it would have to compare two numbers of the text"
+LOOKS_UP = "it would have to look a name up elsewhere in the text"
+FOLLOWS = "it would have to follow a slot through the actions of a body"
+VALID = "the plan is valid, and `sizing ask` only warns of it"
+BEYOND = {
+    "core_above_max": COMPARES,
+    "unknown_pool": LOOKS_UP,
+    "unknown_class": LOOKS_UP,
+    "got_twice": FOLLOWS,
+    "repeat_forgotten": VALID,
+    "client_forgotten": VALID,
+    "class_nobody_submits": VALID,
+    "pool_without_jobs": VALID,
+    "empty_file": VALID,
+}
+
+# A plan that is valid, whose values the boundaries replace one at a time.
+BASE = {
+    "pool": {"name": '"p"', "core": "1", "max": "1", "queue": "2"},
+    "class": {"name": '"a"', "pool": '"p"', "body": '["work 1"]'},
+    "client": {"name": '"c"', "count": "1", "repeat": "true", "body": '["submit a as x", "get x"]'},
+}
+NUMBERS = ["0", "1", "1000000", "1000001", "-1", "1.0", "1.5", '"1"', "1_000", "0x10", "true"]
+NAMES = ['"a"', '"A"', '""', '"_a"', '"a_"', f'"{"a" * 32}"', f'"{"a" * 33}"', '"a-b"', '"é"', '"a\\n"', "1"]
+WORK = '"work 1"'
+BODIES = [
+    "[]",
+    '["work 0"]',
+    '["work 1000000"]',
+    '["work 1000001"]',
+    '["work 01"]',
+    '["work 1 "]',
+    '[" work 1"]',
+    '["Work 1"]',
+    '["work 1\\n"]',
+    '["work ١"]',
+    '["submit a"]',
+    '["submit a as x"]',
+    '["submit A as x"]',
+    '["submit a  as x"]',
+    '["get"]',
+    "[1]",
+    '"work 1"',
+    f"[{', '.join([WORK] * 256)}]",
+    f"[{', '.join([WORK] * 257)}]",
+]
+
+# Boundaries at which the schema accepts what `sizing ask` refuses, each with the reason.
+DIFFERENT = {
+    ("pool", "core", "1.0"): "1.0 is an integer in JSON Schema, and not in TOML",
+    ("pool", "queue", "1.0"): "1.0 is an integer in JSON Schema, and not in TOML",
+    ("client", "count", "1.0"): "1.0 is an integer in JSON Schema, and not in TOML",
+}
+
+
+def read(path):
+    """Returns the plan of a file, or None if it is no TOML."""
+    try:
+        return tomllib.loads(path.read_bytes().decode())
+    except (tomllib.TOMLDecodeError, UnicodeDecodeError):
+        return None
+
+
+def first_error(schema, plan):
+    """Returns the path of the first error, as pool.0.core, or None if the plan is valid."""
+    found = next(errors(schema, plan), None)
+    return None if found is None else ".".join(map(str, found[0]))
+
+
+def files_differ(schema):
+    """Yields a line for each file that the schema does not judge as it should, and for each file that no list names."""
+    sound = [*sorted((ROOT / "examples").glob("*.toml")), *(HERE / "mistakes" / f"{name}.toml" for name in SOUND)]
+    for path in sound:
+        plan = read(path)
+        if plan is None or first_error(schema, plan) is not None:
+            yield f"{path.name}: {list(errors(schema, plan or {}))}"
+    for path in sorted((HERE / "mistakes").glob("*.toml")):
+        name, plan = path.stem, read(path)
+        lists = [name in names for names in (SOUND, SCHEMA, SYNTAX, BEYOND)]
+        if sum(lists) != 1:
+            yield f"{name}: {sum(lists)} lists name it"
+        elif (plan is None) != (name in SYNTAX):
+            yield f"{name}: {'no TOML' if plan is None else 'TOML'}"
+        elif plan is not None and (found := first_error(schema, plan)) != SCHEMA.get(name):
+            yield f"{name}: the first error is at {found}, and not at {SCHEMA.get(name)}"
+
+
+def boundaries():
+    """Yields plans at the boundaries of each rule: the table, the key, the value that it has there, and the text."""
+    changes = [(table, key, value) for table, key in (("pool", "core"), ("pool", "queue"), ("client", "count")) for value in NUMBERS]
+    changes += [(table, "name", value) for table in BASE for value in NAMES]
+    changes += [("client", "body", value) for value in BODIES]
+    changes += [("pool", "prestart", "true"), ("pool", "prestart", "1"), ("pool", "note", '"x"'), ("client", "repeat", '"yes"')]
+    changes += [(table, key, None) for table, keys in BASE.items() for key in keys]
+    for table, key, value in changes:
+        plan = {name: dict(keys) for name, keys in BASE.items()}
+        if value is None:
+            del plan[table][key]
+        else:
+            plan[table][key] = value
+        # the rest of the plan follows the change, so that nothing else is wrong
+        if value and (table, key) == ("pool", "core"):
+            plan["pool"]["max"] = value
+        if value and (table, key) == ("pool", "name"):
+            plan["class"]["pool"] = value
+        if value and (table, key) == ("class", "name") and value.startswith('"'):
+            plan["client"]["body"] = f'["submit {value[1:-1]} as x", "get x"]'
+        text = "".join(f"[[{name}]]\n" + "".join(f"{key} = {it}\n" for key, it in keys.items()) for name, keys in plan.items())
+        yield table, key, value, text
+
+
+def has_faults(program, text):
+    """Returns whether `sizing ask` answers a plan with faults."""
+    ran = subprocess.run([program, "ask", "--json"], input=text.encode(), capture_output=True, check=False)
+    return json.loads(ran.stdout)["answer"] == "FAULTS"
+
+
+def boundaries_differ(schema, program):
+    """Yields a line for each boundary at which the schema and the program differ without a reason, or agree despite one."""
+    cases = list(boundaries())
+    with ThreadPoolExecutor(os.cpu_count()) as pool:
+        faulty = list(pool.map(lambda case: has_faults(program, case[3]), cases))
+    for (table, key, value, text), refused in zip(cases, faulty):
+        invalid = first_error(schema, tomllib.loads(text)) is not None
+        if (invalid != refused) != ((table, key, value) in DIFFERENT):
+            yield f"{table} {key} {str(value)[:60]}: the schema {'refuses' if invalid else 'accepts'} it, the program {'refuses' if refused else 'accepts'} it"
+
+
+def validators_differ(schema):
+    """Yields a line for each plan that the package jsonschema judges otherwise, and for a schema that is none."""
+    try:
+        from jsonschema import Draft7Validator
+    except ImportError:
+        return
+    Draft7Validator.check_schema(schema)
+    validator = Draft7Validator(schema)
+    texts = [path.read_bytes() for path in [*(ROOT / "examples").glob("*.toml"), *(HERE / "mistakes").glob("*.toml")]]
+    texts += [text.encode() for *_, text in boundaries()]
+    for text in texts:
+        try:
+            plan = tomllib.loads(text.decode())
+        except (tomllib.TOMLDecodeError, UnicodeDecodeError):
+            continue
+        # that package matches a pattern with Python's `$`, which allows a newline after the text
+        if validator.is_valid(plan) != (first_error(schema, plan) is None) and b"\\n" not in text:
+            yield f"the package jsonschema differs: {text.decode()[:200]}"
+
+
+def main():
+    schema = json.loads(SCHEMA_FILE.read_text(encoding="utf-8"))
+    wrong = [*files_differ(schema), *validators_differ(schema)]
+    program = built_program()
+    if program:
+        wrong += boundaries_differ(schema, program)
+    print(*wrong, sep="\n", end="\n" if wrong else "")
+    plans = len(list((ROOT / "examples").glob("*.toml")))
+    cases = f"{sum(1 for _ in boundaries())} boundaries" if program else "no boundaries, since there is no program"
+    found = f"{len(SCHEMA)} mistakes found by the schema, {len(SYNTAX)} that are no TOML, {len(BEYOND)} beyond a schema"
+    print(f"{plans} examples, {found}, {cases}: {len(wrong)} wrong")
+    return 1 if wrong else 0
+
+
+if __name__ == "__main__":
+    sys.exit(main())
