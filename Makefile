@@ -29,11 +29,17 @@ ifdef DIST
 install:
 	@room=$$(mktemp -d) && trap 'rm -rf "$$room"' EXIT && tar -xzf "$(DIST)" -C "$$room" && DESTDIR="$(DESTDIR)" "$$room"/*/install.sh $(PREFIX)
 else
-# Installs the program and its manual page below PREFIX, after it has proved and built them. DIST=FILE installs a release.
+# Proves and builds the program, and installs it below PREFIX with its manual page, its completions for bash, zsh and fish, and
+# the schema of plans. DIST=FILE installs a release.
 install: program
 	install -D -m 755 $(PROGRAM) $(DESTDIR)$(PREFIX)/bin/sizing
 	@tools/man $(PROGRAM) $(dir $(PROGRAM))sizing.1
 	install -D -m 644 $(dir $(PROGRAM))sizing.1 $(DESTDIR)$(PREFIX)/share/man/man1/sizing.1
+	@tools/completions $(PROGRAM) $(dir $(PROGRAM))
+	install -D -m 644 $(dir $(PROGRAM))sizing.bash $(DESTDIR)$(PREFIX)/share/bash-completion/completions/sizing
+	install -D -m 644 $(dir $(PROGRAM))_sizing $(DESTDIR)$(PREFIX)/share/zsh/site-functions/_sizing
+	install -D -m 644 $(dir $(PROGRAM))sizing.fish $(DESTDIR)$(PREFIX)/share/fish/vendor_completions.d/sizing.fish
+	install -D -m 644 share/plan.schema.json $(DESTDIR)$(PREFIX)/share/sizing/plan.schema.json
 	@echo "sizing is in $(DESTDIR)$(PREFIX)/bin"
 endif
 
@@ -85,6 +91,7 @@ checks: program
 	python3 checks/witnesses.py
 	python3 checks/mistakes.py
 	python3 checks/schema.py
+	python3 checks/completions.py
 	python3 checks/forms.py
 	python3 checks/dist.py
 	python3 checks/fresh_system.py
