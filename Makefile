@@ -92,6 +92,7 @@ checks: program
 	python3 checks/mistakes.py
 	python3 checks/schema.py
 	python3 checks/completions.py
+	python3 checks/report_page.py
 	python3 checks/forms.py
 	python3 checks/dist.py
 	python3 checks/fresh_system.py

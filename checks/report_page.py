@@ -1,0 +1,225 @@
+#!/usr/bin/env python3
+"""Opens the report of six plans in a headless Chromium.
+
+    python3 checks/report_page.py               # opens them
+    python3 checks/report_page.py --pictures    # and writes a picture of each to docs/pictures
+
+Each report is web/report.html with the answer of `sizing ask --json` to a plan, which web/sample.py completes; what it adds
+about the events must be what `sizing replay` prints. In each:
+
+- the console has no error, and the page asks the network for nothing;
+- the expected texts are there, and nothing is wider than a window of 1,200 pixels, on screen and in print;
+- each text has a contrast of at least 4.5 to what is behind it, in light and in dark;
+- the Tab key reaches each link and each folded part, in order, and shows where it is;
+- a link to a line of the plan opens the plan there.
+
+The program is crates/sizing/out/sizing, or the one that the environment variable SIZING names. Chromium is that of Debian's
+package `chromium`; without it the status is 0 after a line that says so. Pictures are made smaller by `pngquant`, if it is
+installed.
+
+Exit status: 0 if all of this holds, 1 if not, 2 if there is no program.
+"""
+
+import json
+import shutil
+import subprocess
+import sys
+import tempfile
+from pathlib import Path
+from typing import NamedTuple
+
+sys.dont_write_bytecode = True
+
+ROOT = Path(__file__).resolve().parent.parent
+sys.path.insert(0, str(ROOT / "web"))
+
+from asking import built_program
+from browser import Browser, installed
+from sample import page_of, whole_answer
+
+
+class Sample(NamedTuple):
+    """A plan, and texts that its report has."""
+
+    name: str
+    plan: str
+    texts: list
+
+
+SAMPLES = [
+    Sample("refused", "examples/two-clients.toml", ["NOT SAFE", "Pool p refuses a submit after 7 events", "p queue 1 → 2", "1 thread of p is idle"]),
+    Sample("stuck-forever", "examples/cross-pools.toml", ["4 jobs wait only for each other, forever", "p core 1 → 2", "needs a thread that is held by"]),
+    Sample("stuck-now", "examples/stuck-for-now.toml", ["2 jobs wait only for each other, until another submit helps", "goes through its body once"]),
+    Sample("safe", "examples/web-and-database-sized.toml", ["SAFE", "no submit is ever refused", "at most 25 of 25 places in use: 24 visitor, 1 crawler", "What this assumes"]),
+    Sample("300-events", "examples/thirty-endpoints-queue-199.toml", ["after 328 events", "steps not shown", "All 131 steps", "queries queue 199 → 200"]),
+    Sample("64-pools", "web/samples/sixty-four-pools.toml", ["Pool ledger refuses a submit", "64 pools, 84 classes", "61 other pools", "84 kinds of submits"]),
+]
+WIDTH = 1200
+# A picture shows the report as far as this.
+MOST_PIXELS = 1800
+SECONDS = 300
+
+# Texts whose contrast is too low, each with its contrast. The ground of a text is the first thing behind it that is filled.
+CONTRAST = """(() => {
+  const parse = color => { const found = color.match(/[\\d.]+/g); return found && {rgb: found.slice(0, 3).map(Number), alpha: found.length > 3 ? +found[3] : 1}; };
+  const light = rgb => { const [r, g, b] = rgb.map(each => { const c = each / 255; return c <= .03928 ? c / 12.92 : ((c + .055) / 1.055) ** 2.4; }); return .2126 * r + .7152 * g + .0722 * b; };
+  const fill = (element, style) => element instanceof SVGElement
+    ? (element.tagName === "rect" || element.tagName === "path" && style.fill !== "none" ? style.fill.startsWith("rgb") ? {...parse(style.fill), alpha: parse(style.fill).alpha * style.fillOpacity} : null : null)
+    : parse(style.backgroundColor);
+  const ground = (x, y, self) => {
+    for (const element of document.elementsFromPoint(x, y)) {
+      if (element === self) continue;
+      const found = fill(element, getComputedStyle(element));
+      if (found && found.alpha > .5) return found.rgb;
+    }
+    return parse(getComputedStyle(document.body).backgroundColor).rgb;
+  };
+  const low = [];
+  const walker = document.createTreeWalker(document.querySelector("main"), NodeFilter.SHOW_TEXT);
+  while (walker.nextNode()) {
+    const node = walker.currentNode, element = node.parentElement;
+    if (!node.textContent.trim() || !element.checkVisibility()) continue;
+    const range = document.createRange();
+    range.selectNodeContents(node);
+    const box = range.getClientRects()[0];
+    if (!box || !box.width) continue;
+    const style = getComputedStyle(element), ink = parse(element instanceof SVGElement ? style.fill : style.color).rgb;
+    const [one, other] = [light(ink), light(ground(box.x + box.width / 2, box.y + box.height / 2, element instanceof SVGElement ? element : null))].sort((a, b) => b - a);
+    const contrast = (one + .05) / (other + .05);
+    if (contrast < 4.5) low.push(`${contrast.toFixed(2)}: ${node.textContent.trim().slice(0, 40)}`);
+  }
+  return low;
+})()"""
+
+# What the Tab key must reach.
+FOCUSABLE = "[...document.querySelectorAll('a[href], summary')].filter(each => each.checkVisibility())"
+FOCUSED = f"(() => {{ const at = {FOCUSABLE}.indexOf(document.activeElement); return [at, at >= 0 && getComputedStyle(document.activeElement).outlineStyle !== 'none']; }})()"
+WIDER = """[document.documentElement, ...document.querySelectorAll(".drawing, pre, section")]
+  .filter(each => each.scrollWidth > each.clientWidth + 1).map(each => `${each.tagName} ${each.scrollWidth} above ${each.clientWidth}`)"""
+TALL = "Math.ceil(document.documentElement.getBoundingClientRect().height)"
+# A link to a line shows the line.
+LINK = """(() => {
+  const link = document.querySelector("a[href^='#L']");
+  if (!link) return true;
+  link.click();
+  const target = document.querySelector(link.getAttribute("href"));
+  const box = target && target.checkVisibility() && target.getBoundingClientRect();
+  return !!box && box.top >= 0 && box.bottom <= innerHeight;
+})()"""
+FIRST_SUMMARY = "(() => { const summary = document.querySelector('summary'); summary.focus(); return summary.parentElement.open; })()"
+IS_OPEN = "document.querySelector('summary').parentElement.open"
+
+
+def problems(browser, sample, page):
+    """Yields a line for each thing that is not as it should be in a report."""
+    browser.media("light")
+    browser.resize(WIDTH, 900)
+    browser.open(page)
+    if found := list(browser.problems()):
+        yield from found
+        return
+    text = browser.evaluate("document.querySelector('main').textContent.replace(/\\s+/g, ' ')")
+    yield from (f"no text {wanted!r}" for wanted in sample.texts if wanted not in text)
+    yield from (f"too wide: {each}" for each in browser.evaluate(WIDER))
+    yield from keyboard_problems(browser)
+    if not browser.evaluate(LINK):
+        yield "a link to a line of the plan does not show the line"
+    # with all folded parts open
+    browser.evaluate("window.dispatchEvent(new Event('beforeprint'))")
+    yield from (f"too wide when it is unfolded: {each}" for each in browser.evaluate(WIDER))
+    browser.resize(WIDTH, browser.evaluate(TALL))
+    for scheme in ("light", "dark"):
+        browser.media(scheme)
+        yield from (f"contrast in {scheme} {each}" for each in browser.evaluate(CONTRAST))
+    browser.media("light", "print")
+    yield from (f"too wide in print: {each}" for each in browser.evaluate(WIDER))
+    yield from browser.problems()
+
+
+def keyboard_problems(browser):
+    """Yields a line for each link and folded part that the Tab key does not reach in its order, or does not mark."""
+    count = browser.evaluate(f"{FOCUSABLE}.length")
+    for index in range(count):
+        browser.press("Tab", 9)
+        at, is_marked = browser.evaluate(FOCUSED)
+        if at != index:
+            yield f"the Tab key reaches {at}, and not {index} of {count}"
+            return
+        if not is_marked:
+            yield f"nothing marks the focus on {index} of {count}"
+    before = browser.evaluate(FIRST_SUMMARY)
+    browser.press("Enter", 13, "\r")
+    if browser.evaluate(IS_OPEN) == before:
+        yield "the Enter key does not unfold"
+    browser.press("Enter", 13, "\r")
+
+
+def picture(browser, sample, page):
+    """Writes a picture of a report."""
+    path = ROOT / "docs" / "pictures" / f"report-{sample.name}.png"
+    browser.media("light")
+    browser.resize(WIDTH, 900)
+    browser.open(page)
+    browser.picture(path, MOST_PIXELS)
+    if shutil.which("pngquant"):
+        subprocess.run(["pngquant", "--force", "--strip", "--output", path, "64", path], check=True)
+
+
+def answer_of(program, sample):
+    """Returns all that the report of a plan reads, and the event lines of its witness."""
+    plan = ROOT / sample.plan
+    ran = subprocess.run([program, "ask", "--json", plan], capture_output=True, text=True, timeout=SECONDS, check=False)
+    answer = json.loads(ran.stdout)
+    return whole_answer(plan.read_text(encoding="utf-8"), answer), answer["witness"]["events"] if answer["witness"] else []
+
+
+def outcomes(answer):
+    """Yields what `sizing replay` must print for each event of the witness, without its number."""
+    plan = {entry["name"]: entry["body"] for entry in answer["plan"]["classes"]}
+    plan |= {f"client {entry['name']}": entry["body"] for entry in answer["plan"]["clients"]}
+    for event in answer["witness"]["events"]:
+        for turn in range(event["times"]):
+            outcome, actor = event["outcome"], event["actor"]
+            if outcome == "worked":
+                body = plan[actor["class"] if "class" in actor else f"client {actor['client']}"]
+                yield f"worked {body[event['action']]['units']}"
+            elif outcome == "refused":
+                yield f"refused by {event['pool']['name']}"
+            else:
+                yield outcome if event["job"] is None else f"{outcome} job {event['job'] + turn}"
+
+
+def replay_problems(program, sample, answer, events):
+    """Yields a line if the outcomes of the witness differ from those of `sizing replay`."""
+    if not events:
+        return
+    text = (ROOT / sample.plan).read_text(encoding="utf-8") + "%%\n" + "".join(f"{event}\n" for event in events)
+    ran = subprocess.run([program, "replay"], input=text, capture_output=True, text=True, timeout=SECONDS, check=False)
+    found = [line.split(": ")[1] for line in ran.stdout.splitlines() if ": " in line and ": stuck" not in line]
+    if found != list(outcomes(answer)):
+        yield f"{sample.name}: `sizing replay` prints {found[:40]}, and not {list(outcomes(answer))[:40]}"
+
+
+def main(words):
+    if not (program := built_program()):
+        return 2
+    if not installed():
+        print("Chromium is not installed, so no report was opened: apt-get install chromium")
+        return 0
+    wrong = []
+    with tempfile.TemporaryDirectory(prefix="sizing-reports-") as folder, Browser(WIDTH, 900) as browser:
+        for sample in SAMPLES:
+            page = Path(folder) / f"{sample.name}.html"
+            answer, events = answer_of(program, sample)
+            page.write_text(page_of(answer), encoding="utf-8")
+            wrong += replay_problems(program, sample, answer, events)
+            wrong += [f"{sample.name}: {each}" for each in problems(browser, sample, page)]
+            if "--pictures" in words:
+                picture(browser, sample, page)
+    print(*wrong, sep="\n", end="\n" if wrong else "")
+    print(f"{len(SAMPLES)} reports: {len(wrong)} wrong")
+    return 1 if wrong else 0
+
+
+if __name__ == "__main__":
+    sys.exit(main(sys.argv[1:]))
