@@ -5,6 +5,9 @@ import sys
 from typing import NamedTuple
 
 
+VALUES = re.compile(r" *\[possible values: ([^]]*)\]")
+
+
 class Option(NamedTuple):
     """An option, as --workers <N>; its value has no name if it takes none."""
 
@@ -54,7 +57,7 @@ def options_of(text):
     joined = re.sub(r"\n {11,}(?=[^ -])", " ", "\n".join(lines))
     form = re.compile(r"(?m)^ +(?:(-\w))?(?:, )?(?:(--[a-z-]+))?(?: <(\w+)>)?(?:  +(.*))?$")
     return [
-        Option(short or "", long or "", value or "", values_of(about or ""), (about or "").strip())
+        Option(short or "", long or "", value or "", values_of(about or ""), VALUES.sub("", about or "").strip())
         for short, long, value, about in form.findall(joined)
         if short or long
     ]
@@ -62,7 +65,7 @@ def options_of(text):
 
 def values_of(about):
     """Returns the possible values that the help of an option lists."""
-    listed = re.search(r"\[possible values: ([^]]*)\]", about)
+    listed = VALUES.search(about)
     return listed[1].split(", ") if listed else []
 
 

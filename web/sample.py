@@ -4,7 +4,8 @@
     python3 web/sample.py PLAN.toml ANSWER.json > page.html
 
 The answer does not have everything that the page reads (see the head of report.html). This script adds it: the places of the
-plan's entries, and what each event of the witness does, which it finds by doing the events again.
+plan's entries, and what each event of the witness does, which it finds by doing the events again. It finds the places in plans
+that have [[..]] tables, with one key in a line.
 """
 
 import json
