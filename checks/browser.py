@@ -3,6 +3,7 @@
 import base64
 import json
 import os
+import select
 import shutil
 import subprocess
 import tempfile
@@ -40,7 +41,8 @@ class Browser:
         # Chromium reads commands from descriptor 3, and writes answers to 4
         script = f'exec "$0" "$@" 3<&{for_it[0]} 4>&{ours[1]}'
         command = ["bash", "-c", script, installed(), *OPTIONS, f"--user-data-dir={self.folder}", "about:blank"]
-        self.process = subprocess.Popen(command, pass_fds=(for_it[0], ours[1]), stdout=subprocess.DEVNULL, stderr=subprocess.DEVNULL)
+        silent = dict.fromkeys(("stdout", "stderr"), subprocess.DEVNULL)
+        self.process = subprocess.Popen(command, pass_fds=(for_it[0], ours[1]), **silent)
         os.close(for_it[0])
         os.close(ours[1])
         self.writes, self.reads = for_it[1], ours[0]
@@ -78,8 +80,9 @@ class Browser:
         """Returns the next message."""
         deadline = time.monotonic() + SECONDS
         while b"\0" not in self.unread:
-            part = os.read(self.reads, 1 << 20)
-            if not part or time.monotonic() > deadline:
+            ready, _, _ = select.select([self.reads], [], [], max(deadline - time.monotonic(), 0))
+            part = os.read(self.reads, 1 << 20) if ready else b""
+            if not part:
                 raise RuntimeError("Chromium does not answer")
             self.unread += part
         message, _, self.unread = self.unread.partition(b"\0")

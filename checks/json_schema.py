@@ -6,7 +6,7 @@ A keyword that it does not know is an error, so that a schema never says more th
 import re
 
 # Keywords that describe a value and do not restrict it.
-ANNOTATIONS = {"$schema", "$id", "title", "description", "default", "examples", "definitions"}
+ANNOTATIONS = {"$schema", "title", "description", "default", "examples", "definitions"}
 KEYWORDS = {
     "$ref", "type", "properties", "additionalProperties", "required", "items", "maxItems", "minimum", "maximum", "pattern",
 }

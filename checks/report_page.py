@@ -47,12 +47,36 @@ class Sample(NamedTuple):
 
 
 SAMPLES = [
-    Sample("refused", "examples/two-clients.toml", ["NOT SAFE", "Pool p refuses a submit after 7 events", "p queue 1 → 2", "1 thread of p is idle"]),
-    Sample("stuck-forever", "examples/cross-pools.toml", ["4 jobs wait only for each other, forever", "p core 1 → 2", "needs a thread that is held by"]),
-    Sample("stuck-now", "examples/stuck-for-now.toml", ["2 jobs wait only for each other, until another submit helps", "goes through its body once"]),
-    Sample("safe", "examples/web-and-database-sized.toml", ["SAFE", "no submit is ever refused", "at most 25 of 25 places in use: 24 visitor, 1 crawler", "What this assumes"]),
-    Sample("300-events", "examples/thirty-endpoints-queue-199.toml", ["after 328 events", "steps not shown", "All 131 steps", "queries queue 199 → 200"]),
-    Sample("64-pools", "web/samples/sixty-four-pools.toml", ["Pool ledger refuses a submit", "64 pools, 84 classes", "61 other pools", "84 kinds of submits"]),
+    Sample(
+        "refused",
+        "examples/two-clients.toml",
+        ["NOT SAFE", "Pool p refuses a submit after 7 events", "p queue 1 → 2", "1 thread of p is idle"],
+    ),
+    Sample(
+        "stuck-forever",
+        "examples/cross-pools.toml",
+        ["4 jobs wait only for each other, forever", "p core 1 → 2", "needs a thread that is held by"],
+    ),
+    Sample(
+        "stuck-now",
+        "examples/stuck-for-now.toml",
+        ["2 jobs wait only for each other, until another submit helps", "Warnings", "p core 1 → 2"],
+    ),
+    Sample(
+        "safe",
+        "examples/web-and-database-sized.toml",
+        ["SAFE", "no submit is ever refused", "at most 25 of 25 places in use: 24 visitor, 1 crawler", "What this assumes"],
+    ),
+    Sample(
+        "300-events",
+        "examples/thirty-endpoints-queue-199.toml",
+        ["after 328 events", "steps not shown", "All 131 steps", "queries queue 199 → 200"],
+    ),
+    Sample(
+        "64-pools",
+        "web/samples/sixty-four-pools.toml",
+        ["Pool ledger refuses a submit", "64 pools, 84 classes", "61 other pools", "84 kinds of submits"],
+    ),
 ]
 WIDTH = 1200
 # A picture shows the report as far as this.
@@ -61,11 +85,22 @@ SECONDS = 300
 
 # Texts whose contrast is too low, each with its contrast. The ground of a text is the first thing behind it that is filled.
 CONTRAST = """(() => {
-  const parse = color => { const found = color.match(/[\\d.]+/g); return found && {rgb: found.slice(0, 3).map(Number), alpha: found.length > 3 ? +found[3] : 1}; };
-  const light = rgb => { const [r, g, b] = rgb.map(each => { const c = each / 255; return c <= .03928 ? c / 12.92 : ((c + .055) / 1.055) ** 2.4; }); return .2126 * r + .7152 * g + .0722 * b; };
-  const fill = (element, style) => element instanceof SVGElement
-    ? (element.tagName === "rect" || element.tagName === "path" && style.fill !== "none" ? style.fill.startsWith("rgb") ? {...parse(style.fill), alpha: parse(style.fill).alpha * style.fillOpacity} : null : null)
-    : parse(style.backgroundColor);
+  const parse = color => {
+    const found = color.match(/[\\d.]+/g);
+    return found && {rgb: found.slice(0, 3).map(Number), alpha: found.length > 3 ? +found[3] : 1};
+  };
+  const linear = each => each <= .03928 ? each / 12.92 : ((each + .055) / 1.055) ** 2.4;
+  const light = rgb => {
+    const [r, g, b] = rgb.map(each => linear(each / 255));
+    return .2126 * r + .7152 * g + .0722 * b;
+  };
+  const fill = (element, style) => {
+    if (!(element instanceof SVGElement)) return parse(style.backgroundColor);
+    // a pattern is no ground
+    if (!["rect", "path"].includes(element.tagName) || !style.fill.startsWith("rgb")) return null;
+    const {rgb, alpha} = parse(style.fill);
+    return {rgb, alpha: alpha * style.fillOpacity};
+  };
   const ground = (x, y, self) => {
     for (const element of document.elementsFromPoint(x, y)) {
       if (element === self) continue;
@@ -83,8 +118,10 @@ CONTRAST = """(() => {
     range.selectNodeContents(node);
     const box = range.getClientRects()[0];
     if (!box || !box.width) continue;
-    const style = getComputedStyle(element), ink = parse(element instanceof SVGElement ? style.fill : style.color).rgb;
-    const [one, other] = [light(ink), light(ground(box.x + box.width / 2, box.y + box.height / 2, element instanceof SVGElement ? element : null))].sort((a, b) => b - a);
+    const style = getComputedStyle(element), isDrawn = element instanceof SVGElement;
+    const ink = parse(isDrawn ? style.fill : style.color).rgb;
+    const behind = ground(box.x + box.width / 2, box.y + box.height / 2, isDrawn ? element : null);
+    const [one, other] = [light(ink), light(behind)].sort((a, b) => b - a);
     const contrast = (one + .05) / (other + .05);
     if (contrast < 4.5) low.push(`${contrast.toFixed(2)}: ${node.textContent.trim().slice(0, 40)}`);
   }
@@ -93,7 +130,10 @@ CONTRAST = """(() => {
 
 # What the Tab key must reach.
 FOCUSABLE = "[...document.querySelectorAll('a[href], summary')].filter(each => each.checkVisibility())"
-FOCUSED = f"(() => {{ const at = {FOCUSABLE}.indexOf(document.activeElement); return [at, at >= 0 && getComputedStyle(document.activeElement).outlineStyle !== 'none']; }})()"
+FOCUSED = f"""(() => {{
+  const at = {FOCUSABLE}.indexOf(document.activeElement);
+  return [at, at >= 0 && getComputedStyle(document.activeElement).outlineStyle !== "none"];
+}})()"""
 WIDER = """[document.documentElement, ...document.querySelectorAll(".drawing, pre, section")]
   .filter(each => each.scrollWidth > each.clientWidth + 1).map(each => `${each.tagName} ${each.scrollWidth} above ${each.clientWidth}`)"""
 TALL = "Math.ceil(document.documentElement.getBoundingClientRect().height)"
@@ -106,7 +146,11 @@ LINK = """(() => {
   const box = target && target.checkVisibility() && target.getBoundingClientRect();
   return !!box && box.top >= 0 && box.bottom <= innerHeight;
 })()"""
-FIRST_SUMMARY = "(() => { const summary = document.querySelector('summary'); summary.focus(); return summary.parentElement.open; })()"
+FIRST_SUMMARY = """(() => {
+  const summary = document.querySelector("summary");
+  summary.focus();
+  return summary.parentElement.open;
+})()"""
 IS_OPEN = "document.querySelector('summary').parentElement.open"
 
 

@@ -24,7 +24,8 @@ STRING = re.compile(r'"(?:[^"\\]|\\.)*"|\'[^\']*\'')
 SIZES = ("core", "max", "queue")
 
 ASSUMPTIONS = [
-    "The service does what the plan says: these pools, these submitters, these bodies. A job may skip any submit together with its get. `sizing conform` compares a recorded test run with the plan.",
+    "The service does what the plan says: these pools, these submitters, these bodies. A job may skip any submit together with "
+    "its get. `sizing conform` compares a recorded test run with the plan.",
     "The executors have the sizes of the plan. `PlanCheck` compares them when the service starts.",
     "Each `work` of a job returns, whatever other jobs and clients do.",
     "No timed get expires, no future is cancelled, and no exception leaves a body with an open future, except with permits.",
@@ -97,19 +98,14 @@ def plan_of(text, toml, places):
     def body(table, index, entry):
         return [{**action_of(each), **placed(places, table, index, "body", at)} for at, each in enumerate(entry["body"])]
 
-    pools = [
-        {"name": each["name"], **{key: each[key] for key in SIZES}, "prestart": each.get("prestart", False), **placed(places, "pool", at, "name")}
-        for at, each in enumerate(toml.get("pool", []))
-    ]
-    classes = [
-        {"name": each["name"], "pool": each["pool"], "body": body("class", at, each), **placed(places, "class", at, "name")}
-        for at, each in enumerate(toml.get("class", []))
-    ]
-    clients = [
-        {"name": each["name"], "count": each["count"], "repeat": each.get("repeat", False), "body": body("client", at, each), **placed(places, "client", at, "name")}
-        for at, each in enumerate(toml.get("client", []))
-    ]
-    return {"text": text, "pools": pools, "classes": classes, "clients": clients}
+    defaults = {"pool": {"prestart": False}, "class": {}, "client": {"repeat": False}}
+
+    def entries(table):
+        for at, each in enumerate(toml.get(table, [])):
+            entry = {**defaults[table], **each, **placed(places, table, at, "name")}
+            yield entry if table == "pool" else {**entry, "body": body(table, at, each)}
+
+    return {"text": text, "pools": [*entries("pool")], "classes": [*entries("class")], "clients": [*entries("client")]}
 
 
 # ---- the events
