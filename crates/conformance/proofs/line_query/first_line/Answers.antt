@@ -7,8 +7,8 @@ use Rattle.conformance.proofs.ListSteps.{next_is, rest_next, within_next, all_ta
 use Rattle.conformance.proofs.Among.{any_more}
 use Rattle.conformance.proofs.line_query.first_line.Goals as goal
 
-pub returns-then-is : goal.returns-then-is
-returns-then-is c =
+pub returns-then-matches : goal.returns-then-matches
+returns-then-matches c =
     let lines = lines_of c.args.text.now in
     let n = c.loop-line.number in
     let next : drop n lines ≡ line_view c.in-Some.line ∷ c.next.new.self = sym c.loop-line.invariant.rest ∙ c.in-Some.ensures in

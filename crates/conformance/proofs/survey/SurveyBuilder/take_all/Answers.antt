@@ -28,7 +28,7 @@ loop-lines-preserved c =
     let is : c.in_ok-line.field-0 ≡ Some (Ok c.in-Ok.line) = c.in-Some.is ∙ ap (λ (next : Result Line RecordingFault). Some next) c.in-Ok.is in
     let next : IsAcceptedNext all old line new = subst (λ (next : Option (Result Line RecordingFault)). IsNext all old next new) is (c.in_ok-line.ensures all c.loop-lines.invariant.checked) in
     let keeps : KeepsRules (before ++ line ∷ []) = record { unbroken = subst AreUnbroken next.taken next.checked.unbroken } in
-    let number : c.number.result ≡ length before + 1 = c.number.ensures ∙ next.number ∙ ap (λ (n : ℕ). n + 1) (sym c.loop-lines.invariant.checked.excess_tracker) in
+    let number : c.number.result ≡ length before + 1 = c.number.ensures ∙ next.number ∙ ap (λ (n : ℕ). n + 1) (sym c.loop-lines.invariant.checked.counted) in
     record {
       checked = next.checked;
       builder = λ budget so. subst (λ (ls : List RecordedLine). IsSurveyBuilderOf c.args.plan.now budget ls c.take.new.self) (sym next.taken)
