@@ -27,7 +27,7 @@ class Actor {
 
     // ---- the driver's side
 
-    /** One step, and how far the actor came. */
+    /** Makes one step and returns its outcome. */
     String step(Order order) throws InterruptedException {
         send(order);
         String answer = answers.poll(Rest.MILLISECONDS, TimeUnit.MILLISECONDS);
@@ -51,14 +51,14 @@ class Actor {
         return !atEnd() && body.get(position).what() == what;
     }
 
-    /** The job that the get is for, or null where it was left out. */
+    /** Returns the job that the get is for, or null if its submit was skipped. */
     Job awaited() {
         return submitted[body.get(position).operand()];
     }
 
     // ---- on the actor's own thread
 
-    /** Goes through the body from where it stands, a step for each order, or freely. */
+    /** Runs the body from the current position: one step for each order, or all of it if {@code freely}. */
     void go(boolean freely) throws InterruptedException, ExecutionException {
         CURRENT.set(this);
         free = freely;
@@ -114,7 +114,7 @@ class Actor {
         return "got job " + future.get().number;
     }
 
-    /** Within a submit: the actor rests here too, where the replay goes step by step. */
+    /** Pauses the actor within a submit, if the replay splits submits into steps. */
     static void pause(String where) {
         Actor actor = CURRENT.get();
         if (actor == null || !actor.replay.inSteps || actor.free) {

@@ -10,8 +10,9 @@ import java.util.concurrent.atomic.AtomicInteger;
 /** One-shot clients that submit all at once to a new pool, round after round. */
 final class Bursts {
     /**
-     * Of the jobs each submits another one first (`nested`; that of the client more does not), is then held until all clients
-     * have submitted or ends at once, and each submit may be left out. Queues are slow or not, as `SlowQueue` says.
+     * The options of a burst. With `nested` each job first submits another one, except the job of the additional client. A job
+     * is then held until all clients have submitted, or ends at once. A client may skip its submit. `SlowQueue` describes slow
+     * queues.
      */
     private record Burst(Plan.Pool pool, String kind, int clients, int more, boolean held, boolean nested, boolean slow, double leaves,
             int rounds, boolean untilRefused) {
@@ -30,7 +31,7 @@ final class Bursts {
     private final Burst burst;
     private final CyclicBarrier begin;
     private final CyclicBarrier end;
-    // The jobs that the pool has and that are not over: its own counts miss a thread that begins.
+    // The unfinished jobs of the pool, whose own counts miss a thread that is starting.
     private final AtomicInteger about = new AtomicInteger();
     private final AtomicInteger refused = new AtomicInteger();
     private volatile ThreadPoolExecutor pool;
@@ -42,7 +43,10 @@ final class Bursts {
         end = new CyclicBarrier(burst.clients + burst.more + 1);
     }
 
-    /** A line of words for each burst. Of each: in how many of its rounds a submit was refused, and how often a thread was asked for with room. */
+    /**
+     * Runs the burst that each argument describes. Prints in how many of its rounds a submit was refused, and how often a thread
+     * was asked for while the queue had room.
+     */
     public static void main(String[] lines) throws Exception {
         for (String line : lines) {
             System.out.println(new Bursts(Burst.of(line)).done());
@@ -70,7 +74,7 @@ final class Bursts {
         return "rounds " + rounds + ", refused in " + withRefusals + ", most " + most + ", asked with room " + asked;
     }
 
-    /** How often a thread was asked for though the queue had room. */
+    /** Returns how often a thread was asked for while the queue had room. */
     private int round() throws InterruptedException, BrokenBarrierException {
         SlowQueue slow = new SlowQueue(burst.slow);
         slow.queue = burst.kind.equals("linked") ? new LinkedQueue(burst.pool.queue(), slow) : new ArrayQueue(burst.pool.queue(), slow);

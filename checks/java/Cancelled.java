@@ -5,8 +5,8 @@ import java.util.concurrent.CountDownLatch;
 import java.util.concurrent.RejectedExecutionException;
 
 /**
- * One thread, a queue of two, and two permits. Job A is at work, B is queued, and nobody waits for them any more: they are
- * cancelled, or a `get` has waited long enough. C and D want a permit then. A cancelled job that is at work goes on.
+ * A pool with one thread, a queue of two, and two permits. Job A runs and B is queued. Their submitters stop waiting: they
+ * cancel the jobs, or a `get` times out. Then C and D ask for a permit. A running job that is cancelled continues to run.
  */
 final class Cancelled {
     private static final int PERMITS = 2;
@@ -17,7 +17,7 @@ final class Cancelled {
         permits = new Permits(way, PERMITS, 1, new ArrayBlockingQueue<>(PERMITS));
     }
 
-    /** The ways, a line for each. */
+    /** Prints a line for each way that is named. */
     public static void main(String[] words) throws InterruptedException {
         for (String way : words) {
             System.out.println(new Cancelled(Permits.Way.valueOf(way)).told());

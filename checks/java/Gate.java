@@ -3,7 +3,7 @@ import java.util.Deque;
 import java.util.concurrent.ThreadPoolExecutor;
 import java.util.concurrent.TimeUnit;
 
-/** Where the idle threads of a pool wait until the driver says what they get. Submitters wait at an offer where they may. */
+/** A gate at which the idle threads of a pool wait until the driver decides what they get. Submitters can wait at an offer. */
 final class Gate implements Moments {
     private static final class Waiting {
         final boolean timed;
@@ -51,7 +51,7 @@ final class Gate implements Moments {
         return idle.size();
     }
 
-    /** Lets all threads take as ever, from now on. */
+    /** Opens the gate: all threads take jobs as Java's own queue does. */
     synchronized void open() {
         open = true;
         notifyAll();
@@ -64,12 +64,12 @@ final class Gate implements Moments {
         }
     }
 
-    /** One idle thread gets the head of the queue. */
+    /** Gives the head of the queue to one idle thread. */
     synchronized void giveHead() {
         give(idle.peek(), Taking.HEAD);
     }
 
-    /** The time of one idle thread is over. Says whether the pool lets it end. */
+    /** Ends the keep-alive time of one idle thread. Returns whether the pool lets the thread end. */
     boolean timeOut(ThreadPoolExecutor pool) throws InterruptedException {
         int threads = pool.getPoolSize();
         long seen = lookAgain(pool);
@@ -92,7 +92,7 @@ final class Gate implements Moments {
         return true;
     }
 
-    /** A thread that came when there were no more than core waits without a time. A new keep-alive wakes it: it looks again. */
+    /** Sets a shorter keep-alive, which wakes threads that wait without a timeout, since at most core were live when they came. */
     private long lookAgain(ThreadPoolExecutor pool) throws InterruptedException {
         long wanted;
         synchronized (this) {

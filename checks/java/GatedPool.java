@@ -3,7 +3,7 @@ import java.util.concurrent.BlockingQueue;
 import java.util.concurrent.ThreadPoolExecutor;
 import java.util.concurrent.TimeUnit;
 
-/** An executor of a plan's pool, with a queue of which the driver holds the gate. */
+/** An executor for a pool of a plan, whose queue has a gate that the driver controls. */
 final class GatedPool {
     final Plan.Pool pool;
     final Gate gate = new Gate();
@@ -25,7 +25,7 @@ final class GatedPool {
         }
     }
 
-    /** What the executor itself tells, and how many of its threads wait at the gate. */
+    /** Returns the executor's own counts, and how many of its threads wait at the gate. */
     String counts() {
         return pool.name() + ": threads " + executor.getPoolSize() + ", idle " + gate.idle() + ", queued " + queue.size();
     }

@@ -6,11 +6,11 @@ import java.util.concurrent.ThreadPoolExecutor;
 import java.util.concurrent.TimeUnit;
 
 /**
- * Core 1, max 2, queue 1, and one-shot clients W, V, X and perhaps Y. X's offer fails, and X stands still there, before it
- * asks for a thread; what it finds when it goes on is no longer what it found.
+ * A pool with core 1, max 2 and queue 1, and one-shot clients W, V, X and perhaps Y. X's offer fails, and X pauses before it
+ * asks for a thread. When X continues, the state of the pool has changed.
  */
 final class Interleavings {
-    /** The offer of X waits behind its failure, or with the slip nothing waits. */
+    /** Pauses X after its failed offer. With the slip it pauses no thread. */
     private static final class WaitingOffer implements Moments {
         final CountDownLatch failed = new CountDownLatch(1);
         final CountDownLatch goOn = new CountDownLatch(1);
@@ -33,7 +33,10 @@ final class Interleavings {
                 kind.equals("linked") ? new LinkedQueue(1, moments) : new ArrayQueue(1, moments));
     }
 
-    /** `KIND THIRD WAITS`: Y is there or not, and X waits or not. Prints what X is answered, and what the pool is then. */
+    /**
+     * Takes the arguments `KIND THIRD WAITS`: whether Y exists, and whether X waits. Prints the outcome of X's submit and the
+     * state of the pool after it.
+     */
     public static void main(String[] words) throws Exception {
         System.out.println(new Interleavings(words[0]).told(Boolean.parseBoolean(words[1]), Boolean.parseBoolean(words[2])));
         System.exit(0);

@@ -14,9 +14,9 @@ import java.util.concurrent.atomic.AtomicInteger;
 import java.util.concurrent.atomic.LongAdder;
 import java.util.concurrent.locks.LockSupport;
 
-/** Clients that go round and round through their bodies, each on a thread of its own, as a service would. */
+/** Clients that repeat their bodies, each on a thread of its own, as in a service. */
 final class Loops {
-    /** A worker that is slow to take: it waits up to some microseconds before it does. */
+    /** A delay of less than {@code microseconds} before a worker takes a job. */
     private record SlowTaking(int microseconds) implements Moments {
         @Override
         public Taking beforeTaking(boolean timed) {
@@ -51,7 +51,10 @@ final class Loops {
         }
     }
 
-    /** `KIND ROUNDS LEAVES MICROSECONDS SLOW_POOL UNTIL_REFUSED`, the pool `all` for each of them, and a plan on standard input with a line `events` behind it. */
+    /**
+     * Takes the arguments `KIND ROUNDS LEAVES MICROSECONDS SLOW_POOL UNTIL_REFUSED`, where the pool `all` names every pool.
+     * Reads a plan from standard input, up to a line `events`.
+     */
     public static void main(String[] words) throws Exception {
         Iterator<String> lines = new BufferedReader(new InputStreamReader(System.in)).lines().iterator();
         Loops loops = new Loops(Plan.read(lines), words[0], Integer.parseInt(words[1]), Double.parseDouble(words[2]),
@@ -95,7 +98,7 @@ final class Loops {
         } while (kind.repeat());
     }
 
-    /** A body, with an `if` around each submit and its get. */
+    /** Runs a body, with an `if` around each submit and its get. */
     private void go(List<Plan.Action> body) throws InterruptedException, ExecutionException {
         Future<?>[] slots = new Future<?>[body.size()];
         for (int at = 0; at < body.size(); at++) {

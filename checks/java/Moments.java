@@ -1,6 +1,6 @@
-/** What a queue does at the moments at which a thread comes to it. The executor is not changed, and sees only the queue. */
+/** The hooks of a queue, which threads call before a take, before an offer and after a failed offer. The executor is unmodified. */
 interface Moments {
-    /** A worker that comes for a job gets the head, or nothing (its time is over), or it takes as the queue does by itself. */
+    /** The outcome of a take: the head of the queue, nothing (the worker's time is over), or that of Java's own queue. */
     enum Taking { HEAD, NOTHING, AS_EVER }
 
     default Taking beforeTaking(boolean timed) throws InterruptedException {

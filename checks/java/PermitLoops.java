@@ -7,8 +7,8 @@ import java.util.concurrent.atomic.AtomicInteger;
 import java.util.concurrent.atomic.LongAdder;
 
 /**
- * Threads that submit with permits, again and again, and then do not wait, or cancel their job. Workers are slow to take, so
- * that threads are idle while jobs are queued.
+ * Threads that repeatedly submit with permits, and then do not wait for the job or cancel it. Workers take jobs slowly, so
+ * threads are idle while jobs are queued.
  */
 final class PermitLoops {
     private static final int SUBMITTERS = 4;
@@ -30,7 +30,7 @@ final class PermitLoops {
         this.untilRefused = untilRefused;
     }
 
-    /** `WAY KIND PLACES ROUNDS UNTIL_REFUSED`: a pool of two threads, three permits, and a queue with so many places. */
+    /** Takes the arguments `WAY KIND PLACES ROUNDS UNTIL_REFUSED`: PLACES is the capacity of the queue. */
     public static void main(String[] words) throws InterruptedException {
         System.out.println(new PermitLoops(Permits.Way.valueOf(words[0]), words[1], Integer.parseInt(words[2]),
                 Integer.parseInt(words[3]), Boolean.parseBoolean(words[4])).done());

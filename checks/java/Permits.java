@@ -12,13 +12,13 @@ import java.util.concurrent.TimeoutException;
 
 /** A pool, permits, and a way by which the permit of a job comes back. */
 final class Permits {
-    /** Who gives a permit back. */
+    /** The code that returns a job's permit. */
     enum Way {
-        /** What is in the queue, after all that the job does. */
+        /** The task in the queue, after the body of the job. */
         JOB,
         /** The hook of the pool after each job. */
         HOOK,
-        /** Whoever takes the job from an `ExecutorCompletionService`. */
+        /** The thread that takes the job from an `ExecutorCompletionService`. */
         COMPLETION_SERVICE,
         /** A stage after the job; a copy of that stage is handed out, and cancelled. */
         COPIED_STAGE,
@@ -32,11 +32,11 @@ final class Permits {
         DONE,
         /** A stage after the job; the job's own future is handed out, and cancelled. */
         STAGE,
-        /** The submitter, after a `get` whose time is over. */
+        /** The submitter, after a `get` that timed out. */
         TIMED_GET
     }
 
-    /** One that waits no longer for its job. */
+    /** A submitter that stops waiting for its job. */
     interface LetsGo {
         void letsGo() throws InterruptedException;
     }

@@ -6,7 +6,7 @@ import java.util.List;
 record Plan(List<Pool> pools, List<Kind> classes, List<Kind> clients) {
     record Pool(String name, int core, int max, int queue, boolean prestart) {}
 
-    /** What is 'w', 's' or 'g'; the operand is the units, the class, or the position of the submit. */
+    /** An action 'w', 's' or 'g'; the operand is the units, the class, or the position of the submit. */
     record Action(char what, int operand) {}
 
     /** A class with its pool, or a kind of clients with its count. */

@@ -8,7 +8,7 @@ import java.util.concurrent.ExecutionException;
 import java.util.concurrent.RejectedExecutionException;
 import java.util.concurrent.TimeUnit;
 
-/** One list of events on executors: the driver lets one thread make one step, and tells what came of it. */
+/** A replay of a list of events on executors: the driver lets one thread make one step at a time, and reports its outcome. */
 final class Replay {
     static final String NOT_POSSIBLE = "not possible";
     final Plan plan;
@@ -108,7 +108,7 @@ final class Replay {
         return told.equals("submitted") ? submitted(actor.submitted[before]) : told;
     }
 
-    /** A job that the pool did not refuse: it is in the queue, or a new thread begins it. */
+    /** Adds a job that the pool accepted: it is in the queue, or a new thread starts it. */
     private String submitted(Job job) throws InterruptedException {
         job.number = jobs.size();
         jobs.add(job);
@@ -160,7 +160,7 @@ final class Replay {
 
     // ---- what is seen of the executors
 
-    /** Whether each of these jobs waits only for others of them, by what the pools and the futures show. */
+    /** Returns whether each of these jobs waits only for others of them, as the pools and the futures show. */
     private String stuck(String[] words) {
         Set<Integer> members = new TreeSet<>();
         for (int at = 1; at < words.length; at++) {
@@ -185,7 +185,7 @@ final class Replay {
         return lines;
     }
 
-    // ---- the end: all jobs run by themselves, and no client acts
+    // ---- the end: all jobs run freely, and no client acts
 
     boolean runsFree() {
         return free;
@@ -203,7 +203,7 @@ final class Replay {
         jobs.add(job);
     }
 
-    /** Lets jobs and threads run, until the pools are still or no thread moves. */
+    /** Lets jobs and threads run until the pools are idle or no thread makes progress. */
     String runFree(double part) throws InterruptedException {
         leaves = part;
         free = true;

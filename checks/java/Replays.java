@@ -2,7 +2,7 @@ import java.io.BufferedReader;
 import java.io.InputStreamReader;
 import java.util.Iterator;
 
-/** Reads cases, and tells of each what the executors did. A case is `case KIND STEPS`, a plan, `events`, events, and `end`. */
+/** Reads cases, and prints what the executors did in each. A case is `case KIND STEPS`, a plan, `events`, events, and `end`. */
 final class Replays {
     private Replays() {}
 

@@ -1,4 +1,4 @@
-/** All comes to rest within ten seconds, or something is wrong. */
+/** A limit of ten seconds, within which all threads must be at rest. */
 final class Rest {
     static final long MILLISECONDS = 10_000;
 

@@ -1,9 +1,10 @@
 """Bursts of one-shot clients at the bound of lifetime vectors, and with one job more.
 
-By hand: a refusal needs `queue + max` jobs before it, less core where the pool is prestarted, since each thread that is not
-prestarted was made for a job, and none of these is queued. So a pool that is ever given just so many refuses none, in any
-order of steps. With one more, jobs that are held until all have submitted fill a pool that is not prestarted, and in each
-round just that one is refused. Elsewhere there is an order in which it is, and the rounds go on until one has it.
+By hand: a refusal needs `queue + max` jobs before it, less core if the pool is prestarted, since each thread that is not
+prestarted was created for a job, and none of these jobs is queued. So a pool that gets no more jobs than that in its lifetime
+refuses none, in any order of steps. With one job more, jobs that are held until all clients have submitted fill a pool that is
+not prestarted, and each round refuses exactly one. The other bursts refuse it in some order of steps, and the rounds continue
+until one round has that order.
 """
 
 from collections import Counter
@@ -25,7 +26,7 @@ class Line(NamedTuple):
         return self.bound() // (1 + self.nested)
 
     def each_round(self):
-        """With one job more each round refuses just one."""
+        """Returns whether each round with one job more refuses exactly one."""
         return self.held and not self.prestart and not self.nested
 
 
@@ -37,7 +38,7 @@ LINES = [
     Line(2, 4, 3, False, True, False),
     Line(2, 5, 4, False, True, False),
     Line(3, 8, 6, False, True, False),
-    # With one more: the first job's is queued, and so the next ones start threads.
+    # With one more client: the job that the first job submits is queued, so the next jobs start threads.
     Line(1, 3, 1, False, True, True),
     Line(1, 2, 2, False, True, True),
     Line(2, 4, 2, False, True, True),
@@ -47,7 +48,7 @@ LINES = [
     Line(2, 3, 4, True, False, False),
 ]
 ROUNDS = 200
-# Where only some rounds refuse, so many are tried at most.
+# The maximum number of rounds if only some of them refuse.
 MOST_ROUNDS = 50_000
 PART_LEFT_OUT = 0.2
 KINDS = ("array", "linked")
@@ -64,7 +65,7 @@ def burst(line, kind, more, slow, leaves, until_refused, clients=None):
 
 
 def done(tools, bursts):
-    """What came of each burst, by its words."""
+    """Returns the outcome of each burst, by its arguments."""
     return [{what: int(number) for what, number in (words.rsplit(" ", 1) for words in told.split(", "))}
             for told in tools.run_java("Bursts", *bursts)]
 
@@ -99,7 +100,7 @@ def one_more(tools):
 
 
 def slips(tools):
-    """Wrong bounds and sizes: of each pool they must be found."""
+    """Checks that bursts find wrong bounds and sizes of each pool."""
     planted = [(name, line, jobs) for line in LINES for name, line, jobs in slips_of(line)]
     told = done(tools, [burst(line, KINDS[number % 2], 0, True, 0, True, jobs) for number, (_, line, jobs) in enumerate(planted)])
     wanted = Counter(name for name, _, _ in planted)
@@ -109,7 +110,7 @@ def slips(tools):
 
 
 def slips_of(line):
-    """By name, with the pool's sizes and the number of jobs."""
+    """Yields each slip: its name, the pool's sizes, and the number of jobs."""
     if line.prestart:
         yield "threads that are prestarted count as made for jobs", line, line.queue + line.max
     elif line.each_round():

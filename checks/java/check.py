@@ -1,15 +1,15 @@
 #!/usr/bin/env python3
-"""Holds unmodified executors of java.util.concurrent to what the plans, the rules of docs/GUIDE.md and the promises say.
+"""Compares unmodified executors of java.util.concurrent with the plans, the rules of docs/GUIDE.md and the promises.
 
-    python3 checks/java/check.py [PART ..]     # replays, interleavings, bursts, loops, permits, services, learned; all where nothing is said
+    python3 checks/java/check.py [PART ..]     # replays, interleavings, bursts, loops, permits, services, learned; all by default
 
-README.md says what each part shows. Each part also has planted slips, which it must find. It needs a JDK (`javac` and
-`java`, of JAVA_HOME where that is set): where there is none it says so, and nothing is shown.
+README.md describes the parts. Each part also has planted slips, which it must find. The check needs a JDK: `javac` and `java`,
+those of JAVA_HOME if it is set. Without a JDK it prints a line that says so, and checks nothing.
 
 The program is crates/sizing/out/sizing, or the one that the environment variable SIZING names; `interleavings`, `bursts`,
 `loops`, `permits` and `services` need none.
 
-Exit status: 0 where all is as it should be, or there is no JDK; 1 where something is not; 2 where there is no program.
+Exit status: 0 if all parts pass, or if there is no JDK; 1 if one fails; 2 if there is no program.
 """
 
 import os
@@ -47,7 +47,7 @@ class Tools:
         self.program, self.java, self.classes = program, java, classes
 
     def run_java(self, name, *words, given=""):
-        """What a Java program prints, line by line."""
+        """Returns the lines that a Java program prints."""
         ended = subprocess.run([self.java, "-cp", self.classes, name, *map(str, words)], input=given, text=True,
                                stdout=subprocess.PIPE, timeout=SECONDS, check=True)
         return ended.stdout.splitlines()

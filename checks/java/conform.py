@@ -2,8 +2,8 @@
 
     python3 checks/java/conform.py PLAN RECORDING
 
-It prints `conforms`, or what it found, in the words of `crates/conformance`: in the order of the lines, what has no line
-last. The exit status is 0 where it conforms, else 1.
+It prints `conforms`, or its findings in the words of `crates/conformance`: in the order of the lines, those without a line
+last. The exit status is 0 if the recording conforms, and 1 otherwise.
 """
 
 import re
@@ -23,7 +23,7 @@ MAX_NUMBER = 1_000_000_000
 
 
 class Step(NamedTuple):
-    """What an actor did, as far as a body says it: a submit, or a get that its submitter was the first to make."""
+    """A step of an actor that a body has: a submit, or the first get of a future by its submitter."""
 
     line: int
     what: str
@@ -31,7 +31,7 @@ class Step(NamedTuple):
 
 
 class Place(NamedTuple):
-    """How far a path has come in a body: the next position, and where the futures that it holds are to be got."""
+    """A position of a path in a body: the next action, and the positions of the gets of the futures that it holds."""
 
     position: int
     held: frozenset  # pairs of a position and a job
@@ -47,7 +47,7 @@ class Comparison:
         self.find_paths()
 
     def finds(self, subject, line, text):
-        """Only the first one of a subject is told."""
+        """Records a finding, unless its subject already has one."""
         if subject not in self.told:
             self.told.add(subject)
             self.findings.append((line, f"line {line}: {text}" if line else text))
@@ -67,7 +67,7 @@ class Comparison:
                     self.paths[actor] += [] if act.job.refused else [Step(act.line, "get", act.job)]
 
     def family(self, entries, name):
-        """The entries of the plan that a label may be: NAME itself, NAME_2, NAME_3, and so on."""
+        """Returns the entries of the plan that match a label: NAME itself, NAME_2, NAME_3, and so on."""
         return [number for number, entry in enumerate(entries) if re.fullmatch(re.escape(name) + "(_[1-9][0-9]*)?", entry.name)
                 and (entry.name == name or 2 <= int(entry.name[len(name) + 1:]) <= MAX_NUMBER)]
 
@@ -75,7 +75,7 @@ class Comparison:
         return [number for number in self.family(self.plan.classes, job.name) if self.plan.pools[self.plan.classes[number].pool].name == job.pool]
 
     def walk(self, actor, body):
-        """None where the actor's path is of the body, else how many of its first steps are explained."""
+        """Returns None if the actor's path matches the body, and otherwise how many of its first steps match."""
         gets = {operand: position for position, (what, operand) in enumerate(body) if what == "get"}
         path, tried, most = self.paths[actor], set(), 0
         left = [(0, Place(0, frozenset()))]
@@ -91,7 +91,7 @@ class Comparison:
         return (most,)
 
     def stepped(self, place, step, body, gets):
-        """The places behind the step, where each submit that is passed is left out with its get."""
+        """Returns the places after the step. Each submit that is passed is skipped with its get."""
         due = dict(place.held)
         for position in range(place.position, len(body)):
             what, operand = body[position]
@@ -109,7 +109,7 @@ class Comparison:
     # ---- what is compared
 
     def all(self):
-        """What is found, in the order of the lines, what has none last."""
+        """Returns the findings in the order of their lines, those without a line last."""
         self.pools()
         self.jobs()
         self.rounds()
@@ -132,7 +132,7 @@ class Comparison:
                     self.finds(("pool", name, difference), sizes.line, f"pool {name}: {difference}")
 
     def jobs(self):
-        """The last ones first: a job's own jobs are behind it, and what they can be must be known."""
+        """Finds the classes of each job, the last job first, since those of the jobs that it submits must be known."""
         for job in reversed(self.recording.jobs):
             candidates = self.classes_of(job)
             walks = {number: self.walk(job, self.plan.classes[number].body) for number in candidates}
@@ -144,7 +144,7 @@ class Comparison:
                 self.strays(("job", job.name, job.pool), job, [self.plan.classes[number].body for number in self.classes_of(job)])
 
     def strays(self, subject, actor, bodies):
-        """Of each label the first actor, by the body that explains most of its path."""
+        """Reports the first actor of each label, by the body that matches most of its path."""
         path = self.paths[actor]
         most = max(self.walk(actor, body)[0] for body in bodies)
         behind = f"behind {path[most - 1].what} {path[most - 1].job.name}" if most else "at its begin"
@@ -161,7 +161,7 @@ class Comparison:
         self.finds(subject, step.line, f"{described(actor)} {did}")
 
     def rounds(self):
-        """Each round is of the first kind of its family whose body has its path."""
+        """Assigns each round to the first kind of its family whose body has its path."""
         within, begun = {}, {}
         ends = sorted((one.last, one) for one in self.recording.rounds if one.last is not None)
         kinds = {}
@@ -188,10 +188,10 @@ class Comparison:
         elif not client.repeat and begun > client.count:
             self.finds(("count", client.name), one.first, f"kind {client.name}: {begun} in all, count is {client.count} and it does not repeat")
 
-    # ---- what voids a yes, whatever the paths are
+    # ---- what invalidates the result, independent of the paths
 
     def voids(self):
-        """The first line of each word. Of a get that was not done the path tells whether it voids a yes."""
+        """Reports the first line of each word. For a get that was not done, the path shows whether it invalidates the result."""
         found = [(line, word, what) for line, word, what in self.recording.notes if word != "shutdown"]
         for actor in self.paths:
             found += [(act.line, act.word, act.job) for act in actor.acts if act.word in ("refused", "cancel", "any", "threw")]
@@ -209,7 +209,7 @@ def described(actor):
 
 
 def differences(sizes, pool, is_first):
-    """In what the pool is not the plan's. How many threads were prestarted its first line says alone."""
+    """Yields the differences between the pool and that of the plan. Only its first line has the number of prestarted threads."""
     if sizes.core != pool.core:
         yield f"core {sizes.core}, plan {pool.core}"
     if sizes.max != pool.max:
@@ -225,7 +225,7 @@ def differences(sizes, pool, is_first):
 
 
 def compared(plan_text, recording_text):
-    """What is found."""
+    """Returns the findings."""
     return Comparison(read_plan(plan_text), read(recording_text)).all()
 
 

@@ -1,4 +1,4 @@
-"""Small recordings with what `conform.py` must say of them, by hand, and the rows of tests of `sizing conform`."""
+"""Small recordings with the findings of `conform.py`, by hand, and the test rows of `sizing conform`."""
 
 import sys
 from pathlib import Path
@@ -9,7 +9,7 @@ from conform import compared
 from row_files import rows_of
 
 POOL = "pool p core 1 max 1 queue array 2 timeout no prestarted 0 handler abort"
-# A client gets two jobs, one after the other; a job of class a gets one of class b.
+# A client gets two jobs in order; a job of class a gets one of class b.
 PLAN = """
 pool = [{name = "p", core = 1, max = 1, queue = 2}]
 class = [{name = "a", pool = "p", body = ["work 1", "submit b as x", "get x"]}, {name = "b", pool = "p", body = []}]
@@ -21,7 +21,7 @@ TWO_PATHS = PLAN.replace('class = [', 'class = [{name = "a_2", pool = "p", body 
 
 
 def submitted(by, job, name="b"):
-    """A job that does nothing, from its submit to its end."""
+    """Returns the lines of a job that does nothing, from its submit to its end."""
     return [f"{by} submit {job} {name} p", f"job {job} start", f"job {job} end"]
 
 
@@ -34,11 +34,12 @@ def round_of(*lines, number=0):
 
 
 def job_of_a(*lines):
-    """Lines 3 to 7 are the begin, its submit and its start; its own lines come behind them."""
+    """Returns the lines of a round with a job of class a. Lines 3 to 5 are its begin, the submit and the start of the job."""
     return round_of("round 0 submit 0 a p", "job 0 start", *lines, "job 0 end", "round 0 got 0")
 
 
-# The name, the plan, the lines behind those of the head (so the first one is line 3), what is not of the plan, and what voids a yes.
+# The name, the plan, the lines after the head (so the first one is line 3), what deviates from the plan, and what invalidates the
+# result.
 ROWS = [
     ("nothing is left out", PLAN, job_of_a(*got("job 0", 1))[:-1] + got("round 0", 2) + ["round 0 end"], [], []),
     ("all is left out", PLAN, round_of(), [], []),
@@ -98,7 +99,7 @@ ROWS = [
 
 
 def in_order(lines):
-    """By their numbers, what has none last."""
+    """Returns the lines by their numbers, those without a number last."""
     return sorted(lines, key=lambda line: int(line.split(" ")[1][:-1]) if line.startswith("line ") else 10**9)
 
 
@@ -114,7 +115,7 @@ def wrong_rows():
 
 
 def wrong_stored_rows():
-    """Where `conform.py` says otherwise than a row of tests, of those of good recordings that are decided."""
+    """Returns the test rows that `conform.py` contradicts, of those with a valid recording and a decided answer."""
     wrong, rows = [], 0
     for name, given, answer in rows_of("recorded_conforms", "conform"):
         plan, bar, recording = given.partition("%%\n")
@@ -130,7 +131,7 @@ def wrong_stored_rows():
 
 
 def wrong_learned_rows():
-    """Where `conform.py` finds something else of a plan that was learned than the comments at its head say, in the rows of tests."""
+    """Returns the test rows in which `conform.py` finds something other than the comments at the head of the learned plan."""
     wrong, rows = [], 0
     for name, recording, answer in rows_of("recorded_learns", "learn"):
         plan, _, status = answer.rpartition("\nstatus ")

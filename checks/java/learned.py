@@ -1,9 +1,10 @@
-"""The plans that services show of themselves. Each service is run with the recorder, `learn` gives its plan, and `fit` the sizes
-of that; with them it is run again, a thousand rounds in all, and may meet no refusal and no stop. Then a number is one less: where
-`refute` has a witness, its events are replayed, also on executors, and the service is run with that number.
+"""The plans that recordings of services show. The check runs each service with the recorder; `learn` derives its plan, and `fit`
+finds sizes for the plan. With these sizes the check runs the service again, a thousand rounds in all, which may meet no refusal
+and no stop. Then it lowers a number by one: if `refute` finds a witness, the check replays the witness, also on executors, and
+runs the service with that number.
 
-Planted slips must be found: a plan with another size, count or body, a recording without one of its gets, and a run that met a
-refusal or a stop and is told as right.
+The check must find planted slips: a plan with another size, count or body, a recording without one of its gets, and a run that
+met a refusal or a stop and is reported as right.
 """
 
 import re
@@ -23,28 +24,28 @@ SERVICES = [name for name in VOIDS if name != "example"]
 HEAD = re.compile(r"# Learned from a recording\. Rounds: (\d+)\. Jobs: (\d+)\.\n# What was not taken is not here: .*\n(?:# Not at their ends yet\. .*\n)?")
 POOL = re.compile(r"pool (\w+): core (\d+)(?: \(now \d+\))?, max (\d+)(?: \(now \d+\))?, queue (\d+)(?: \(now \d+\))?")
 ROUNDS = 1000
-# How many rounds one run has, where it is not all of them: clients that do not repeat have one each in the life of a service.
+# The rounds of one run, of services that need several runs: their clients do not repeat, and have one round each in a run.
 ROUNDS_OF_A_RUN = {"orders": 10, "hurried-prices": 50}
-# A run has stopped where nothing is done for so many seconds.
+# A run without progress for this many seconds has stopped.
 SECONDS = 30
-# Threads that are slow to take wait for so many microseconds at most before. Their queue is a subclass, of no kind of a plan.
+# The maximum number of microseconds that a slow thread waits before it takes. Its queue is a subclass, which no plan can name.
 SLOW = 2000
 OTHER_QUEUE = "queue of another kind (other)"
-# With a number one less a service is run so often.
+# The number of runs of a service with a number one less.
 TRIES = 5
 SECONDS_OF_A_TRY = 5
-# How `refute` ends where it says `safe` or `not decided`.
+# The exit statuses of `refute` for `safe` and `not decided`.
 NO_WITNESS = (0, 4)
 FROM_ONE = "from 1"
-# Of a recording so many gets are left out, one at a time.
+# The number of gets that are removed from a recording, one at a time.
 GETS_LEFT_OUT = 10
-# Where all clients repeat, of which plans there are no sizes, by hand: nobody waits for a letter of `orders`, nor for some of the
-# hurried prices. As the services are, each buyer and each hurried one comes once, so all have sizes.
+# The plans that no sizes fit if all clients repeat, by hand: no thread waits for a letter of `orders`, or for some of the hurried
+# prices. In the services each buyer and each hurried client comes once, so there are sizes for all plans.
 NEVER_GOT = {
     "orders": r"no fitting sizes found class reserve action 0: submits for ever, never got",
     "hurried-prices": r"no fitting sizes found client hurried action \d: submits for ever, never got",
 }
-# What the witness ends in, by hand, where `fit` began with 1 and the first number is one less that is not safe so.
+# The end of the witness, by hand, if `fit` started from 1 and the first number that is not safe with one less has one less.
 WITNESS = {
     # seven clients, each of whose requests is queued while the one thread is idle
     "web-and-database": "refused by web",
@@ -60,7 +61,7 @@ WITNESS = {
 
 
 class Learned(NamedTuple):
-    """What `learn` says of a recording: a text, its comments behind the head, and the plan."""
+    """The answer of `learn` to a recording: its text, the comments after the head, and the plan."""
 
     text: str
     comments: list
@@ -68,7 +69,7 @@ class Learned(NamedTuple):
 
 
 class Sized(NamedTuple):
-    """A service with sizes that `fit` found, where it began with those that are named."""
+    """A service with the sizes that `fit` found from the named start."""
 
     name: str
     began: str
@@ -79,7 +80,7 @@ class Sized(NamedTuple):
 
 
 class Ran(NamedTuple):
-    """One run: how many rounds it was to have, what it told, and its recording."""
+    """A run: its requested number of rounds, its output, and its recording."""
 
     rounds: int
     told: str
@@ -104,7 +105,7 @@ def part(tools):
 
 
 def conformed(tools, plan, recording):
-    """The lines of `sizing conform`, none where it says `conforms`; those of `conform.py` must be the same."""
+    """Returns the lines of `sizing conform`, none if it prints `conforms`. `conform.py` must return the same lines."""
     status, told = tools.sizing("conform", f"{plan}%%\n{recording}")
     lines = told.splitlines()
     found = [] if lines == ["conforms"] else lines
@@ -121,7 +122,7 @@ def voids(found):
 
 
 def learned(tools, recording):
-    """The plan that `learn` gives, None where it gives none."""
+    """Returns the plan that `learn` derives, or None if it derives none."""
     status, text = tools.sizing("learn", recording)
     head = HEAD.match(text)
     if status or not head or list(map(int, head.groups())) != [len(read(recording).rounds), len(read(recording).jobs)]:
@@ -131,7 +132,7 @@ def learned(tools, recording):
 
 
 def as_recorded(tools, plans, recordings):
-    """The recording conforms to the plan, but for what the comments say, and that is what is known by hand."""
+    """Checks that the recording conforms to the plan, except for what the comments report, which must be what is known by hand."""
     wrong = []
     for name, told in plans.items():
         found = conformed(tools, told.text, recordings[name])
@@ -143,7 +144,7 @@ def as_recorded(tools, plans, recordings):
 
 
 def as_written(tools, plans, recordings):
-    """The plan is the one that was written by hand, as far as a run shows it."""
+    """Checks that the plan is the one that was written by hand, as far as a run shows it."""
     wrong, bodies, alike = [], 0, 0
     for name, told in plans.items():
         written = read_plan(plan_of(name))
@@ -159,7 +160,7 @@ def as_written(tools, plans, recordings):
 
 
 def differences(plan, written):
-    """Pools and sizes, classes in their pools, kinds and counts, whatever order they have."""
+    """Returns the differences in pools and sizes, classes and their pools, kinds and counts, in any order."""
     for what, ours, theirs in zip(("pools", "classes", "kinds"), tables(plan), tables(written)):
         if ours != theirs:
             yield f"{what} {sorted(ours)}, written {sorted(theirs)}"
@@ -171,13 +172,13 @@ def tables(plan):
 
 
 def bodies_of(plan):
-    """By what has the body, its submits with the names of their classes and its gets. What is `work` nobody records."""
+    """Returns the bodies by owner: the submits with the names of their classes, and the gets. A recording has no `work`."""
     return {(sort, one.name): [(what, plan.classes[operand].name if what == "submit" else operand) for what, operand in one.body]
             for sort, entries in (("class", plan.classes), ("kind", plan.clients)) for one in entries}
 
 
 def with_room(plan):
-    """No maximum is below its core."""
+    """Returns the plan with each maximum raised to its core."""
     return plan._replace(pools=[pool._replace(max=max(pool.core, pool.max)) for pool in plan.pools])
 
 
@@ -186,7 +187,7 @@ def is_lawful(plan):
 
 
 def slips_of_plans(tools, plans, recordings):
-    """Another size, count or body: conform finds it, and so does the comparison with the written plan where it is no body."""
+    """Checks that `conform` finds another size, count or body, and that `differences` finds another size or count."""
     missed, tried, told_apart = [], 0, 0
     for name, told in plans.items():
         for what, other in other_plans(told.plan):
@@ -205,7 +206,7 @@ def slips_of_plans(tools, plans, recordings):
 
 
 def slips_of_recordings(tools, plans, recordings):
-    """Without the line of a get the plan is another one. (A hurried client may have no get: both paths are its plan's.)"""
+    """Checks that the plan differs without the line of a get. (A hurried client may have no get: its plan has both paths.)"""
     missed, tried = [], 0
     for name, told in plans.items():
         lines = recordings[name].splitlines(keepends=True)
@@ -225,8 +226,8 @@ def slips_of_recordings(tools, plans, recordings):
 
 
 def sizes_of(tools, plans):
-    """Each learned plan with the sizes that `fit` finds: where it begins with those that the service has, and with ones. There are
-    none where clients begin again and jobs are never got."""
+    """Returns each learned plan with the sizes that `fit` finds, from those of the service and from 1. If all clients repeat, no
+    sizes fit the plans that have jobs without a get."""
     sized, wrong = [], []
     for name, told in plans.items():
         ones = told.plan._replace(pools=[pool._replace(core=1, max=1, queue=1) for pool in told.plan.pools])
@@ -249,7 +250,7 @@ def sizes_text(plan):
 
 
 def fitted(tools, plan):
-    """The plan with the sizes that `fit` finds, of which the bundle has a certificate, or None, and what else it says."""
+    """Returns the plan with the sizes that `fit` finds, for which the bundle has a certificate, or None; and the other findings."""
     status, told = tools.sizing("fit", text_of(plan))
     lines = told.splitlines()
     sizes = [POOL.fullmatch(line) for line in lines[:-1]]
@@ -273,7 +274,7 @@ def numbers_changed(pools, others):
 
 
 def runs(tools, name, plan, slow=0, seconds=SECONDS, number=None):
-    """Runs of the service with the plan's sizes, as many as have all rounds together where nothing else is said."""
+    """Runs the service with the plan's sizes: by default as often as all the rounds take."""
     rounds = ROUNDS_OF_A_RUN.get(name, ROUNDS)
     sizes = " ".join(f"{pool.name} {pool.core} {pool.max} {pool.queue}" for pool in plan.pools)
     with tempfile.TemporaryDirectory() as folder:
@@ -283,7 +284,7 @@ def runs(tools, name, plan, slow=0, seconds=SECONDS, number=None):
 
 
 def met(run):
-    """What the run met that no run with a yes may meet: as its clients and pools tell it, and as its recording does."""
+    """Returns what the run met that no run with a yes may meet, as its clients and pools report it, and as its recording shows."""
     told, seen = counts(run), read(run.recording)
     cancelled = {act.job for actor in seen.rounds + seen.jobs for act in actor.acts if act.word == "cancel"}
     found = [f"{told[what]} {what}" for what in ("refused", "failed", "stopped") if told[what]]
@@ -302,8 +303,8 @@ def counts(run):
 
 
 def without_refusal(tools, ran, how):
-    """With the sizes that `fit` found no run meets anything, and each is one of the plan. (A queue that threads are slow to take
-    from is of another kind.)"""
+    """Checks that no run with the sizes that `fit` found meets anything, and that each run conforms to the plan, apart from the
+    kind of the queue from which threads take slowly."""
     wrong = []
     for one, all_runs in ran:
         for run in all_runs:
@@ -318,7 +319,7 @@ def without_refusal(tools, ran, how):
 
 
 def slips_of_sizes(tools, ran):
-    """To the recording of such a run no plan conforms that has a number one less."""
+    """Checks that the recording of such a run conforms to no plan with a number one less."""
     missed, tried = [], 0
     for one, all_runs in ran:
         for what, other in less(one.plan):
@@ -334,7 +335,7 @@ def slips_of_sizes(tools, ran):
 
 
 def less(plan):
-    """The plan with each number one less that can be, in its order; where core and max are equal, both are."""
+    """Yields the plan with one number lowered by one, for each number in order. If core and max are equal, both are lowered."""
     for at, pool in enumerate(plan.pools):
         changes = [{"core": pool.core - 1, "max": pool.max - (pool.core == pool.max)}]
         changes += [{"max": pool.max - 1}] if pool.max > pool.core else []
@@ -345,7 +346,7 @@ def less(plan):
 
 
 def one_less(tools, ran):
-    """The first number whose lack `refute` has a witness of: the witness is replayed, and the service is run without."""
+    """Lowers the first number with which `refute` finds a witness, replays the witness, and runs the service with that number."""
     wrong, missed, found, all_met = [], [], 0, 0
     for one, all_runs in ran:
         safe, status, told = [], None, ""
@@ -376,7 +377,7 @@ def one_less(tools, ran):
 
 
 def replayed(tools, right, plan, told):
-    """The witness ends as `refute` says, by `sizing replay` and on executors; with the right sizes the same events do not."""
+    """Checks that the witness ends as `refute` says, in `sizing replay` and on executors, and otherwise with the right sizes."""
     status, bundle = tools.sizing("refute", text_of(plan), "--bundle")
     text, events = bundle.rsplit("%%\n", 1)
     ended, answer = tools.sizing("replay", bundle)
@@ -399,6 +400,6 @@ def replayed(tools, right, plan, told):
 
 
 def not_told_apart(one, right, bad):
-    """A run that met something is told as right, or recorded as right."""
+    """Checks that a run that met something is found if it is reported as right, or recorded as right."""
     slips = [wrong for run in bad for wrong in (run._replace(told=right.told), run._replace(recording=right.recording))]
     return [f"learned, {one}: a run that met {met(run)} is told as right" for run in slips if not met(run)]

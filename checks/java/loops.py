@@ -1,7 +1,6 @@
-"""Clients that go round and round through certified plans of examples/, and the same with a queue one less.
+"""Clients that repeat certified plans of examples/, and the same with a queue of one place less.
 
-A queue that is bounded by the certificate's total is what the plan needs; where one place less is not safe, by hand, some
-submit must be refused.
+The certificate's total bounds the queue that the plan needs. If one place less is not safe, by hand, some submit must be refused.
 """
 
 from pathlib import Path
@@ -11,12 +10,12 @@ from read_plans import read_plan
 
 EXAMPLES = Path(__file__).resolve().parent.parent.parent / "examples"
 ROUNDS = 100_000
-# The most microseconds for which a worker that is slow waits before it takes.
+# The maximum number of microseconds that a slow worker waits before it takes.
 SLOW = 150
 # The same of the pool whose queue is one less, so that its threads are often idle together.
 SLOW_LESS = 2000
 PART_LEFT_OUT = 0.25
-# Rounds, the part of submits that is left out, and how slow workers are.
+# Rounds, the part of the submits that is skipped, and the delay of the workers in microseconds.
 WAYS = ((ROUNDS, 0, 0), (20_000, PART_LEFT_OUT, 0), (20_000, 0, SLOW), (20_000, PART_LEFT_OUT, SLOW))
 # The pools whose queue is as long as the plan needs, and why one place less is not enough.
 ONE_LESS = {
@@ -25,7 +24,7 @@ ONE_LESS = {
     "start-before-queue": {"p": 2},
     # all 25 requests queued, and all threads idle
     "web-and-database-sized": {"web": 25},
-    # all 1,000 requests; and what four front threads ask, while the two threads of the back are idle
+    # all 1,000 requests; and the jobs of four front threads, while the two threads of the back are idle
     "front-and-back": {"front": 1000, "back": 4},
     # the jobs of both clients, while the threads are idle
     "cross-pools-two-threads": {"p": 2, "q": 2},
@@ -46,7 +45,7 @@ def part(tools):
 
 
 def loops_of(tools, name, sizes):
-    """A plan with the queues that it needs, and with each of them one less."""
+    """Runs a plan with the queues that it needs, and with each of them one place less."""
     plan = read_plan((EXAMPLES / f"{name}.toml").read_text())
     needed = with_queues(plan, sizes)
     repeats = any(client.repeat for client in plan.clients)

@@ -1,7 +1,7 @@
-"""What an executor must answer to a list of events, by the three rules of the Javadoc (docs/GUIDE.md), with submits left out.
+"""The answers of an executor to a list of events, by the three rules of the Javadoc (docs/GUIDE.md). Actors may skip submits.
 
-A submit is one event, or (`in_steps`) up to three: below core a new thread starts the job; else the job is offered to the
-queue; and if that fails, a thread is asked for. An actor before a submit may leave it out, and its get is then passed.
+A submit is one event, or (`in_steps`) up to three: below core a new thread starts the job; otherwise the job is offered to the
+queue; and if the offer fails, the pool tries to add a thread. An actor can skip a submit and then passes its get.
 """
 
 NOT_POSSIBLE = "not possible"
@@ -10,10 +10,10 @@ NOT_POSSIBLE = "not possible"
 class Actor:
     def __init__(self, body, repeat):
         self.body, self.repeat, self.position = body, repeat, 0
-        self.made = {}  # the latest job of each submit, None where it was left out
-        self.call = None  # how far its call of execute came
-        self.tried = False  # a submit of it was refused, and it stands there still
-        self.path, self.spots = [], {}  # what it did, and where in that each submit stands
+        self.made = {}  # the latest job of each submit, None if it was skipped
+        self.call = None  # the last step of its call of execute, None outside a call
+        self.tried = False  # its submit was refused, and it is still at that position
+        self.path, self.spots = [], {}  # its actions so far, and the index in them of each submit
 
     def action(self):
         return self.body[self.position] if self.position < len(self.body) else ("end", None)
@@ -30,7 +30,7 @@ class Machine:
         self.plan, self.in_steps, self.refusals = plan, in_steps, 0
         self.clients = [Actor(client.body, client.repeat) for client in plan.clients for _ in range(client.count)]
         self.jobs = []
-        self.gave_up = False  # some actor left out a submit that was refused before
+        self.gave_up = False  # an actor skipped a submit that was refused before
         self.idle = [pool.core if pool.prestart else 0 for pool in plan.pools]
         self.queues = [[] for _ in plan.pools]
 
@@ -43,7 +43,7 @@ class Machine:
     # ---- events
 
     def moves(self):
-        """All events that are possible."""
+        """Returns all events that are possible."""
         found = []
         for word, actors in (("client", self.clients), ("job", self.jobs)):
             for number, actor in enumerate(actors):
@@ -166,14 +166,14 @@ class Machine:
         return job.stage == "running" and what == "get" and job.made[operand] is not None and job.made[operand].number in members
 
     def most_waiting(self):
-        """The greatest set of jobs that wait only for each other."""
+        """Returns the greatest set of jobs that wait only for each other."""
         members = {job.number for job in self.jobs if job.stage in ("queued", "running")}
         while not self.wait_for_each_other(members):
             members = {number for number in members if self.waits(self.jobs[number], members)}
         return members
 
     def counts(self):
-        """How many submits were refused and jobs are unfinished, and what each pool has."""
+        """Returns the numbers of refused submits and of unfinished jobs, and the counts of each pool."""
         unfinished = sum(job.stage != "done" for job in self.jobs)
         return [f"refusals {self.refusals}, unfinished {unfinished}"] + [
             f"{one.name}: threads {self.threads(pool)}, idle {self.idle[pool]}, queued {len(self.queues[pool])}"

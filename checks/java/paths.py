@@ -1,7 +1,7 @@
-"""The plan of the paths that the actors of a list of events took: in it nothing is left out, so `sizing replay` can show it.
+"""The plan of the paths that the actors of a list of events took. It skips no submit, so `sizing replay` can replay it.
 
-Each client is a kind of its own that does what it did, round after round, and then the rest of its body; so is each job a
-class. Submits that were left out and their gets stand on no path, and so the answers are those of the other events.
+Each client becomes a kind of its own, whose body is the actions of its rounds and then the rest of its body. Each job becomes a
+class in the same way. Skipped submits and their gets are on no path, so only the other events have answers.
 """
 
 import sys
@@ -11,14 +11,14 @@ sys.path.insert(0, str(Path(__file__).resolve().parent.parent))
 
 from small_plans import Class, Client, Plan
 
-# Answers of events that a path does not have. Whoever is about to leave a part out waits for nobody yet, but on its path it
-# stands behind that part, where it may wait: so who waits for whom is not asked of paths.
+# Answers to events that a path does not have. An actor that will skip a part does not wait yet. On its path it is already after
+# that part, where it may wait, so the two machines can differ in `stuck`.
 OFF_THE_PATHS = ("left out", "passed", "looped", "stuck yes", "stuck no")
 MOST_ACTIONS = 256
 
 
 def plan_of_paths(machine):
-    """The plan, or None where a path is too long for one, or has no place for a submit that was refused and then left out."""
+    """Returns the plan, or None if a path is too long, or has a submit that was refused and then skipped."""
     if machine.gave_up:
         return None
     old = len(machine.plan.classes)
@@ -46,6 +46,6 @@ def path(actor, old):
 
 
 def on_the_paths(events, answers):
-    """The events and answers that the plan of the paths has, numbered anew."""
+    """Returns the events and answers that the plan of the paths has."""
     kept = [(event, told) for event, told in zip(events, answers) if told not in OFF_THE_PATHS]
     return [event for event, _ in kept], [told for _, told in kept]

@@ -1,13 +1,13 @@
-"""Permits that bound how many jobs of a pool are about, and the ways by which the permit of a job comes back.
+"""Permits that bound the live jobs of a pool, and the ways by which the permit of a job comes back.
 
-docs/PERMITS.md says which ways are right. By hand, with one thread, a queue of two and two permits, where job A is at work, B
-is queued, and both are cancelled (or a `get` has waited long enough): where a permit comes back when a thread of the pool is
-through with its job, C and D wait, and in the end both permits are back. Where the body gives it back, B's is lost, as a
-cancelled job that is queued has no body; a stage that is cancelled does nothing, so there both are lost. Where a permit comes
-back when the submitter lets go, A is still at work and B in the queue: C takes the second place, and D is refused.
+docs/PERMITS.md says which ways are right. By hand, with one thread, a queue of two and two permits: job A runs, B is queued, and
+both are cancelled, or a `get` times out. If a permit comes back when a thread of the pool has finished with its job, C and D
+wait, and in the end both permits are back. If the body returns the permit, B's permit is lost, since the body of a cancelled
+queued job does not run. A cancelled stage does nothing, so both permits are lost. If a permit comes back when the submitter stops
+waiting, A still runs and B is in the queue: C takes the second place, and D is refused.
 
-With as many places as permits no submit is ever refused, whatever is cancelled: each queued job has a permit, and so has
-whoever offers. With one place less, all three can be queued while both threads are idle.
+With as many places as permits no submit is ever refused, whatever is cancelled: each queued job and each submitter that offers a
+job has a permit. With one place less, all three jobs can be queued while both threads are idle.
 """
 
 WAITS = "A served, B served; C waits, D waits; {} of 2 permits come back"
@@ -24,7 +24,7 @@ BY_HAND = {
 }
 PERMITS = 3
 ROUNDS = 1000
-# Where some round refuses, so many are tried at most.
+# The maximum number of rounds if only some of them refuse.
 MOST_ROUNDS = 50_000
 KINDS = ("array", "linked")
 SLIPS = ("DONE", "STAGE")
@@ -42,7 +42,7 @@ def cancelled(tools):
 
 
 def loops(tools):
-    """A right way with a place for each permit, and with one less; and a wrong way with a place for each."""
+    """Runs the right ways with a place for each permit, and with one less; and wrong ways with a place for each permit."""
     wrong, jobs, less, slips = [], 0, [], []
     for way in RIGHT:
         for kind in KINDS:

@@ -1,4 +1,4 @@
-"""Reads a recording, as docs/RECORDING.md has it, and holds it to the forms and to the rules O1 to O7 of that page."""
+"""Reads a recording, and checks it against the forms and the rules O1 to O7 of docs/RECORDING.md."""
 
 import re
 from dataclasses import dataclass, field
@@ -33,7 +33,7 @@ class Sizes(NamedTuple):
 
 
 class Act(NamedTuple):
-    """One line of an actor: a word, and the job that it names (None of `any`)."""
+    """A line of an actor: a word, and the job that it names (None for `any`)."""
 
     line: int
     word: str
@@ -42,7 +42,7 @@ class Act(NamedTuple):
 
 @dataclass(eq=False)
 class Actor:
-    """A job or a round. Its first line is that of its submit or its begin, its last one is None where it has no end."""
+    """A job or a round. Its first line is its submit or its begin; its last line is None if it has no end."""
 
     sort: str
     number: int
@@ -61,17 +61,17 @@ class Actor:
 
 @dataclass
 class Recording:
-    pools: dict = field(default_factory=dict)  # by its name, all lines of a pool as Sizes
+    pools: dict = field(default_factory=dict)  # the lines of each pool as Sizes, by its name
     jobs: list = field(default_factory=list)
     rounds: list = field(default_factory=list)
     notes: list = field(default_factory=list)  # lines of no actor: (line, word, what it names)
-    unseen: dict = field(default_factory=dict)  # by their lines, how many jobs were run of which no line tells
+    unseen: dict = field(default_factory=dict)  # the numbers of jobs that ran without lines, by line
     closed: bool = False
 
 
 def read(text):
-    """The recording of a text, which may be cut off. BadLine where a line has no form, or breaks a rule."""
-    lines = text.split("\n")[:-1]  # without what stands behind the last newline
+    """Parses a recording, which may be cut off. Raises BadLine if a line has no form or breaks a rule."""
+    lines = text.split("\n")[:-1]  # without the text after the last newline
     if not lines:
         raise BadLine(1, "O1")
     reader = Reader()

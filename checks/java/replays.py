@@ -14,10 +14,10 @@ from walks import plan_by_chance, walk
 EXAMPLES = Path(__file__).resolve().parent.parent.parent / "examples"
 KINDS = ("array", "linked")
 LISTS = 1000
-# Of so many plans each slip is tried.
+# The number of plans on which each slip is tried.
 SLIPPED = 100
-# How many jobs of an example's end never finish, where all jobs and threads run on and no client acts: by hand. Of all
-# other examples it is none.
+# The numbers of jobs, by hand, that never finish after the events of an example, if all jobs and threads continue and no client
+# acts. For all other examples it is 0.
 NEVER_FINISH = {
     "cross-pools": 4, "nested-one-worker": 2, "nested-unused-max": 2, "report-fan-out": 8, "stuck-by-a-dropped-get": 4,
     "there-and-back": 3,
@@ -35,7 +35,7 @@ def numbered(answers):
 
 
 def on_executors(tools, cases):
-    """What the executors answer to each case."""
+    """Returns the answers of the executors to each case."""
     told, found = tools.run_java("Replays", given="".join(cases)), []
     for _ in cases:
         end = told.index("end")
@@ -72,7 +72,7 @@ def examples(tools):
 
 
 class List:
-    """A list of events for a plan, with what must be answered."""
+    """A list of events for a plan, with the expected answers."""
 
     def __init__(self, chance, plan, machine_of=Machine):
         self.plan, self.kind = plan, chance.choice(KINDS)
@@ -84,7 +84,7 @@ class List:
         return case(plan or self.plan, self.kind, self.in_steps, [*self.events, "counts", *more])
 
     def of_program(self):
-        """The plan and events that `sizing replay` can show, with its answers; None where there are none."""
+        """Returns the plan and the events that `sizing replay` can replay, with its answers, or None if there are none."""
         if self.in_steps:
             return None
         plan = plan_of_paths(self.machine) if self.leaving_out else self.plan
@@ -131,7 +131,7 @@ def lists(tools, chance):
 
 
 class AsksTheQueueAgain(Machine):
-    """Whoever asks for a thread is queued where the queue has room by then."""
+    """A machine with a slip: a submit that asks for a thread queues its job if the queue has room again."""
 
     def submit(self, actor, kind):
         pool = self.plan.classes[kind].pool
@@ -141,7 +141,7 @@ class AsksTheQueueAgain(Machine):
 
 
 class IdleThreadsAreGiven(Machine):
-    """A submit hands its job to an idle thread."""
+    """A machine with a slip: a submit hands its job to an idle thread."""
 
     def submit(self, actor, kind):
         pool = self.plan.classes[kind].pool
@@ -165,7 +165,7 @@ RULE_SLIPS = {"an ask looks at the queue again": AsksTheQueueAgain, "idle thread
 
 
 def slips(tools, chance):
-    """Each slip is planted into what the executors are, or into the machine, and must be found."""
+    """Plants each slip into the executors or the machine, and checks that it is found."""
     found = Counter()
     some = [List(chance, plan_by_chance(chance)) for _ in range(SLIPPED)]
     for name, change in POOL_SLIPS.items():

@@ -1,9 +1,9 @@
-"""Services of a few pools, each run with the recorder of java/: what is recorded keeps the rules of docs/RECORDING.md, and is the
-plan that stands beside the service.
+"""Services of a few pools, each run with the recorder of java/. Each recording must satisfy the rules of docs/RECORDING.md, and
+conform to the plan beside the service.
 
-Planted slips must be found: in the service (another path, one client more, a pool with one thread more, or with one more later
-on; four users instead of three take all threads of the reports' pool and wait for ever, and so that recording is cut off), in the plan (a size or a count that is another one, a submit or a get that is not there), and in the recording (a line that is
-not there).
+The check must find planted slips: in the service (another path, one client more, a pool with one thread more, or with one more
+later), in the plan (another size or count, a missing submit or get), and in the recording (a missing line). With the slip of one
+client more, four users instead of three take all threads of the reports' pool and wait forever, so that recording is cut off.
 """
 
 import re
@@ -18,7 +18,7 @@ from recording import BadLine, read
 
 HERE = Path(__file__).resolve().parent / "services"
 EXAMPLE = Path(__file__).resolve().parent.parent.parent / "examples" / "recordings" / "web-and-database"
-# Of each service, what voids a yes in each run of it, by hand: one of the hurried clients cancels, and only that.
+# What invalidates the result in each run of a service, by hand: only that one of the hurried clients cancels.
 VOIDS = {
     "web-and-database": [],
     "example": [],
@@ -30,9 +30,9 @@ VOIDS = {
 VOID = r"^line \d+: a yes is void from here on: "
 RUNS = 4
 FIRST_PARTS = 10
-# Of longer recordings no lines are taken away one by one.
+# The maximum length of recordings from which lines are removed one by one.
 MOST_LINES = 200
-# What must be said of each slip in a service.
+# The expected finding for each slip in a service.
 SLIPS = {
     "path": r"its body has no such (submit|get) |ended; its body has a get |of no class of the plan$",
     "count": r"kind .*: [0-9]+ (at once|in all), count is ",
@@ -52,7 +52,7 @@ def part(tools):
 
 
 def deviations(found):
-    """What is not of the plan, without what voids a yes."""
+    """Returns the deviations from the plan, without the findings that invalidate the result."""
     return [line for line in found if not re.match(VOID, line)]
 
 
@@ -61,7 +61,7 @@ def plan_of(name):
 
 
 def as_planned(texts):
-    """Each recording conforms, whole and cut off anywhere."""
+    """Checks that each recording conforms, whole and cut off anywhere."""
     wrong, lines, jobs, parts = [], 0, 0, 0
     for (name, slip, _), text in texts.items():
         if slip != "none":
@@ -105,7 +105,7 @@ def slips_of_plans(texts):
 
 
 def other_plans(plan):
-    """Plans that the service is not: it has these sizes, comes to these counts, and takes each path that is covered."""
+    """Yields plans that the service does not match: it has the sizes and the counts of its plan, and takes each covered path."""
     for at, pool in enumerate(plan.pools):
         for key, value in (("core", pool.core + 1), ("max", pool.max + 1), ("queue", pool.queue - 1), ("prestart", True)):
             yield f"{pool.name} {key} {value}", plan._replace(pools=put(plan.pools, at, pool._replace(**{key: value})))
@@ -125,7 +125,7 @@ def put(entries, at, entry):
 
 
 def shorter(body):
-    """The body without a get, and without a submit and its get."""
+    """Yields the body without a get, and without a submit and its get."""
     for position, (what, _) in enumerate(body):
         gone = {position} | ({at for at, action in enumerate(body) if action == ("get", position)} if what == "submit" else set())
         kept = [at for at in range(len(body)) if at not in gone]
@@ -133,7 +133,7 @@ def shorter(body):
 
 
 def slips_of_recordings(texts):
-    """Without any one line of these a recording breaks a rule. (Of a job that nobody gets the end may be missing.)"""
+    """Checks that a recording without any one of these lines breaks a rule. (The end of a job may be missing if it is not got.)"""
     missed, tried = [], Counter()
     for name in VOIDS:
         lines = texts[name, "none", 0].splitlines(keepends=True)
@@ -162,7 +162,7 @@ def is_got(line, lines):
 
 
 def certified(tools):
-    """Where the program is at hand: each plan has a certificate, so it is one that a team would hold its service to."""
+    """Checks that each plan has a certificate, if the program is available."""
     if not tools.program:
         return []
     answers = {name: tools.sizing("certify", plan_of(name))[0] for name in VOIDS}

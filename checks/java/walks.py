@@ -1,4 +1,4 @@
-"""Plans and lists of events by chance."""
+"""Random plans and lists of events."""
 
 import sys
 from pathlib import Path
@@ -10,7 +10,7 @@ from machine import NOT_POSSIBLE, Machine
 from small_plans import Class, Client, Plan, Pool
 
 MOST_JOBS = 60
-# How often an event of each kind is drawn, where it is possible.
+# The weights with which the possible events of each kind are drawn.
 WEIGHTS = {"client": 4, "job": 4, "take": 2, "retire": 1, "leave": 2}
 
 
@@ -31,7 +31,7 @@ def plan_by_chance(chance):
 
 
 def walk(plan, chance, in_steps, leaving_out, most=60):
-    """A list of events, drawn one by one, with what must be answered, and the machine at its end."""
+    """Returns a machine, the events that were drawn for it one by one, and the expected answers."""
     machine, events, answers = Machine(plan, in_steps), [], []
     while len(events) < most and len(machine.jobs) < MOST_JOBS:
         event = draw(machine, chance, leaving_out)
@@ -45,7 +45,7 @@ def walk(plan, chance, in_steps, leaving_out, most=60):
 
 
 def draw(machine, chance, leaving_out):
-    """One event, now and then a question, and rarely an event that may not be possible."""
+    """Draws an event, sometimes a question, and rarely an event that may not be possible."""
     if machine.jobs and chance.random() < 0.05:
         waiting = machine.most_waiting()
         members = waiting if waiting and chance.random() < 0.7 else {chance.randrange(len(machine.jobs)) for _ in range(2)}

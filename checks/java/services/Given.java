@@ -5,8 +5,8 @@ import java.util.concurrent.ArrayBlockingQueue;
 import java.util.concurrent.BlockingQueue;
 
 /**
- * What a run has in place of the service's own: the sizes of its pools by their names, how many rounds there are in all, and for
- * how many microseconds at most a thread waits before it takes a job.
+ * The settings that replace those of the service: the sizes of its pools by name, the number of rounds in all, and the maximum
+ * number of microseconds that a thread waits before it takes a job.
  */
 record Given(Map<String, Sizes> pools, int rounds, int microseconds) {
     record Sizes(int core, int max, int queue) {}

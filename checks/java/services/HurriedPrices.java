@@ -8,7 +8,7 @@ import java.util.concurrent.Future;
 import java.util.concurrent.TimeUnit;
 import java.util.concurrent.TimeoutException;
 
-/** Prices for patient clients, and for four in a hurry: of these one waits, one asks again, one goes on, and one cancels. */
+/** Prices for patient clients, and for four in a hurry: one of the four waits, one asks again, one continues, and one cancels. */
 final class HurriedPrices implements Services.Service {
     private static final int ASKS_AGAIN = 1;
     private static final int GOES_ON = 2;
@@ -47,7 +47,7 @@ final class HurriedPrices implements Services.Service {
             price.get();
         }
         if (client == GOES_ON && takesAnotherPath) {
-            // the slip: another one that is not got
+            // the slip: one more submit, without a get
             slow(go);
         }
         if (client == CANCELS) {

@@ -6,8 +6,8 @@ import java.util.concurrent.Callable;
 import java.util.concurrent.ExecutorService;
 
 /**
- * Three pools. An order asks the stock for goods, or has them ordered where there are none; when they are reserved, the job
- * sends a mail, for which no one waits. Each buyer orders once.
+ * Three pools. An order reserves goods from the stock, or has them ordered if there are none. After the reservation the job
+ * sends a mail, for which no thread waits. Each buyer orders once.
  */
 final class Orders implements Services.Service {
     private ExecutorService stock;

@@ -21,7 +21,7 @@ final class Reports implements Services.Service {
         run.clients("user", 3, 9, (client, round) -> reports.submit(label("report", () -> report(1 + (client + round) % most))).get());
     }
 
-    /** Half of the reports make a loop of submits and one of gets, the others ask for all at once. */
+    /** Makes a report: half of them with a loop of submits and a loop of gets, the others with one call for all sections. */
     private int report(int sections) throws Exception {
         List<Callable<Integer>> tasks = new ArrayList<>();
         for (int section = 0; section < sections; section++) {

@@ -23,13 +23,13 @@ import sizing.Recorder;
  * where they are given.
  */
 final class Run {
-    /** What a client does in a round; clients of a kind are numbered from 0, and so are the rounds of each. */
+    /** The body of a round. The clients of a kind are numbered from 0, and so are the rounds of each. */
     interface Round {
         void go(int client, int round) throws Exception;
     }
 
     private static final long SECONDS = 60;
-    /** With a slip jobs may wait for each other for ever, and the recording is then cut off. */
+    /** The time limit of a run. With a slip jobs may wait for each other forever; the recording is then cut off. */
     private static final long SECONDS_OF_A_SLIP = 30;
     final Recorder recorder;
     private final String slip;
@@ -39,16 +39,16 @@ final class Run {
     private final Queue<Throwable> failed = new ConcurrentLinkedQueue<>();
     private final LongAdder rounds = new LongAdder();
     private final LongAdder refused = new LongAdder();
-    /** Of rounds that are given: how many clients may still begin again. */
+    /** The rounds that are left, if their number is given: so often clients may still begin again. */
     private final AtomicInteger roundsLeft = new AtomicInteger();
     private boolean isFirstKind = true;
 
-    /** The slip is `none`, `path`, `count`, `size` or `change`. */
+    /** Creates a run with the slip `none`, `path`, `count`, `size` or `change`. */
     Run(Path recording, String slip) throws IOException {
         this(recording, slip, Given.NOTHING);
     }
 
-    /** A run with what is given. */
+    /** Creates a run with these settings and no slip. */
     Run(Path recording, Given given) throws IOException {
         this(recording, "none", given);
     }
@@ -59,12 +59,12 @@ final class Run {
         this.given = given;
     }
 
-    /** The service takes a path that is not of its plan. */
+    /** Returns whether the service takes a path that its plan lacks. */
     boolean takesAnotherPath() {
         return slip.equals("path");
     }
 
-    /** A pool with an `ArrayBlockingQueue`. A slip of sizes is one of the first pool. */
+    /** Creates a pool with an `ArrayBlockingQueue`. A slip of sizes affects the first pool. */
     ExecutorService pool(String name, int core, int max, int queue) {
         int more = slip.equals("size") && executors.isEmpty() ? 1 : 0;
         Given.Sizes sizes = given.of(name, new Given.Sizes(core, max + more, queue));
@@ -76,7 +76,7 @@ final class Run {
         return recorder.pool(name, executor);
     }
 
-    /** Counts it, whoever of the service hears of it, and ends the run soon. */
+    /** Counts a refusal, even if the service catches the exception, and ends the run soon. */
     private void refuse(Runnable task, ThreadPoolExecutor executor) {
         refused.increment();
         roundsLeft.set(0);
@@ -84,8 +84,8 @@ final class Run {
     }
 
     /**
-     * Threads of a kind, which are all within their first rounds at once. A slip of counts is one thread more of the first kind.
-     * Where rounds are given, those who begin again share them.
+     * Adds the threads of a kind, which are all within their first rounds at once. A slip of counts adds a thread to the first
+     * kind. If a number of rounds is given, the threads that repeat share it.
      */
     void clients(String kind, int count, int rounds, Round body) {
         int all = count + (slip.equals("count") && isFirstKind ? 1 : 0);
@@ -105,7 +105,7 @@ final class Run {
         return round == 0 || (given.isSomething() ? own > 1 && roundsLeft.getAndDecrement() > 0 : round < own);
     }
 
-    /** Whether it came to its end. */
+    /** Runs a round and returns whether it completed. */
     private boolean round(String kind, int client, int round, CountDownLatch within, Round body) {
         rounds.increment();
         try (Recorder.Round recorded = recorder.round(kind)) {
@@ -150,7 +150,7 @@ final class Run {
         }
     }
 
-    /** Runs the clients until they and the pools are through, or nothing was done for so many seconds, and tells what they met. */
+    /** Runs the clients until they and the pools end, or nothing is done for this many seconds. Returns what they met. */
     String met(long seconds) throws InterruptedException, IOException {
         roundsLeft.set(given.rounds() - clients.size());
         clients.forEach(Thread::start);
@@ -167,7 +167,7 @@ final class Run {
         return met;
     }
 
-    /** Whether nothing is done for so many seconds before it is through. */
+    /** Returns whether nothing is done for this many seconds before {@code through} holds. */
     private boolean stops(long seconds, BooleanSupplier through) throws InterruptedException {
         long before = -1;
         long since = System.nanoTime();

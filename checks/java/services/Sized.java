@@ -7,16 +7,16 @@ import java.util.HashMap;
 import java.util.List;
 import java.util.Map;
 
-/** Runs services with sizes and rounds from outside, and tells what each run met. */
+/** Runs services with given sizes and rounds, and prints what each run met. */
 final class Sized {
     private static final int FIRST_POOL = 5;
 
     private Sized() {}
 
     /**
-     * A line of words for each run: the service, rounds in all, for how many seconds nothing is done where it has stopped, for how
-     * many microseconds at most a thread waits before it takes, the file of the recording, and of each pool its name, core, max
-     * and queue.
+     * Reads a line for each run: the service, the number of rounds in all, the number of seconds without progress after which
+     * the run has stopped, the maximum number of microseconds that a thread waits before it takes, the file of the recording,
+     * and the name, core, max and queue of each pool.
      */
     public static void main(String[] none) throws Exception {
         List<String> lines = new BufferedReader(new InputStreamReader(System.in)).lines().toList();
