@@ -1,12 +1,12 @@
 #!/usr/bin/env python3
-"""Runs the built program where its streams or its words are not what it wants, and compares what it tells.
+"""Runs the built program with unusable streams or arguments, and compares what it reports.
 
-`main` has no contract: what it does with standard input, standard output and the command line is shown here. README.md
-says what each case is.
+`main` has no contract: this check shows what it does with standard input, standard output and the command line. README.md
+describes each case.
 
 The program is crates/sizing/out/sizing, or the one that the environment variable SIZING names.
 
-Exit status: 0 where all cases end as they should, 1 where one doesn't, 2 where there is no program.
+Exit status: 0 if all cases end as they should, 1 if one doesn't, 2 if there is no program.
 """
 
 import os
@@ -18,7 +18,7 @@ from pathlib import Path
 HERE = Path(__file__).resolve().parent
 BUILT = HERE.parent / "crates" / "sizing" / "out" / "sizing"
 EXAMPLES = HERE.parent / "examples"
-# The words of each command, and the files that it reads, with a line `%%` between two of them.
+# The arguments of each command, and the files that it reads, with a line `%%` between two of them.
 COMMANDS = [
     (["replay"], ["two-clients.toml", "two-clients.events"]),
     (["check"], ["two-clients.toml", "two-clients.json"]),
@@ -57,7 +57,7 @@ def main():
 
 
 def cases(program, folder):
-    """Each case's name, its run, and how it must end: in this very way, or, without one, as where the words are bad."""
+    """Yields each case's name, its run, and its expected end, which is None for help and invalid arguments."""
     for command, parts in COMMANDS:
         title = " ".join(command)
         given = folder / command[0]
@@ -82,7 +82,7 @@ def cases(program, folder):
 
 
 def cases_of_files(title, words, parts, folder):
-    """The same where one of the files that are named is not one that can be read, or standard input is named for both."""
+    """Yields the cases in which a named file cannot be read, or standard input is named for both files."""
     files = [EXAMPLES / part for part in parts]
     for number, part in enumerate(parts):
         for what, path in (("a directory", folder), (f"no file {part}", folder / "none" / part)):
@@ -94,7 +94,7 @@ def cases_of_files(title, words, parts, folder):
 
 
 def cases_of_certificates(program, folder):
-    """What is there under the name of the certificate's file, what `ask` then ends with, and what is there behind it."""
+    """Yields the cases for the content of the certificate's file before `ask`, with the expected end and the content after it."""
     plan = (EXAMPLES / "two-clients-queue-of-two.toml").read_bytes()
     occupied = b"%s is there and no certificate, so it stays as it is: name another file for --certificate\n"
     for what, before, is_kept in (
@@ -111,14 +111,14 @@ def cases_of_certificates(program, folder):
 
 
 def ask_for(program, given, path):
-    """The status, the first word that was printed, what was complained of, and what the file has: its beginning, where that changed."""
+    """Returns the status, the first word on standard output, standard error, and the file's content: its start if it changed."""
     status, printed, complained = ends([program, "ask", "--certificate", path], given)
     text = path.read_bytes()
     return status, printed[:4], complained, text[:8] if status == 0 else text
 
 
 def shown(name, run, wanted):
-    """Runs a case, prints how it ends, and says whether that is right."""
+    """Runs a case, prints how it ends, and returns whether that is right."""
     try:
         ended = run()
     except subprocess.TimeoutExpired:
@@ -130,14 +130,14 @@ def shown(name, run, wanted):
 
 
 def told_usage(ended):
-    """Nothing on standard output, and what is right on standard error."""
+    """Returns whether the run printed nothing on standard output, and an error or the usage on standard error."""
     status, printed, complained = ended
     is_told = b"sizing" in complained or complained.startswith(b"error: ")
     return status == 2 and printed == b"" and is_told and complained.endswith(b"\n")
 
 
 def ends(words, given, stdout=subprocess.PIPE, close=None):
-    """The status, and what was printed on standard output and standard error."""
+    """Returns the status, standard output and standard error of a run."""
     def prepare():
         if close is not None:
             os.close(close)

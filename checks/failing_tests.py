@@ -1,14 +1,14 @@
 #!/usr/bin/env python3
-"""Shows that tests find out bodies that no clause refuses.
+"""Shows that tests find bodies that no clause refuses.
 
-Each file bugs/*.edit has a body that meets its contract and is wrong all the same, and names the crate whose tests must
-find it out. Each is tried in a copy of the repository, by `rt try --test`, which proves nothing. A test that fails in
-an unchanged copy too, as where the machine is too busy for its time limit, finds nothing out.
+Each file bugs/*.edit has a body that meets its contract but is wrong, and names the crate whose tests must find it. Each is tried
+in a copy of the repository, by `rt try --test`, which proves nothing. A test that fails in an unchanged copy too, for example
+since a loaded machine exceeds its time limit, does not count.
 
-The words of the command line name the bugs to try; with none, all are tried.
+The arguments name the bugs to try; without arguments all are tried.
 
-Exit status: 0 where each bug is found out, 1 where one passes or its tests are not run, 2 where a text that is to be
-rewritten isn't there exactly once, or a bug isn't there.
+Exit status: 0 if each bug is found, 1 if one passes or its tests are not run, 2 if a text to rewrite doesn't occur exactly once,
+or a bug doesn't exist.
 """
 
 import re
@@ -27,7 +27,7 @@ FAILED = re.compile(r"^test (\S+) \.\.\. FAILED", re.MULTILINE)
 
 
 class Bug:
-    """What is rewritten, and the crate whose tests must find it out."""
+    """A bug: the rewritten texts, and the crate whose tests must find it."""
 
     def __init__(self, path):
         self.name = path.stem
@@ -45,7 +45,7 @@ class Bug:
                 self.rewrite(file, old, text)
 
     def rewrite(self, file, old, new):
-        """Puts the new text in the place of the old one, which stands in the file exactly once."""
+        """Replaces the old text with the new one. Raises LookupError unless the old text occurs in the file exactly once."""
         text = self.texts.get(file) or (TOP / file).read_text()
         times = text.count(old)
         if times != 1:
@@ -54,7 +54,7 @@ class Bug:
 
 
 def tested(crate, texts):
-    """The crate's tests that pass and those that fail in a copy with these texts, and the last line that was said."""
+    """Returns the crate's tests that pass and those that fail in a copy with these texts, and the last line of the output."""
     with tempfile.TemporaryDirectory(prefix="failing_tests.") as folder:
         top = Path(folder) / "copy"
         shutil.copytree(TOP, top, ignore=shutil.ignore_patterns(".git", "out"), symlinks=True)

@@ -1,25 +1,25 @@
 #!/usr/bin/env python3
-"""Holds what `sizing fit` answers to the plan, to the program's own `check` and `certify`, and to all cheaper sizes.
+"""Compares the answers of `sizing fit` with the plan, with the program's own `check` and `certify`, and with all cheaper sizes.
 
-    python3 checks/fit.py [PLANS [SMALL_PLANS [SEED]]]     # 300 plans, 50 small ones and seed 1 where nothing is said
+    python3 checks/fit.py [PLANS [SMALL_PLANS [SEED]]]     # by default 300 plans, 50 small ones and seed 1
 
-Of each plan of examples/, of plans made by chance, and of larger ones with up to as many pools as a plan may have:
+For each plan of examples/, for random plans, and for larger ones with up to as many pools as a plan may have:
 
-- Where a circle of submits, or a submit that is made for ever and never got, lets no sizes help, that is told, of a class or
-  a submit for which it is so. For every other plan sizes are found.
-- To what `fit --bundle` writes `check` says yes. Its plan differs from the given one in sizes alone, none of them smaller,
-  and the lines of `fit` tell these sizes, and those of the given plan where they differ.
-- With the same certificate, one less of any core or queue that is changed is a no. A max that is changed is the core.
-- Where `certify` finds a certificate nothing is changed. At the sizes that `fit` names it finds one, and `fit` changes nothing.
-- That sizes are above their limit is told only where those of the plan's steady certificate are, or a weight of it.
+- If no sizes help, because of a circle of submits or a submit that is repeated forever and never got, `fit` names a class or a
+  submit that causes it. For every other plan it finds sizes.
+- `check` says yes to the output of `fit --bundle`. Its plan differs from the given one only in sizes, none of which is smaller.
+  The lines of `fit` list these sizes, and the given ones that differ.
+- With the same certificate, `check` says no to one less of any core or queue that changed. A max that changed is the core.
+- If `certify` finds a certificate, `fit` changes nothing. With the sizes that `fit` names `certify` finds one, and `fit` changes
+  nothing.
+- `fit` reports sizes above their limit only if those of the plan's steady certificate are, or one of its weights is.
 
-Of small plans, with one or two pools and single clients, that get sizes up to 6: all sizes that grow by less, all together,
-are given to `certify`. Where it finds a certificate for some of them that is printed, and it is no fault.
+For small plans, with one or two pools and single clients, that get sizes up to 6: the check gives all sizes with a smaller total
+growth to `certify`. If it finds a certificate for some of them, the check prints that; it is not a fault.
 
 The program is crates/sizing/out/sizing, or the one that the environment variable SIZING names.
 
-Exit status: 0 where all is so, 1 where something is not or fewer small plans were compared than were wanted, 2 where there is
-no program.
+Exit status: 0 if all of this holds, 1 if not, or if fewer small plans were compared than requested, 2 if there is no program.
 """
 
 import os
@@ -42,10 +42,10 @@ from steady import is_too_large
 
 EXAMPLES = Path(__file__).resolve().parent.parent / "examples"
 MOST_SMALL_SIZE = 6
-# Small plans with more cheaper sizes than these are not compared with them, so more plans are drawn than are wanted.
+# Small plans with more cheaper sizes than this are not compared, so more plans are drawn than are needed.
 MOST_CHEAPER = 3000
 DRAWN_FOR_ONE = 3
-# For so many plans there is a larger one, of so many pools.
+# The number of plans for each larger one, and the numbers of pools that a larger one may have.
 PLANS_FOR_LARGER = 10
 FEWEST_POOLS, MOST_POOLS = 8, 64
 
@@ -81,7 +81,7 @@ def main():
 
 
 def told(name, fits):
-    """Prints what came of some plans, and those that are answered wrongly; how many these are."""
+    """Prints the counts for some plans, and each plan with a wrong answer. Returns the number of wrong answers."""
     wrong = sum(map(Fit.is_reported, fits))
     number = sum((fit.count for fit in fits), Counter())
     print(f"{len(fits)} {name}, {wrong} answered wrongly: {number['certified']} have a certificate, {number['sized']} get "
@@ -91,7 +91,7 @@ def told(name, fits):
 
 
 class Fit:
-    """What `fit` answers to a plan, of which kind that is, and what is wrong with it."""
+    """The answer of `fit` to a plan, its kind, and its fault."""
 
     def __init__(self, program, given):
         self.program, self.given = program, given
@@ -102,7 +102,7 @@ class Fit:
         self.fault = self.judged()
 
     def judged(self):
-        """What is wrong with the answer; nothing where it is right."""
+        """Returns the fault of the answer, which is empty if the answer is right."""
         wanted = causes(self.plan)
         if wanted:
             self.count["helpless"] += 1
@@ -142,7 +142,7 @@ class Fit:
         return self.fault_of_less(fitted, cert)
 
     def fault_of_less(self, fitted, cert):
-        """A size that falls, a max that rises without its core, or a core or queue that is changed and could do with less."""
+        """Returns a size that falls, a max that rises without its core, or a changed core or queue that could be smaller."""
         for number, (now, found) in enumerate(zip(self.plan.pools, fitted.pools)):
             if any(new < old for new, old in zip(sizes_of(found), sizes_of(now))):
                 return f"a size of {now.name} falls"
@@ -171,7 +171,7 @@ def without_sizes(plan):
 
 
 def lessened(now, found):
-    """The pool that was found with one less core, and with one less queue, where these have grown."""
+    """Yields the found pool with one less core, and with one less queue, if these have grown."""
     if found.core > now.core:
         yield found._replace(core=found.core - 1)
     if found.queue > now.queue:
@@ -179,7 +179,7 @@ def lessened(now, found):
 
 
 def wanted_lines(plan, fitted):
-    """What `fit` must answer to the plan where it finds the sizes of the other, and how many of them are changed."""
+    """Returns the answer that `fit` must give if it finds the sizes of `fitted`, and how many sizes change."""
     lines, changes = [], 0
     for now, found in zip(plan.pools, fitted.pools):
         numbers = []
@@ -193,7 +193,7 @@ def wanted_lines(plan, fitted):
 # ---- larger plans
 
 def larger_plan(chance):
-    """A plan of many pools, with the smallest sizes, whose jobs get jobs of each other's."""
+    """Returns a plan of many pools with the smallest sizes, whose jobs get jobs of other pools."""
     pools = [Pool(1, 1, 1, False) for _ in range(chance.randint(FEWEST_POOLS, MOST_POOLS))]
     classes = []
     for number in range(2 * len(pools)):
@@ -206,19 +206,19 @@ def larger_plan(chance):
 # ---- cheaper sizes
 
 def is_comparable(plan, fit):
-    """Whether a small plan got small sizes, and there are not too many cheaper ones."""
+    """Returns whether a small plan got small sizes, and there are not too many cheaper ones."""
     is_small = not fit.fault and max(map(max, fit.sizes)) <= MOST_SMALL_SIZE
     return is_small and cheaper_ones(plan, growth(plan, fit.sizes)) <= MOST_CHEAPER
 
 
 def cheaper_ones(plan, limit):
-    """In how many ways the plan's sizes can grow by less than this, all together."""
+    """Returns the number of ways in which the plan's sizes can grow by less than this in total."""
     sizes = 3 * len(plan.pools)
     return comb(limit - 1 + sizes, sizes)
 
 
 def saving(program, plan, fit):
-    """By how much less the cheapest sizes grow that `certify` finds a certificate for, and how many were tried."""
+    """Returns how much less the cheapest sizes with a certificate grow, and how many sizes were tried."""
     tried = []
 
     def is_certified(other):

@@ -1,20 +1,20 @@
 #!/usr/bin/env python3
-"""Holds what `sizing ask` writes in its three forms against each other.
+"""Compares the three output forms of `sizing ask` with each other.
 
     python3 checks/forms.py
 
-Of each plan of ../examples and of mistakes/:
+For each plan of ../examples and of mistakes/:
 
 - `ask --json` writes one object on one line, which Python's json reads, with the same keys each time. Its answer, its faults and
-  its warnings are those of `ask`, place by place and word by word, and so is the status.
-- What clients and threads pay for a bound adds up to it, and a standing bound is within the queue.
-- The events of a witness end in a refusal or in jobs that are stuck, by `sizing replay`.
+  its warnings are those of `ask`, with the same positions and words, and so is the status.
+- The shares of clients and threads in a bound add up to it, and a standing bound is at most the queue.
+- In `sizing replay` the events of a witness end in a refusal or in jobs that are stuck.
 - The sizes are those of `sizing fit`.
-- `ask --dot` writes a graph that Graphviz draws, where `dot` is installed, with each pool, class and kind of clients in it.
+- `ask --dot` writes a graph that Graphviz draws, if `dot` is installed, with each pool, class and kind of clients in it.
 
 The program is crates/sizing/out/sizing, or the one that the environment variable SIZING names.
 
-Exit status: 0 where all is so, 1 where something is not, 2 where there is no program.
+Exit status: 0 if all of this holds, 1 if not, 2 if there is no program.
 """
 
 import json
@@ -51,7 +51,7 @@ def main():
 
 
 def differences(program, dot, plan):
-    """What is wrong with the answers to a plan."""
+    """Yields the faults of the answers to a plan."""
     words = asked(program, plan)
     told = asked(program, plan, "--json")
     if told.returncode != words.returncode:
@@ -75,7 +75,7 @@ def asked(program, plan, *options):
 
 
 def differences_of_lines(value, text):
-    """The answer, the faults and the warnings are those of the lines."""
+    """Yields a line if the answer, or the faults and warnings, differ from those of the lines."""
     lines = text.splitlines()
     answers = [line for line in lines if line in ANSWERS] or ["FAULTS"]
     if [value["answer"]] != answers:
@@ -88,7 +88,7 @@ def differences_of_lines(value, text):
 
 
 def differences_of_bounds(value):
-    """Bounds stand where the plan is safe, and what is paid for one adds up to it."""
+    """Yields a line for each bound that is wrong: exactly the safe plans have bounds, and the shares in a bound add up to it."""
     for pool in value["pools"]:
         bound = pool["bound"]
         if (bound is None) != (value["answer"] != "SAFE"):
@@ -105,7 +105,7 @@ def differences_of_bounds(value):
 
 
 def differences_of_sizes(program, plan, value):
-    """The sizes are those of `fit`, or the cause is."""
+    """Yields a line if the sizes or the cause differ from those of `fit`."""
     if (sizes := value["sizes"]) is None:
         return
     fit = subprocess.run([program, "fit", plan], capture_output=True, text=True, timeout=SECONDS, check=False)
@@ -120,7 +120,7 @@ def differences_of_sizes(program, plan, value):
 
 
 def differences_of_witness(program, plan, value):
-    """The events of a witness are possible, and end as they are said to."""
+    """Yields a line if an event of a witness is not possible, or the events do not end as the witness says."""
     witness = value["witness"]
     if (witness is None) != (value["answer"] != "NOT SAFE"):
         yield f"the witness is {witness}"
@@ -135,7 +135,7 @@ def differences_of_witness(program, plan, value):
 
 
 def differences_of_picture(dot, value, told, status):
-    """The picture is drawn, and has everything in it."""
+    """Yields a line if the picture cannot be drawn, or lacks a pool."""
     if told.returncode != status:
         yield f"--dot ends with {told.returncode}, and words with {status}"
     for pool in value["pools"]:

@@ -1,30 +1,29 @@
 #!/usr/bin/env python3
-"""Compares the search for certificates with a second one, written apart from it in Python, on small plans made by chance.
+"""Compares the search for certificates with a second one, written independently in Python, on small random plans.
 
-For each plan the second one says which bounds `sizing check` must tell of the certificate that `sizing certify` finds, or
-that none is found. Both go by this method, but the second one takes no short way: it tries numbers
-where the program computes them.
+For each plan the second one determines the bounds that `sizing check` must print for the certificate that `sizing certify` finds,
+or that none is found. Both use the following method, but the second one has no shortcuts: it tries numbers that the program
+computes.
 
 1. A class is a level above the highest of the classes that it submits. A circle of submits gets no certificate.
-2. A least vector is found class by class, from the lowest level up, and in a body from its end back: the end weighs what
-   the job weighs when it is done and what a worker weighs; a submit adds what its job weighs queued; a get takes off what
-   its job weighs done; nothing goes below what it has to weigh. Queued, a job weighs what it weighs at its beginning less
-   what a worker weighs. Done, it weighs as much as it may without weighing more while it is queued, and no more than
-   that. A client that repeats weighs at its end what it weighs at its beginning, or there is no vector.
-3. Workers weigh nothing at first. While the total is above its bound, one pool lends: its workers weigh as much as its
-   jobs do at most, where neither they nor done jobs of the pool weigh anything. Classes that nobody submits, no client
-   nor a job that a client causes, do not count there. It is the pool that makes the total the least; where none makes it
-   less, no vector is found. (Where a class that nobody submits weighs too much, a pool lends so that it does not. These
-   plans are too small for that.)
-4. In rounds from 0, each pool without a rank whose blocked vector is found gets the round's number. Of the gets only those
-   do not count whose jobs reach none but pools with ranks. In round 0 each pool needs a standing vector or else a lifetime
-   vector: all jobs of the pool weigh at least 1 everywhere, gets give nothing back, and nobody lends.
+2. A least vector is computed class by class, from the lowest level up, and in a body from its end backwards. The end weighs the
+   sum of the done job and a worker; a submit adds the weight of its queued job; a get subtracts the weight of its done job; no
+   weight falls below its minimum. A queued job weighs its weight at its beginning less that of a worker. A done job has the
+   greatest weight, up to that of the queued job, with which the queued job does not weigh more. A client that repeats weighs the
+   same at its end and at its beginning; otherwise there is no vector.
+3. Workers weigh nothing at first. While the total is above its bound, one pool lends: its workers get the greatest weight of its
+   jobs, computed with weight 0 for these workers and for done jobs of the pool. It ignores classes that neither a client nor a
+   job that a client causes submits. The pool that lends is the one with the least total; if none reduces the total, no vector is
+   found. (If a class that is never submitted weighs too much, a pool lends to prevent that. These plans are too small for it.)
+4. In rounds from 0, each pool without a rank whose blocked vector is found gets the round's number. A get does not count if its
+   jobs reach only pools with ranks. In round 0 each pool needs a standing vector or otherwise a lifetime vector: all jobs of the
+   pool weigh at least 1 everywhere, gets subtract nothing, and no pool lends.
 
-    python3 checks/found_certs.py [PLANS [SEED]]     # 2,000 plans and seed 1 where nothing is said
+    python3 checks/found_certs.py [PLANS [SEED]]     # by default 2,000 plans and seed 1
 
 The program is crates/sizing/out/sizing, or the one that the environment variable SIZING names.
 
-Exit status: 0 where both agree on each plan, 1 where they do not, 2 where there is no program.
+Exit status: 0 if both agree on each plan, 1 if they do not, 2 if there is no program.
 """
 
 import random
@@ -57,7 +56,7 @@ def main():
 
 
 def told_of(program, plan):
-    """What the check says of the certificate that is found, or that none is."""
+    """Returns the output of `check` for the certificate that is found, or that of `certify` if none is found."""
     bundle = written(program, ["certify"], plan)
     return (written(program, ["check"], bundle) if "\n%%\n" in f"\n{bundle}" else bundle).strip()
 
@@ -88,7 +87,7 @@ class Plan:
         self.submitted = self.submitted_classes()
 
     def submitted_classes(self):
-        """The classes that clients submit, and those that the jobs of such classes submit."""
+        """Returns the classes that clients submit, and those that the jobs of such classes submit."""
         found, pending = set(), [client.body for client in self.clients]
         while pending:
             for word, what in pending.pop():
@@ -101,7 +100,7 @@ class Plan:
 def plan_by_chance(chance):
     pools = [pool_by_chance(chance) for _ in range(chance.randint(1, 4))]
     count = chance.randint(1, 5)
-    # Mostly a class submits only those before it; now and then there are circles.
+    # Mostly a class submits only classes before it; a few plans have circles.
     free = chance.random() < 0.05
     classes = [
         Class(chance.randrange(len(pools)), body_by_chance(chance, count if free else number))
@@ -258,7 +257,7 @@ def blocked_total(plan, levels, pool, reached, rank):
 
 
 def least_total(plan, levels, queued, needs, limit):
-    """The least total within the limit, with workers that lend; None where none is found."""
+    """Returns the least total within the limit, with workers that lend, or None if none is found."""
     workers = [0] * len(plan.pools)
 
     def weights(workers):
@@ -286,7 +285,7 @@ def least_total(plan, levels, queued, needs, limit):
 
 
 class Weights:
-    """What jobs and clients weigh at least, each class from the lowest level up."""
+    """The least weights of jobs and clients, computed class by class from the lowest level up."""
 
     def __init__(self, plan, levels, queued, needs, workers, gives_back=True):
         self.plan, self.workers, self.gives_back = plan, workers, gives_back
@@ -311,7 +310,7 @@ class Weights:
         self.rows[number] = with_done(done)[0]
 
     def back(self, body, end, needs):
-        """What an actor weighs at each position of the body, from its end back."""
+        """Returns the weight of an actor at each position of the body, computed from its end backwards."""
         row = [end]
         for (word, what), need in zip(reversed(body), reversed(needs[:-1])):
             weight = row[0]
@@ -326,7 +325,7 @@ class Weights:
         return self.peaks[pool]
 
     def total(self):
-        """What the start weighs; None where there is no vector."""
+        """Returns the weight of the start, or None if there is no vector."""
         numbers = [number for row in self.rows.values() for number in row]
         total = sum(weight * pool.most for weight, pool in zip(self.workers, self.plan.pools))
         for client in self.plan.clients:

@@ -1,15 +1,15 @@
 #!/usr/bin/env python3
-"""Shows that the laws refuse bugs with which all that stands below them agrees.
+"""Shows that the laws refuse bugs with which everything below them agrees.
 
-Each file headline/*.bug rewrites, for one bug, a definition, the code, and the lemmas that say the same, so that they
-agree on the bug. In a copy of the repository that is so rewritten the crates below must still prove, and a law of a
-crate above must be refused. README.md says how such a file is written.
+Each file headline/*.bug rewrites, for one bug, a definition, the code, and the lemmas that say the same, so that they agree on
+the bug. In a copy of the repository with these changes the crates below must still prove, and a law of a crate above must be
+refused. README.md describes the form of such a file.
 
-The words of the command line name the bugs to try; with none, all are tried. The repository's crates are best proved
-before, so that their libraries are at hand.
+The arguments name the bugs to try; without arguments all are tried. Prove the repository's crates first, so that their libraries
+are available.
 
-Exit status: 0 where each bug is refused by its law, 1 where one is accepted, or is refused elsewhere, 2 where a text
-that is to be rewritten isn't there exactly once, or a bug isn't there.
+Exit status: 0 if each bug is refused by its law, 1 if one is accepted or is refused elsewhere, 2 if a text to rewrite doesn't
+occur exactly once, or a bug doesn't exist.
 """
 
 import shutil
@@ -23,13 +23,13 @@ from pathlib import Path
 HERE = Path(__file__).resolve().parent
 TOP = HERE.parent
 BUGS = HERE / "headline"
-# What the prover says of a goal that isn't proved, and not of a text that it can't read.
+# The prover's messages about a goal that isn't proved, as opposed to a text that it can't read.
 UNPROVED = ("the goal does not follow", "it is not proved that")
 ERROR = ": error: "
 
 
 class Bug:
-    """What is rewritten, which crates must still prove, and which law of which crate must be refused."""
+    """A bug: the rewritten texts, the crates that must still prove, and the crate and its law that must be refused."""
 
     def __init__(self, path):
         self.name = path.stem
@@ -55,7 +55,7 @@ class Bug:
         self.law = self.says["law"]
 
     def rewrite(self, file, old, new):
-        """Puts the new text in the place of the old one, which stands in the file exactly once."""
+        """Replaces the old text with the new one. Raises LookupError unless the old text occurs in the file exactly once."""
         text = self.texts.get(file) or (TOP / file).read_text()
         times = text.count(old)
         if times != 1:
@@ -64,7 +64,7 @@ class Bug:
 
 
 def with_those_below(crates):
-    """The crates, and all crates of this repository that they stand on, by way of others too."""
+    """Returns the crates and all crates of this repository that they depend on, also indirectly."""
     below = {}
     for line in (TOP / "crates.txt").read_text().splitlines():
         if line and not line.startswith("#"):
@@ -80,7 +80,7 @@ def with_those_below(crates):
 
 
 def copy(bug, folder):
-    """A copy of the repository, rewritten. What is proved of the crates that are checked goes with it."""
+    """Copies the repository with the rewritten texts, and with the proofs of the crates that are checked."""
     checked = with_those_below([*bug.proves, bug.refuses])
 
     def left_out(inside, names):
@@ -97,25 +97,25 @@ def copy(bug, folder):
 
 
 def check(folder, crate):
-    """Whether the crate is proved, and the lines that the prover says."""
+    """Returns whether the crate is proved, and the lines that the prover prints."""
     done = subprocess.run(["rt", "check"], cwd=folder / "crates" / crate, stdin=subprocess.DEVNULL,
                           stdout=subprocess.PIPE, stderr=subprocess.STDOUT, text=True)
     return done.returncode == 0, done.stdout.splitlines()
 
 
 def tells(line, words):
-    """Whether the line has one of these."""
+    """Returns whether the line contains one of these."""
     return any(word in line for word in words)
 
 
 def first_refusal(said):
-    """The first line that says what is refused, without the hints at its end."""
+    """Returns the first line that reports a refusal, without the hints at its end."""
     line = next((line for line in said if tells(line, (ERROR, *UNPROVED))), said[-1] if said else "nothing is said")
     return textwrap.shorten(line, width=300, placeholder=" ..")
 
 
 def attempt(bug, folder):
-    """Whether the bug's law refuses it, and what is to be told of that."""
+    """Returns whether the bug's law refuses it, the outcome in words, and the prover's line."""
     copy(bug, folder)
     for crate in bug.proves:
         proved, said = check(folder, crate)

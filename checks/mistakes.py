@@ -1,15 +1,15 @@
 #!/usr/bin/env python3
-"""Holds what `sizing ask` says of common mistakes to where they are and what would be right.
+"""Checks that the messages of `sizing ask` about common mistakes name the right lines, and what would be right.
 
     python3 checks/mistakes.py
 
-Of each plan of mistakes/ the answer of `sizing ask --strict` has to have a line that begins with the plan's name and the line
-that is named here, and has the words behind it; the status is that of faults, or of a no. No plan with a mistake is SAFE with
-status 0. Of the two sound plans the answer is SAFE, with status 0.
+For each plan of mistakes/ the answer of `sizing ask --strict` must have a line that begins with the plan's name and the number
+of the line below, followed by the words below; the status is that of faults, or of a no. No plan with a mistake is SAFE with
+status 0. For the two sound plans the answer is SAFE, with status 0.
 
 The program is crates/sizing/out/sizing, or the one that the environment variable SIZING names.
 
-Exit status: 0 where all is so, 1 where something is not, 2 where there is no program.
+Exit status: 0 if all of this holds, 1 if not, 2 if there is no program.
 """
 
 import os
@@ -20,7 +20,7 @@ from pathlib import Path
 HERE = Path(__file__).resolve().parent
 PROGRAM = os.environ.get("SIZING", str(HERE.parent / "crates/sizing/out/sizing"))
 
-# The plan, the exit status, and the lines of the answer: the number of the line that is named, and words behind it.
+# The plan, the exit status, and the lines of the answer: the number of the line that the answer names, and words after it.
 MISTAKES = [
     ("unclosed_quote", 2, [(3, "a quote is not closed")]),
     ("slash_comment", 2, [(1, "a comment begins with #")]),

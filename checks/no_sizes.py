@@ -1,12 +1,12 @@
-"""Why no sizes help a plan, worked out from its bodies alone: a circle of submits, or a submit that is made for ever and never
-got."""
+"""The causes for which no sizes help a plan, derived from its bodies alone: a circle of submits, or a submit that is repeated
+forever and never got."""
 
-# What stands before the line of a cause.
+# The line before that of a cause.
 NOTHING_FOUND = "no fitting sizes found"
 
 
 def causes(plan):
-    """The lines of which each tells why no sizes help the plan; none where some do."""
+    """Returns the lines that `fit` may print as the cause for which no sizes help the plan; none if some sizes help."""
     return circles(plan) or never_got(plan)
 
 
@@ -19,7 +19,7 @@ def circles(plan):
 
 
 def never_got(plan):
-    """The submits without a get in bodies that begin again and again, as clients or as jobs of theirs."""
+    """Returns the submits without a get in bodies that repeat: those of clients, and of the jobs that they cause."""
     bodies = [(f"client {client.name}", client.body) for client in plan.clients if client.repeat]
     for number in submitted(plan, [body for _, body in bodies]):
         bodies.append((f"class {plan.classes[number].name}", plan.classes[number].body))
@@ -32,7 +32,7 @@ def never_got(plan):
 
 
 def submitted(plan, bodies):
-    """The classes that these bodies submit, and those that jobs of these submit, and so on."""
+    """Returns the classes that these bodies submit, directly or through their jobs."""
     seen, bodies = set(), list(bodies)
     while bodies:
         for word, what in bodies.pop():

@@ -1,13 +1,13 @@
 #!/usr/bin/env python3
 """Refuses each growth of the memory of `sizing` in turn, on examples of each command, and each start of a thread. README.md
-says what that shows.
+explains what that shows.
 
 A run in which the N-th of them is refused must end with fault 20 and no answer, or with the example's own answer and
 status. N goes from 1 to the first that a run doesn't reach.
 
 The program is crates/sizing/out/sizing, or the one that the environment variable SIZING names.
 
-Exit status: 0 where all runs end so, 1 where one doesn't, 2 where nothing can be shown.
+Exit status: 0 if all runs end so, 1 if one doesn't, 2 if nothing can be shown.
 """
 
 import os
@@ -24,13 +24,13 @@ from typing import Optional
 HERE = Path(__file__).resolve().parent
 BUILT = HERE.parent / "crates" / "sizing" / "out" / "sizing"
 EXAMPLES = HERE.parent / "examples"
-# What stands behind the line `%%`, by its file.
+# The suffix of the file with the text after the line `%%`, by command.
 SECOND_PARTS = {"replay": "events", "check": "json", "explain": "json", "run": "json", "conform": "recording"}
-# The commands that write a bundle, which no file has.
+# The commands that write a bundle, which is not stored.
 BUNDLING = ("certify", "fit --bundle", "refute --bundle")
-# The commands of which no file has the answer: those that answer the one question, and those that read a recording.
+# The other commands without a stored answer: `ask`, and those that read a recording.
 ASKING = ("ask", "ask --json", "ask --dot", "conform", "learn")
-# The words behind the command.
+# The arguments after the command.
 OPTIONS = {"run": ["--rounds", "3"]}
 JUDGED = ["two-clients-queue-of-two", "nested-two-workers", "web-and-database-sized", "cross-pools-two-threads"]
 REFUTED = ["two-clients", "nested-one-worker", "nested-unused-max"]
@@ -52,7 +52,8 @@ CASES = [
     ("learn", "recordings/web-and-database"),
 ]
 SHARED_OBJECT = "refuse_growth.so"
-# The threads of a run share its jobs otherwise each time, and so they ask for memory a few times more or less.
+# The number of growths in a row that a run must not reach. The threads of `run` share its jobs differently each time, so the number
+# of growths varies a little.
 UNREACHED = {"run": 5}
 SECONDS = 10
 
@@ -63,7 +64,7 @@ class Unable(Exception):
 
 @dataclass(frozen=True)
 class Ended:
-    """How a run ended. The status is less than 0 where a signal ended it, and None where it didn't end in time."""
+    """The end of a run. The status is negative if a signal ended it, and None if it didn't end in time."""
 
     status: Optional[int]
     printed: bytes
@@ -86,7 +87,7 @@ def main():
 
 
 def built():
-    """The path of the program."""
+    """Returns the path of the program."""
     program = Path(os.environ.get("SIZING") or BUILT).resolve()
     if not os.access(program, os.X_OK) or not program.is_file():
         raise Unable(f"there is no program at {program}: run `make program` at the top of the repository")
@@ -94,7 +95,7 @@ def built():
 
 
 def compile_object(folder, name):
-    """The path of the shared object of a C file of this folder, in another one."""
+    """Compiles a C file of this folder into another folder, and returns the path of the shared object."""
     if shutil.which("gcc") is None:
         raise Unable("gcc is needed, and there is none")
     path = folder / f"{name}.so"
@@ -104,7 +105,7 @@ def compile_object(folder, name):
 
 
 def sweep(folder, program, command, name):
-    """Refuses each growth of a command on an example in turn, and prints what it finds; how many runs end wrongly."""
+    """Refuses each growth of a command on an example in turn, and prints the outcomes. Returns the number of wrong ends."""
     given = given_to(command, name)
     if command in BUNDLING:
         right = bundle_end(program, command, given)
@@ -135,7 +136,7 @@ def sweep(folder, program, command, name):
 
 
 def given_to(command, name):
-    """What a command reads of an example."""
+    """Returns the input of a command on an example."""
     if command == "learn":
         return contents(f"{name}.recording")
     plan = contents(f"{name}.toml")
@@ -143,9 +144,9 @@ def given_to(command, name):
 
 
 def right_end(command, name):
-    """How a command ends on an example, by the file of its answer, the last line of which tells the status.
+    """Returns the expected end of a command on an example, from the file of its answer, whose last line has the status.
 
-    An example to which `check` says yes has no file of an explanation: nothing fails there.
+    An example to which `check` says yes has no file for `explain`, since no condition fails.
     """
     if command == "explain" and not (EXAMPLES / f"{name}.explain").exists():
         if not contents(f"{name}.check").startswith(b"yes\n"):
@@ -159,9 +160,9 @@ def right_end(command, name):
 
 
 def bundle_end(program, command, plan):
-    """How a command that writes a bundle ends where nothing is refused: with one to which `check` says yes, or, of `certify`,
-    with none found; of `refute`, with one whose `replay` ends in a refusal or in jobs that are stuck. The plan of the bundle is
-    the given one, but of `fit`."""
+    """Returns the end of a command that writes a bundle, if nothing is refused. `check` must say yes to the bundle; `certify` may
+    find none; `replay` of the bundle of `refute` must end in a refusal or in jobs that are stuck. The plan of the bundle must be
+    the given one, except for `fit`."""
     done = subprocess.run(words_of(program, command), input=plan, capture_output=True, timeout=SECONDS, check=False)
     if command == "refute --bundle":
         return witness_end(program, plan, done)
@@ -175,7 +176,7 @@ def bundle_end(program, command, plan):
 
 
 def witness_end(program, plan, done):
-    """How `refute --bundle` ended, which wrote events behind the plan."""
+    """Returns the end of `refute --bundle`, which wrote events after the plan."""
     replay = subprocess.run([program, "replay"], input=done.stdout, capture_output=True, timeout=SECONDS, check=False)
     last = replay.stdout.splitlines()[-2:-1]
     shows = any(b": refused by " in line or line.endswith(b": stuck yes") for line in last)
@@ -185,7 +186,7 @@ def witness_end(program, plan, done):
 
 
 def asked_end(program, command, plan):
-    """How the question ends where nothing is refused: with a yes or a no."""
+    """Returns the end of a command of ASKING if nothing is refused, which must be a yes or a no."""
     done = subprocess.run(words_of(program, command), input=plan, capture_output=True, timeout=SECONDS, check=False)
     if done.returncode not in (0, 1) or not done.stdout or done.stderr:
         raise Unable(f"{command} answers {done.stdout!r}")
@@ -204,7 +205,7 @@ def contents(name):
 
 
 def run(folder, program, command, given, number):
-    """How a run ends in which the growth of this number is refused; and the refused call, None if none was."""
+    """Returns the end of a run in which the growth of this number is refused, and the refused call, or None if none was."""
     told = folder / "told"
     told.write_bytes(b"")
     settings = {"LD_PRELOAD": f"./{SHARED_OBJECT}", "REFUSE_AT": str(number), "REFUSE_TOLD": str(told)}

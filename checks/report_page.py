@@ -9,7 +9,7 @@ about the events must be what `sizing replay` prints. In each:
 
 - the console has no error, and the page asks the network for nothing;
 - the expected texts are there, and nothing is wider than a window of 1,200 pixels, on screen and in print;
-- each text has a contrast of at least 4.5 to what is behind it, in light and in dark;
+- each text has a contrast of at least 4.5 to its background, in light and in dark;
 - the Tab key reaches each link and each folded part, in order, and shows where it is;
 - a link to a line of the plan opens the plan there.
 
@@ -83,7 +83,7 @@ WIDTH = 1200
 MOST_PIXELS = 1800
 SECONDS = 300
 
-# Texts whose contrast is too low, each with its contrast. The ground of a text is the first thing behind it that is filled.
+# The texts whose contrast is too low, each with its contrast. The background of a text is the first filled element below it.
 CONTRAST = """(() => {
   const parse = color => {
     const found = color.match(/[\\d.]+/g);
@@ -128,7 +128,7 @@ CONTRAST = """(() => {
   return low;
 })()"""
 
-# What the Tab key must reach.
+# The elements that the Tab key must reach.
 FOCUSABLE = "[...document.querySelectorAll('a[href], summary')].filter(each => each.checkVisibility())"
 FOCUSED = f"""(() => {{
   const at = {FOCUSABLE}.indexOf(document.activeElement);
@@ -155,7 +155,7 @@ IS_OPEN = "document.querySelector('summary').parentElement.open"
 
 
 def problems(browser, sample, page):
-    """Yields a line for each thing that is not as it should be in a report."""
+    """Yields a line for each fault of a report."""
     browser.media("light")
     browser.resize(WIDTH, 900)
     browser.open(page)
@@ -210,7 +210,7 @@ def picture(browser, sample, page):
 
 
 def answer_of(program, sample):
-    """Returns all that the report of a plan reads, and the event lines of its witness."""
+    """Returns the data of the report of a plan, and the event lines of its witness."""
     plan = ROOT / sample.plan
     ran = subprocess.run([program, "ask", "--json", plan], capture_output=True, text=True, timeout=SECONDS, check=False)
     answer = json.loads(ran.stdout)

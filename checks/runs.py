@@ -1,16 +1,16 @@
 #!/usr/bin/env python3
-"""Runs plans made by chance on threads, by the built program, and holds each run to what the plan says.
+"""Runs random plans on threads, with the built program, and compares each run with the plan.
 
-    python3 checks/runs.py [RUNS [SEED]]     # 1,000 runs and seed 1 where nothing is said
+    python3 checks/runs.py [RUNS [SEED]]     # by default 1,000 runs and seed 1
 
-A plan has 1 to 64 clients and pools of 1 to 64 threads together. Where `sizing certify` finds a certificate, the plan is
-run with some rounds within the limits of a run: the run must end within ten seconds, with the jobs and the units that are
-worked out here from the bodies alone. A number of rounds that is too large for the plan must be told to be. README.md
-says how the threads of every second run are disturbed.
+A plan has 1 to 64 clients and pools with 1 to 64 threads in all. If `sizing certify` finds a certificate, the program runs the
+plan with a number of rounds within the limits of a run. The run must end within ten seconds, with the jobs and the units that
+this check derives from the bodies alone. The program must report a number of rounds that is too large for the plan. README.md
+describes how the threads of every second run are disturbed.
 
 The program is crates/sizing/out/sizing, or the one that the environment variable SIZING names.
 
-Exit status: 0 where each run is right, 1 where one is not, 2 where nothing can be shown.
+Exit status: 0 if each run is right, 1 if one is not, 2 if nothing can be shown.
 """
 
 import os
@@ -32,7 +32,7 @@ MOST_CLIENTS = 64
 MOST_CARRIERS = 64
 MOST_EVENTS = 1_000_000
 MOST_ROUNDS = 1_000_000
-# So many events a run has at most, but where a single round has more.
+# The limits on the events of a run, one of which is drawn. A run of a single round may have more.
 EVENTS = [100, 1_000, 10_000, 30_000]
 UNITS = [1, 2, 7, 1_000_000]
 MOST_WRONG = 3
@@ -52,7 +52,7 @@ def main():
 
 
 class Runs:
-    """The program, the object that disturbs its threads, and what came of the runs so far."""
+    """The program, the object that disturbs its threads, and the counts of the runs so far."""
 
     def __init__(self, program, disturb, chance):
         self.program, self.disturb, self.chance = program, disturb, chance
@@ -71,7 +71,7 @@ class Runs:
         return 1 if self.wrong else 0
 
     def one_plan(self, plan, bundle):
-        """Runs a certified plan, and one more time with too many rounds, where there can be too many."""
+        """Runs a certified plan, and once more with too many rounds, if there can be too many."""
         numbers = Numbers(plan)
         events = max(self.chance.choice(EVENTS), numbers.events(1))
         most = numbers.most_rounds(MOST_EVENTS)
@@ -91,7 +91,7 @@ class Runs:
         return {"LD_PRELOAD": str(self.disturb), "DISTURB_SEED": str(self.chance.randrange(2**32))}
 
     def held(self, bundle, rounds, wanted, settings):
-        """Runs a bundle, and tells of it where it ends in another way."""
+        """Runs a bundle, and prints how it ends if that is not the expected end."""
         words = [self.program, "run", "--rounds", str(rounds)]
         try:
             done = subprocess.run(words, input=bundle, capture_output=True, text=True, timeout=SECONDS,
@@ -105,19 +105,19 @@ class Runs:
 
 
 class Numbers:
-    """What a run of a plan has: its jobs, its units, and the bound on its events."""
+    """The numbers of a run of a plan: its jobs, its units, and the bound on its events."""
 
     def __init__(self, plan):
         self.plan = plan
 
         @cache
         def of_class(number):
-            """The jobs, units and events that one job of the class causes: its taking and its finish are events too."""
+            """Returns the jobs, units and events that one job of the class causes, with the events of its take and its finish."""
             jobs, units, events = of_body(plan.classes[number].body)
             return jobs + 1, units, events + 2
 
         def of_body(body):
-            """What a body causes, each of its actions with its own event."""
+            """Returns the jobs, units and events that a body causes; each of its actions is an event."""
             below = [of_class(operand) for what, operand in body if what == "submit"]
             jobs, units, events = (sum(column) for column in zip((0, 0, len(body)), *below))
             return jobs, units + sum(operand for what, operand in body if what == "work"), events
@@ -135,7 +135,7 @@ class Numbers:
         return f"jobs {self.total(rounds, 0)}, units {self.total(rounds, 1)}, refused 0\n"
 
     def most_rounds(self, events):
-        """The most rounds with so many events at most; 0 where one round has more."""
+        """Returns the maximum number of rounds with at most this many events; 0 if one round has more."""
         low, high = 0, MOST_ROUNDS
         while low < high:
             middle = (low + high + 1) // 2
@@ -163,12 +163,12 @@ def plan_by_chance(chance):
 
 
 def about(chance, most):
-    """A number up to this one, small ones as often as large ones, and the first and the last more often."""
+    """Returns a random number from 1 to `most`, uniform on a logarithmic scale, but the two ends more often."""
     return chance.choice([1, most, *(round(most ** chance.random()) for _ in range(6))])
 
 
 def parts(chance, whole, most):
-    """The whole in some parts, each of at least 1."""
+    """Splits a number into random parts of at least 1."""
     cuts = sorted(chance.sample(range(1, whole), min(chance.randrange(most), whole - 1)))
     return [high - low for low, high in zip([0, *cuts], [*cuts, whole])]
 

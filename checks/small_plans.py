@@ -1,15 +1,14 @@
 #!/usr/bin/env python3
-"""Goes through every state of every small plan that the built program certifies, and looks for one that is not safe.
+"""Visits every state of every small plan that the built program certifies, and looks for one that is not safe.
 
-The machine is written here a second time, from the rules in docs/GUIDE.md alone: nothing of the crates is used. For each
-plan of a family, `sizing certify` is asked for a certificate. Where it finds one, all lists of events are tried, up to
-the names of jobs: no submit may be refused, no set of jobs may wait only for its own members, and some job or pool must
-be able to go on as long as a job is unfinished. The machine itself is compared with `sizing replay` on a walk through
-each plan, whether it was certified or not.
+This file implements the machine a second time, from the rules in docs/GUIDE.md alone, without the crates. For each plan of a
+family the check runs `sizing certify`. If that finds a certificate, the check tries all lists of events, up to the names of jobs:
+no submit may be refused, no set of jobs may wait only for its own members, and some job or pool must be able to continue as long
+as a job is unfinished. The check compares the machine with `sizing replay` on a walk through each plan, certified or not.
 
 The program is crates/sizing/out/sizing, or the one that the environment variable SIZING names.
 
-Exit status: 0 where all is safe and all walks agree, 1 where not, 2 where there is no program.
+Exit status: 0 if all is safe and all walks agree, 1 if not, 2 if there is no program.
 """
 
 import itertools
@@ -21,7 +20,7 @@ from collections import Counter, namedtuple
 from pathlib import Path
 
 BUILT = Path(__file__).resolve().parent.parent / "crates" / "sizing" / "out" / "sizing"
-# A plan with more states than these is left where it is and counted apart.
+# The search stops at a plan with more states than this, which is counted separately.
 MOST_STATES = 20_000
 STEPS_OF_A_WALK = 40
 SECONDS = 120
@@ -33,14 +32,14 @@ Plan = namedtuple("Plan", "pools classes clients")
 
 # An action is ("work", units), ("submit", class) or ("get", position of its submit); a phase is QUEUED, DONE or a position.
 QUEUED, DONE = "queued", "done"
-# A job that can still be asked for; its maker is ("client", number), ("job", number) or None, whom nobody is any more.
+# A job that can still be named; its maker is ("client", number), ("job", number), or None if the maker has ended.
 Job = namedtuple("Job", "kind maker slot phase")
-# Idle workers and queue of each pool, position of each client, and the jobs by number, in the order of their making.
+# Idle workers and queue of each pool, position of each client, and the jobs by number, in the order of their creation.
 State = namedtuple("State", "idle queues clients jobs")
 
 
 class Machine:
-    """A plan's machine: its start, and what each event does."""
+    """The machine of a plan: its start, and the effect of each event."""
 
     def __init__(self, plan):
         self.plan = plan
@@ -51,7 +50,7 @@ class Machine:
         return State(idle, ((),) * len(idle), (0,) * len(self.kinds), ())
 
     def events(self, state):
-        """All events that there could be, by their words in a replay."""
+        """Yields all events that may be possible, by their words in a replay."""
         yield from (("client", number) for number in range(len(self.kinds)))
         yield from (("job", number) for number, _ in state.jobs)
         yield from ((word, pool) for word in ("take", "retire") for pool in range(len(self.plan.pools)))
@@ -63,7 +62,7 @@ class Machine:
         return self.plan.classes[job.kind].pool
 
     def step(self, state, event, new_number):
-        """The state after the event and the words that tell it, or None where the event is not possible."""
+        """Returns the state after the event and its outcome in a replay, or None if the event is not possible."""
         word, number = event
         if word == "take":
             if not state.idle[number] or not state.queues[number]:
@@ -139,12 +138,12 @@ class Machine:
             elif child.maker != ("job", number):
                 jobs.append((other, child))
             elif child.phase != DONE:
-                # Nobody asks for it any more, but it goes on.
+                # No actor can get it any longer, but it continues.
                 jobs.append((other, child._replace(maker=None)))
         return state._replace(idle=put(state.idle, of, state.idle[of] + 1), jobs=tuple(jobs))
 
     def waiting(self, state):
-        """The greatest set of unfinished jobs that wait only for one another."""
+        """Returns the greatest set of unfinished jobs that wait only for one another."""
         jobs = dict(state.jobs)
         members = {number for number, job in state.jobs if job.phase != DONE}
         while True:
@@ -186,7 +185,7 @@ def changed(jobs, number, phase):
 
 
 def renamed(state):
-    """The state with its jobs numbered from 0, in their order: the same for all that comes."""
+    """Returns the state with its jobs numbered from 0, in their order, which does not change its behavior."""
     names = {number: name for name, (number, _) in enumerate(state.jobs)}
 
     def maker(job):
@@ -197,7 +196,7 @@ def renamed(state):
 
 
 def explored(plan):
-    """How many states the plan reaches, what is wrong with one of them or None, and whether there were too many."""
+    """Returns how many states the plan reaches, the fault of one of them or None, and whether there were too many."""
     machine = Machine(plan)
     first = renamed(machine.start())
     seen, front = {first}, [first]
@@ -230,7 +229,7 @@ def explored(plan):
 
 
 def bodies(text):
-    """A list of actions from words as `a+ -` : submit class a and get it later; `a` alone is never got; `-` gets the oldest."""
+    """Parses actions such as `a+ -`: `a+` submits class a with a get, `a` without one, and `-` gets the oldest open submit."""
     actions, open_submits = [], []
     for word in text.split():
         if word == "-":
@@ -245,7 +244,7 @@ def bodies(text):
 
 
 def plans():
-    """The family: one pool with one or two classes, and two pools that call each other."""
+    """Yields the family: one pool with one or two classes, and two pools that call each other."""
     sizes = [(1, 1), (1, 2), (2, 2)]
     pools = [Pool("p", core, top, queue, first) for core, top in sizes for queue in (1, 2, 3) for first in (False, True)]
     asks = ["a+ -", "a", "a+ a+ - -", "a a+ -"]
@@ -298,7 +297,7 @@ def run(program, command, text, *options):
 
 
 def walk(plan, draw):
-    """Events drawn one by one, each possible but perhaps the last, and what a replay is to tell of them."""
+    """Returns random events, of which only the last may be impossible, and the answer that a replay must give to them."""
     machine, made = Machine(plan), 0
     state, lines, answers = machine.start(), [], []
     for number in range(1, STEPS_OF_A_WALK + 1):

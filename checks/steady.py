@@ -1,11 +1,11 @@
-"""The steady weights of a plan without a cause against sizes: what its actors weigh, and the total, in one vector for all pools."""
+"""The steady weights of a plan that some sizes fit: the weights of its actors and the total, in one vector for all pools."""
 
 MOST_SIZE = 1_000_000
 MOST_WEIGHT = 1_000_000_000
 
 
 def is_too_large(plan):
-    """Whether the plan's steady certificate has a weight above its limit, or its total leaves no room below the limit of sizes."""
+    """Returns whether the plan's steady certificate has a weight above its limit, or a total of at least the limit of sizes."""
     jobs = job_rows(plan)
     clients = [client_row(jobs, client) for client in plan.clients]
     weights = [weight for row in [*jobs.values(), *clients] for weight in row]
@@ -22,7 +22,7 @@ def total(plan, clients):
 
 
 def job_rows(plan):
-    """The row of each class by its number: queued, at each position, and done. No class may submit itself."""
+    """Returns the weights of each class by its number: queued, at each position, and done. No class may submit itself."""
     rows = {}
 
     def settle(number):
@@ -46,7 +46,7 @@ def client_row(rows, client):
 
 
 def most_open(rows, body):
-    """The most that the jobs weigh in their queues that are open at one time: submitted, and got later."""
+    """Returns the maximum weight of the queued jobs of submits that are open at one time, of those with a get."""
     got = {what for word, what in body if word == "get"}
     now = most = 0
     for place, (word, what) in enumerate(body):
@@ -59,7 +59,7 @@ def most_open(rows, body):
 
 
 def weights(rows, body, end, least):
-    """What an actor weighs at each position, from its end backwards."""
+    """Returns the weight of an actor at each position, computed from its end backwards."""
     behind = [end]
     for word, what in reversed(body):
         weight = behind[-1]

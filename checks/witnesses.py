@@ -1,23 +1,22 @@
 #!/usr/bin/env python3
-"""Replays each witness that `sizing refute` finds against plans made by chance, on the machine of small_plans.py, which is
-written apart from the crates.
+"""Replays each witness that `sizing refute` finds against random plans, on the machine of small_plans.py, which is independent of
+the crates.
 
-Of each plan for which the second search of found_certs.py finds no certificate:
+For each plan for which the second search of found_certs.py finds no certificate:
 
-- A witness has events that are possible, each of them, and no submit is refused but by the last one. Behind the last one, either
-  that one was refused, or the jobs that are named are unfinished and wait only for each other.
-- A plan that is told safe is visited state by state, if it has few of them: none is bad.
+- Each event of a witness is possible, and only the last one may be refused. After the last one, either it was refused, or the
+  named jobs are unfinished and wait only for each other.
+- If `refute` says that a plan is safe, and the plan has few states, no state of it is bad.
+- If `refute` does not decide, it reports at most as many searched states as requested.
 
-- Of a plan that stays open, no more states are told as searched than were asked for.
-
-It also tells how many plans stay open at each number of states, how many events the witnesses have, and how many plans without a
-witness are safe here, are not, or have too many states.
+The check also prints how many plans stay open at each number of states, how many events the witnesses have, and how many plans
+without a witness are safe on this machine, are not, or have too many states.
 
     python3 checks/witnesses.py [PLANS [SEED [STATES..]]]     # 3,000 plans, seed 1, and 10,000 and then 100,000 states
 
 The program is crates/sizing/out/sizing, or the one that the environment variable SIZING names.
 
-Exit status: 0 where all is so, 1 where something is not, 2 where there is no program.
+Exit status: 0 if all of this holds, 1 if not, 2 if there is no program.
 """
 
 import random
@@ -37,7 +36,7 @@ from small_plans import DONE, Machine, explored
 
 SAFE, OPEN = 0, 4
 OPEN_NOW = "open"
-# A plan without a witness that has more states is left where it is.
+# The search stops at a plan without a witness that has more states than this.
 small_plans.MOST_STATES = 3_000
 
 
@@ -67,7 +66,7 @@ class Asked:
 
 
 def asked(program, plans, states):
-    """Asks for a witness against each plan, and prints what came."""
+    """Runs `refute` on each plan, and prints the counts of the outcomes."""
     came, events, found = Counter(), Counter(), Asked([], 0)
     for plan, (kind, length, fault) in zip(plans, each(lambda plan: judged(program, plan, states), plans)):
         came[kind] += 1
@@ -83,7 +82,7 @@ def asked(program, plans, states):
 
 
 def uncertified(count, chance):
-    """The texts of so many plans without a certificate."""
+    """Returns the texts of this many random plans without a certificate."""
     texts = []
     while len(texts) < count:
         plan = plan_by_chance(chance)
@@ -93,7 +92,7 @@ def uncertified(count, chance):
 
 
 def judged(program, plan, states):
-    """What is said of the plan, how many events a witness has, and what is wrong with it or None."""
+    """Returns the kind of the answer to a plan, how many events its witness has, and its fault or None."""
     status, said = refuted(program, plan, states, "--bundle")
     if status == 0:
         copied, _, rest = said.partition("\n%%\n")
@@ -110,7 +109,7 @@ def judged(program, plan, states):
 
 
 def miscounted(said, states):
-    """What is wrong with the line that tells how many states were searched, or None."""
+    """Returns the fault of the line with the number of searched states, or None."""
     told = re.fullmatch(r"not decided: (?:1 state was|(\d+) states were) searched\n", said)
     if not told:
         return f"it says {said!r}"
@@ -118,14 +117,14 @@ def miscounted(said, states):
 
 
 def refuted(program, plan, states, *words):
-    """The status and the answer of `refute`."""
+    """Runs `refute`, and returns its status and its answer."""
     command = [program, "refute", "--states", str(states), *words]
     done = subprocess.run(command, input=plan, capture_output=True, text=True, timeout=SECONDS, check=False)
     return done.returncode, done.stdout
 
 
 def replayed(text_of_plan, lines):
-    """The kind of a witness, how many events it has, and what is wrong with it or None."""
+    """Returns the kind of a witness, how many events it has, and its fault or None."""
     plan = read_plan(text_of_plan)
     pools = {pool.name: number for number, pool in enumerate(plan.pools)}
     machine = Machine(plan)
@@ -163,7 +162,7 @@ def wait_for_each_other(machine, state, members):
 
 
 def queued_in(machine, state, members):
-    """The pools in whose queues members wait."""
+    """Returns the pools in whose queues members wait."""
     return {machine.pool_of(job) for number, job in state.jobs if number in members and job.phase == small_plans.QUEUED}
 
 
