@@ -1,7 +1,7 @@
 """The inputs of the benchmark of check and explain: plans with their certificates, of several shapes.
 
-A certificate that is filled has as many numbers as fit into its bytes, nearly all of one digit, and white space behind
-them up to the last byte.
+A filled certificate has as many numbers as fit into its bytes, nearly all of one digit, followed by white space up to the last
+byte.
 """
 
 from dataclasses import dataclass
@@ -15,7 +15,7 @@ SEPARATOR = "%%\n"
 MOST_POOLS = 64
 MOST_SIZE = 1_000_000
 FEW_CLIENTS = 2
-# Of the long names: so many classes that only work, and that the others submit.
+# The number of classes in `long_names` that only work, and that the others submit.
 INNER_CLASSES = 32
 
 
@@ -29,12 +29,12 @@ class Bundle:
     certificate_text: str
 
     def input(self):
-        """What the programs read."""
+        """Returns the input of the programs."""
         return (self.plan_text + SEPARATOR + self.certificate_text).encode()
 
 
 def bundle(name, certificate, size, is_plan_filled=False):
-    """A certificate filled to this size, and its plan: filled too, or as long as it is."""
+    """Returns a certificate filled to this size, and its plan, filled to the same size or unchanged."""
     plan_text = certificate.plan.text()
     return Bundle(
         name,
@@ -45,7 +45,7 @@ def bundle(name, certificate, size, is_plan_filled=False):
 
 
 def long_names(size):
-    """Names of 32 bytes, and bodies that submit and get one job after another. Plan and certificate are filled."""
+    """Returns a bundle with names of 32 bytes, and bodies that submit and get jobs in order. Plan and certificate are filled."""
     names = [f"class_{number:026}" for number in range(MOST_CLASSES)]
     slots = [f"slot_{number:027}" for number in range(MOST_ACTIONS // 2)]
     outer, inner = names[:-INNER_CLASSES], names[-INNER_CLASSES:]
@@ -64,7 +64,7 @@ def long_names(size):
 
 
 def full_bodies(size):
-    """Short names and 256 actions in each body, all submits before all gets. Plan and certificate are filled."""
+    """Returns a bundle with short names and 256 actions in each body, all submits first. Plan and certificate are filled."""
     slots = [first + second for first in LETTERS for second in LETTERS][:MOST_ACTIONS // 2]
     body = [f"submit a as {slot}" for slot in slots] + [f"get {slot}" for slot in slots]
     names = [*LETTERS, *(first + second for first in LETTERS for second in LETTERS)]
@@ -80,13 +80,13 @@ def full_bodies(size):
 
 
 def of_most_pools(name, plan, size):
-    """Of these plans of so many pools, that with the most whose certificate is not too long."""
+    """Returns the bundle of the plan with the most pools whose certificate is not too long."""
     most = largest(lambda pools: accepted(plan(max(pools, 1))), MOST_POOLS, size)
     return bundle(name, most, size, is_plan_filled=True)
 
 
 def long_rows(size, clients=FEW_CLIENTS):
-    """64 pools and full bodies: few rows of 259 numbers in each vector. One kind of clients, so many of them."""
+    """Returns a bundle with 64 pools and full bodies: few rows of 259 numbers in each vector. It has one kind of clients."""
     pair = ["submit a as x", "get x"]
 
     def certificate(outer):
@@ -98,7 +98,7 @@ def long_rows(size, clients=FEW_CLIENTS):
 
 
 def short_rows(size):
-    """64 pools, 256 classes and 256 kinds of clients: many short rows in each vector."""
+    """Returns a bundle with 64 pools, 256 classes and 256 kinds of clients: many short rows in each vector."""
     bodies = MOST_CLASSES + MOST_CLIENTS
 
     def certificate(works):
@@ -112,7 +112,7 @@ def short_rows(size):
 
 
 def every_condition_fails(size):
-    """64 pools, and bodies of submits of the first class alone: each rule fails at each of its places."""
+    """Returns a bundle with 64 pools, and bodies that only submit the first class: each rule fails at each of its places."""
     target = "job_00"
     body = [f"submit {target}"] * MOST_ACTIONS
 
@@ -129,10 +129,10 @@ def every_condition_fails(size):
 
 
 def accepted(plan):
-    """A certificate that is accepted, for a plan whose classes submit only classes that submit nothing.
+    """Returns a certificate that is accepted, for a plan whose classes submit only classes that submit nothing.
 
-    Each vector gives to each body as much as its submits take before its gets give it back, and in its pool 1 at least
-    to each class, or to each class that gets.
+    Each vector gives each body the weight that its submits take before its gets return it, and at least 1 to each class of its
+    pool, or to each class with a get.
     """
     bodies = [actions(plan, of_class.body) for of_class in plan.classes]
     of_clients = [actions(plan, client.body) for client in plan.clients]
@@ -152,7 +152,7 @@ def has(body, word):
 
 
 def balanced(plan, bodies, of_clients, least):
-    """The least vector that gives to each class at least so much, and to each actor what its submits take."""
+    """Returns the least vector that gives each class at least these weights, and each actor the weight that its submits take."""
 
     @cache
     def first(number):
@@ -173,10 +173,10 @@ def balanced(plan, bodies, of_clients, least):
 
 
 def refused(plan):
-    """A certificate for a plan whose bodies only submit its first class, each condition of which fails.
+    """Returns a certificate of which each condition fails, for a plan whose bodies only submit its first class.
 
-    A submitted job weighs 2 and its actor keeps 2, but that in a class's own pool nothing may be left to the queue: in
-    the first class's own pool, what its actors weigh grows at each submit instead.
+    A submitted job weighs 2 and its actor keeps 2, except that in a class's own pool nothing may be left to the queue: in the
+    first class's own pool, the weight of its actors grows at each submit instead.
     """
     standing = [weighty(plan, pool) for pool in plan.pools]
     standing[0] = growing(plan)

@@ -1,7 +1,7 @@
-"""Certificates for plans: their text, and what `sizing check` and `sizing explain` must answer to them.
+"""Certificates for plans: their text, and the answers that `sizing check` and `sizing explain` must give.
 
-Each condition is made here from the plan and the certificate alone, so that the programs' answers are compared with
-those of another reading of the same rules. Certificates are of version 1.
+Each condition is derived from the plan and the certificate alone, so that the programs' answers are compared with those of an
+independent implementation of the rules. Certificates have version 1.
 """
 
 import json
@@ -29,7 +29,7 @@ class Certificate:
     levels: list
 
     def text(self):
-        """The certificate as JSON, as `sizing` writes it: no space, and the keys of each object ascending."""
+        """Returns the certificate as JSON, as `sizing` writes it: without spaces, and with the keys of each object in order."""
         pools = [{"standing": vars(standing), "blocked": vars(blocked)}
                  for standing, blocked in zip(self.standing, self.blocked)]
         ranks = {"pools": self.pools, "reach": self.reach, "levels": self.levels}
@@ -38,7 +38,7 @@ class Certificate:
 
 @dataclass
 class Condition:
-    """A rule at its place, in its section: the left number is to be at most the right one."""
+    """A rule at its place, in its section: the left number must be at most the right one."""
 
     section: str
     place: str
@@ -54,7 +54,7 @@ class Condition:
 
 
 def checked(certificate):
-    """What `sizing check` answers, and the status with which it ends."""
+    """Returns the answer of `sizing check`, and its status."""
     plan = certificate.plan
     is_accepted = not any(condition.fails() for condition in conditions(certificate))
     lines = ["yes\n" if is_accepted else "no\n"]
@@ -65,19 +65,19 @@ def checked(certificate):
 
 
 def explained(certificate):
-    """What `sizing explain` answers, and the status with which it ends."""
+    """Returns the answer of `sizing explain`, and its status."""
     lines = [condition.line() for condition in conditions(certificate) if condition.fails()]
     return "".join([*lines, f"failing {len(lines)}\n"]).encode(), 1 if lines else 0
 
 
 def total(plan, vector):
-    """What the start weighs: each client at its first position, and each pool's most workers."""
+    """Returns the weight of the start: each client at its first position, and the maximum number of workers of each pool."""
     clients = sum(client.count * weights[0] for client, weights in zip(plan.clients, vector.clients))
     return clients + sum(pool.max * weight for pool, weight in zip(plan.pools, vector.workers))
 
 
 def conditions(certificate):
-    """Every condition of the certificate, in order."""
+    """Yields every condition of the certificate, in order."""
     plan = certificate.plan
     classes = [(number, of_class, actions(plan, of_class.body)) for number, of_class in enumerate(plan.classes)]
     clients = [(number, client, actions(plan, client.body)) for number, client in enumerate(plan.clients)]
@@ -139,7 +139,7 @@ def body_conditions(section, place, vector, weights, body):
 
 
 def actions(plan, body):
-    """Each action's word, and the number of the class that it submits or gets, None for work."""
+    """Returns each action's word, and the number of the class that it submits or gets, None for work."""
     numbers = {of_class.name: number for number, of_class in enumerate(plan.classes)}
     made, found = {}, []
     for action in body:

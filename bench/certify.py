@@ -54,7 +54,7 @@ class Bench:
         self.bars.end()
 
     def measured(self, name, text, bar):
-        """Prints a row of the plan of this text, and holds its ratios to their bars."""
+        """Prints a row for the plan of this text, and compares its ratios with their bars."""
         (self.folder / "plan").write_text(text)
         bundle = self.certified(name, text)
         (self.folder / "bundle").write_bytes(bundle)
@@ -94,7 +94,7 @@ class Bench:
 
 
 def two_pools(size):
-    """256 classes: those of the front submit and get one job of the back after another. The text is nearly of this size."""
+    """Returns 256 classes: those of `front` submit and get jobs of `back` in order. The text has nearly this size."""
     slots = [f"slot_{number:027}" for number in range(MOST_ACTIONS // 2)]
     names = [f"class_{number:026}" for number in range(MOST_CLASSES)]
     inner = names[-1]
@@ -109,7 +109,7 @@ def two_pools(size):
 
 
 def pools_that_lend():
-    """A chain: each pool's job submits one of the next pool and gets it, whose queue has a place for each worker."""
+    """Returns a chain: each pool's job submits one to the next pool, whose queue has a place for each worker, and gets it."""
     pools = [Pool(f"p{number}", 2, 2, 2 if number else CLIENTS) for number in range(MOST_POOLS)]
     classes = [
         Class(f"a{number}", pools[number].name, [f"submit a{number + 1} as x", "get x"] if number + 1 < MOST_POOLS else ["work 1"])

@@ -56,12 +56,12 @@ class Bench:
         self.bars.end()
 
     def check(self, bundle):
-        """Measures a check beside the reading of its texts alone; its peak memory in MiB."""
+        """Measures a check and the reading of its texts alone. Returns the check's peak memory in MiB."""
         check = Program([self.sizing, "check"], *checked(bundle.certificate))
         return self.beside_texts(bundle, check, CHECK_BAR)
 
     def explain(self, bundle):
-        """Measures an explain beside the reading of its texts alone, and its peak beside its answer and a check."""
+        """Measures an explain and the reading of its texts alone, and compares its peak with its answer and a check."""
         of_check = self.check(bundle)
         explain = Program([self.sizing, "explain"], *explained(bundle.certificate))
         (self.folder / explain.given).write_bytes(bundle.input())
@@ -73,7 +73,7 @@ class Bench:
         self.bars.hold(f"explain, {bundle.name}: MiB", peak, most)
 
     def counts(self, many, few):
-        """Measures a check of many clients beside that of few."""
+        """Measures a check of many clients and one of few."""
         programs = []
         for name, bundle in (("many", many), ("few", few)):
             (self.folder / name).write_bytes(bundle.input())
@@ -86,7 +86,7 @@ class Bench:
         return self.compare(f"{program.words[1]}, {bundle.name}", "the texts alone", [program, texts], bar)
 
     def compare(self, name, other, programs, bar):
-        """Prints a row of two programs, and holds the ratio of their times to its bar; the first one's peak in MiB."""
+        """Prints a row for two programs, holds the ratio of their times to its bar, and returns the first one's peak in MiB."""
         first, second = costs(self.folder, self.measure, programs, RUNS)
         ratio = first.milliseconds / second.milliseconds
         self.table.row(

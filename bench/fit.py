@@ -54,7 +54,7 @@ class Bench:
         self.bars.end()
 
     def measured(self, name, plan, size, bar):
-        """Prints a row of the plan, whose text is filled up to this size, and holds its ratios to the bar."""
+        """Prints a row for the plan, whose text is padded to this size, and compares its ratios with the bar."""
         fit = self.program(name, text_of(plan, size), "plan", 1, "fit")
         bundle = self.program(name, text_of(plan, size), "plan", 0, "fit", "--bundle")
         certify = self.program(name, text_of(sized(plan, fit.answer), size), "sized", 0, "certify")
@@ -76,7 +76,7 @@ class Bench:
         self.bars.hold(f"{name}: the greater ratio", max(ratios), bar)
 
     def program(self, name, text, given, status, *words):
-        """The program with these words on a text, which is in the folder from now on, and its answer."""
+        """Writes a text into the folder, and returns the program with these arguments on it and with its answer."""
         (self.folder / given).write_text(text)
         done = subprocess.run([self.sizing, *words], input=text.encode(), stdout=subprocess.PIPE, check=False)
         if done.returncode != status:
@@ -90,13 +90,13 @@ class Bench:
 
 
 def text_of(plan, size):
-    """The text of a plan, and a comment behind it where it has fewer bytes than these."""
+    """Returns the text of a plan, padded to this size with a comment if it is shorter."""
     text = plan.text()
     return filled(text, max(size, len(text)))
 
 
 def sized(plan, answer):
-    """The plan with the sizes that an answer of `fit` tells."""
+    """Returns the plan with the sizes that an answer of `fit` lists."""
     found = [map(int, numbers) for numbers in SIZES.findall(answer.decode())]
     return replace(plan, pools=[Pool(pool.name, *numbers) for pool, numbers in zip(plan.pools, found, strict=True)])
 
@@ -106,7 +106,7 @@ def with_queues_of_one(plan):
 
 
 def calls_of_all(count):
-    """Each pool has a class of jobs that submit one job to each other pool and then get them, and clients for it."""
+    """Returns a plan in which each pool has a class whose jobs submit one job to each other pool and then get them."""
     numbers = range(count)
     leaves = [Class(f"leaf_{number}", f"p{number}", ["work 1"]) for number in numbers]
     callers, clients = [], []
@@ -119,7 +119,7 @@ def calls_of_all(count):
 
 
 def calls_round(count, times):
-    """A chain of jobs, each of which submits one of the next pool and gets it, through all pools and so often."""
+    """Returns a plan with a chain of jobs that passes through all pools this often. Each job submits the next one and gets it."""
     last = count * times - 1
     classes = [
         Class(f"a{number}", f"p{number % count}", [f"submit a{number + 1} as x", "get x"] if number < last else ["work 1"])

@@ -3,13 +3,13 @@
 from machine import Class, Client, Machine, Plan, Pool
 
 SEPARATOR = "%%\n"
-# The nested jobs: so many clients at most, and so many threads. A wave of clients takes one thread each, so that some
-# are left for the inner jobs.
+# The maximum number of clients of a wave in `nested_jobs`, and the number of threads. Each client of a wave takes one thread, so
+# the others are left for the inner jobs.
 WAVE = 4000
 THREADS = 5000
-# Of a line `stuck`, so many bytes of room for each job that waits for another.
+# The bytes in a line `stuck` for each job that waits for another.
 ROOM_FOR_WAITING = 512
-# As many kinds of clients as a plan may have.
+# The maximum number of kinds of clients in a plan.
 KINDS = 256
 
 
@@ -38,20 +38,20 @@ class Script:
         self.most_unfinished = max(self.most_unfinished, self.machine.unfinished)
 
     def input(self):
-        """What the program reads."""
+        """Returns the input of the program."""
         return (self.plan + SEPARATOR + "".join(f"{event}\n" for event in self.events)).encode()
 
     def answer(self):
-        """What the program must print."""
+        """Returns the output that the program must print."""
         return "".join(f"{line}\n" for line in [*self.answers, self.machine.summary()]).encode()
 
     def status(self):
-        """The exit status of the program: nothing is refused, but jobs may be stuck."""
+        """Returns the expected exit status: nothing is refused, but jobs may be stuck."""
         return int(any(answer.endswith(" stuck yes") for answer in self.answers))
 
 
 def one_looping_client(room):
-    """One client that submits a job to a pool of one thread and waits for it, for as many rounds as there is room."""
+    """Returns rounds of one client that submits a job to a pool of one thread and waits for it, as many as there is room for."""
     plan = Plan(
         pools=[Pool("p", 1, 1, 1)],
         classes=[Class("a", "p", ["work 1"])],
@@ -72,9 +72,9 @@ def one_looping_client(room):
 
 
 def nested_jobs(room):
-    """Waves of clients, each of which submits an outer job that submits an inner one to the same pool and waits for it.
+    """Returns waves of clients, each of which submits an outer job that submits an inner one to the same pool and waits for it.
 
-    All the outer jobs of a wave are at work before the first inner one is done.
+    All the outer jobs of a wave run before the first inner one is done.
     """
     plan = Plan(
         pools=[Pool("p", THREADS, THREADS, 1000000)],
@@ -111,17 +111,17 @@ def wave(script, clients):
 
 
 def take_queued(script, jobs):
-    """Idle workers take those of these jobs that are queued."""
+    """Lets idle workers take those of these jobs that are queued."""
     for job in jobs:
         if script.machine.jobs[job].phase == "queued":
             script.do("take p")
 
 
 def stuck_lines(room):
-    """Three replays of jobs each of which waits for one that is queued behind all of them, and none for any other.
+    """Returns three replays of jobs that each wait for a queued job of their own.
 
-    The first one asks about all of them in falling order, with the last number again and again as long as there is
-    room; the second one in rising order, with each number once; and the third one asks nothing.
+    The first one asks about all of them in falling order, and repeats the last number as long as there is room; the second one
+    asks in rising order, with each number once; the third one asks nothing.
     """
     falling, rising, silent = [waiting_jobs(name, room) for name in ("one stuck line", "rising", "silent")]
     jobs = range(len(falling.machine.jobs))
@@ -136,7 +136,7 @@ def stuck_line(jobs):
 
 
 def waiting_jobs(name, room):
-    """Jobs that have all threads of a pool, and wait for as many in its queue."""
+    """Returns a replay with jobs that hold all threads of a pool, and wait for as many jobs in its queue."""
     count = max(1, room // ROOM_FOR_WAITING)
     plan = Plan(
         pools=[Pool("p", count, count, count)],
@@ -152,9 +152,9 @@ def waiting_jobs(name, room):
 
 
 def one_event(count):
-    """A replay's input and its answer: one event on a plan with so many clients of each kind.
+    """Returns a replay's input and its answer: one event on a plan with `count` clients of each kind.
 
-    The model keeps each client, so it isn't asked.
+    The answer is written out, since the model has an object for each client.
     """
     plan = Plan(
         pools=[Pool("p", 1, 1, 1)],

@@ -1,6 +1,6 @@
-"""A small model of the machine: what each event does to the pools, the clients and the jobs of a plan.
+"""A small model of the machine: the effect of each event on the pools, the clients and the jobs of a plan.
 
-It is written for the inputs of this folder: it takes lawful plans.
+It is written for the inputs of this folder, and expects valid plans.
 """
 
 from collections import Counter, deque
@@ -9,7 +9,7 @@ from dataclasses import dataclass, field
 
 @dataclass
 class Pool:
-    """A pool of a plan, and what is in it."""
+    """A pool of a plan, with its threads and its queue."""
 
     name: str
     core: int
@@ -20,7 +20,7 @@ class Pool:
     waiting: deque = field(default_factory=deque)
 
     def offer(self, number):
-        """Whether the job of this number is started, queued or refused."""
+        """Returns whether the job of this number is started, queued or refused."""
         if self.threads < self.core:
             self.threads += 1
             return "started"
@@ -35,7 +35,7 @@ class Pool:
 
 @dataclass
 class Class:
-    """What a job of this class does, action by action, and in which pool."""
+    """A class of jobs: its pool, and its actions in order."""
 
     name: str
     pool: str
@@ -44,7 +44,7 @@ class Class:
 
 @dataclass
 class Client:
-    """A kind of clients, each of which goes through this body."""
+    """A kind of clients, each of which runs this body."""
 
     name: str
     count: int
@@ -59,7 +59,7 @@ class Plan:
     clients: list
 
     def text(self):
-        """The plan as TOML."""
+        """Returns the plan as TOML."""
         lines = []
         for pool in self.pools:
             lines += ["[[pool]]", f'name = "{pool.name}"']
@@ -77,7 +77,7 @@ def body_line(body):
 
 
 class Actor:
-    """A client or a job: where it stands in its body, and the latest job that it made for each slot."""
+    """A client or a job: its position in its body, and the latest job that it submitted for each slot."""
 
     def __init__(self, body):
         self.body = body
@@ -105,7 +105,7 @@ class Machine:
         self.unfinished = 0
 
     def happen(self, line):
-        """Makes the event of this line, and says what came of it: None where it is not possible. `stuck` only asks."""
+        """Performs the event of this line, and returns its outcome, or None if it is not possible. `stuck` changes nothing."""
         word, which = line.split(" ", 1)
         if word == "stuck":
             return f"stuck {'yes' if self.stuck({int(number) for number in which.split()}) else 'no'}"
@@ -119,7 +119,7 @@ class Machine:
         return self.job(number)
 
     def stuck(self, members):
-        """Whether there are such jobs, and each of them is unfinished and waits for others of them alone."""
+        """Returns whether these jobs exist, and each is unfinished and waits only for others of them."""
         if not members or max(members) >= len(self.jobs):
             return False
         members = {number: self.jobs[number] for number in members}
@@ -127,7 +127,7 @@ class Machine:
         return all(waits(job, members, at_work) for job in members.values())
 
     def summary(self):
-        """The last line of a replay."""
+        """Returns the last line of a replay."""
         return f"refusals {self.refusals}, unfinished {self.unfinished}"
 
     def client(self, number):
@@ -153,7 +153,7 @@ class Machine:
         return f"finished job {number}"
 
     def act(self, actor):
-        """The actor's next action: `work N`, `submit CLASS`, `submit CLASS as SLOT` or `get SLOT`."""
+        """Performs the actor's next action: `work N`, `submit CLASS`, `submit CLASS as SLOT` or `get SLOT`."""
         word, what, *slot = actor.body[actor.position].split(" ")
         if word == "work":
             outcome = f"worked {what}"
@@ -205,7 +205,7 @@ class Machine:
 
 
 def waits(job, members, at_work):
-    """Whether the job waits for these alone, so many of which are at work in each pool."""
+    """Returns whether the job waits only for these members; `at_work` counts those that run, by pool."""
     if job.phase == "queued":
         return job.pool.idle == 0 and job.pool.threads == at_work[job.pool.name]
     if job.phase != "at work" or job.at_end():

@@ -1,10 +1,10 @@
 #!/usr/bin/env python3
 """usage: peer.py
 
-Builds the plain Rust program of bench/rust, and compares what it answers to the examples with what `sizing` is to answer.
-PLAIN in the environment names another program than bench/rust/target/release/plain, which is then not built.
+Builds the plain Rust program of bench/rust, and compares its answers to the examples with the stored answers of `sizing`.
+PLAIN in the environment names a program to use instead of bench/rust/target/release/plain, which is then not built.
 
-Exit status: 0 where all answers are right or the program can't be built here, 1 where one is wrong.
+Exit status: 0 if all answers are right or the program can't be built here, 1 if one is wrong.
 """
 
 import os
@@ -19,7 +19,7 @@ from timing import HERE, Wrong, without_words
 
 RUST = HERE / "rust"
 EXAMPLES = HERE.parent / "examples"
-# The commands that it has, and whose answers lie beside the examples.
+# The commands of the plain program, whose answers are stored beside the examples.
 COMMANDS = ["replay", "check", "explain"]
 
 
@@ -33,7 +33,7 @@ def tell(peer):
 
 
 def built_peer():
-    """The path of the program; None where it can't be built here, which a line tells."""
+    """Returns the path of the program, or None, after a line that says so, if it can't be built here."""
     named = os.environ.get("PLAIN")
     if named:
         return Path(named).resolve()
@@ -43,7 +43,7 @@ def built_peer():
 
 
 def compared_with_examples(peer):
-    """How many stored answers there are to its commands, to each of which it gives the right one."""
+    """Returns the number of stored answers to its commands. Raises Wrong if an answer of the program differs."""
     compare = examples_check().compare
     answers = sorted(path for path in EXAMPLES.iterdir() if path.suffix[1:] in COMMANDS)
     for answer in answers:
@@ -56,7 +56,7 @@ def compared_with_examples(peer):
 
 
 def examples_check():
-    """The module examples/check.py, which has modules of its own beside it. This folder has another one of that name."""
+    """Returns the module examples/check.py, which imports modules of its folder. This folder has another module of that name."""
     sys.path.append(str(EXAMPLES))
     spec = spec_from_file_location("examples_check", EXAMPLES / "check.py")
     module = module_from_spec(spec)
@@ -65,7 +65,7 @@ def examples_check():
 
 
 def example_plans():
-    """The texts of the plans of all examples, by their names."""
+    """Returns the texts of the plans of all examples, by name."""
     return {path.stem: path.read_bytes() for path in sorted(EXAMPLES.glob("*.toml"))}
 
 

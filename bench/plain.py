@@ -26,7 +26,7 @@ from plan_texts import filled
 from timing import Bars, Program, Table, Wrong, built, compiled, costs
 from timing import has_callgrind, instructions, tell_if_uncounted, without_words
 
-# What `sizing` may take of what the plain program takes, on each input.
+# The maximum ratios of `sizing` to the plain program, on each input.
 MOST_INSTRUCTIONS = 0.9
 MOST_MEMORY = 1.2
 RUNS = 5
@@ -35,7 +35,7 @@ SIZE = 1024 * 1024
 
 @dataclass
 class Input:
-    """What a command reads, and the right answer to it with its status; None where only the programs can tell."""
+    """The input of a command, with the right answer and its status. The answer is None if only the programs can compute it."""
 
     name: str
     command: str
@@ -74,14 +74,14 @@ class Bench:
         self.bars.end()
 
     def compared_on_certify(self):
-        """How many plans there are of examples, to each of which both programs give the same answer."""
+        """Returns the number of example plans. Raises Wrong if the programs differ on one of them."""
         plans = example_plans()
         for name, text in plans.items():
             self.answered(Input(f"certify of {name}.toml", "certify", text))
         return len(plans)
 
     def answered(self, what):
-        """The answer and the status of `sizing` to an input, which the plain program must give too."""
+        """Returns the answer and the status of `sizing` for an input. Raises Wrong if those of the plain program differ."""
         answers = []
         for program in (self.sizing, self.plain):
             ended = subprocess.run([program, what.command], input=what.given, stdout=subprocess.PIPE)
@@ -91,7 +91,7 @@ class Bench:
         return answers[0]
 
     def measured(self, what):
-        """Prints a row of an input, and holds its ratios to their bars."""
+        """Prints the row of an input, and compares its ratios with their bars."""
         if what.answer is None:
             what.answer, what.status = self.answered(what)
         (self.folder / "input").write_bytes(what.given)
@@ -107,7 +107,7 @@ class Bench:
         )
 
     def cells(self, what, of_what, pair, bar):
-        """The cells of two numbers, their ratio and its bar, to which it is held."""
+        """Returns the cells of two numbers, their ratio and its bar, and compares the ratio with the bar."""
         if None in pair:
             return ["-"] * 4
         *numbers, ratio = with_ratio(pair)
@@ -127,7 +127,7 @@ def judged(name, command, bundle, answered):
     return Input(name, command, bundle.input(), *answered(bundle.certificate))
 
 
-# Each makes an input when its turn comes.
+# Each function creates its input when it is called.
 INPUTS = [
     lambda: replayed("replay, many clients", nested_jobs(SIZE)),
     lambda: replayed("replay, one client", one_looping_client(SIZE)),

@@ -1,4 +1,4 @@
-"""The texts of the benchmark of reading: plans of several shapes, each of exactly as many bytes as are wanted."""
+"""The texts of the benchmark of reading: plans of several shapes, each of exactly the requested size in bytes."""
 
 from dataclasses import dataclass
 
@@ -13,7 +13,7 @@ READ = "ok"
 
 @dataclass
 class Text:
-    """A text, and what a reader of plans prints of it. A reader of TOML prints `ok` of each."""
+    """A text, and the output of a reader of plans for it. A reader of TOML prints `ok` for each text."""
 
     name: str
     text: str
@@ -21,28 +21,28 @@ class Text:
 
 
 def all_texts(size):
-    """A text of this size of each shape."""
+    """Returns a text of this size of each shape."""
     return [long_names(size), half_a_comment(size), refused_at_the_end(size), full_bodies(size), no_entries(size)]
 
 
 def long_names(size):
-    """256 classes with names of 32 bytes, and bodies of submits and gets as long as there is room for."""
+    """Returns 256 classes with names of 32 bytes, and bodies of submits and gets as long as there is room for."""
     return Text("long names", filled(plan_of_long_names(size, True), size), READ)
 
 
 def half_a_comment(size):
-    """The same plan in the first half, and one comment behind it."""
+    """Returns the same plan in the first half, followed by one comment."""
     return Text("half a comment", filled(plan_of_long_names(size // 2, True), size), READ)
 
 
 def refused_at_the_end(size):
-    """The first plan, but its very last action is a get of an empty slot."""
+    """Returns the first plan, whose last action is replaced by a get of an empty slot."""
     text = filled(plan_of_long_names(size, False), size)
     return Text("refused at the end", text, "fault 13 SlotEmpty at client 0 action 1")
 
 
 def full_bodies(size):
-    """Short names and 256 actions in each body, all submits before all gets: the most actions for the bytes."""
+    """Returns short names and 256 actions in each body, all submits before all gets: the most actions for the bytes."""
     slots = [first + second for first in LETTERS for second in LETTERS][:MOST_ACTIONS // 2]
     body = [f"submit a as {slot}" for slot in slots] + [f"get {slot}" for slot in slots]
     names = [*LETTERS, *(first + second for first in LETTERS for second in LETTERS)]
@@ -56,7 +56,7 @@ def full_bodies(size):
 
 
 def no_entries(size):
-    """One comment and nothing else."""
+    """Returns one comment and nothing else."""
     return Text("a comment alone", filled("", size), READ)
 
 
@@ -77,9 +77,9 @@ def plan_of_long_names(size, is_lawful):
 
 
 def largest(make, most, size):
-    """The largest of what is made of 0 to the most whose text is no longer than the size.
+    """Returns `make(n)` for the largest n from 0 to `most` with a text of at most this size.
 
-    None is made of more than twice as much as that.
+    Calls `make` with at most twice that number.
     """
     high = 1
     while high <= most and len(make(high).text()) <= size:
@@ -95,7 +95,7 @@ def largest(make, most, size):
 
 
 def filled(text, size):
-    """The text and a comment behind it, of this size together."""
+    """Returns the text, padded to this size with a comment."""
     left = size - len(text)
     if left < 0:
         raise AssertionError("the plan is too long")

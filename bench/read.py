@@ -1,13 +1,13 @@
 #!/usr/bin/env python3
 """usage: read.py [KIB..]
 
-Times the reading of a plan beside the reading of its TOML alone, on texts of so many KiB each (64 to 1024; absent: 64,
-256 and 1024). README.md says what is measured.
+Times the reading of a plan and the reading of its TOML alone, on texts of these sizes in KiB (64 to 1024; default: 64, 256 and
+1024). README.md describes the measurement.
 
 The program is bench/plan_reader/out/plan_reader, or the one that the environment variable PLAN_READER names.
 
-Exit status: 0 where all answers are right and no ratio at 1024 KiB is above 2, 1 where one is wrong or above, 2 where
-the benchmark can't be run.
+Exit status: 0 if all answers are right and no ratio at 1024 KiB is above 2, 1 if one is wrong or above, 2 if the benchmark can't
+be run.
 """
 
 import sys

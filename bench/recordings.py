@@ -20,9 +20,9 @@ from timing import has_callgrind, in_folder, instructions, tell_if_uncounted
 
 RUNS = 3
 KIB = 8192
-# The instructions beside those of the counting.
+# The maximum ratio of the instructions to those of the counting program.
 MOST_RATIO = 6
-# What is needed for what is about at once, beside the text itself.
+# The maximum memory for the actors that are live at once, in addition to the text.
 MOST_MEBIBYTES_BESIDE = 2
 VISITORS = 20
 
@@ -61,7 +61,7 @@ queue = 20
 
 
 def turn(first, number):
-    """All visitors do one round each, at once: rounds and jobs are numbered from these."""
+    """Returns the lines of one concurrent round of all visitors, whose rounds and jobs are numbered from these."""
     rounds = range(first, first + VISITORS)
     requests = range(number, number + VISITORS)
     queries = range(number + VISITORS, number + 2 * VISITORS)
@@ -81,7 +81,7 @@ def turn(first, number):
 
 
 def recording(room):
-    """The text of a recording of at most so many bytes, with its numbers of rounds and of jobs."""
+    """Returns the text of a recording of at most this many bytes, with its numbers of rounds and of jobs."""
     parts, length, turns = [HEAD], len(HEAD), 0
     while length + len(part := turn(turns * VISITORS, turns * 2 * VISITORS)) + 4 <= room:
         parts.append(part)

@@ -7,7 +7,7 @@ plain program that walks through the same ones. README.md says what is measured,
 
 The program is crates/sizing/out/sizing, or the one that the environment variable SIZING names.
 
-Exit status: 0 where each witness is one and no bar is exceeded, 1 where not, 2 where the benchmark can't be run.
+Exit status: 0 if each witness is one and no bar is exceeded, 1 if not, 2 if the benchmark can't be run.
 """
 
 import re
@@ -23,10 +23,10 @@ RUNS = 3
 CLIENTS = 200
 BAR = 1_000
 LONG_BAR = 10_000
-# More than the walks come to, and how many times the instructions of the plain program a state may take.
+# A limit that the walks do not reach, and the maximum ratio of the instructions for a state to those of the plain program.
 STATES = 10_000_000
 RATIO_BAR = 2
-# The last search of `refute`, which the plain program leaves out, may come to so many states for a hundred of the walks.
+# The maximum number of states in the last search of `refute`, which the plain program lacks, in percent of those of the walks.
 OTHERS = 1
 
 
@@ -54,7 +54,7 @@ class Bench:
         self.bars.end()
 
     def beside_plain_walks(self):
-        """Prints how many instructions a state takes, and holds their ratio to the bar."""
+        """Prints how many instructions a state takes, and compares their ratio with the bar."""
         plan = never_decided()
         (self.folder / "plan").write_text(plan.text())
         (self.folder / "numbers").write_text(numbers(plan))
@@ -75,7 +75,7 @@ class Bench:
         self.bars.hold("the ratio of instructions for a state", ratio, RATIO_BAR)
 
     def measured(self, name, plan, bar):
-        """Prints a row of the plan, and holds the time to the bar."""
+        """Prints a row for the plan, and compares the time with the bar."""
         text = plan.text()
         (self.folder / "plan").write_text(text)
         said = self.answer(name, 1, text)
@@ -100,7 +100,7 @@ class Bench:
 
 
 def ended(name, plan, bundle):
-    """How the witness ends, and how many events it has."""
+    """Returns how the witness ends, and how many events it has."""
     lines = bundle.partition("\n%%\n")[2].split("\n")
     lines = [line for line in lines if line]
     machine = Machine(plan)
@@ -117,14 +117,14 @@ def ended(name, plan, bundle):
 
 
 def web_and_database(queue):
-    """Each request of a web pool gets a job of a database pool."""
+    """Returns a plan in which each request of a web pool gets a job of a database pool."""
     classes = [Class("request", "web", ["submit query as q", "get q"]), Class("query", "db", ["work 1"])]
     client = Client("user", CLIENTS, True, ["submit request as r", "get r"])
     return Plan([Pool("web", CLIENTS, CLIENTS, CLIENTS), Pool("db", 10, 10, queue)], classes, [client])
 
 
 def there_and_back(size):
-    """Two pools whose jobs get jobs of the other one."""
+    """Returns a plan with two pools whose jobs get jobs of the other one."""
     pools = [Pool("p", size, size, 2 * size), Pool("q", size, size, 2 * size)]
     classes = [
         Class("there", "p", ["submit low as x", "get x"]),
@@ -140,7 +140,7 @@ def there_and_back(size):
 
 
 def fork_join(parts):
-    """Jobs that submit so many parts to their own pool, and get them all."""
+    """Returns a plan whose jobs submit this many parts to their own pool, and get them all."""
     body = [f"submit part as s{number}" for number in range(parts)] + [f"get s{number}" for number in range(parts)]
     classes = [Class("part", "p", ["work 1"]), Class("report", "p", body)]
     client = Client("user", parts, True, ["submit report as r", "get r"])
@@ -148,7 +148,7 @@ def fork_join(parts):
 
 
 def never_decided():
-    """A safe plan without a certificate, as a class submits itself, though there is no job of it. No vector misses its bound."""
+    """Returns a safe plan without a certificate: a class submits itself, but has no jobs. No vector misses its bound."""
     classes = [
         Class("request", "web", ["submit query as q", "get q"]),
         Class("query", "db", ["work 1"]),
@@ -159,7 +159,7 @@ def never_decided():
 
 
 def numbers(plan):
-    """The plan as walk_states.c reads it."""
+    """Returns the plan as walk_states.c reads it."""
     pools = [pool.name for pool in plan.pools]
     classes = [of_class.name for of_class in plan.classes]
     lines = [[len(plan.pools)], *([pool.core, pool.max, pool.queue, 0] for pool in plan.pools), [len(plan.clients)]]
@@ -170,7 +170,7 @@ def numbers(plan):
 
 
 def body_numbers(classes, body):
-    """How many actions a body has, and two numbers for each: 0 0 for work, 1 and the class, or 2 and the submit's position."""
+    """Returns the number of actions, and two numbers for each: 0 0 for work, 1 and the class, or 2 and the submit's position."""
     given, slots = [len(body)], {}
     for position, action in enumerate(body):
         word, operand, *rest = action.split()
@@ -183,7 +183,7 @@ def body_numbers(classes, body):
 
 
 def database(threads, queue, clients):
-    """Clients that ask one pool."""
+    """Returns a plan with clients of one pool."""
     client = Client("user", clients, True, ["submit query as q", "get q"])
     return Plan([Pool("db", threads, threads, queue)], [Class("query", "db", ["work 1"])], [client])
 

@@ -23,14 +23,14 @@ from timing import has_callgrind, in_folder, instructions, tell_if_uncounted
 
 RUNS = 3
 MOST_KIB = 1024
-# For an input of MOST_KIB KiB, and so for any.
+# The bar for an input of MOST_KIB KiB, and so for any.
 MOST_MEBIBYTES = 11
-# For such an input of many events, in millions.
+# The bar for such an input of many events, in millions.
 MOST_INSTRUCTIONS = 71.5
-# For the instructions a byte of a line `stuck` whose numbers fall, and whose last one stands again and again, beside
-# those of the line where each of them stands once and they rise.
+# The bar for the instructions for a byte of a line `stuck` with falling numbers, of which the last one is repeated, relative to
+# those of a line with each number once, in rising order.
 STUCK_RATIO = 3
-# For one event on a plan of as many clients as there may be, and beside the same plan with a client of each kind.
+# The bars for one event on a plan with the maximum number of clients, alone and relative to a plan with one client of each kind.
 MANY = 1_000_000
 FEW = 1
 MANY_MEBIBYTES = 10
@@ -72,7 +72,7 @@ class Bench:
         self.bars.end()
 
     def lines(self, script, most=None):
-        """Measures a long replay beside the counting of its lines. Its millions of instructions; None if uncounted."""
+        """Measures a long replay and the counting of its lines. Returns its millions of instructions, or None if uncounted."""
         replay = self.replay(script)
         given = (self.folder / replay.given).read_bytes()
         lines = f"lines {given.count(10)}, words {len(given.split())}\n".encode()
@@ -99,16 +99,16 @@ class Bench:
         return counted
 
     def replay(self, script):
-        """The replay of a script, whose input is written into the folder."""
+        """Writes the input of a script into the folder, and returns its replay."""
         (self.folder / script.name).write_bytes(script.input())
         return Program([self.sizing, "replay"], script.answer(), script.status(), given=script.name)
 
     def counted(self, program):
-        """How many millions of instructions the program runs; None where nothing counts them."""
+        """Returns how many millions of instructions the program runs, or None if they are not counted."""
         return instructions(self.folder, program) if self.is_counted else None
 
     def stuck(self, falling, rising, silent):
-        """Measures a line `stuck` whose numbers fall, and its instructions a byte beside those where they rise."""
+        """Measures a line `stuck` with falling numbers, and compares its instructions for a byte with those for rising numbers."""
         of_falling = self.lines(falling)
         if not self.is_counted:
             return
@@ -122,7 +122,7 @@ class Bench:
         self.bars.hold(f"{falling.name}: ratio of instructions a byte", first / second, STUCK_RATIO)
 
     def clients(self):
-        """Measures a replay of one event on a plan of many clients beside that on a plan of few."""
+        """Measures a replay of one event on a plan of many clients and on a plan of few."""
         programs = []
         for name, count in (("many", MANY), ("few", FEW)):
             given, answer = one_event(count)

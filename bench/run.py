@@ -22,9 +22,9 @@ from timing import Bars, Program, Table, Wrong, built, compiled, costs, without_
 
 RUNS = 5
 TIME_BAR = 1.2
-# The peak of a run of nearly a million events: 30 bytes of each, and what its threads take.
+# The bar for the peak of a run of nearly a million events: 30 bytes for each, and the memory of its threads.
 MEBIBYTES_BAR = 35
-# The idle run: so long sleeps each growth of memory, and so much of the time that goes by may be CPU time.
+# The idle run: the sleep at each growth of memory, and the maximum share of CPU time in the elapsed time.
 SLEEP_MICROSECONDS = 20_000
 IDLE_BAR = 0.05
 IDLE_ROUNDS = 3
@@ -33,7 +33,7 @@ IDLE_RUNS = 2
 
 @dataclass
 class Row:
-    """A plan and its rounds, in which each client's job submits a job of its own and gets it, so many jobs deep."""
+    """A plan and its rounds, in which each client's job submits a job of its own and gets it, `nested` jobs deep."""
 
     name: str
     plan: Plan
@@ -51,7 +51,7 @@ class Row:
         return self.clients() * self.rounds * (self.nested + 1)
 
     def events(self):
-        """The bound on the events: a job is taken and finished, and a client loops between two rounds."""
+        """Returns the bound on the events: a job is taken and finished, and a client loops between two rounds."""
         of_jobs = self.nested * (2 + 2) + 2 + self.units
         return self.clients() * (self.rounds * (2 + of_jobs) + self.rounds - 1)
 
@@ -59,7 +59,7 @@ class Row:
         return f"jobs {self.jobs()}, units {self.clients() * self.rounds * self.units}, refused 0\n".encode()
 
     def words(self):
-        """The words of the plain program."""
+        """Returns the arguments of the plain program."""
         return [str(number) for number in (self.clients(), self.carriers(), self.rounds, self.nested, self.units)]
 
 
@@ -89,7 +89,7 @@ class Bench:
         self.bars.end()
 
     def compared(self, table, row):
-        """Prints a row of both programs, and holds the ratio of their processor times to its bar."""
+        """Prints a row for both programs, and compares the ratio of their processor times with its bar."""
         run = self.of_row(row)
         counted = Program([self.one_lock, *row.words()], f"events {row.events()}\n".encode(), given="bundle")
         first, second = costs(self.folder, self.measure, [run, counted], RUNS)
@@ -111,7 +111,7 @@ class Bench:
         self.bars.hold(f"{row.name}: peak in MiB", first.mebibytes, MEBIBYTES_BAR)
 
     def idle(self, row):
-        """Looks at a run in which each growth sleeps, so that all threads mostly wait."""
+        """Measures a run in which each growth sleeps, so that all threads mostly wait."""
         run = self.of_row(row)
         words = ["/usr/bin/env", f"LD_PRELOAD={self.slow_growth}", f"SLOW_MICROSECONDS={SLEEP_MICROSECONDS}", *run.words]
         slowed = Program(words, run.answer, given="bundle")
@@ -121,7 +121,7 @@ class Bench:
         self.bars.hold(f"{row.name}, idle: the share of the CPU time", idle.milliseconds / idle.elapsed, IDLE_BAR)
 
     def of_row(self, row):
-        """A run of the row. The folder's bundle is of the plan from now on."""
+        """Returns a run of the row, and writes the bundle of its plan into the folder."""
         certify = [self.sizing, "certify"]
         certified = subprocess.run(certify, input=row.plan.text().encode(), stdout=subprocess.PIPE, check=False)
         if certified.returncode != 0:
@@ -131,13 +131,13 @@ class Bench:
 
 
 def many_clients(rounds):
-    """64 clients that each submit a job and get it, in a pool of 64 threads. A job has nothing to do."""
+    """Returns 64 clients that each submit a job and get it, in a pool of 64 threads. A job does nothing."""
     clients = [Client("c", 64, True, ["submit a as x", "get x"])]
     return Row("64 clients, 64 carriers", Plan([Pool("p", 64, 64, 64)], [Class("a", "p", [])], clients), rounds, 0, 0)
 
 
 def nested_jobs(rounds):
-    """One client's job submits a job to the same pool of two threads and waits for it."""
+    """Returns one client, whose job submits a job to the same pool of two threads and waits for it."""
     get_one = ["submit inner as x", "get x"]
     classes = [Class("outer", "p", get_one), Class("inner", "p", ["work 1"])]
     clients = [Client("c", 1, True, ["submit outer as x", "get x"])]

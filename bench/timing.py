@@ -1,4 +1,4 @@
-"""What the benchmarks share: how a program is found, run, measured and held to its answer; how a table is printed."""
+"""The shared code of the benchmarks: it finds, runs and measures programs, compares their answers, and prints tables."""
 
 import os
 import shutil
@@ -17,14 +17,14 @@ class Unable(Exception):
 
 
 class Wrong(Exception):
-    """A program gives a wrong answer, or is past its bar."""
+    """A program gives a wrong answer, or exceeds its bar."""
 
 
 @dataclass
 class Program:
-    """A program's words, its right answer and status, and the file of the folder that is its input.
+    """A program's arguments, its right answer and status, and the file of the folder that is its input.
 
-    Its output is written to a file and compared, or it goes to /dev/null.
+    Its output is written to a file and compared, or goes to /dev/null.
     """
 
     words: list
@@ -36,7 +36,7 @@ class Program:
 
 @dataclass
 class Cost:
-    """The least CPU time and the greatest peak memory of some runs, and the least time that went by."""
+    """The least CPU time, the greatest peak memory and the least elapsed time of some runs."""
 
     milliseconds: float
     mebibytes: float
@@ -44,7 +44,7 @@ class Cost:
 
 
 def in_folder(bench):
-    """Calls the benchmark with an empty folder, and gives its exit status."""
+    """Calls the benchmark with an empty folder, and returns its exit status."""
     try:
         with tempfile.TemporaryDirectory() as folder:
             bench(Path(folder))
@@ -58,7 +58,7 @@ def in_folder(bench):
 
 
 def without_words(name, words, bench):
-    """Calls a benchmark that takes no words, and gives its exit status."""
+    """Calls a benchmark that takes no arguments, and returns its exit status."""
     if words:
         print(f"usage: {name}", file=sys.stderr)
         return 2
@@ -66,7 +66,7 @@ def without_words(name, words, bench):
 
 
 def built(name):
-    """The path of a crate's built program, or of the one that the environment variable of that name tells."""
+    """Returns the path of a crate's built program, or of the one that the environment variable of that name gives."""
     folder = BENCH if (BENCH / name).is_dir() else CRATES
     program = Path(os.environ.get(name.upper()) or folder / name / "out" / name).resolve()
     if not os.access(program, os.X_OK) or not program.is_file():
@@ -75,7 +75,7 @@ def built(name):
 
 
 def compiled(folder, name, *options):
-    """The path of a C program of this folder, compiled into another."""
+    """Compiles a C program of this folder into another folder, and returns its path."""
     if shutil.which("gcc") is None:
         raise Unable("gcc is needed, and there is none")
     path = folder / name
@@ -85,9 +85,9 @@ def compiled(folder, name, *options):
 
 
 def costs(folder, measure, programs, runs):
-    """What each program costs on its input, which lies in the folder.
+    """Returns the cost of each program on its input, which is in the folder.
 
-    They run in turn, so that what else the machine does meets all of them.
+    The programs run in turn, so that other load on the machine affects all of them.
     """
     measured = [[run(folder, measure, program) for program in programs] for _ in range(runs)]
     return [
@@ -97,9 +97,9 @@ def costs(folder, measure, programs, runs):
 
 
 def run(folder, measure, program):
-    """The microseconds of CPU time, the KiB, and the microseconds that went by, of a run.
+    """Returns the microseconds of CPU time, the KiB, and the elapsed microseconds of a run.
 
-    It must end with its status and, if that is compared, its answer.
+    Raises Wrong if the status or the answer of the program differs; the answer only if it is compared.
     """
     name = program.words[0]
     output = folder / "output" if program.is_compared else Path(os.devnull)
@@ -135,7 +135,7 @@ class Bars:
             self.exceeded.append(f"{what} is {found:.2f}, and is not to be above {bar:.2f}")
 
     def end(self):
-        """Says at the end of the benchmark which they are."""
+        """Raises Wrong at the end of the benchmark if a bar is exceeded."""
         if self.exceeded:
             raise Wrong("\n".join(self.exceeded))
 
@@ -150,7 +150,7 @@ def tell_if_uncounted():
 
 
 def instruction_cells(folder, programs):
-    """The cells of the instructions of two programs, and of their ratio."""
+    """Returns the cells of the instructions of two programs, and of their ratio."""
     if not has_callgrind():
         return ["-"] * 3
     first, second = [instructions(folder, program) for program in programs]
@@ -158,7 +158,7 @@ def instruction_cells(folder, programs):
 
 
 def instructions(folder, program):
-    """How many millions of instructions a program runs on its input, as callgrind counts them."""
+    """Returns how many millions of instructions a program runs on its input, as callgrind counts them."""
     counter = ["valgrind", "--tool=callgrind", f"--callgrind-out-file={os.devnull}", *program.words]
     with open(folder / program.given, "rb") as given:
         ended = subprocess.run(counter, stdin=given, stdout=subprocess.DEVNULL, stderr=subprocess.PIPE, text=True)
@@ -169,7 +169,7 @@ def instructions(folder, program):
 
 
 class Table:
-    """A table that is printed row by row: the first column to the left, the others to the right."""
+    """A table that is printed row by row: the first column is aligned to the left, the others to the right."""
 
     def __init__(self, *columns):
         self.widths = [width for _, width in columns]
