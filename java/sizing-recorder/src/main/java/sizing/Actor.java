@@ -12,9 +12,9 @@ import java.util.Set;
  * jobs and its end.
  */
 final class Actor {
-    /** What its class or kind is named after ({@link Names#of}). The writing thread makes the name. */
+    /** The label, class or thread that gives its class or kind the name ({@link Names#of}). The writing thread makes the name. */
     final Object source;
-    /** The semaphore of a permit, else null. */
+    /** The semaphore of a permit, or null. */
     final RecordedSemaphore semaphore;
     /** Set and read by the writing thread, at the actor's first line. */
     int number = -1;

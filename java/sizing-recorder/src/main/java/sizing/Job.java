@@ -23,7 +23,7 @@ final class Job {
     boolean refused;
     /** Whether it began to run. Used by the thread that runs it. */
     boolean started;
-    /** What acted and ran on its thread before it, while it runs. */
+    /** The actor and the job of its thread before it, while it runs. */
     Actor outerActor;
     Job outerJob;
 

@@ -96,7 +96,7 @@ final class Stages {
                 .dropWhile(name -> !name.equals(FUTURE)).dropWhile(FUTURE::equals).anyMatch(FUTURE::equals));
     }
 
-    /** How a thread waits for a stage. */
+    /** The way in which a thread waits for a stage. */
     enum Wait { NONE, FOR_ALL, FOR_STAGE }
 
     private record Dependent(CompletableFuture<?> future, boolean hasOtherSources) {}

@@ -3,9 +3,9 @@ package sizing;
 import java.util.ArrayDeque;
 import java.util.Deque;
 
-/** What a recorder knows of one thread. */
+/** The state of one thread in a recorder. */
 final class ThreadState {
-    /** What acts on the thread, or null. */
+    /** The actor that acts on the thread, or null. */
     Actor actor;
     /** The job that runs on the thread, or null. */
     Job job;

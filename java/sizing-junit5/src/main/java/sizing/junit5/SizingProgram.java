@@ -19,7 +19,7 @@ final class SizingProgram {
     private static final String NOT_FOUND = "the program sizing was not found: put it on the PATH, or name it by "
             + "-Dsizing.program=FILE or by the environment variable SIZING (-Dsizing.optional=true skips tests that need it)";
 
-    /** What a run printed, and its exit status. */
+    /** The output and the exit status of a run. */
     record Answer(int status, List<String> output, List<String> errors) {
         List<String> lines() {
             return Stream.concat(output.stream(), errors.stream()).toList();
