@@ -46,7 +46,7 @@ CASES = [
     ("sizing learn s", ["shop.recording"], ["strict"]),
     ("sizing certify --workers ", [], ["shop.toml", "--workers"]),
 ]
-# What only bash leaves out: zsh and fish put files with another ending last.
+# The offers that only bash omits: zsh and fish put files with another ending last.
 BASH_ONLY = [
     ("sizing ask ", ["other.toml", "shop.toml"], ["shop.json"]),
     ("sizing ask shop.toml ", ["shop.json"], ["shop.toml"]),
@@ -78,23 +78,23 @@ zpty -d inner
 
 
 def bash_offers(folder, line):
-    """Returns what bash offers for a command line."""
+    """Returns the offers of bash for a command line."""
     return ran(["bash", "--norc", "-c", BASH, "bash", str(folder / "sizing.bash"), line], folder).splitlines()
 
 
 def zsh_offers(folder, line):
-    """Returns what zsh offers for a command line."""
+    """Returns the offers of zsh for a command line."""
     return re.findall(r"(?m)^OFFER (\S+)", ran(["zsh", "-f", "-c", ZSH, "zsh", str(folder), line], folder).replace("\r", ""))
 
 
 def fish_offers(folder, line):
-    """Returns what fish offers for a command line."""
+    """Returns the offers of fish for a command line."""
     text = ran(["fish", "--no-config", "-c", f"source {folder}/sizing.fish; complete -C '{line}'"], folder)
     return [offer.split("\t")[0] for offer in text.splitlines()]
 
 
 def ran(words, folder):
-    """Returns what a command writes in the folder of the files."""
+    """Runs a command in the folder of the files, and returns its output."""
     environment = {**os.environ, "HOME": str(folder), "TERM": "dumb", "PATH": f"{folder}/bin:{os.environ['PATH']}"}
     done = subprocess.run(words, cwd=folder / "work", env=environment, stdin=subprocess.DEVNULL, capture_output=True, timeout=SECONDS, check=False)
     return done.stdout.decode(errors="replace")

@@ -1,7 +1,7 @@
 #!/usr/bin/env python3
-"""Packs releases of a copy of this repository, with a stub in the place of the program, and checks what they have.
+"""Packs releases of a copy of this repository, with a stub in place of the program, and checks their contents.
 
-Needs gcc with binutils, git, and no proof. README.md says what each case is.
+Needs gcc with binutils, git, and no proof. README.md describes each case.
 
 Exit status: 0 if all cases are as they should be, 1 if one is not, 2 if gcc or readelf is missing.
 """
@@ -33,7 +33,7 @@ FILES = f"""
 """.split()
 NOT_PACKED = {"check.py", "demo", "pages.py"}
 COMPLETIONS = ["share/bash-completion/completions/sizing", "share/zsh/site-functions/_sizing", "share/fish/vendor_completions.d/sizing.fish"]
-# What a release adds to its own folder, and an installation does not need.
+# The files that a release adds to its own folder, and an installation does not need.
 NOT_INSTALLED = {"Dockerfile", "SHA256SUMS", "install.sh"}
 PARENT = """<project xmlns="http://maven.apache.org/POM/4.0.0"><groupId>sizing</groupId><artifactId>sizing-parent</artifactId>
 <version>{version}</version></project>"""
@@ -42,7 +42,7 @@ MODULE = """<project xmlns="http://maven.apache.org/POM/4.0.0"><parent><groupId>
 
 
 class Cases:
-    """Counts cases, and prints each with what is wrong with it."""
+    """A counter of cases, which prints each with its fault."""
 
     def __init__(self):
         self.ok = self.wrong = 0
@@ -104,7 +104,7 @@ def java_version(java):
 
 
 def jars(repository):
-    """Returns where a release has the jars and poms of a repository."""
+    """Returns the paths of the jars and poms of a repository in a release."""
     java = repository / "java"
     version = java_version(java)
     modules = [artifact_of(pom) for pom in java.glob("*/pom.xml")]
@@ -135,7 +135,7 @@ def same_bytes(cases, room, repository):
 
 
 def contents(cases, repository, release):
-    """Checks that a release has each file that it should have, and what its own files say."""
+    """Checks that a release has each file that it should have, and checks the texts of its own files."""
     examples = {f"share/sizing/examples/{path}" for path in files_below(repository / "examples") if path not in NOT_PACKED}
     pictures = {f"share/doc/sizing/docs/pictures/{path}" for path in files_below(repository / "docs/pictures")}
     completions = set(COMPLETIONS) if (repository / "tools/completions").is_file() else set()
@@ -208,7 +208,7 @@ def damaged(cases, room, release):
 
 
 def refusals(cases, room, repository, stub):
-    """Checks that no release is packed of a program, a record or a tree that does not permit one."""
+    """Checks that no release is packed from a program, a record or a tree that does not permit one."""
     def refused(name, wanted):
         shutil.rmtree(repository / "dist", ignore_errors=True)
         status, printed = run(["tools/dist"], repository)

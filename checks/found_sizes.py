@@ -1,21 +1,20 @@
 #!/usr/bin/env python3
-"""Tests the sizes that `sizing fit` finds, on small plans made by chance, with the second search of found_certs.py.
+"""Tests the sizes that `sizing fit` finds, on small random plans, with the second search of found_certs.py.
 
-Of each plan:
+For each plan:
 
-- A circle of submits, or a submit of a body that a client runs for ever and that no get of the body names, gets that answer,
-  with the place of one.
-- Every other plan gets sizes. None is smaller than the plan's.
-- A plan that the second search finds a certificate for stays as it is.
+- If there is a circle of submits, or a client repeats a submit without a get forever, `fit` reports that, with the place of one.
+- For every other plan `fit` finds sizes, none of which is smaller than the plan's.
+- If the second search finds a certificate for a plan, `fit` changes nothing.
 
-Of small plans, with one or two pools and single clients: no plan whose sizes grow by less, all together, gets a certificate
-of the second search. All such sizes are tried, where they are not too many.
+For small plans, with one or two pools and single clients, the second search finds no certificate at sizes with a smaller total
+growth. The check tries all such sizes, if they are not too many.
 
-    python3 checks/found_sizes.py [PLANS [SMALL_PLANS [SEED]]]     # 2,000 plans, 100 small ones and seed 1 where nothing is said
+    python3 checks/found_sizes.py [PLANS [SMALL_PLANS [SEED]]]     # by default 2,000 plans, 100 small ones and seed 1
 
 The program is crates/sizing/out/sizing, or the one that the environment variable SIZING names.
 
-Exit status: 0 where all is so, 1 where something is not, 2 where there is no program.
+Exit status: 0 if all of this holds, 1 if not, 2 if there is no program.
 """
 
 import random
@@ -75,7 +74,7 @@ def answers(program, plans):
 
 
 def fault_of(plan, told):
-    """Of which kind the plan is, and what is wrong with the answer."""
+    """Returns the kind of the plan, and the fault of the answer."""
     if wanted := causes(read_plan(text(plan))):
         head, _, cause = told.partition("\n")
         is_told = head == NOTHING_FOUND and cause in wanted
@@ -111,7 +110,7 @@ def growth(plan, sizes):
 
 
 def cheaper_sizes(plan, limit, is_certified):
-    """The cheapest sizes that grow by less than this, all together, and get a certificate; None where there are none."""
+    """Returns the cheapest sizes with a certificate and a total growth below this, or None if there are none."""
     declared = [size for pool in plan.pools for size in sizes_of(pool)]
     for total in range(limit):
         for added in shares(len(declared), total):
@@ -123,7 +122,7 @@ def cheaper_sizes(plan, limit, is_certified):
 
 
 def shares(places, total):
-    """All ways to share the total among so many places."""
+    """Yields all ways to share the total among this many places."""
     if places == 1:
         yield (total,)
         return
@@ -133,7 +132,7 @@ def shares(places, total):
 
 
 def small_plan(chance):
-    """A plan of one or two small pools that has a certificate at some sizes, and none at its own."""
+    """Returns a plan of one or two small pools that has a certificate at some sizes, and none at its own."""
     while True:
         plan = plan_by_chance(chance)
         for client in plan.clients:

@@ -23,7 +23,7 @@ sys.path.insert(0, str(ROOT / "examples"))
 from pages import commands_of
 
 SUITE = "bookworm"
-# What the base has beside what each Debian has: the reader of manual pages.
+# The packages of the base in addition to those of each Debian: the reader of manual pages.
 PACKAGES = "man-db"
 EXAMPLES = "share/sizing/examples"
 ASKED = f"bin/sizing ask {EXAMPLES}/two-clients.toml"
@@ -84,12 +84,12 @@ def packed(room):
 
 
 def quoted(page, wanted=None):
-    """Returns the commands that a page quotes, or one of them, each with what it prints."""
+    """Returns the commands that a page quotes, or one of them, each with its output."""
     return [it for it in commands_of((ROOT / page).read_text(encoding="utf-8")) if wanted in (None, it[0])]
 
 
 def unpacked(system, at):
-    """Tries what a release has where it was unpacked."""
+    """Tries the files of a release in the folder in which it was unpacked."""
     here = f"/{at.relative_to(system.root)}"
     system.case("there is no toolchain", system.run("command -v rt gcc make python3")[0] == 1, "there is one")
     status, printed = system.run("sha256sum -c SHA256SUMS", here)
@@ -109,7 +109,7 @@ def unpacked(system, at):
 
 
 def an_installation(system, at):
-    """Tries what install.sh installs into /usr/local."""
+    """Tries the files that install.sh installs into /usr/local."""
     status, printed = system.run("./install.sh", f"/{at.relative_to(system.root)}")
     system.case("./install.sh", (status, printed) == (0, "sizing is in /usr/local/bin\n"), printed)
     status, printed = system.run("sizing ask /usr/local/share/sizing/examples/shop.toml")

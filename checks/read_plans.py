@@ -1,4 +1,4 @@
-"""Reads the text of a plan by Python's own TOML, with none of the crates: names become numbers, and slots the submits that fill
+"""A parser of plans with Python's own TOML, without the crates: names become numbers, and slots become the submits that fill
 them."""
 
 import tomllib

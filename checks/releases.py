@@ -1,4 +1,4 @@
-"""Releases of a copy of this repository, and a stub in the place of the proved program."""
+"""Releases of a copy of this repository, and a stub in place of the proved program."""
 
 import os
 import shutil
@@ -10,7 +10,7 @@ PROGRAM = "crates/sizing/out/sizing"
 # The copy has one commit, and its record names this toolchain.
 COMMIT_TIME = "2026-01-01T00:00:00Z"
 KIT = "a toolchain for a check"
-# What `tools/man` and `tools/completions` read of a program, and an answer.
+# A program with the help texts that `tools/man` and `tools/completions` read, and an answer.
 STUB = """
 #include <stdio.h>
 #include <string.h>
@@ -30,13 +30,13 @@ int main(int count, char **words) {
 
 
 def run(words, folder, **named):
-    """Runs a command in a folder, and returns its status and what it prints on both streams."""
+    """Runs a command in a folder, and returns its status and the output of both streams."""
     ended = subprocess.run(words, cwd=folder, stdout=subprocess.PIPE, stderr=subprocess.STDOUT, text=True, check=False, **named)
     return ended.returncode, ended.stdout
 
 
 def must(words, folder, **named):
-    """Runs a command in a folder, and returns what it prints; the check stops if the command fails."""
+    """Runs a command in a folder, and returns its output; the check stops if the command fails."""
     status, printed = run(words, folder, **named)
     if status:
         raise SystemExit(f"{' '.join(map(str, words))}: status {status}\n{printed}")
@@ -103,7 +103,7 @@ def copied_by_dockerfile(release):
 
 
 def apply_dockerfile(release, root):
-    """Copies into `root` what the release's Dockerfile copies into an image."""
+    """Copies the files into `root` that the release's Dockerfile copies into an image."""
     for sources, to in copied_by_dockerfile(release):
         for source in sources:
             at = root / to.lstrip("/")

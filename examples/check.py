@@ -1,15 +1,14 @@
 #!/usr/bin/env python3
-"""Runs the program on each example of this folder, and compares what it answers.
+"""Runs the program on each example of this folder, and compares its answers with the stored ones.
 
-An example is a plan NAME.toml with events NAME.events, a certificate NAME.json, or both. NAME.replay is what `sizing
-replay` must answer to the plan, a line `%%` and the events; NAME.check and NAME.explain are what those commands must
-answer to the plan, a line `%%` and the certificate, and NAME.run is what `sizing run --rounds 3` must. NAME.fit is what
-`sizing fit` must answer to the plan alone, and NAME.refute what `sizing refute` must. The last line of each tells the
-exit status. Each is asked twice: with the texts on standard input, and with the files named. Then each command that a page
-quotes with its answer is run (pages.py). The program is crates/sizing/out/sizing, or the one that the environment variable
-SIZING names.
+An example is a plan NAME.toml with events NAME.events, a certificate NAME.json, or both. NAME.replay is the answer of `sizing
+replay` to the plan, a line `%%` and the events. NAME.check and NAME.explain are the answers of those commands to the plan, a line
+`%%` and the certificate; NAME.run is that of `sizing run --rounds 3`. NAME.fit and NAME.refute are the answers of `sizing fit`
+and `sizing refute` to the plan alone. The last line of each file is the exit status. Each command runs twice: with the texts on
+standard input, and with the files named. Then the check runs each command that a page quotes with its answer (pages.py). The
+program is crates/sizing/out/sizing, or the one that the environment variable SIZING names.
 
-Exit status: 0 where all examples agree, 1 where one differs, 2 where the program isn't there.
+Exit status: 0 if all examples agree, 1 if one differs, 2 if there is no program.
 """
 
 import os
@@ -24,9 +23,9 @@ from pages import commands_of, faults_of, pages
 
 HERE = Path(__file__).resolve().parent
 BUILT = HERE.parent / "crates" / "sizing" / "out" / "sizing"
-# What stands behind the line `%%`, by its file; None where the plan is all.
+# The suffix of the file with the text after the line `%%`, by command; None if the command reads only the plan.
 SECOND_PARTS = {"replay": "events", "check": "json", "explain": "json", "run": "json", "fit": None, "refute": None}
-# The words behind the command.
+# The arguments after the command.
 OPTIONS = {"run": ["--rounds", "3"]}
 SECONDS = 60
 
@@ -47,7 +46,7 @@ def main():
 
 
 def differences_of_pages(program):
-    """Each command that a page quotes, with what is wrong with its answer, and each page with what else it says wrongly."""
+    """Yields each command that a page quotes, with the fault of its answer, and each page with its other faults."""
     with tempfile.TemporaryDirectory(prefix="sizing-pages-") as room:
         os.symlink(program, f"{room}/sizing")
         searched = {**os.environ, "PATH": f"{room}:{os.environ['PATH']}"}
@@ -60,7 +59,7 @@ def differences_of_pages(program):
 
 
 def compare(program, answer, names_files=True):
-    """What is wrong with the program's answer to an example, on standard input and with the files named; None where it agrees."""
+    """Returns the fault of the program's answer to an example, on standard input or with the files named, or None."""
     command = answer.suffix[1:]
     files = [answer.with_suffix(".toml")]
     if SECOND_PARTS[command]:
@@ -79,7 +78,7 @@ def compare(program, answer, names_files=True):
 
 
 def answered(words, given, wanted):
-    """What is wrong with the answer to these words and this standard input; None where it is the one that is wanted."""
+    """Returns the fault of the answer to these arguments and this standard input, or None if it is the expected answer."""
     try:
         ended = subprocess.run(words, input=given, capture_output=True, timeout=SECONDS)
     except subprocess.TimeoutExpired:
@@ -95,7 +94,7 @@ def answered(words, given, wanted):
 
 
 def first_difference(wanted, printed):
-    """Says in which line two texts differ first."""
+    """Returns the first line in which two texts differ, in words, or None if they are equal."""
     pairs = zip_longest(wanted.splitlines(keepends=True), printed.splitlines(keepends=True), fillvalue=b"")
     for number, (left, right) in enumerate(pairs, 1):
         if left != right:

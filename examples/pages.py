@@ -1,14 +1,13 @@
 #!/usr/bin/env python3
-"""What the pages of the repository quote and name, and whether it is so.
+"""Checks the quotations, paths and links in the pages of the repository.
 
-A command of a page is a line `    $ sizing ..` of an indented block, and what follows it, up to the next command or the end of
-the block, is what it prints, run in this folder: check.py runs each. Here is what needs no program:
+A command of a page is a line `    $ sizing ..` of an indented block. The lines after it, up to the next command or the end of the
+block, are its output in this folder; check.py runs each command. This module checks what needs no program:
 
-- What a page quotes of an answer inside a sentence (QUOTED) must be in a stored answer of a plan that the same part of the page
-  names.
-- A path that a page names (NAMED) must be there, and so must the heading that a link leads to.
+- A quotation from an answer inside a sentence (QUOTED) must be in a stored answer of a plan that the same part of the page names.
+- A path that a page names (NAMED) must exist, and so must the target heading of a link.
 
-    python3 examples/pages.py     # prints what is not so; status 1 where something is not
+    python3 examples/pages.py     # prints the faults; status 1 if there are any
 """
 
 import re
@@ -34,7 +33,7 @@ def pages():
 
 
 def commands_of(text):
-    """The commands of a page with what each prints."""
+    """Returns the commands of a page, each with its output."""
     found, indent = [], None
     for line in text.splitlines():
         if command := COMMAND.fullmatch(line):
@@ -48,7 +47,7 @@ def commands_of(text):
 
 
 def faults_of(page, text):
-    """What the page says that is not so, without its commands."""
+    """Yields the faults of a page, except those of its commands."""
     if lost := [quoted for part in parts_of(text) for quoted in unanswered(part)]:
         yield f"no stored answer of a plan that is named with it has {lost}"
     if lost := [path for code in CODE.findall(text) if (path := NAMED.match(code)) and not is_there(path[1])]:
@@ -58,25 +57,25 @@ def faults_of(page, text):
 
 
 def parts_of(text):
-    """The parts of a page, each from a heading to the next one, with the lines of a paragraph joined."""
+    """Returns the parts of a page, each from a heading to the next one, with the lines of a paragraph joined."""
     return [re.sub(r"\n(?=\S)", " ", part) for part in re.split(r"(?m)^#+ ", text)[1:]]
 
 
 def unanswered(part):
-    """What a part of a page quotes of an answer that no plan which it names has."""
+    """Returns the quotations in a part of a page that are in no stored answer of a plan that it names."""
     names = re.findall(r"`(?:examples/)?([a-z0-9-]+)(?:\.\w+)?`", part)
     answers = "".join(path.read_text() for name in names for path in HERE.glob(f"{name}.*") if path.suffix in STORED)
     return [quoted for quoted in CODE.findall(part) if QUOTED.match(quoted) and quoted not in answers]
 
 
 def is_there(path):
-    """Whether a path is that of files or a folder, of a crate's, or of an example, which has several files."""
+    """Returns whether a path names files or a folder, of the repository, of crates/ or docs/, or an example with several files."""
     tops = (TOP, TOP / "crates", TOP / "docs")
     return any(any(top.glob(pattern)) for top in tops for pattern in (path.rstrip("/"), f"{path}.*"))
 
 
 def leads_somewhere(page, path, heading):
-    """Whether a link of this page leads to a page, and to a heading of it."""
+    """Returns whether a link of this page leads to a page, and to a heading of it."""
     target = page.parent / path if path else page
     if path.startswith(("http:", "https:")) or not target.is_file():
         return path.startswith("http")

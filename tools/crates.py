@@ -10,14 +10,14 @@ ROOT = os.path.dirname(os.path.dirname(os.path.abspath(__file__)))
 
 
 def lines_of_crates():
-    """The lines of crates.txt, by the name of their crate, in their order: each crate stands behind those below it."""
+    """Returns the lines of crates.txt by the name of their crate, in order: each crate comes after those below it."""
     with open(f"{ROOT}/crates.txt", encoding="utf-8") as file:
         lines = [line.split("#")[0].strip() for line in file]
     return {re.split("[: ]", line)[0]: line for line in lines if ":" in line}
 
 
 def with_bench_program(lines, name):
-    """The lines, with that of a program of bench/ if the name is of one. Its folder has the line in the file `crate`."""
+    """Returns the lines, with that of a program of bench/ if this is its name. Its folder has the line in the file `crate`."""
     path = f"{ROOT}/bench/{name}/crate"
     if name in lines or not os.path.isfile(path):
         return lines
@@ -26,13 +26,13 @@ def with_bench_program(lines, name):
 
 
 def folder_of(name):
-    """The folder of a crate, or of a program of bench/."""
+    """Returns the folder of a crate, or of a program of bench/."""
     bench = f"{ROOT}/bench/{name}"
     return bench if os.path.isfile(f"{bench}/crate") else f"{ROOT}/crates/{name}"
 
 
 def below(lines, names):
-    """These crates and all that they stand on, of this repository."""
+    """Returns these crates and all crates of this repository that they depend on."""
     found, left = set(), list(names)
     while left:
         crate = left.pop()
@@ -58,7 +58,7 @@ def copy_crates(lines, names, room, left_out=()):
 
 
 def files_of(names):
-    """The files from which these crates are proved, by their paths from the top of the repository."""
+    """Yields the files from which these crates are proved, by their paths from the top of the repository."""
     for name in sorted(names):
         for folder, folders, files in os.walk(folder_of(name)):
             folders[:] = sorted(set(folders) - {"out", "must-fail", "mutants"})

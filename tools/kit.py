@@ -1,16 +1,16 @@
-"""rt's own code, for what its commands do not say."""
+"""Access to rt's own code, for facts that its commands do not print."""
 import importlib.machinery
 import importlib.util
 import os
 import shutil
 import sys
 
-# Nothing is written beside the kit.
+# Python must not write files beside the kit.
 sys.dont_write_bytecode = True
 
 
 def rt_module():
-    """rt, as a module: its commands are run by `main`."""
+    """Returns rt as a module, whose `main` runs its commands."""
     path = os.path.realpath(shutil.which("rt"))
     loader = importlib.machinery.SourceFileLoader("rt", path)
     spec = importlib.util.spec_from_loader("rt", loader)

@@ -10,7 +10,7 @@ import subprocess
 from crates import ROOT, below, folder_of, lines_of_crates, with_bench_program
 from sources import functions_of
 
-# What is in a crate and has no part in the proof of its program.
+# The folders of a crate that are not part of the proof of its program.
 LEFT_OUT = {"out", "mutants", "must-fail"}
 
 

@@ -9,13 +9,13 @@ import tempfile
 from crates import below, copy_crates, folder_of, lines_of_crates, with_bench_program
 
 TOOLS = os.path.dirname(os.path.abspath(__file__))
-# What a program is called, as LLVM builds it and as Rattle's own compiler does.
+# The suffixes of a program's name, as LLVM builds it and as Rattle's own compiler does.
 BUILDS = ("", ".by-rattle")
 
 
 @contextlib.contextmanager
 def copied(crate, left_out):
-    """Gives a folder with the crate and those below it, without these folders of each crate, and how many crates it has."""
+    """Yields a folder with the crate and those below it, without these folders of each crate, and the number of its crates."""
     lines = with_bench_program(lines_of_crates(), crate)
     names = below(lines, [crate])
     with tempfile.TemporaryDirectory(prefix="sizing-proof-") as room:

@@ -1,4 +1,4 @@
-"""What the sources of a crate declare: functions with the promises of their contracts, constants, and definitions."""
+"""The declarations in the sources of a crate: functions with the promises of their contracts, constants, and definitions."""
 import os
 import re
 
@@ -13,7 +13,7 @@ DEFINITION = re.compile(rf"(?m)^(?:(?:{KINDS}) )+(?!(?:{KINDS}|mod|use) )(\S+)")
 
 
 class Function:
-    """A function: its name, the names of its promises, and whether it is a law, which has promises and nothing to do."""
+    """A function: its name, the names of its promises, and whether it is a law, which has promises and an empty body."""
 
     def __init__(self, text, found):
         indent, self.is_public, self.name = found[1], bool(found[2]), found[3]
@@ -36,17 +36,17 @@ class Function:
 
 
 def functions_of(text):
-    """The functions of a source, in their order."""
+    """Returns the functions of a source, in order."""
     return [Function(text, found) for found in FUNCTION.finditer(text)]
 
 
 def definitions_of(text):
-    """The names of the definitions of a file of definitions, in their order."""
+    """Returns the names of the definitions of a file of definitions, in order."""
     return [found[1] for found in DEFINITION.finditer(text)]
 
 
 def declared_before(text, end, is_source):
-    """In words, what this place of a text belongs to: a function, a constant or a definition; None among the imports."""
+    """Returns the function, constant or definition that this position of a text belongs to, in words; None among the imports."""
     if not is_source:
         found = definitions_of(text[:end])
         return f"definition {found[-1]}" if found else None
@@ -91,7 +91,7 @@ def definition_code(text):
 
 
 def interface_of(text):
-    """Returns what other crates can rest on of a source: its items without comments, private functions and bodies.
+    """Returns the interface of a source for other crates: its items without comments, private functions and bodies.
 
     A function with no `pub` counts in a trait or in an impl of one, where its contract is the trait's."""
     kept, lines, at = [], text.splitlines(), 0
@@ -121,7 +121,7 @@ def interface_of(text):
 
 
 def header_end(header, indent):
-    """Returns what the last of these lines of a function's header begins: a body, nothing, or the header's next line."""
+    """Returns "body" or "nothing" if the last of these lines ends a function's header, and "" if the header continues."""
     line = header[-1]
     if line in (f"{indent}{{}}", f"{indent}}}") or line.endswith(";"):
         return "nothing"
@@ -144,7 +144,7 @@ def texts_below(crate, folders):
 
 
 def texts_of(crate, folder, ending):
-    """The files of a folder of this crate that end so, and of its folders, with their texts, in the order of their names."""
+    """Yields the files below a folder of this crate whose names end so, with their texts, in the order of their names."""
     for inner, folders, files in os.walk(f"{ROOT}/crates/{crate}/{folder}"):
         folders.sort()
         for file in sorted(files):
