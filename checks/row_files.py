@@ -1,4 +1,4 @@
-"""Reads the rows of tests that are data, as crates/row_tests/src/files.rt says that they are written, without the sample plans."""
+"""A reader of the test rows, in the form that crates/row_tests/src/files.rt describes, except those with sample plans."""
 
 import re
 from pathlib import Path
@@ -9,7 +9,7 @@ SPELLED = {"^n": "\n", "^r": "\r", "^t": "\t", "^s": " "}
 
 
 def rows_of(file, kind):
-    """The name of each row, its inputs of this kind, and what each is answered; without those that have a sample plan."""
+    """Yields the name of each row, its input of this kind, and the answer; skips rows with a sample plan."""
     for text in re.split(r"(?m)^== ", (DATA / file).read_text())[1:]:
         name = text.partition("\n")[0]
         parts = dict(part_of(part) for part in re.split(r"(?m)^-- ", text)[1:])

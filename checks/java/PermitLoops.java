@@ -76,7 +76,7 @@ final class PermitLoops {
         }
     }
 
-    /** Some jobs throw. */
+    /** Throws in one of eight jobs. */
     private static void work() {
         if (ThreadLocalRandom.current().nextInt(8) == 0) {
             throw new IllegalStateException("a job that fails");

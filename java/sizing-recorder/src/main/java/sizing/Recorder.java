@@ -434,7 +434,10 @@ public final class Recorder implements AutoCloseable {
         endIfOver(actor);
     }
 
-    /** To the plan the permit gets its job, and a round that waits for it meanwhile does nothing. A job may not wait for it. */
+    /**
+     * Records that the permit gets its job: in the plan a round that waits for the job meanwhile does nothing. If a running job
+     * waits for it, which the plan does not allow, records the get as that of the running job.
+     */
     private void recordGetFromPermit(Actor permit, String word, Job job, boolean hasTimeout) {
         ThreadState state = threads.get();
         if (word.equals("got") && state.permits.contains(permit)) {
