@@ -8,12 +8,12 @@ use std::alloc::{AllocError, Global};
 
 /// Returns the lines of the sizes for the plan with this text, or of the reason why there are none.
 pub fn answer(alloc: Global, text: &str) -> Result<String, AllocError> {
-    let mut text = String::new(alloc);
+    let mut lines = String::new(alloc);
     match read_plan(alloc, text.as_bytes()) {
-        Ok(plan) => push_found(alloc, &mut text, &plan)?,
-        Err(fault) => writeln!(text, "{fault}")?,
+        Ok(plan) => push_found(alloc, &mut lines, &plan)?,
+        Err(fault) => writeln!(lines, "{fault}")?,
     }
-    Ok(text)
+    Ok(lines)
 }
 
 // Unlike `fit`, it does not search for a certificate first.
