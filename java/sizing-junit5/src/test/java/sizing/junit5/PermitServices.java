@@ -8,6 +8,7 @@ import java.util.concurrent.CancellationException;
 import java.util.concurrent.CompletableFuture;
 import java.util.concurrent.CompletionException;
 import java.util.concurrent.CountDownLatch;
+import java.util.concurrent.CyclicBarrier;
 import java.util.concurrent.ExecutorCompletionService;
 import java.util.concurrent.ExecutorService;
 import java.util.concurrent.Future;
@@ -224,9 +225,14 @@ final class PermitServices {
 
     static void oneBurst(ServiceRun run) throws Exception {
         ExecutorService mail = run.pool("mail");
-        run.rounds("order", 3, 1, () -> mail.execute(label("send", () -> {
-            work(1);
-        })));
+        // Orders that come at different times look like one order that comes again: learn then writes `repeat`.
+        CyclicBarrier burst = new CyclicBarrier(3);
+        run.rounds("order", 3, 1, () -> {
+            burst.await();
+            mail.execute(label("send", () -> {
+                work(1);
+            }));
+        });
     }
 
     // ---- uses that the page does not cover
