@@ -1,4 +1,4 @@
--- The element at a place of a changed list, and lists that are equal at every place.
+-- Lemmas about the elements of a changed list by index, and about lists with equal elements.
 use Rattle.std.proofs.Common.{◌≡◌, ℕ, zero, suc, ◌<◌, ◌≢◌, ◌⊎◌, inl, inr, ⊎_elim, List, [], ◌∷◌, ◌++◌, length, set, slice_get, Some, refl, ap, arith}
 use Rattle.std.proofs.lemmas.Option.{same_Some}
 
@@ -11,7 +11,7 @@ pub slice_get_push : {X : Type 0} (xs : List X) (y : X) → slice_get (xs ++ y �
 slice_get_push [] y = refl
 slice_get_push (x ∷ xs) y = slice_get_push xs y
 
--- an element of the longer list is an element of the shorter list or the new one
+-- an element of a list with y appended is an element of the list, or y at the last index
 pub slice_get_push_cases : {X : Type 0} (xs : List X) (y : X) (i : ℕ) (x : X) → slice_get (xs ++ y ∷ []) i ≡ Some x → (slice_get xs i ≡ Some x) ⊎ ((i ≡ length xs) × (y ≡ x))
 slice_get_push_cases [] y zero x e = inr (refl, same_Some y x e)
 slice_get_push_cases [] y (suc i) x e = absurd cc
@@ -30,7 +30,7 @@ slice_get-set_other (x ∷ xs) zero (suc k) y other = refl
 slice_get-set_other (x ∷ xs) (suc i) zero y other = refl
 slice_get-set_other (x ∷ xs) (suc i) (suc k) y other = slice_get-set_other xs i k y (λ e. other (ap suc e))
 
--- an element of the changed list is the new one at i, or an element of the old list at another place
+-- an element of a list that was set to y at i is y at i, or the list's element at another index
 pub slice_get_set_cases : {X : Type 0} (xs : List X) (i : ℕ) (y : X) (k : ℕ) (x : X) → slice_get (set xs i y) k ≡ Some x → ((k ≡ i) × (y ≡ x)) ⊎ ((k ≢ i) × (slice_get xs k ≡ Some x))
 slice_get_set_cases [] i y k x e = absurd cc
 slice_get_set_cases (z ∷ xs) zero y zero x e = inl (refl, same_Some y x e)
@@ -38,7 +38,7 @@ slice_get_set_cases (z ∷ xs) zero y (suc k) x e = inr (omega arith, e)
 slice_get_set_cases (z ∷ xs) (suc i) y zero x e = inr (omega arith, e)
 slice_get_set_cases (z ∷ xs) (suc i) y (suc k) x e = ⊎_elim (λ here. inl (ap suc here.0, here.1)) (λ there. inr (let other : k ≢ i = there.0 in omega arith, there.1)) (slice_get_set_cases xs i y k x e)
 
--- lists with equal elements by `slice_get` at every place
+-- lists with equal elements at each index are equal
 pub same_by_slice_get : {X : Type 0} (xs ys : List X) → ((i : ℕ) → slice_get xs i ≡ slice_get ys i) → xs ≡ ys
 same_by_slice_get [] [] same = refl
 same_by_slice_get [] (y ∷ ys) same = let e = same 0 in absurd cc

@@ -29,7 +29,7 @@ none_from_last_of (n ∷ m ∷ ns) e = let rest = none_from_last_of (m ∷ ns) e
 pub last_place : {X : Type 0} (test : X → Bool) (n : ℕ) (xs : List X) (j : ℕ) → last_of (places_from test n xs) ≡ Some j → IsPlace test n xs j
 last_place test n xs j e = place_at_In test n xs j (In-last_of (places_from test n xs) j e)
 
--- ---- m is the last place at which the test passes
+-- ---- the last place of a list at which the test passes
 pub record IsLast {X : Type 0} (test : X → Bool) (xs : List X) (m : ℕ) : Type 0 where
   pub inside : m < length xs
   pub passes : (d : X) → test (get_or xs m d) ≡ true
@@ -46,7 +46,7 @@ last_from test n (x ∷ xs) m last =
     let parts = places_from_split test n (x ∷ xs) m x last.inside in
     ap last_of (parts ∙ ap₂ (λ b ns. before ++ cons_if b (n + m) ns) (last.passes x) none) ∙ last_of_push before (n + m)
 
--- the last place is not below any other
+-- no place at which the test passes is above the last one
 pub last_of-greatest : {X : Type 0} (test : X → Bool) (n : ℕ) (xs : List X) (m k : ℕ) (d : X) → last_of (places_from test n xs) ≡ Some (n + m) → k < length xs → test (get_or xs k d) ≡ true → k ≤ m
 last_of-greatest test n xs m k d e inside passes =
     let before = places_from test n (take k xs) in
@@ -68,21 +68,21 @@ last_is test n xs m e =
       none_later = λ k d later inside. false_from_ne_true (test (get_or xs k d)) (λ passes. let low = last_of-greatest test n xs m k d e inside passes in omega arith);
     }
 
--- the same for the places from 0 on
+-- the last of the places counted from 0 is the last place at which the test passes
 pub last_where_is : {X : Type 0} (test : X → Bool) (xs : List X) (m : ℕ) → last_of (places_where test xs) ≡ Some m → IsLast test xs m
 last_where_is test xs m e = last_is test 0 xs m (e ∙ ap Some (sym (zero-add m)))
 
 pub last_where_from : {X : Type 0} (test : X → Bool) (xs : List X) (m : ℕ) → IsLast test xs m → last_of (places_where test xs) ≡ Some m
 last_where_from test xs m last = last_from test 0 xs m last ∙ ap Some (zero-add m)
 
--- if there is no last place, no element passes
+-- if there is no last place, each element fails the test
 pub none_where : {X : Type 0} (test : X → Bool) (xs : List X) → last_of (places_where test xs) ≡ None → (i : ℕ) (d : X) → i < length xs → test (get_or xs i d) ≡ false
 none_where test xs e i d inside = fails_everywhere test xs (none_from_last_of (places_where test xs) e) i d inside
 
 pub last_where_none : {X : Type 0} (test : X → Bool) (xs : List X) → ((i : ℕ) (d : X) → i < length xs → test (get_or xs i d) ≡ false) → last_of (places_where test xs) ≡ None
 last_where_none test xs none = ap last_of (places_from_none test 0 xs none)
 
--- one more element is the last place if it passes
+-- if an appended element passes the test, its place is the last one
 pub last_where_push : {X : Type 0} (test : X → Bool) (xs : List X) (y : X) → test y ≡ true → last_of (places_where test (xs ++ y ∷ [])) ≡ Some (length xs)
 last_where_push test xs y passes = ap last_of (places_where_push test xs y ∙ ap (λ b. places_where test xs ++ cons_if b (length xs) []) passes) ∙ last_of_push (places_where test xs) (length xs)
 

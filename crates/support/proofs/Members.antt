@@ -1,4 +1,4 @@
--- Membership after `++`, `map`, `flat_map` and `filter`, and by place.
+-- Lemmas about membership in lists built by `++`, `map`, `flat_map` and `filter`, and about membership by index.
 use Rattle.std.proofs.Common.{◌≡◌, ℕ, zero, suc, ◌+◌, ◌<◌, Bool, true, false, cond, ◌⊎◌, inl, inr, ⊎_elim, List, [], ◌∷◌, ◌++◌, map, filter, length, get_or, set, slice_get, Some, All, Contains, flat_map, refl, sym, ap, ap₂, subst, ◌∙◌, arith}
 use Rattle.std.specs.List.{enumerate_from, list_all, list_any}
 use Rattle.std.proofs.lemmas.Bool.{false_from_ne_true, and_parts, and_from, or_cases, or_left, or_right}
@@ -13,7 +13,7 @@ pub In-cons_cases : {X : Type 0} {x y : X} {xs : List X} → In x (y ∷ xs) →
 In-cons_cases here = inl refl
 In-cons_cases (there i) = inr i
 
--- ---- joined lists
+-- ---- members of joined lists
 pub In-append_left : {X : Type 0} {x : X} {xs : List X} (ys : List X) → In x xs → In x (xs ++ ys)
 In-append_left ys here = here
 In-append_left ys (there i) = there (In-append_left ys i)
@@ -40,7 +40,7 @@ In-set_cases (z ∷ xs) zero y (there at) = inr (there at)
 In-set_cases (z ∷ xs) (suc i) y here = inr here
 In-set_cases (z ∷ xs) (suc i) y (there at) = ⊎_elim (λ new. inl new) (λ old. inr (there old)) (In-set_cases xs i y at)
 
--- ---- lists mapped from another
+-- ---- members of `map` and `flat_map`
 pub In-map : {X Y : Type 0} (f : X → Y) {x : X} {xs : List X} → In x xs → In (f x) (map f xs)
 In-map f here = here
 In-map f (there i) = there (In-map f i)
@@ -58,7 +58,7 @@ pub In-flat_map_from : {X Y : Type 0} (f : X → List Y) {y : Y} (xs : List X) �
 In-flat_map_from f [] i = absurd (not_In_nil i)
 In-flat_map_from f (x ∷ xs) i = ⊎_elim (λ l. (x, here, l)) (λ r. let found = In-flat_map_from f xs r in (found.0, there found.1, found.2)) (In-append_cases (f x) (flat_map f xs) i)
 
--- an element that passes the filter remains, whatever is removed before it
+-- a member of a list is still a member if y is prepended to the list
 In-kept_behind : {X : Type 0} (b : Bool) {x : X} (y : X) {xs : List X} → In x xs → In x (cond b (y ∷ xs) xs)
 In-kept_behind true y i = there i
 In-kept_behind false y i = i
@@ -77,16 +77,16 @@ In-filter_from test [] i = absurd (not_In_nil i)
 In-filter_from test {x} (y ∷ xs) i =
     ⊎_elim (λ first. (subst (λ z. In x (z ∷ xs)) first.1 here, ap test first.1 ∙ first.0)) (λ later. let found = In-filter_from test xs later in (there found.0, found.1)) (In-cond_cases (test y) (filter test xs) i)
 
--- if the filter removes all elements, each element fails the test
+-- if the filtered list is empty, each element fails the test
 pub test_of_none : {X : Type 0} (test : X → Bool) (xs : List X) (x : X) → filter test xs ≡ [] → In x xs → test x ≡ false
 test_of_none test xs x none i = false_from_ne_true (test x) (λ passes. not_In_nil (subst (In x) none (In-filter test i passes)))
 
--- a filter removes nothing if each element passes
+-- the filtered list is the list itself if each element passes the test
 pub filter_all : {X : Type 0} (test : X → Bool) (xs : List X) → ((x : X) → In x xs → test x ≡ true) → filter test xs ≡ xs
 filter_all test [] each = refl
 filter_all test (x ∷ xs) each = ap₂ (λ b ys. cond b (x ∷ ys) ys) (each x here) (filter_all test xs (λ y i. each y (there i)))
 
--- ---- by place
+-- ---- members by index
 pub In-slice_get : {X : Type 0} (xs : List X) (i : ℕ) (x : X) → slice_get xs i ≡ Some x → In x xs
 In-slice_get [] i x e = absurd cc
 In-slice_get (y ∷ xs) zero x e = subst (λ z. In x (z ∷ xs)) (sym (same_Some y x e)) here
@@ -105,7 +105,7 @@ In-enumerate_from {X} n (y ∷ xs) zero x j e at =
     subst (λ (z : ℕ × X). In (j, x) (z ∷ enumerate_from (n + 1) xs)) entry here
 In-enumerate_from n (y ∷ xs) (suc i) x j e at = there (In-enumerate_from (n + 1) xs i x j e (omega arith))
 
--- `In` implies std's `Contains`
+-- a member of a list by `In` is a member by `Contains` of std
 pub Contains-from_In : {X : Type 0} {x : X} {xs : List X} → In x xs → Contains xs x
 Contains-from_In here = (0, omega arith, refl)
 Contains-from_In (there i) = let found = Contains-from_In i in (suc found.0, omega (arith, found.1), found.2)
@@ -113,7 +113,7 @@ Contains-from_In (there i) = let found = Contains-from_In i in (suc found.0, ome
 pub In-from_Contains : {X : Type 0} (xs : List X) (x : X) → Contains xs x → In x xs
 In-from_Contains xs x found = subst (λ y. In y xs) found.2 (In-get_or xs found.0 x found.1)
 
--- ---- tests on each element
+-- ---- a property that holds for all elements holds for each member
 pub All-at_In : {X : Type 0} (P : X → Type 0) {x : X} {xs : List X} → All P xs → In x xs → P x
 All-at_In P {x} {xs} each i = All-contains P xs x each (Contains-from_In i)
 

@@ -1,4 +1,4 @@
--- A list of numbers after those of one more slot were appended.
+-- The loop of `push_numbers`: the list of numbers after each slot.
 use Rattle.std.proofs.Common.{◌≡◌, ℕ, ◌+◌, ◌<◌, ◌≤◌, ◌==◌, ◌&&◌, if◌then◌else◌, ◌||◌, nat_lt, nat_eq, Bool, true, false, List, [], ◌∷◌, ◌++◌, length, get_or, take, is_some, Option, Some, None, ⊎_elim, refl, sym, ap, subst, ◌∙◌, arith}
 use Rattle.std.specs.List.{IsDistinct}
 use Rattle.std.specs.Map.{lookup}
@@ -13,7 +13,7 @@ use Rattle.support.specs.declared.entry.Entry.{Entry}
 use Rattle.support.specs.Entry.{has_number, value_or, entry_at, taken}
 use Rattle.support.specs.Numbered.{place_of, AreInPlace, value_at, count_of}
 
--- the numbers of the first i slots were appended to others
+-- the list has the numbers of the overflow map and those in the first i slots
 pub record ArePushed {V : Type 0} (slots : List (Option (Entry V))) (overflow numbers : List ℕ) (i : ℕ) : Type 0 where
   pub all : (n : ℕ) → is_member nat_eq numbers n ≡ (is_member nat_eq overflow n || (nat_lt (place_of n) i && has_number n (entry_at slots (place_of n))))
   pub once : IsDistinct nat_eq numbers
@@ -25,7 +25,7 @@ lt_more p i apart = ⊎_elim
     (λ high. let above : i + 1 ≤ p = ⊎_elim (λ e. absurd (apart e)) (λ other. omega (arith, high, other)) (cases_eq p i) in le-ltb p (i + 1) above ∙ sym (le-ltb p i high))
     (cases_lt p i)
 
--- a number that is not in slot i
+-- if number n is not in slot i, it is in the first i + 1 slots exactly when it is in the first i
 same_below : {V : Type 0} (slots : List (Option (Entry V))) (i n : ℕ) → has_number n (entry_at slots i) ≡ false
     → (nat_lt (place_of n) (i + 1) && has_number n (entry_at slots (place_of n))) ≡ (nat_lt (place_of n) i && has_number n (entry_at slots (place_of n)))
 same_below slots i n off = ⊎_elim
@@ -83,7 +83,7 @@ pushed_some slots overflow numbers i entry placed absent inside some pushed =
 pub nat_eq_flips : (n m : ℕ) → nat_eq n m ≡ nat_eq m n
 nat_eq_flips n m = ⊎_elim (λ e. eq-eqb n m e ∙ sym (eq-eqb m n (sym e))) (λ apart. ne_eqb n m apart ∙ sym (ne_eqb m n (λ e. apart (sym e)))) (cases_eq n m)
 
--- a number has a value if and only if it is in the map or in its slot
+-- a number has a value exactly when it is in the overflow map or in its slot
 value_there : {V : Type 0} (o : Option (Entry V)) (n : ℕ) (other : Option V) → is_some (value_or n o other) ≡ (is_some other || has_number n o)
 value_there None n other = sym (or_false (is_some other))
 value_there (Some entry) n other = elim (entry.number == n) as (λ b. is_some (if b then Some entry.value else other) ≡ (is_some other || b)) [ true ↦ sym (or_true (is_some other)) | false ↦ sym (or_false (is_some other)) ]
@@ -92,7 +92,7 @@ pub is_some_at : {V : Type 0} (slots : List (Option (Entry V))) (overflow : List
 unfolding value_at
 is_some_at slots overflow n = value_there (entry_at slots (place_of n)) n (lookup (nat_eq n) overflow)
 
--- the entry of a slot, as a loop over the slots reads it
+-- the slot that a loop over the slots reads at index i is slot i
 pub read_at : {V : Type 0} (read slots : List (Option (Entry V))) (i : ℕ) (o : Option (Entry V)) → read ≡ slots → o ≡ get_or read i o → i < length read → (i < length slots) × (entry_at slots i ≡ o)
 read_at read slots i o same is inside = subst (λ all. (i < length all) × (entry_at all i ≡ o)) same (inside, get_or_default read i None o inside ∙ sym is)
 

@@ -12,7 +12,7 @@ use Rattle.support.proofs.Members.{not_In_nil, In-get_or, Contains-from_In, filt
 pub one_more : (n p : ℕ) → n + suc p ≡ n + 1 + p
 one_more n p = omega arith
 
--- ---- one more number at the start
+-- ---- numbers with one prepended if a condition is true
 pub cons_if-append : (b : Bool) (n : ℕ) (ns ms : List ℕ) → cons_if b n (ns ++ ms) ≡ cons_if b n ns ++ ms
 cons_if-append true n ns ms = refl
 cons_if-append false n ns ms = refl
@@ -30,7 +30,7 @@ In-cons_if_cases true n ns here = inl (refl, refl)
 In-cons_if_cases true n ns (there i) = inr i
 In-cons_if_cases false n ns i = inr i
 
--- ---- two tests that agree at every place
+-- ---- tests that agree at every place pass at the same places
 pub places_from-agree_at : {X Y : Type 0} (p : X → Bool) (q : Y → Bool) (n : ℕ) (xs : List X) (ys : List Y) (d : X) (e : Y) → length xs ≡ length ys → ((i : ℕ) → i < length xs → p (get_or xs i d) ≡ q (get_or ys i e))
     → places_from p n xs ≡ places_from q n ys
 places_from-agree_at p q n [] [] d e long same = refl
@@ -47,7 +47,7 @@ pub places_from-map : {X Y : Type 0} (test : Y → Bool) (f : X → Y) (n : ℕ)
 places_from-map test f n [] = refl
 places_from-map test f n (x ∷ xs) = ap (cons_if (test (f x)) n) (places_from-map test f (n + 1) xs)
 
--- ---- joined lists
+-- ---- the places of joined lists
 pub places_from-append : {X : Type 0} (test : X → Bool) (n : ℕ) (xs ys : List X) → places_from test n (xs ++ ys) ≡ places_from test n xs ++ places_from test (n + length xs) ys
 places_from-append test n [] ys = let e : n ≡ n + 0 = omega arith in ap (λ k. places_from test k ys) e
 places_from-append test n (x ∷ xs) ys =
@@ -65,7 +65,7 @@ length-places_from test n (x ∷ xs) = length-cons_if (test x) n (places_from te
 pub length-places : {X : Type 0} (test : X → Bool) (xs : List X) → length (places_where test xs) ≡ count_by test xs
 length-places test xs = length-places_from test 0 xs
 
--- ---- the element at a place
+-- ---- each place is that of an element that passes
 pub record IsPlace {X : Type 0} (test : X → Bool) (n : ℕ) (xs : List X) (j : ℕ) : Type 0 where
   pub index : ℕ
   pub from : j ≡ n + index
@@ -89,7 +89,7 @@ In-places_from test n (x ∷ xs) zero d inside passes =
 In-places_from test n (x ∷ xs) (suc i) d inside passes =
     In-cons_if (test x) n (places_from test (n + 1) xs) (subst (λ k. In k (places_from test (n + 1) xs)) (sym (one_more n i)) (In-places_from test (n + 1) xs i d (omega arith) passes))
 
--- the places of xs are below its end
+-- the places of a list whose first place is n are at least n and below n plus its length
 pub places_from-below : {X : Type 0} (test : X → Bool) (n : ℕ) (xs : List X) {j : ℕ} → In j (places_from test n xs) → (n ≤ j) × (j < n + length xs)
 places_from-below test n xs {j} i = let place = place_at_In test n xs j i in (omega (arith, place.from), omega (arith, place.from, place.inside))
 
@@ -106,18 +106,18 @@ places_from-ascend test n [] i j d less inside = absurd (omega arith)
 places_from-ascend test n (x ∷ xs) i j d less inside =
     ascends (test x) n (places_from test (n + 1) xs) (λ k i. let low = (places_from-below test (n + 1) xs i).0 in omega arith) (places_from-ascend test (n + 1) xs) i j d less inside
 
--- if no element passes, there is no place
+-- if each element fails the test, there is no place
 pub places_from_none : {X : Type 0} (test : X → Bool) (n : ℕ) (xs : List X) → ((i : ℕ) (d : X) → i < length xs → test (get_or xs i d) ≡ false) → places_from test n xs ≡ []
 places_from_none test n [] none = refl
 places_from_none test n (x ∷ xs) none = ap₂ (λ b ns. cons_if b n ns) (none 0 x (omega arith)) (places_from_none test (n + 1) xs (λ i d inside. none (suc i) d (omega arith)))
 
--- ---- the list with another element at i
+-- ---- the places after the element at i is replaced
 pub places_from-set_same : {X : Type 0} (test : X → Bool) (n : ℕ) (xs : List X) (i : ℕ) (y d : X) → test y ≡ test (get_or xs i d) → places_from test n (set xs i y) ≡ places_from test n xs
 places_from-set_same test n [] i y d same = refl
 places_from-set_same test n (x ∷ xs) zero y d same = ap (λ b. cons_if b n (places_from test (n + 1) xs)) same
 places_from-set_same test n (x ∷ xs) (suc i) y d same = ap (cons_if (test x) n) (places_from-set_same test (n + 1) xs i y d same)
 
--- the places before i, i itself and those after it
+-- the places of a list are those before i, i if the element there passes, and those after i
 pub places_from_split : {X : Type 0} (test : X → Bool) (n : ℕ) (xs : List X) (i : ℕ) (d : X) → i < length xs
     → places_from test n xs ≡ places_from test n (take i xs) ++ cons_if (test (get_or xs i d)) (n + i) (places_from test (n + i + 1) (drop (suc i) xs))
 places_from_split test n [] i d inside = absurd (omega arith)
@@ -142,11 +142,11 @@ filter-cons_if_dropped : (keep : ℕ → Bool) (b : Bool) (n : ℕ) (ns : List �
 filter-cons_if_dropped keep true n ns dropped = ap (λ b. cond b (n ∷ filter keep ns) (filter keep ns)) dropped
 filter-cons_if_dropped keep false n ns dropped = refl
 
--- whether k differs from m
+-- whether k is not m
 abbrev pub is_other : ℕ → ℕ → Bool
 is_other m k = not (eqb k m)
 
--- a new element that fails removes its place
+-- replacing an element by one that fails removes its place
 pub places_from-set_fails : {X : Type 0} (test : X → Bool) (n : ℕ) (xs : List X) (i : ℕ) (y : X) → i < length xs → test y ≡ false → places_from test n (set xs i y) ≡ filter (is_other (n + i)) (places_from test n xs)
 places_from-set_fails test n [] i y inside fails = absurd (omega arith)
 places_from-set_fails test n (x ∷ xs) zero y inside fails =
@@ -171,7 +171,7 @@ above_middle before m behind k pairs i =
     let less = pairs (length before) (length before + suc found.0) k (omega arith) (omega (arith, found.1, length-append before (m ∷ behind))) in
     omega (arith, less, get_or-append-add before (m ∷ behind) (suc found.0) k, found.2, get_or_at before m behind k (length before) refl)
 
--- the same if the place is between others
+-- replacing an element by one that fails removes its place, and keeps the places before and after it
 pub places_from-set_removes : {X : Type 0} (test : X → Bool) (n : ℕ) (xs : List X) (i : ℕ) (y : X) (before behind : List ℕ) → i < length xs → test y ≡ false → places_from test n xs ≡ before ++ (n + i) ∷ behind
     → places_from test n (set xs i y) ≡ before ++ behind
 places_from-set_removes test n xs i y before behind inside fails e =
@@ -182,7 +182,7 @@ places_from-set_removes test n xs i y before behind inside fails e =
     let gone : filter keep ((n + i) ∷ behind) ≡ filter keep behind = filter-cons_if_dropped keep true (n + i) behind (ap not (eq-eqb (n + i) (n + i) refl)) in
     places_from-set_fails test n xs i y inside fails ∙ ap (filter keep) e ∙ filter-append keep before ((n + i) ∷ behind) ∙ ap₂ (λ ks ms. ks ++ ms) prefix (gone ∙ back)
 
--- a new element that passes, after all others that do, appends its place
+-- replacing an element by one that passes appends its place if no element at or after index i passed before
 pub places_from-set_last : {X : Type 0} (test : X → Bool) (n : ℕ) (xs : List X) (i : ℕ) (y : X) → i < length xs → test y ≡ true → ((k : ℕ) (d : X) → i ≤ k → k < length xs → test (get_or xs k d) ≡ false)
     → places_from test n (set xs i y) ≡ places_from test n xs ++ (n + i) ∷ []
 places_from-set_last test n [] i y inside passes none = absurd (omega arith)
@@ -194,7 +194,7 @@ places_from-set_last test n (x ∷ xs) (suc i) y inside passes none =
     ap (cons_if (test x) n) (places_from-set_last test (n + 1) xs i y (omega arith) passes (λ k d le lt. none (suc k) d (omega arith) (omega arith)) ∙ ap (λ k. places_from test (n + 1) xs ++ k ∷ []) (sym (one_more n i)))
     ∙ cons_if-append (test x) n (places_from test (n + 1) xs) ((n + suc i) ∷ [])
 
--- ---- the first place: its element passes, and the rest are the other places
+-- ---- the first place: the element there passes, and `rest` has the other places
 pub record IsFirstPlace {X : Type 0} (test : X → Bool) (n : ℕ) (xs : List X) (j : ℕ) (rest : List ℕ) : Type 0 where
   pub index : ℕ
   pub from : j ≡ n + index
@@ -223,7 +223,7 @@ first_place test n (x ∷ xs) j rest e =
     })
     (cases_Bool (test x))
 
--- ---- a property of numbers that holds for each place
+-- ---- a property that holds for all places holds for the place of each element that passes
 pub list_all_at_place : {X : Type 0} (good : ℕ → Bool) (test : X → Bool) (n : ℕ) (xs : List X) (i : ℕ) (d : X) → list_all good (places_from test n xs) ≡ true → i < length xs → test (get_or xs i d) ≡ true → good (n + i) ≡ true
 list_all_at_place good test n xs i d each inside passes = list_all_at_In good each (In-places_from test n xs i d inside passes)
 
@@ -231,7 +231,7 @@ pub list_all_from_places : {X : Type 0} (good : ℕ → Bool) (test : X → Bool
 list_all_from_places good test n xs d each =
     list_all_from_In good (places_from test n xs) (λ j i. let place = place_at_In test n xs j i in ap good place.from ∙ each place.index place.inside (place.passes d))
 
--- ---- if more elements pass p than q, one of them passes p and not q
+-- ---- if more elements pass p than q, some element passes p and fails q
 pub record PassesWithout {X : Type 0} (p q : X → Bool) (xs : List X) : Type 0 where
   pub index : ℕ
   pub inside : index < length xs
@@ -253,7 +253,7 @@ passes_without p q (x ∷ xs) more =
     (λ later. let found = passes_without p q xs later in record { index = suc found.index; inside = omega (arith, found.inside); passes = found.passes; fails = found.fails })
     (here_or_later (p x) (q x) (count_by q xs) (count_by p xs) (omega (arith, of_p, of_q)))
 
--- ---- the places from 0 on
+-- ---- the places counted from 0
 pub places_where-agree : {X : Type 0} (p q : X → Bool) (xs : List X) → ((x : X) → p x ≡ q x) → places_where p xs ≡ places_where q xs
 places_where-agree p q xs same = places_from-agree p q 0 xs same
 
@@ -299,7 +299,7 @@ places_where_none test xs none = places_from_none test 0 xs none
 pub fails_everywhere : {X : Type 0} (test : X → Bool) (xs : List X) → places_where test xs ≡ [] → (i : ℕ) (d : X) → i < length xs → test (get_or xs i d) ≡ false
 fails_everywhere test xs e i d inside = false_from_ne_true (test (get_or xs i d)) (λ passes. not_In_nil (subst (In i) e (In-places_where test xs i d inside passes)))
 
--- the first place
+-- j is the first place, and `rest` has the other places
 pub record IsFirst {X : Type 0} (test : X → Bool) (xs : List X) (j : ℕ) (rest : List ℕ) : Type 0 where
   pub inside : j < length xs
   pub passes : (d : X) → test (get_or xs j d) ≡ true

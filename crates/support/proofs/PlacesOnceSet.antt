@@ -1,4 +1,4 @@
--- The slots of a table after a change of one of them.
+-- The table of slots of an id map after one slot was replaced.
 use Rattle.std.proofs.Common.{◌≡◌, ℕ, ◌+◌, ◌<◌, ◌==◌, ◌⊎◌, true, false, cond, if◌then◌else◌, List, length, set, is_some, Option, Some, None, inl, inr, ⊎_elim, refl, sym, ap, ◌∙◌, arith}
 use Rattle.std.proofs.lemmas.Bool.{cases_lt, cases_eq, eq-eqb, eqb-true, ne_eqb}
 use Rattle.std.proofs.lemmas.List.{get_or-set_same, get_or-set_other, get_or_past, set_past}
@@ -7,7 +7,7 @@ use Rattle.support.specs.declared.entry.Entry.{Entry}
 use Rattle.support.specs.Entry.{has_number, is_free_for, value_in, with_value_in, value_or, entry_at, taken}
 use Rattle.support.specs.Numbered.{place_of}
 
--- ---- a slot gets another entry
+-- ---- the entries after slot p was replaced
 pub entry_once_set : {V : Type 0} (slots : List (Option (Entry V))) (p q : ℕ) (o : Option (Entry V)) → ((p ≡ q) × (entry_at (set slots p o) q ≡ o)) ⊎ (entry_at (set slots p o) q ≡ entry_at slots q)
 entry_once_set slots p q o = ⊎_elim
     (λ same. ⊎_elim
@@ -17,7 +17,7 @@ entry_once_set slots p q o = ⊎_elim
     (λ other. inr (get_or-set_other slots p q o None (λ e. other (sym e))))
     (cases_eq p q)
 
--- the slot keeps its number
+-- if the new entry of the slot has the same number as the old one, each slot has an entry for the same numbers as before
 pub has_once_stored : {V : Type 0} (slots : List (Option (Entry V))) (p : ℕ) (o : Option (Entry V)) → ((n : ℕ) → has_number n o ≡ has_number n (entry_at slots p)) → (n q : ℕ) → has_number n (entry_at (set slots p o) q) ≡ has_number n (entry_at slots q)
 has_once_stored slots p o same n q = ⊎_elim
     (λ here. ap (has_number n) here.1 ∙ same n ∙ ap (λ k. has_number n (entry_at slots k)) here.0)
@@ -36,7 +36,7 @@ pub is_some_value : {V : Type 0} (o : Option (Entry V)) → is_some (value_in o)
 is_some_value None = refl
 is_some_value (Some entry) = refl
 
--- the number of occupied slots
+-- the number of occupied slots after slot p was replaced
 pub taken_once_set : {V : Type 0} (slots : List (Option (Entry V))) (p : ℕ) (o : Option (Entry V)) → p < length slots → taken (set slots p o) + cond (is_some (entry_at slots p)) 1 0 ≡ taken slots + cond (is_some o) 1 0
 taken_once_set slots p o inside = sum_by-set (λ x. cond (is_some x) 1 0) slots p o None inside
 
@@ -59,7 +59,7 @@ is_inside slots p n has = ⊎_elim
     (λ past. let none : false ≡ true = ap (has_number n) (sym (get_or_past slots p None past)) ∙ has in absurd cc)
     (cases_lt p (length slots))
 
--- ---- the values after the slot of a number changes, if the map changes at no other number
+-- ---- the values after the slot of a number was replaced, if the overflow map changes at most for that number
 pub values_once_set : {V : Type 0} (slots : List (Option (Entry V))) (n : ℕ) (o : Option (Entry V)) (old new : ℕ → Option V) (r : Option V) → place_of n < length slots
     → ((q : ℕ) → value_or q o (new q) ≡ (if n == q then r else value_or q (entry_at slots (place_of n)) (old q)))
     → ((q : ℕ) → (n ≡ q → ⊥) → new q ≡ old q)
@@ -81,7 +81,7 @@ pub written_here : {V : Type 0} (o : Option (Entry V)) (n q : ℕ) (w : V) (othe
 written_here None n q w other has = absurd cc
 written_here (Some entry) n q w other has = if_same n entry.number q (Some w) (Some entry.value) other (eqb-true entry.number n has)
 
--- ---- a number is stored in a slot that is free or its own
+-- ---- a number that is stored in a slot that is free or already has it
 pub inserted_here : {V : Type 0} (o : Option (Entry V)) (n q : ℕ) (v : V) (old new : Option V) → is_free_for n o ≡ true → ((n ≡ q → ⊥) → new ≡ old)
     → (if n == q then Some v else new) ≡ (if n == q then Some v else value_or q o old)
 inserted_here None n q v old new free overflow = ⊎_elim

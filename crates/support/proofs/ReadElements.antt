@@ -1,9 +1,9 @@
--- Properties of the elements of a list that was read or checked.
+-- Lemmas about the values that `read_each` returns.
 use Rattle.std.proofs.Common.{◌≡◌, ℕ, zero, suc, ◌+◌, List, [], ◌∷◌, length, map, slice_get, Some, Result, Ok, refl, sym, ap, subst, ◌∙◌, arith, zero-add}
 use Rattle.support.specs.Reading.{read_each}
 use Rattle.support.proofs.Steps.{bind_ok, ok_injective}
 
--- the first value and the rest of a list that was read
+-- reading a list reads its first element, and then the other elements
 read_parts : {X Y F : Type 0} (read : ℕ → X → Result Y F) (n : ℕ) (x : X) (xs : List X) (ys : List Y) → read_each read n (x ∷ xs) ≡ Ok ys
     → (y : Y) × (rest : List Y) × (read n x ≡ Ok y) × (read_each read (n + 1) xs ≡ Ok rest) × (ys ≡ y ∷ rest)
 read_parts {F = F} read n x xs ys e =
@@ -11,14 +11,14 @@ read_parts {F = F} read n x xs ys e =
     let b = bind_ok (read_each read (n + 1) xs) _ _ a.2 in
     (a.0, b.0, a.1, b.1, sym (ok_injective {F = F} _ _ b.2))
 
--- there is one value for each element
+-- a list that was read has one value for each element
 pub read_length : {X Y F : Type 0} (read : ℕ → X → Result Y F) (n : ℕ) (xs : List X) (ys : List Y) → read_each read n xs ≡ Ok ys → length ys ≡ length xs
 read_length {F = F} read n [] ys e = ap (λ (zs : List _). length zs) (sym (ok_injective {F = F} _ _ e))
 read_length read n (x ∷ xs) ys e =
     let parts = read_parts read n x xs ys e in
     ap (λ (zs : List _). length zs) parts.4 ∙ ap (λ (m : ℕ). suc m) (read_length read (n + 1) xs parts.1 parts.3)
 
--- the value at an index was read from the element there
+-- the value at an index was read from the element at that index
 read_from : {X Y F : Type 0} (read : ℕ → X → Result Y F) (n : ℕ) (xs : List X) (ys : List Y) (i : ℕ) (y : Y) → read_each read n xs ≡ Ok ys → slice_get ys i ≡ Some y
     → (x : X) × (slice_get xs i ≡ Some x) × (read (n + i) x ≡ Ok y)
 read_from {F = F} read n [] ys i y e here =
@@ -44,7 +44,7 @@ read_at read xs ys i y e here =
     let found = read_from read 0 xs ys i y e here in
     (found.0, found.1, subst (λ (k : ℕ). read k found.0 ≡ Ok y) (zero-add i) found.2)
 
--- an image that each reading preserves is preserved for the list
+-- if reading an element preserves its image, the images of all values are the images of the elements
 read_images_from : {X Y Z F : Type 0} (read : ℕ → X → Result Y F) (f : X → Z) (g : Y → Z) (n : ℕ) (xs : List X) (ys : List Y) → ((i : ℕ) (x : X) (y : Y) → read i x ≡ Ok y → g y ≡ f x)
     → read_each read n xs ≡ Ok ys → map g ys ≡ map f xs
 read_images_from {F = F} read f g n [] ys same e = ap (map g) (sym (ok_injective {F = F} _ _ e))

@@ -1,4 +1,4 @@
--- A loop that reads the elements in order, if each call returns the value of a definition.
+-- The loop of `read_each`, and its result if each call returns what a definition gives.
 use Rattle.std.proofs.Common.{◌≡◌, ℕ, zero, suc, ◌+◌, ◌<◌, ◌≤◌, ◌⊎◌, inl, inr, List, [], ◌∷◌, ◌++◌, length, drop, map, slice_get, Some, Result, Ok, Err, refl, sym, ap, subst, ◌∙◌, append_assoc, add-one, arith}
 use Rattle.std.specs.Prelude.{Vec}
 use Rattle.std.specs.declared.alloc.Global.{Global}
@@ -10,16 +10,16 @@ use Rattle.support.specs.declared.read_error.ReadError.{ReadError}
 use Rattle.support.specs.declared.read_error.ReadError.TheVariants.{Memory, Fault}
 use Rattle.support.proofs.Loops.{drop_at}
 
--- the values of the first i elements; the result for the other elements determines the result for all
+-- the first i elements gave the values ys, and the result for the other elements determines the result for the whole list
 pub record ReadSoFar {X Y F : Type 0} (reads : ℕ → X → Result Y (ReadError F) → Type 0) (xs : List X) (i : ℕ) (ys : List Y) : Type 0 where
   pub gives : (rest : List Y) → AllReturned reads i (drop i xs) rest → AllReturned reads 0 xs (ys ++ rest)
   pub fails : (fault : F) → OneFailed reads i (drop i xs) fault → OneFailed reads 0 xs fault
 
--- before the first element
+-- `ReadSoFar` holds before the first element is read
 pub read_begins : {X Y F : Type 0} (reads : ℕ → X → Result Y (ReadError F) → Type 0) (xs : List X) → ReadSoFar reads xs 0 []
 read_begins reads xs = record { gives = λ rest h. h; fails = λ fault h. h }
 
--- after one more element
+-- `ReadSoFar` holds after one more element is read
 pub read_continues : {X Y F : Type 0} (reads : ℕ → X → Result Y (ReadError F) → Type 0) (xs : List X) (i : ℕ) (ys : List Y) (x : X) (y : Y) → slice_get xs i ≡ Some x → reads i x (Ok y)
     → ReadSoFar reads xs i ys → ReadSoFar reads xs (i + 1) (ys ++ y ∷ [])
 read_continues reads xs i ys x y here gave prior =
@@ -29,14 +29,14 @@ read_continues reads xs i ys x y here gave prior =
       fails = λ fault h. prior.fails fault (subst (λ (zs : List _). OneFailed reads i zs fault) (sym later) (inr (y, gave, h)));
     }
 
--- the error of an element is the error of the list
+-- the error of reading an element is the error of reading the list
 pub read_stops : {X Y F : Type 0} (error : ReadError F) (reads : ℕ → X → Result Y (ReadError F) → Type 0) (xs : List X) (i : ℕ) (ys : List Y) (x : X) → slice_get xs i ≡ Some x → reads i x (Err error)
     → ReadSoFar reads xs i ys → EachReturned {Y = Y} reads xs (Err error)
 read_stops Memory reads xs i ys x here failed prior = tt
 read_stops (Fault fault) reads xs i ys x here failed prior =
     prior.fails fault (subst (λ (zs : List _). OneFailed reads i zs fault) (sym (drop_at xs i x here)) (inl failed))
 
--- after the last element
+-- no values are left after the last element
 none_left : {X Y F : Type 0} (reads : ℕ → X → Result Y (ReadError F) → Type 0) (n : ℕ) (xs : List X) (i : ℕ) → length xs ≤ i → AllReturned reads n (drop i xs) []
 none_left reads n [] zero past = tt
 none_left reads n [] (suc i) past = tt
@@ -46,9 +46,9 @@ none_left reads n (x ∷ xs) (suc i) past = none_left reads n xs i (omega (arith
 pub read_ends : {X Y F : Type 0} (reads : ℕ → X → Result Y (ReadError F) → Type 0) (xs : List X) (i : ℕ) (ys : List Y) → length xs ≤ i → ReadSoFar reads xs i ys → AllReturned reads 0 xs ys
 read_ends reads xs i ys past prior = subst (λ (zs : List _). AllReturned reads 0 xs zs) (append-nil ys) (prior.gives [] (none_left reads i xs i past))
 
--- ---- each call returns the value of a definition
+-- ---- calls that return what a definition gives
 module _ {X Y Z W F : Type 0} (reads : ℕ → X → Result Y (ReadError F) → Type 0) (seen : X → Z) (view : Y → W) (read : ℕ → Z → Result W F) where
-  -- a call returns the value of the definition
+  -- each call returns what the definition gives for its element
   abbrev pub GivesOne : Type 0
   GivesOne = (i : ℕ) (x : X) (given : Result Y (ReadError F)) → reads i x given → Gives view given (read i (seen x))
 
@@ -68,7 +68,8 @@ module _ {X Y Z W F : Type 0} (reads : ℕ → X → Result Y (ReadError F) → 
   each_given one xs (Err Memory) h = tt
   each_given one xs (Err (Fault fault)) h = one_failed one 0 xs fault h
 
-  -- so does the loop
+  -- if each call returns what the definition gives, the loop's result is what the definition gives for the list, with views of elements and
+  -- values
   pub gives_each_viewed : GivesOne → (xs : List X) (result : Result (Vec Y Global) (ReadError F)) → IsReadOfEach reads xs result → Gives (λ ys. map view ys.items) result (read_each read 0 (map seen xs))
   gives_each_viewed one xs result h = each_given one xs result h.outcome
 
@@ -80,12 +81,13 @@ values_same : {Y F : Type 0} (read : Result (List Y) F) (result : Result (Vec Y 
 values_same read (Ok ys) h = h ∙ ap (λ (zs : List _). Ok zs) (map_same ys.items)
 values_same read (Err error) h = h
 
--- the same if the values need no view
+-- if each call returns what the definition gives, the loop's result is what the definition gives for the list, with a view of the elements
+-- only
 pub gives_each_seen : {X Y Z F : Type 0} (reads : ℕ → X → Result Y (ReadError F) → Type 0) (seen : X → Z) (read : ℕ → Z → Result Y F) → GivesOne reads seen (λ y. y) read
     → (xs : List X) (result : Result (Vec Y Global) (ReadError F)) → IsReadOfEach reads xs result → Gives (λ ys. ys.items) result (read_each read 0 (map seen xs))
 gives_each_seen reads seen read one xs result h = values_same _ result (gives_each_viewed reads seen (λ y. y) read one xs result h)
 
--- the same if the elements need no view either
+-- if each call returns what the definition gives, the loop's result is what the definition gives for the list, without views
 pub gives_each : {X Y F : Type 0} (reads : ℕ → X → Result Y (ReadError F) → Type 0) (read : ℕ → X → Result Y F) → GivesOne reads (λ x. x) (λ y. y) read
     → (xs : List X) (result : Result (Vec Y Global) (ReadError F)) → IsReadOfEach reads xs result → Gives (λ ys. ys.items) result (read_each read 0 xs)
 gives_each reads read one xs result h = subst (λ (zs : List _). Gives (λ ys. ys.items) result (read_each read 0 zs)) (map_same xs) (gives_each_seen reads (λ x. x) read one xs result h)

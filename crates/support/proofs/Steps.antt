@@ -1,4 +1,4 @@
--- Steps that run in order.
+-- Lemmas about steps that run in order.
 use Rattle.std.proofs.Common.{◌≡◌, Bool, true, false, Option, None, Some, Result, Ok, Err, refl}
 use Rattle.support.specs.declared.read_error.ReadError.{ReadError}
 use Rattle.support.specs.declared.read_error.ReadError.TheVariants.{Memory, Fault}
@@ -8,31 +8,31 @@ use Rattle.support.specs.Results.{Fails}
 abbrev pub given : {A F : Type 0} → A → Result A F
 given x = Ok x
 
--- a result has one value
+-- equal successful results have equal values
 pub ok_injective : {A F : Type 0} (x y : A) → given {F = F} x ≡ given y → x ≡ y
 ok_injective x y e = cc
 
--- if two steps succeed, the second used the value of the first
+-- if two steps succeed, the first has a value, and the second succeeds with it
 pub bind_ok : {A B F : Type 0} (r : Result A F) (f : A → Result B F) (y : B) → (r >>= f) ≡ Ok y → (x : A) × (r ≡ Ok x) × (f x ≡ Ok y)
 bind_ok (Ok x) f y e = (x, refl, e)
 bind_ok (Err fault) f y e = absurd cc
 
--- the same in continuation-passing style
+-- if two steps succeed, the first has a value, and the second succeeds with it, in continuation-passing style
 pub bind_ok_then : {A B F P : Type 0} (r : Result A F) (f : A → Result B F) (y : B) → (r >>= f) ≡ Ok y → ((x : A) → r ≡ Ok x → f x ≡ Ok y → P) → P
 bind_ok_then (Ok x) f y e next = next x refl e
 bind_ok_then (Err fault) f y e next = absurd cc
 
--- a test without a fault holds
+-- if `ensure` succeeds, the condition is true
 pub holds_ok : {F : Type 0} (b : Bool) (fault : F) → ensure b fault ≡ Ok tt → b ≡ true
 holds_ok true fault e = refl
 holds_ok false fault e = absurd cc
 
--- a value without a fault is present
+-- if `ok_or` succeeds, the option has the value
 pub some_ok : {A F : Type 0} (o : Option A) (fault : F) (x : A) → ok_or o fault ≡ Ok x → o ≡ Some x
 some_ok (Some y) fault x e = cc
 some_ok None fault x e = absurd cc
 
--- the error of a step ends the steps
+-- if the first step fails, all steps fail with its error
 pub fails_first : {A B F : Type 0} (error : ReadError F) (r : Result A F) (next : A → Result B F) → Fails error r → Fails error (r >>= next)
 fails_first Memory r next h = tt
 fails_first (Fault fault) r next h = rw h refl

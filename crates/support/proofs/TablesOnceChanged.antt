@@ -1,4 +1,4 @@
--- A table after a change.
+-- An id map after one of its operations.
 use Rattle.std.proofs.Common.{◌≡◌, ℕ, ◌+◌, ◌<◌, ◌==◌, ◌&&◌, nat_lt, Bool, true, false, cond, if◌then◌else◌, List, [], ◌∷◌, length, set, is_some, IsSome, Option, Some, None, nat_eq, ⊎_elim, refl, sym, ap, subst, ◌∙◌, arith}
 use Rattle.std.specs.Map.{lookup, set_value}
 use Rattle.std.proofs.lemmas.Bool.{cases_eq, cases_lt, lt-ltb, eq-eqb, eqb-true, ne_eqb}
@@ -10,7 +10,7 @@ use Rattle.support.specs.Entry.{has_number, is_free_for, value_in, with_value_in
 use Rattle.support.specs.Numbered.{Numbered, place_of, value_at, count_of, IsTable, IsWritten}
 use Rattle.support.proofs.PlacesOnceSet.{entry_once_set, has_once_stored, has_written, is_some_written, taken_once_set, taken_once_stored, is_inside, values_once_set, written_here, inserted_here}
 
--- ---- another value of a number in its slot
+-- ---- the slot of a number gets another value
 pub table_stored : {V : Type 0} (slots : List (Option (Entry V))) (overflow : List (ℕ × V)) (p : ℕ) (o : Option (Entry V)) → IsTable slots overflow → ((n : ℕ) → has_number n o ≡ has_number n (entry_at slots p)) → IsTable (set slots p o) overflow
 table_stored slots overflow p o table same = record {
   in_place = λ q n has. table.in_place q n (sym (has_once_stored slots p o same n q) ∙ has);
@@ -34,7 +34,7 @@ written_in_place slots overflow n w has =
       count = ap (λ k. k + length overflow) (taken_once_stored slots (place_of n) (with_value_in o w) (is_some_written o w));
     }
 
--- the same for equal expressions of the slot and its entry
+-- the map after the value in the slot of a number was replaced by w, for any expressions that are equal to the slot's index and entry
 pub written_there : {V : Type 0} (slots : List (Option (Entry V))) (overflow : List (ℕ × V)) (n p : ℕ) (o : Option (Entry V)) (w : V) → has_number n (entry_at slots (place_of n)) ≡ true → p ≡ place_of n → o ≡ entry_at slots p
     → IsWritten (record { slots = slots; overflow = overflow }) n w (record { slots = set slots p (with_value_in o w); overflow = overflow })
 written_there slots overflow n p o w has here is =
@@ -42,7 +42,7 @@ written_there slots overflow n p o w has here is =
     let same : set slots p (with_value_in o w) ≡ set slots (place_of n) (with_value_in (entry_at slots (place_of n)) w) = ap (λ k. set slots k (with_value_in o w)) here ∙ ap (λ e. set slots (place_of n) (with_value_in e w)) entry in
     subst (λ xs. IsWritten (record { slots = slots; overflow = overflow }) n w (record { slots = xs; overflow = overflow })) (sym same) (written_in_place slots overflow n w has)
 
--- ---- another value of a number in the map
+-- ---- a number in the overflow map gets another value
 none_written : {V : Type 0} (n m : ℕ) (overflow : List (ℕ × V)) (w : V) → lookup (nat_eq m) overflow ≡ None → lookup (nat_eq m) (set_value (nat_eq n) overflow w) ≡ None
 none_written n m [] w none = refl
 none_written n m (e ∷ es) w none = grind (arith, none, none_written n m es w)
@@ -57,7 +57,7 @@ value_or_other : {V : Type 0} (o : Option (Entry V)) (n : ℕ) (other : Option V
 value_or_other None n other off = refl
 value_or_other (Some entry) n other off = ap (λ b. if b then Some entry.value else other) off
 
--- the values after a number in the map gets another value
+-- the value of each number after number n in the overflow map got value w
 found_aside : {V : Type 0} (o : Option (Entry V)) (n q : ℕ) (w : V) (old new : Option V) → (n ≡ q → has_number q o ≡ false) → new ≡ (if n == q then Some w else old) → value_or q o new ≡ (if n == q then Some w else value_or q o old)
 found_aside o n q w old new off is = ⊎_elim
     (λ e.
@@ -113,7 +113,7 @@ table_inserted {V} slots overflow left n v table away =
 abbrev one_more : Bool → ℕ
 one_more found = if found then 0 else 1
 
--- the number had its value in its slot or in the map, but not in both
+-- storing n in its slot, which is free or already has n, increases the count by one exactly when n had no value before
 counted_here : {V : Type 0} (o : Option (Entry V)) (n taken_before taken_after long left : ℕ) (other : Option V) → is_free_for n o ≡ true → (has_number n o ≡ true → other ≡ None)
     → taken_after + cond (is_some o) 1 0 ≡ taken_before + 1 → left + (if is_some other then 1 else 0) ≡ long
     → taken_after + left ≡ taken_before + long + (if is_some (value_or n o other) then 0 else 1)
@@ -125,7 +125,7 @@ counted_here {V} (Some entry) n before after long left None free once counts len
     let one : one_more (is_some {T = V} (if entry.number == n then Some entry.value else None)) ≡ 0 = ap one_more found in
     omega (arith, counts, lengths, one)
 
--- the number has the value, and the count grows by one if it had none before
+-- number n has value v, and the count grew by one exactly when n had no value before
 pub record IsPut {V : Type 0} (old : Numbered V) (n : ℕ) (v : V) (new : Numbered V) : Type 0 where
   pub values : (q : ℕ) → value_at new q ≡ (if n == q then Some v else value_at old q)
   pub count : count_of new ≡ count_of old + (if is_some (value_at old n) then 0 else 1)
@@ -147,7 +147,7 @@ inserted_in_place {V} slots laid overflow left n v table same inside free away l
       count = counts ∙ ap (λ k. k + length overflow + one_more (is_some (value_or n e (looked n)))) same.count ∙ ap (λ x. taken slots + length overflow + one_more (is_some (value_or n x (looked n)))) (same.each (place_of n));
     }
 
--- ---- a number whose slot is occupied is stored in the map
+-- ---- a number whose slot another number occupies is stored in the overflow map
 pub table_aside : {V : Type 0} (slots : List (Option (Entry V))) (overflow more : List (ℕ × V)) (n : ℕ) (v : V) → IsTable slots overflow → has_number n (entry_at slots (place_of n)) ≡ false
     → ((q : ℕ) → lookup (nat_eq q) more ≡ (if n == q then Some v else lookup (nat_eq q) overflow)) → IsTable slots more
 table_aside slots overflow more n v table off is = record {
@@ -161,7 +161,7 @@ not_free : {V : Type 0} (o : Option (Entry V)) (n : ℕ) → is_free_for n o ≡
 not_free None n barred = absurd cc
 not_free (Some entry) n barred = barred
 
--- if the number cannot be stored in its slot, the slot holds another number
+-- if a number cannot be stored in its slot, it is not in its slot
 pub not_there : {V : Type 0} (slots : List (Option (Entry V))) (n : ℕ) → (nat_lt (place_of n) (length slots) && is_free_for n (entry_at slots (place_of n))) ≡ false → has_number n (entry_at slots (place_of n)) ≡ false
 not_there slots n barred = ⊎_elim
     (λ inside. not_free (entry_at slots (place_of n)) n (sym (ap (λ b. b && is_free_for n (entry_at slots (place_of n))) (lt-ltb (place_of n) (length slots) inside)) ∙ barred))

@@ -1,4 +1,4 @@
--- The final state of a slot that returns a `&mut` to its value.
+-- The final value of a slot for which `value_in` returned a `&mut` to its value.
 use Rattle.std.specs.Prelude.{Option}
 use Rattle.std.specs.Borrow.{LendsIf, Fml, RattleType, MutBor}
 use Rattle.std.specs.contracts.option.Option.{the_row as OptionOf}

@@ -1,8 +1,8 @@
--- The names of the faults by their numbers, and the start of a fault's text.
+-- The names of the faults by their numbers, and the start of the text of a fault.
 use Rattle.std.specs.Prelude.{ℕ, ◌==◌, ◌++◌, List, if◌then◌else◌, codes, decimal}
 use Rattle.support.specs.declared.number.TheConstants.{NOT_TOML, TOO_MANY, UNKNOWN_KEY, MISSING_KEY, WRONG_TYPE, BAD_NAME, DOUBLE_NAME, BAD_NUMBER, NO_SUCH_POOL, NO_SUCH_CLASS, BAD_ACTION, SLOT_OPEN, SLOT_EMPTY, MEMORY, NOT_JSON, WRONG_SHAPE, WEIGHT_TOO_LARGE, VERSION, CERT_TOO_LONG, RUN_TOO_LARGE, STRANGE, MIXED, GATE, NO_SEPARATOR, BAD_EVENT, INPUT_TOO_LONG, BAD_RECORDING, READ_FAILED, WRITE_FAILED}
 
--- the name of the fault with this number
+-- the name of the fault with this number; `Unknown` if no fault has it
 abbrev pub name_of : ℕ → List ℕ
 name_of number =
     if number == NOT_TOML then codes "NotToml" else (
@@ -36,6 +36,6 @@ name_of number =
     if number == WRITE_FAILED then codes "WriteFailed" else (
     codes "Unknown")))))))))))))))))))))))))))))
 
--- `fault N NAME`
+-- the start of the text of a fault: `fault NUMBER NAME`
 abbrev pub head : ℕ → List ℕ
 head number = codes "fault " ++ decimal number ++ codes " " ++ name_of number

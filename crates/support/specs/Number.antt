@@ -1,8 +1,8 @@
--- The numbers of the faults. Definitions and code use the constants.
+-- The numbers of the faults. Other definitions, and the code, use the constants.
 use Rattle.std.specs.Prelude.{◌≡◌}
 use Rattle.support.specs.declared.number.TheConstants as fault
 
--- the number of each fault
+-- the number of each fault, as documented
 pub record FaultNumbersAreStated : Type 0 where
   pub not_toml : fault.NOT_TOML ≡ 1
   pub too_many : fault.TOO_MANY ≡ 2

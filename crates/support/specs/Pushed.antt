@@ -1,4 +1,4 @@
--- The text that a call appends.
+-- The bytes that a call appends to a text.
 use Rattle.std.specs.Prelude.{◌≡◌, ◌++◌, ℕ, List, Result, String, OnOk, string_bytes}
 
 -- if the call succeeds, the new text is the old text followed by these bytes

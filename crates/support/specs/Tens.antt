@@ -1,7 +1,7 @@
--- A number in two parts: its tens, and its last digit.
+-- The decimal digits of a number except the last.
 use Rattle.std.specs.Prelude.{ℕ, ◌==◌, if◌then◌else◌, List, []}
 use Rattle.std.specs.Fmt.{decimal}
 
--- the digits before the last one: none for a number below 10
+-- the decimal digits of a number except the last one, given its tens (the number divided by 10); empty if the tens are 0
 abbrev pub tens_text : ℕ → List ℕ
 tens_text tens = if tens == 0 then [] else decimal tens

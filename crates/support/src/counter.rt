@@ -1,4 +1,4 @@
-//! A counter with a cached text.
+//! A counter that stores its value as text, for fast printing.
 
 ghost use Rattle.std.specs.Prelude.{◌≡◌, ◌+◌, ◌<◌, ◌^◌, OnOk, OnErr, decimal};
 ghost use Rattle.support.specs.Pushed.{Pushes};
@@ -7,9 +7,9 @@ use itoa::Buffer;
 use std::alloc::{AllocError, Global};
 use std::marker::Model;
 
-/// A counter that counts up by one.
+/// A counter from 0 to `u64::MAX` that increases by one at a time.
 ///
-/// Stores the text of all digits except the last. That text changes only with every tenth number.
+/// Stores all digits except the last as text, which changes only at each tenth increment.
 #[derive(Drop)]
 pub struct Counter {
     prefix: String,
@@ -71,11 +71,12 @@ impl Counter {
         self.tens * 10 + u64::from(self.last_digit)
     }
 
-    /// Appends the number in decimal digits.
+    /// Appends the value in decimal digits.
     ///
     /// # Errors
     ///
-    /// Returns [`AllocError`] if memory runs out. The text may then end with the first digits.
+    /// Returns [`AllocError`] if memory runs out. The text may then end with all digits except the
+    /// last.
     #[inline(always)]
     #[tactic(auto, using(crate::proofs::Counting::tens_text_digit))]
     pub fn push_to(&self, text: &mut String) -> Result<(), AllocError>

@@ -1,5 +1,5 @@
-//! Decimal numbers in the texts of answers. A general formatter, which supports any value and
-//! padding, would take about thirty more instructions for each number.
+//! Appends numbers in decimal digits. A general formatter, which supports any value and padding,
+//! would take about thirty more instructions for each number.
 
 ghost use Rattle.std.specs.Prelude.{◌≡◌, OnErr, string_bytes, decimal};
 ghost use Rattle.support.specs.Pushed.{Pushes};

@@ -1,4 +1,4 @@
-//! Reading the elements of a list in order.
+//! The function that reads the elements of a list in order.
 
 ghost use Rattle.std.specs.Prelude.{◌≡◌};
 ghost use Rattle.std.specs.Borrow.{Bor};
@@ -7,8 +7,7 @@ ghost use Rattle.support.specs.Each.{IsReadOfEach};
 use crate::ReadError;
 use std::alloc::Global;
 
-/// Reads each element and returns the values, or the first error. Calls the reader with each
-/// element and its index.
+/// Calls `read` with each element and its index, in order. Returns the values, or the first error.
 pub fn read_each<'a, X, Y: Drop, F, R>(
     alloc: Global,
     elements: &'a [X],

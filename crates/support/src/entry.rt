@@ -1,4 +1,4 @@
-//! A slot of a table.
+//! A slot of an [`IdMap`](crate::IdMap).
 
 ghost use Rattle.std.specs.Prelude.{◌≡◌, None};
 ghost use Rattle.std.specs.Option.{option_copied_mut};
@@ -6,14 +6,14 @@ ghost use Rattle.std.specs.Borrow.{sem};
 ghost use Rattle.support.specs.Entry.{has_number, is_free_for, value_in};
 ghost use Rattle.support.specs.MutEntry.{returns_mut_value_in};
 
-/// A number with its value.
+/// An entry of a map: a number and its value.
 #[derive(Drop)]
 pub(crate) struct Entry<V> {
     pub(crate) number: usize,
     pub(crate) value: V,
 }
 
-/// Returns whether the slot holds the number.
+/// Returns whether the slot has an entry for this number.
 #[inline(always)]
 pub(crate) fn has_number<V>(slot: &Option<Entry<V>>, number: usize) -> bool
     ensures { result ≡ has_number number slot.now }
@@ -24,7 +24,7 @@ pub(crate) fn has_number<V>(slot: &Option<Entry<V>>, number: usize) -> bool
     }
 }
 
-/// Returns whether the slot is free or holds the number.
+/// Returns whether the slot is free or has an entry for this number.
 #[inline(always)]
 pub(crate) fn is_free_for<V>(slot: &Option<Entry<V>>, number: usize) -> bool
     ensures { result ≡ is_free_for number slot.now }
@@ -35,7 +35,7 @@ pub(crate) fn is_free_for<V>(slot: &Option<Entry<V>>, number: usize) -> bool
     }
 }
 
-/// Returns a mutable reference to the value in the slot.
+/// Returns a mutable reference to the value in the slot, or `None` if the slot is free.
 #[inline(always)]
 pub(crate) fn value_in<V>(slot: &mut Option<Entry<V>>) -> Option<&mut V>
     ensures* writes_back { sem 𝓛 (returns_mut_value_in V.row slot.entry result) }
@@ -47,7 +47,7 @@ pub(crate) fn value_in<V>(slot: &mut Option<Entry<V>>) -> Option<&mut V>
     }
 }
 
-/// Frees the slot and returns its value.
+/// Frees the slot and returns the value that was in it, or `None` if the slot was free.
 #[inline(always)]
 pub(crate) fn take_value<V>(slot: &mut Option<Entry<V>>) -> Option<V>
     ensures value { result ≡ value_in slot.old }

@@ -1,4 +1,4 @@
-//! The start of a fault's text.
+//! The start of the text of a fault.
 
 ghost use Rattle.std.specs.Prelude.{Some};
 ghost use Rattle.support.specs.Name as spec;
@@ -6,8 +6,8 @@ ghost use Rattle.support.specs.Name as spec;
 use crate::name_of;
 use std::fmt;
 
-/// The number and name at the start of a fault's text, such as `fault 6 BadName`. The place of the
-/// fault can follow.
+/// The number and name at the start of the text of a fault, such as `fault 6 BadName`. The position
+/// of the fault can follow.
 #[derive(Clone, Copy, PartialEq, Eq)]
 pub struct FaultHead(pub u8);
 

@@ -1,4 +1,4 @@
-//! A table of values by number.
+//! A map from numbers to values.
 
 ghost use Rattle.std.specs.Prelude.{◌≡◌, ◌+◌, ℕ, None, Some, OnOk, OnErr, IfOk, length, nat_eq, if◌then◌else◌, ◌==◌, is_some, []};
 ghost use Rattle.std.specs.Option.{option_copied, option_copied_mut};
@@ -12,16 +12,17 @@ use crate::places::{allocate, can_store, is_in_slot, place_of, push_numbers, sto
 use std::alloc::{AllocError, Global};
 use std::marker::Model;
 
-/// A map from numbers to values, for numbers of which few are in use at once, most of them close to
-/// each other. Most look-ups then take an index and no hash.
+/// A map from numbers to values. It is fast if few numbers have values at once and most of these
+/// numbers are close to each other: most look-ups then take an index and no hash.
 ///
-/// The slot of a number is the number modulo the length of the table. A look-up checks that slot
-/// first. If another number occupies it, the value is in a map.
+/// The slot of a number is the number modulo the length of the table of slots. If that slot is
+/// occupied when the number is inserted, the value is stored in the overflow map. A look-up checks
+/// the slot first.
 #[derive(Drop)]
 pub struct IdMap<V> {
-    // Empty until the first insertion.
+    // The table of slots. Empty until the first insertion.
     slots: Vec<Option<Entry<V>>>,
-    // The numbers whose slot was occupied. None of them is in its slot too.
+    // The values of the numbers whose slot was occupied. No number is both here and in its slot.
     overflow: OverflowMap<V>,
 }
 
@@ -41,7 +42,7 @@ impl<V> IdMap<V> {
     ghost use Rattle.support.specs.Numbered.{value_at, count_of};
     ghost use Rattle.support.specs.MutValue.{returns_mut_value};
 
-    /// Creates an empty table.
+    /// Creates an empty map.
     #[tactic(auto, unfolding(crate::specs::Numbered::value_at, crate::specs::Numbered::count_of))]
     pub fn new(alloc: Global) -> IdMap<V>
         ensures values { (n : ℕ) → value_at result n ≡ None }
@@ -53,7 +54,7 @@ impl<V> IdMap<V> {
         }
     }
 
-    /// Returns the value of this number.
+    /// Returns the value of this number, or `None` if it has none.
     #[inline(always)]
     #[tactic(auto, unfolding(crate::specs::Numbered::value_at))]
     pub fn get(&self, number: usize) -> Option<&V>
@@ -80,7 +81,7 @@ impl<V> IdMap<V> {
         self.get(number).is_some()
     }
 
-    /// Returns a mutable reference to the value of this number.
+    /// Returns a mutable reference to the value of this number, or `None` if it has none.
     #[inline(always)]
     pub fn get_mut(&mut self, number: usize) -> Option<&mut V>
         ensures* writes_back { sem 𝓛 (returns_mut_value V.row self.entry number result) }
@@ -92,11 +93,11 @@ impl<V> IdMap<V> {
         self.overflow.get_mut(number)
     }
 
-    /// Sets the value of this number.
+    /// Sets the value of this number, replacing an earlier value.
     ///
     /// # Errors
     ///
-    /// Returns `AllocError` if memory runs out. The table is then unchanged.
+    /// Returns `AllocError` if memory runs out. The map is then unchanged.
     #[inline(always)]
     #[tactic(auto, unfolding(crate::specs::Numbered::value_at, crate::specs::Numbered::count_of))]
     pub fn insert(&mut self, number: usize, value: V) -> Result<(), AllocError>
@@ -121,7 +122,7 @@ impl<V> IdMap<V> {
         Ok(())
     }
 
-    /// Removes the entry and returns its value.
+    /// Removes the entry of this number and returns its value, or `None` if it has none.
     #[inline(always)]
     #[tactic(auto, unfolding(crate::specs::Numbered::value_at, crate::specs::Numbered::count_of))]
     pub fn remove(&mut self, number: usize) -> Option<V>
@@ -139,7 +140,7 @@ impl<V> IdMap<V> {
         self.overflow.remove(number)
     }
 
-    /// Returns the numbers that have a value, each once, in ascending order.
+    /// Returns the numbers that have a value, in ascending order.
     ///
     /// # Errors
     ///

@@ -1,7 +1,7 @@
 //! Definitions and helpers that most other crates share.
 //!
-//! Lemmas on lists whose elements are known by index, [`IdMap`], which maps ids to values, the numbers of faults and the
-//! first line of an error, and numbers in decimal digits.
+//! Lemmas about lists whose elements are given by index, [`IdMap`], the numbers and names of faults, the start of a
+//! fault's text, and numbers in decimal digits.
 #![tactic(auto)]
 
 mod counter;

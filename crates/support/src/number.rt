@@ -2,19 +2,20 @@
 
 // ---- faults of a plan
 
-/// The text is not UTF-8, or not TOML.
+/// The text of a plan is not UTF-8, or not TOML.
 pub const NOT_TOML: u8 = 1;
-/// The text is too long, a list has too many entries, or a body has too many actions.
+/// The text of a plan is too long, one of its lists has too many entries, or a body has too many
+/// actions.
 pub const TOO_MANY: u8 = 2;
-/// A table has an unknown key.
+/// A table has a key that is not allowed there.
 pub const UNKNOWN_KEY: u8 = 3;
-/// A table lacks a key.
+/// A table lacks a required key.
 pub const MISSING_KEY: u8 = 4;
 /// A value has the wrong type for its key.
 pub const WRONG_TYPE: u8 = 5;
 /// A name is not a lowercase letter followed by at most 31 lowercase letters, digits and `_`.
 pub const BAD_NAME: u8 = 6;
-/// An earlier entry of the list has the name.
+/// Two entries of a list have the same name.
 pub const DOUBLE_NAME: u8 = 7;
 /// A size, a count or a length of work is out of range.
 pub const BAD_NUMBER: u8 = 8;
@@ -22,11 +23,12 @@ pub const BAD_NUMBER: u8 = 8;
 pub const NO_SUCH_POOL: u8 = 9;
 /// A submit names a class that does not exist.
 pub const NO_SUCH_CLASS: u8 = 10;
-/// The text of an action has none of the four forms.
+/// The text of an action is not `work N`, `submit CLASS`, `submit CLASS as SLOT` or `get SLOT`.
 pub const BAD_ACTION: u8 = 11;
 /// A submit fills a slot that is already filled.
 pub const SLOT_OPEN: u8 = 12;
-/// A get names an empty slot, or a position without a pending future.
+/// A get names an empty slot. In a plan built from lists, where a get names a position: this
+/// position has no earlier submit, or an earlier get names it too.
 pub const SLOT_EMPTY: u8 = 13;
 
 // ---- out of memory
@@ -36,43 +38,44 @@ pub const MEMORY: u8 = 20;
 
 // ---- faults of a certificate
 
-/// The text is not JSON.
+/// The text of a certificate is not UTF-8, or not JSON.
 pub const NOT_JSON: u8 = 30;
-/// A key is missing or unknown, or a value has the wrong type, length or range for its key.
+/// A key of a certificate is missing or unknown, or a value has the wrong type, length or range for
+/// its key.
 pub const WRONG_SHAPE: u8 = 31;
-/// A number is above 1,000,000,000.
+/// A number of a certificate is above 1,000,000,000.
 pub const WEIGHT_TOO_LARGE: u8 = 32;
-/// The version is not supported.
+/// The version of a certificate is not supported.
 pub const VERSION: u8 = 33;
-/// The text is too long.
+/// The text of a certificate is too long.
 pub const CERT_TOO_LONG: u8 = 34;
 
 // ---- faults of a run
 
-/// A run exceeds a limit.
+/// A run exceeds one of its limits.
 pub const RUN_TOO_LARGE: u8 = 40;
-/// A receipt names an event that the history does not have, or an event of another thread.
+/// The list of a client or a pool has a receipt of an event that is not its own, or that the
+/// history does not have.
 pub const STRANGE: u8 = 41;
-/// The receipts are not the events of the history, each exactly once.
+/// The history and the receipts are not those of a complete run.
 pub const MIXED: u8 = 42;
 /// The gate for declared work failed.
 pub const GATE: u8 = 43;
 
 // ---- faults of an input
 
-/// No line is `%%`.
+/// No line of the input is the separator `%%`.
 pub const NO_SEPARATOR: u8 = 50;
-/// A line of events has none of the five forms, or names a pool that does not exist.
+/// An event line is malformed, or names a pool that does not exist.
 pub const BAD_EVENT: u8 = 51;
 /// The input or its event lines are too long.
 pub const INPUT_TOO_LONG: u8 = 52;
-/// A line of a recording has none of the forms of a line, or breaks a rule given the lines before
-/// it.
+/// A line of a recording is malformed, or breaks a rule of recordings.
 pub const BAD_RECORDING: u8 = 53;
 
 // ---- input and output
 
-/// Reading failed.
+/// Reading an input failed.
 pub const READ_FAILED: u8 = 60;
-/// Writing failed.
+/// Writing an output failed.
 pub const WRITE_FAILED: u8 = 61;

@@ -1,4 +1,5 @@
-//! The values of numbers whose slot was occupied.
+//! The overflow map of an [`IdMap`](crate::IdMap): the entries whose slot was occupied when they
+//! were inserted.
 
 ghost use Rattle.std.specs.Prelude.{◌≡◌, ◌+◌, ℕ, None, Some, OnOk, OnErr, IfOk, IsTrue, length, if◌then◌else◌, ◌==◌, nat_eq, is_some, []};
 ghost use Rattle.std.specs.Option.{option_copied, option_copied_mut};
@@ -11,10 +12,10 @@ use std::alloc::{AllocError, Global};
 use std::collections::HashMap;
 use std::marker::Model;
 
-/// A map from numbers to values.
+/// A map from numbers to values, for entries whose slot was occupied when they were inserted.
 ///
-/// Look-ups in it are rare, so its methods are not inlined. A look-up that may miss first checks
-/// whether the map is empty, since a look-up in an empty map would still hash the key.
+/// Look-ups in this map are rare, so its methods are not inlined. A caller first checks whether the
+/// map is empty, since a look-up in an empty map would still hash the number.
 #[derive(Drop)]
 pub(crate) struct OverflowMap<V> {
     map: HashMap<usize, V>,
@@ -50,7 +51,7 @@ impl<V> OverflowMap<V> {
         self.map.is_empty()
     }
 
-    /// Returns the value of this number.
+    /// Returns the value of this number, or `None` if it has none.
     #[inline(never)]
     pub(crate) fn get(&self, number: usize) -> Option<&V>
         ensures { option_copied result ≡ lookup (nat_eq number) self.now }
@@ -58,7 +59,7 @@ impl<V> OverflowMap<V> {
         self.map.get(&number)
     }
 
-    /// Returns a mutable reference to the value of this number.
+    /// Returns a mutable reference to the value of this number, or `None` if it has none.
     #[inline(never)]
     pub(crate) fn get_mut(&mut self, number: usize) -> Option<&mut V>
         ensures* writes_back { sem 𝓛 (returns_mut_overflow V.row self.entry number result) }
@@ -67,7 +68,7 @@ impl<V> OverflowMap<V> {
         self.map.get_mut(&number)
     }
 
-    /// Sets the value of this number.
+    /// Sets the value of this number, replacing an earlier value.
     ///
     /// # Errors
     ///
@@ -89,7 +90,7 @@ impl<V> OverflowMap<V> {
         Ok(())
     }
 
-    /// Removes the entry and returns its value.
+    /// Removes the entry of this number and returns its value, or `None` if it has none.
     #[inline(never)]
     pub(crate) fn remove(&mut self, number: usize) -> Option<V>
         ensures value { result ≡ lookup (nat_eq number) self.old }
@@ -101,7 +102,7 @@ impl<V> OverflowMap<V> {
         self.map.remove(&number)
     }
 
-    /// Removes the entry.
+    /// Removes the entry of this number, if there is one.
     #[inline(always)]
     pub(crate) fn forget(&mut self, number: usize)
     where
@@ -117,7 +118,7 @@ impl<V> OverflowMap<V> {
         }
     }
 
-    /// Returns the numbers, each once, in any order.
+    /// Returns the numbers that have a value, each once, in any order.
     ///
     /// # Errors
     ///

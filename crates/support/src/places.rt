@@ -1,4 +1,4 @@
-//! The slots of a table.
+//! The table of slots of an [`IdMap`](crate::IdMap).
 
 ghost use Rattle.std.specs.Prelude.{◌≡◌, ◌<◌, ◌+◌, ◌&&◌, ◌||◌, ℕ, nat_lt, nat_eq, true, false, IsTrue, OnOk, vec_len, length, slice_set, Some, []};
 ghost use Rattle.std.specs.List.{IsDistinct};
@@ -9,10 +9,10 @@ ghost use Rattle.support.specs.Numbered.{place_of, AreInPlace};
 use crate::entry::{Entry, has_number, is_free_for};
 use std::alloc::AllocError;
 
-// A power of two, so that the slot of a number needs no division.
+// The number of slots. A power of two, so that the slot of a number needs no division.
 const TABLE_LEN: usize = 256;
 
-/// Returns the slot of a number.
+/// Returns the index of the number's slot.
 #[inline(always)]
 pub(crate) fn place_of(number: usize) -> usize
     ensures { result ≡ place_of number }
@@ -20,7 +20,7 @@ pub(crate) fn place_of(number: usize) -> usize
     number % TABLE_LEN
 }
 
-/// Returns whether the number is in its slot.
+/// Returns whether the number's slot has an entry for it.
 #[inline(always)]
 pub(crate) fn is_in_slot<V>(slots: &Vec<Option<Entry<V>>>, number: usize) -> bool
     ensures in_slot { result ≡ has_number number (entry_at slots.now.items (place_of number)) }
@@ -30,7 +30,8 @@ pub(crate) fn is_in_slot<V>(slots: &Vec<Option<Entry<V>>>, number: usize) -> boo
     place < slots.len() && has_number(&slots[place], number)
 }
 
-/// Returns whether the slot of the number is free or holds the number.
+/// Returns whether the number's slot is free or has an entry for this number. Returns `false` if
+/// there are no slots yet.
 #[inline(always)]
 pub(crate) fn can_store<V>(slots: &Vec<Option<Entry<V>>>, number: usize) -> bool
     ensures { result
@@ -41,7 +42,7 @@ pub(crate) fn can_store<V>(slots: &Vec<Option<Entry<V>>>, number: usize) -> bool
     place < slots.len() && is_free_for(&slots[place], number)
 }
 
-/// Stores the number in its slot, with this value.
+/// Stores the number and this value in the number's slot.
 #[inline(always)]
 pub(crate) fn store<V: Drop>(slots: &mut Vec<Option<Entry<V>>>, number: usize, value: V)
     requires { place_of number < vec_len slots.old }
@@ -52,7 +53,7 @@ pub(crate) fn store<V: Drop>(slots: &mut Vec<Option<Entry<V>>>, number: usize, v
     slots[place_of(number)] = Some(Entry { number, value });
 }
 
-/// Allocates the slots if there are none.
+/// Allocates the table of slots if it is empty.
 ///
 /// # Errors
 ///
@@ -67,7 +68,7 @@ pub(crate) fn allocate<V: Drop>(slots: &mut Vec<Option<Entry<V>>>) -> Result<(),
     allocate_slots(slots, TABLE_LEN)
 }
 
-// Allocates `len` free slots. There must be none yet.
+// Allocates `len` free slots. The table must be empty.
 #[cold]
 #[inline(never)]
 fn allocate_slots<V: Drop>(slots: &mut Vec<Option<Entry<V>>>, len: usize) -> Result<(), AllocError>
@@ -81,7 +82,7 @@ fn allocate_slots<V: Drop>(slots: &mut Vec<Option<Entry<V>>>, len: usize) -> Res
     Ok(())
 }
 
-/// Appends the numbers that are in their slots to other numbers, which are not.
+/// Appends the numbers that are in their slots. None of them may be in the list before.
 ///
 /// # Errors
 ///

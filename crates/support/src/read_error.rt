@@ -1,11 +1,11 @@
-//! The error of a reader.
+//! The error of a reading function.
 
 ghost use Rattle.std.specs.Prelude.{◌≡◌};
 ghost use Rattle.support.specs.declared.read_error.ReadError.TheVariants.{Memory};
 
 use std::alloc::{AllocError, AllocFailed};
 
-/// The error of a reader.
+/// The error of a reading function: out of memory, or the first fault of the input.
 #[derive(Drop)]
 pub enum ReadError<F> {
     /// Out of memory.
