@@ -1,4 +1,4 @@
--- The effect of several reads and of several writes, in order, on known bytes.
+-- Lemmas about the known bytes of a source or sink after several calls.
 use Rattle.std.proofs.Common.{◌≡◌, ℕ, ◌+◌, ◌-◌, ◌<◌, List, ◌++◌, Option, length, take, drop, sym, ap, subst, ◌∙◌, append_assoc, take-append-drop, arith}
 use Rattle.std.proofs.lemmas.List.{take_rest, length-append}
 use Rattle.std.proofs.Math.Seq.{take-append_seam}
@@ -7,7 +7,8 @@ use Rattle.std.specs.Io.KnownBytes.{Consumes, Appends, Keeps}
 use Rattle.std.proofs.KnownBytes.{Consumes-trans, Appends-trans, Appends-kept}
 use Rattle.byte_streams.specs.Writing.{AppendsFront}
 
--- xs was filled up to `filled`, and ys has that prefix and the bytes of one more read
+-- if the first `filled` bytes of the buffer came from the source, and one more read put `count` bytes after them, then all these came from
+-- it
 pub Consumes-filled : (a b c : Option (List ℕ)) (xs ys : List ℕ) (filled count : ℕ) → take filled ys ≡ take filled xs
     → Consumes a b (take filled xs) → Consumes b c (take count (drop filled ys)) → Consumes a c (take (filled + count) ys)
 Consumes-filled a b c xs ys filled count front before read =
@@ -15,18 +16,18 @@ Consumes-filled a b c xs ys filled count front before read =
     ap (λ l. l ++ take count (drop filled ys)) (sym front) ∙ sym (take-add filled count ys) in
     subst (Consumes a c) joined (Consumes-trans a b c _ _ before read)
 
--- the bytes so far: `done` was written, and `rest` remains
+-- the sink got the bytes `done`, and `rest` has the bytes of `all` that remain to be written
 abbrev pub Written : Option (List ℕ) → Option (List ℕ) → List ℕ → List ℕ → Type 0
 Written old new all rest = (done : List ℕ) × (all ≡ done ++ rest) × Appends old new done
 
--- one more write consumed `count` bytes from the start of the rest
+-- after one more write, of the first `count` bytes of the rest, the other bytes of the rest remain to be written
 pub Written-more : (a b c : Option (List ℕ)) (all rest : List ℕ) (count : ℕ) → Written a b all rest → Appends b c (take count rest)
     → Written a c all (take (length rest - count) (drop count rest))
 Written-more a b c all rest count (done, split, before) write =
     let moved = split ∙ ap (λ l. done ++ l) (sym (take-append-drop count rest)) ∙ sym (append_assoc done (take count rest) (drop count rest)) in
     (done ++ take count rest, moved ∙ ap (λ l. (done ++ take count rest) ++ l) (sym (take_rest rest count)), Appends-trans a b c _ _ before write)
 
--- a write that failed before the end leaves a proper prefix written
+-- if a write fails before all bytes are written, the sink got a proper prefix of them
 pub Written-front : (a b c : Option (List ℕ)) (all rest : List ℕ) → Written a b all rest → 0 < length rest → Keeps b c → AppendsFront a c all
 Written-front a b c all rest (done, split, before) some kept =
     let front : take (length done) all ≡ done = ap (take (length done)) split ∙ take-append_seam done rest in

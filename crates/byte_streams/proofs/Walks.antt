@@ -1,4 +1,4 @@
--- The step that the proofs of `src/failures.rt` share: the creation of a struct without fields. Assumes `Logic`.
+-- The step that the proofs of `zero` and `next` in `src/failures.rt` share: the creation of a struct without fields. Assumes `Logic`.
 use Rattle.std.proofs.Common.{List, [], ◌∷◌, refl}
 use seplogic.Ra.Ura.{Ura}
 use mir.Val.{Val, vstruct, vnil}

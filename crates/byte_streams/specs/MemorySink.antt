@@ -6,11 +6,11 @@ use Rattle.byte_streams.specs.declared.memory_sink.MemorySink.{MemorySink}
 abbrev pub written_to : MemorySink → List ℕ
 written_to sink = sink.bytes.items
 
--- the maximum number of bytes that a call accepts
+-- the maximum number of bytes that each call accepts
 abbrev pub max_bytes_of : MemorySink → ℕ
 max_bytes_of sink = sink.max_bytes
 
--- the number of successful calls before the next failure, if one is due
+-- the number of successful calls before the call that fails; None if no call is to fail
 abbrev pub calls_before_fault : MemorySink → Option ℕ
 calls_before_fault sink = sink.fault.calls_before
 

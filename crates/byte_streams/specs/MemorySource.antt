@@ -6,11 +6,11 @@ use Rattle.byte_streams.specs.declared.memory_source.MemorySource.{MemorySource}
 abbrev pub left : MemorySource → List ℕ
 left source = source.rest.now
 
--- the maximum number of bytes that a call returns
+-- the maximum number of bytes that each call returns
 abbrev pub max_bytes_of : MemorySource → ℕ
 max_bytes_of source = source.max_bytes
 
--- the number of successful calls before the next failure, if one is due
+-- the number of successful calls before the call that fails; None if no call is to fail
 abbrev pub calls_before_fault : MemorySource → Option ℕ
 calls_before_fault source = source.fault.calls_before
 

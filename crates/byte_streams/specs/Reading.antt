@@ -1,10 +1,10 @@
--- The effect of reading an input up to a limit on the bytes of a source.
+-- What reading an input up to a limit takes from a source.
 use Rattle.std.specs.Prelude.{ℕ, ◌≤◌, List, length, codes, Option, Result, Ok, Err}
 use Rattle.std.specs.Io.KnownBytes.{Consumes}
 use Rattle.byte_streams.specs.declared.reading.InputError.{InputError}
 use Rattle.byte_streams.specs.declared.reading.InputError.TheVariants.{Memory, Fault}
 
--- known bytes lose a prefix of at most `limit` bytes
+-- the source loses a prefix of at most `limit` of its remaining bytes, if these are known
 abbrev pub ConsumesAtMost : Option (List ℕ) → Option (List ℕ) → ℕ → Type 0
 ConsumesAtMost old new limit = (front : List ℕ) × Consumes old new front × (length front ≤ limit)
 

@@ -2,7 +2,7 @@
 use Rattle.std.specs.Prelude.{ℕ}
 use Rattle.byte_streams.specs.declared.std_sink.StdSink.{StdSink}
 
--- the writer that it writes to
+-- the writer to which the sink writes
 abbrev pub writer_of : {W : Type 0} → StdSink W → W
 writer_of sink = sink.writer
 

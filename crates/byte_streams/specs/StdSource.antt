@@ -2,7 +2,7 @@
 use Rattle.std.specs.Prelude.{ℕ}
 use Rattle.byte_streams.specs.declared.std_source.StdSource.{StdSource}
 
--- the reader that it reads from
+-- the reader from which the source reads
 abbrev pub reader_of : {R : Type 0} → StdSource R → R
 reader_of source = source.reader
 

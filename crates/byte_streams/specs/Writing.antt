@@ -1,7 +1,7 @@
--- The effect of writing a whole answer on the bytes of a sink.
+-- What writing a whole answer appends to a sink.
 use Rattle.std.specs.Prelude.{ℕ, ◌<◌, List, length, take, Option}
 use Rattle.std.specs.Io.KnownBytes.{Appends}
 
--- known bytes grow by a proper prefix of `bytes`
+-- the sink's bytes grow by a proper prefix of `bytes`, if they are known
 abbrev pub AppendsFront : Option (List ℕ) → Option (List ℕ) → List ℕ → Type 0
 AppendsFront old new bytes = (count : ℕ) × (count < length bytes) × Appends old new (take count bytes)

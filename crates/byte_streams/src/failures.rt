@@ -1,11 +1,11 @@
-//! The number of failed calls of a stream.
+//! A counter of the failed calls of a stream.
 ghost use Rattle.std.specs.Prelude.{◌≡◌, ℕ, ◌+◌, ◌-◌, ◌^◌, min};
 ghost use Rattle.std.specs.Borrow.{ftrue};
 
 use std::marker::Model;
 
-/// A number that only contracts see. It takes no memory and never overflows. `Failures` ties it to
-/// the number that the program counts.
+/// An exact natural number that only contracts see: it takes no memory and never overflows. An
+/// invariant of [`Failures`] ties it to the counter that the program stores.
 #[derive(Drop)]
 pub(crate) struct GhostCount {
     pub ghost value: { ℕ },
@@ -29,7 +29,8 @@ impl GhostCount {
     }
 }
 
-/// The number of failed calls: exact in contracts, and at most `u64::MAX` at run time.
+/// The number of failed calls of a stream. Contracts see it exactly. The stored counter stops at
+/// `u64::MAX`.
 #[derive(Drop)]
 pub(crate) struct Failures {
     pub(crate) exact: GhostCount,

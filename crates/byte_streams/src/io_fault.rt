@@ -4,7 +4,7 @@ ghost use Rattle.std.specs.Prelude.{Some, codes};
 use std::error::Error;
 use std::fmt;
 
-/// A failed read of a source or write of a sink. It gives no reason.
+/// A failed read of a source or write of a sink. It has no reason.
 #[derive(Clone, Copy, Debug, PartialEq, Eq)]
 pub struct IoFault;
 

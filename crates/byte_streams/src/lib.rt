@@ -1,8 +1,7 @@
 //! Sources and sinks of bytes that count their failed calls.
 //!
-//! A program reads its whole input, up to a limit, with `read_up_to`. It computes its whole answer,
-//! and only then writes it with `write_all`. Both accept any `Source` or `Sink`: bytes in memory,
-//! for tests, and every std reader and writer.
+//! `read_up_to` reads a whole input up to a limit, and `write_all` writes a whole answer. Both
+//! accept any [`Source`] or [`Sink`]: every std reader and writer, and bytes in memory for tests.
 #![tactic(auto)]
 
 mod failures;

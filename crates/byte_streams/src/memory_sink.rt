@@ -9,7 +9,7 @@ use crate::scripted_fault::ScriptedFault;
 use crate::{IoFault, Sink};
 use std::alloc::Global;
 
-/// A sink that stores the bytes in order.
+/// A sink that stores the written bytes in memory.
 #[derive(Drop)]
 pub struct MemorySink {
     bytes: Vec<u8>,
@@ -21,7 +21,7 @@ pub struct MemorySink {
 impl MemorySink {
     ghost use Rattle.byte_streams.specs.MemorySink.{written_to, max_bytes_of, calls_before_fault, failure_count};
 
-    /// Creates a sink that accepts all bytes of each call, and fails only if memory runs out.
+    /// Creates a sink whose calls accept all bytes and fail only if memory runs out.
     pub fn new(alloc: Global) -> MemorySink
         ensures written { written_to result ≡ [] }
         ensures max_bytes { max_bytes_of result ≡ 2 ^ 64 - 1 }
@@ -36,8 +36,8 @@ impl MemorySink {
         }
     }
 
-    /// Limits the number of bytes that one call accepts. With a limit of 0, each call with at least
-    /// one byte fails.
+    /// Limits the number of bytes that each call accepts. With a limit of 0, each call with at
+    /// least one byte fails.
     pub fn at_most(mut self, max_bytes: usize) -> MemorySink
         ensures written { written_to result ≡ written_to self }
         ensures max_bytes { max_bytes_of result ≡ max_bytes }
@@ -48,7 +48,7 @@ impl MemorySink {
         self
     }
 
-    /// Makes one call fail: the one after `calls` successful calls.
+    /// Makes one call fail: the first one after `calls` successful calls.
     pub fn failing_after(mut self, calls: u64) -> MemorySink
         ensures written { written_to result ≡ written_to self }
         ensures max_bytes { max_bytes_of result ≡ max_bytes_of self }

@@ -8,7 +8,7 @@ use crate::failures::Failures;
 use crate::scripted_fault::ScriptedFault;
 use crate::{IoFault, Source};
 
-/// A source that returns given bytes once, in order.
+/// A source that returns the bytes of a slice in order.
 #[derive(Drop)]
 pub struct MemorySource<'a> {
     rest: &'a [u8],
@@ -21,7 +21,8 @@ pub struct MemorySource<'a> {
 impl<'a> MemorySource<'a> {
     ghost use Rattle.byte_streams.specs.MemorySource.{left, max_bytes_of, calls_before_fault, failure_count};
 
-    /// Creates a source of `bytes`. Each call returns as many of them as fit, and never fails.
+    /// Creates a source of `bytes` whose calls never fail. Each call returns as many bytes as its
+    /// piece has room for.
     pub fn new(bytes: &'a [u8]) -> MemorySource<'a>
         ensures left { left result ≡ bytes.now }
         ensures max_bytes { max_bytes_of result ≡ 2 ^ 64 - 1 }
@@ -36,7 +37,7 @@ impl<'a> MemorySource<'a> {
         }
     }
 
-    /// Limits the number of bytes that one call returns.
+    /// Limits the number of bytes that each call returns. The limit must be at least 1.
     pub fn at_most(mut self, max_bytes: usize) -> MemorySource<'a>
         requires { 0 < max_bytes }
         ensures left { left result ≡ left self.entry }
@@ -48,7 +49,7 @@ impl<'a> MemorySource<'a> {
         self
     }
 
-    /// Makes one call fail: the one after `calls` successful calls.
+    /// Makes one call fail: the first one after `calls` successful calls.
     pub fn failing_after(mut self, calls: u64) -> MemorySource<'a>
         ensures left { left result ≡ left self.entry }
         ensures max_bytes { max_bytes_of result ≡ max_bytes_of self.entry }

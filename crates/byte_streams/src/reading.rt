@@ -1,4 +1,4 @@
-//! Sources of bytes, and reading a whole input up to a limit.
+//! Sources of bytes, and the function that reads a whole input up to a limit.
 ghost use Rattle.std.specs.Prelude.{◌≡◌, ℕ, ◌+◌, ◌≤◌, ◌<◌, List, Option, IfOk, IfSome, OnOk, OnErr, Some, is_ok, if◌then◌else◌, take, drop, vec_len};
 ghost use Rattle.std.specs.Io.{ReadsAtMost};
 ghost use Rattle.std.specs.Io.KnownBytes.{Consumes, IsAtEnd, Keeps, ReadConsumes};
@@ -18,8 +18,8 @@ pub trait Source {
     // The number of failed calls.
     ghost failures: { Self → ℕ };
 
-    /// Reads the next bytes into the start of `piece`, and returns their number. For a nonempty
-    /// piece, 0 means the end of the input. A fault loses no bytes.
+    /// Reads the next bytes into the start of `piece`, and returns how many were read. A result of
+    /// 0 means the end of the input, if `piece` is not empty. A call that fails loses no bytes.
     fn read(&mut self, piece: &mut [u8]) -> Result<usize, IoFault>
         ensures bound { ReadsAtMost result piece.new }
         ensures bytes { ReadConsumes (remaining self.old) (remaining self.new) result piece.new }
@@ -67,7 +67,7 @@ impl From<IoFault> for InputError {
 /// The initial size of the buffer for an input, in bytes.
 const INITIAL_SIZE: usize = 4096;
 
-/// The maximum growth of the buffer in one step, in bytes. New space is filled with zeros, so the
+/// The most bytes by which the buffer grows in one step. New space is filled with zeros, so this
 /// limit keeps a long input from needing much more memory than its own size.
 const MAX_GROWTH: usize = 65_536;
 
@@ -78,7 +78,7 @@ const MAX_GROWTH: usize = 65_536;
 /// # Errors
 ///
 /// Returns `Memory` if memory runs out, and `Fault` if a call of the source fails. In both cases at
-/// most `limit` bytes are consumed.
+/// most `limit` bytes were taken from the source.
 pub fn read_up_to<S: Source>(
     alloc: Global,
     source: &mut S,
@@ -106,9 +106,9 @@ pub fn read_up_to<S: Source>(
     Ok(bytes)
 }
 
-// Extends `bytes` with zeros beyond `filled`, up to `limit`. Doubles the size until the growth
-// reaches its maximum, so that a short input takes few calls and the number of zeros stays
-// proportional to the input.
+// If no space is left after the first `filled` bytes, extends `bytes` with zeros, up to `limit`
+// bytes in total. The size doubles until the growth reaches its maximum, so a short input takes few
+// calls and the number of zeros is proportional to the input.
 fn grow(bytes: &mut Vec<u8>, filled: usize, limit: usize) -> Result<(), AllocError>
     requires filled { filled ≤ vec_len bytes.old }
     requires below { filled < limit }
@@ -126,7 +126,7 @@ fn grow(bytes: &mut Vec<u8>, filled: usize, limit: usize) -> Result<(), AllocErr
     Ok(())
 }
 
-// Reads once into `bytes` after `filled`.
+// Reads once, into the part of `bytes` after the first `filled` bytes.
 fn read_at<S: Source>(source: &mut S, bytes: &mut Vec<u8>, filled: usize) -> Result<usize, IoFault>
     requires { filled < vec_len bytes.old }
     ensures kept { take filled bytes.new.items ≡ take filled bytes.old.items }

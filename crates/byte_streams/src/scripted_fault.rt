@@ -1,8 +1,8 @@
-//! A scripted failure, for tests.
+//! The call of a stream in memory that is to fail, for tests.
 ghost use Rattle.std.specs.Prelude.{◌≡◌, ◌-◌, None, Some, IsTrue, ◌↔◌};
 ghost use Rattle.byte_streams.specs.ScriptedFault.{calls_after};
 
-/// The number of successful calls before the next failure, or `None` if no failure is due.
+/// The number of successful calls before the call that fails, or `None` if no call is to fail.
 #[derive(Clone, Copy)]
 pub(crate) struct ScriptedFault {
     pub(crate) calls_before: Option<u64>,
@@ -23,7 +23,7 @@ impl ScriptedFault {
         }
     }
 
-    /// Returns whether this call fails. Only one call does, and no failure is due after it.
+    /// Returns whether this call is to fail. At most one call is: none after it fails.
     pub(crate) fn is_due(&mut self) -> bool
         ensures due { IsTrue result ↔ (self.old.calls_before ≡ Some 0) }
         ensures left { self.new.calls_before ≡ calls_after self.old.calls_before }

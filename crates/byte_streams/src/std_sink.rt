@@ -8,7 +8,7 @@ use crate::std_source::TRIES;
 use crate::{IoFault, Sink};
 use std::io::{ErrorKind, Write};
 
-/// A sink that writes to `W`. The written bytes are known if the contracts of `W` state them.
+/// A sink that writes to `W`. Contracts know the written bytes if the contracts of `W` state them.
 #[derive(Drop)]
 pub struct StdSink<W> {
     writer: W,
@@ -44,8 +44,8 @@ impl<W: Write> Sink for StdSink<W> {
 
     ghost failures = { failure_count };
 
-    /// Retries an interrupted call up to a million times. Any other error is a fault, and so is a
-    /// writer that accepts no byte of a nonempty slice.
+    /// Writes to the writer once, with up to a million tries if signals interrupt the call. Any
+    /// other error is a fault. A writer that accepts no byte of a nonempty slice is a fault too.
     fn write(&mut self, bytes: &[u8]) -> Result<usize, IoFault> {
         let outcome = write_retrying(&mut self.writer, bytes);
         if outcome.is_err() {
@@ -55,7 +55,7 @@ impl<W: Write> Sink for StdSink<W> {
     }
 }
 
-// Writes once, and retries if a signal interrupts the call.
+// Writes once. If a signal interrupts the call, tries again, up to `TRIES` times in total.
 fn write_retrying<W: Write>(writer: &mut W, bytes: &[u8]) -> Result<usize, IoFault>
     ensures bound { WritesAtMost result bytes.now }
     ensures some { 0 < length bytes.now → IfOk result (λ count. 0 < count) }

@@ -7,10 +7,11 @@ use crate::failures::Failures;
 use crate::{IoFault, Source};
 use std::io::{ErrorKind, Read};
 
-/// The maximum number of attempts for a call that is interrupted.
+/// The maximum number of tries of a call if signals interrupt it.
 pub(crate) const TRIES: u32 = 1_000_000;
 
-/// A source that reads from `R`. The remaining bytes are known if the contracts of `R` state them.
+/// A source that reads from `R`. Contracts know the remaining bytes if the contracts of `R` state
+/// them.
 #[derive(Drop)]
 pub struct StdSource<R> {
     reader: R,
@@ -20,7 +21,7 @@ pub struct StdSource<R> {
 impl<R: Read> StdSource<R> {
     ghost use Rattle.byte_streams.specs.StdSource.{reader_of, failure_count};
 
-    /// Creates a source of the remaining bytes of `reader`.
+    /// Creates a source of the bytes that `reader` has not returned yet.
     pub fn new(reader: R) -> StdSource<R>
         ensures reader { reader_of result ≡ reader }
         ensures failures { failure_count result ≡ 0 }
@@ -46,7 +47,8 @@ impl<R: Read> Source for StdSource<R> {
 
     ghost failures = { failure_count };
 
-    /// Retries an interrupted call up to a million times. Any other error is a fault.
+    /// Reads from the reader once, with up to a million tries if signals interrupt the call. Any
+    /// other error is a fault.
     fn read(&mut self, piece: &mut [u8]) -> Result<usize, IoFault> {
         let outcome = read_retrying(&mut self.reader, piece);
         if outcome.is_err() {
@@ -56,7 +58,7 @@ impl<R: Read> Source for StdSource<R> {
     }
 }
 
-// Reads once, and retries if a signal interrupts the call.
+// Reads once. If a signal interrupts the call, tries again, up to `TRIES` times in total.
 fn read_retrying<R: Read>(reader: &mut R, piece: &mut [u8]) -> Result<usize, IoFault>
     ensures bound { ReadsAtMost result piece.new }
     ensures bytes { ReadConsumes (R.remaining reader.old) (R.remaining reader.new) result

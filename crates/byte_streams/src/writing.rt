@@ -1,4 +1,4 @@
-//! Sinks of bytes, and writing a whole answer.
+//! Sinks of bytes, and the function that writes a whole answer.
 ghost use Rattle.std.specs.Prelude.{◌≡◌, ℕ, ◌+◌, ◌<◌, List, Option, IfOk, OnOk, OnErr, is_ok, if◌then◌else◌, length};
 ghost use Rattle.std.specs.Io.{WritesAtMost};
 ghost use Rattle.std.specs.Io.KnownBytes.{Appends, WriteAppends};
@@ -14,8 +14,8 @@ pub trait Sink {
     // The number of failed calls.
     ghost failures: { Self → ℕ };
 
-    /// Writes a prefix of `bytes` and returns its length, which is at least one unless `bytes` is
-    /// empty. A fault writes nothing.
+    /// Writes a prefix of `bytes` and returns its length, which is at least 1 unless `bytes` is
+    /// empty. A call that fails writes nothing.
     fn write(&mut self, bytes: &[u8]) -> Result<usize, IoFault>
         ensures bound { WritesAtMost result bytes.now }
         ensures some { 0 < length bytes.now → IfOk result (λ count. 0 < count) }
@@ -23,8 +23,8 @@ pub trait Sink {
         ensures failed { failures self.new ≡ failures self.old + (if is_ok result then 0 else 1) };
 }
 
-/// Writes all of `bytes`, in as many calls as the sink needs. Stops at the first call that fails,
-/// after a prefix of them.
+/// Writes all of `bytes`, in as many calls as the sink needs. Stops at the first call that fails;
+/// part of `bytes` may then be written.
 pub fn write_all<K: Sink>(sink: &mut K, bytes: &[u8]) -> Result<(), IoFault>
     ensures ok { OnOk result (Appends (K.written sink.old) (K.written sink.new) bytes.now) }
     ensures err { OnErr result (AppendsFront (K.written sink.old) (K.written sink.new) bytes.now) }

@@ -1,4 +1,4 @@
--- The filled prefix of `bytes` came from the source, and no call failed.
+-- The loop of `read_up_to`: the first `filled` bytes of the buffer came from the source, and no call failed.
 use Rattle.std.proofs.Common.{◌≡◌, ◌-◌, ◌≤◌, take, vec_len, vec_items}
 use Rattle.std.specs.Io.KnownBytes.{Consumes}
 use Rattle.byte_streams.proofs.reading.read_up_to.Given as goal

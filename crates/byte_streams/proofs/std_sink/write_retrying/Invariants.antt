@@ -1,4 +1,4 @@
--- an interrupted write writes no byte
+-- The loop of `write_retrying`: the interrupted calls wrote no byte.
 use Rattle.std.specs.Io.KnownBytes.{Keeps}
 use Rattle.byte_streams.proofs.std_sink.write_retrying.Given as goal
 

@@ -1,4 +1,4 @@
--- an interrupted read reads no byte
+-- The loop of `read_retrying`: the interrupted calls read no byte.
 use Rattle.std.specs.Io.KnownBytes.{Keeps}
 use Rattle.byte_streams.proofs.std_source.read_retrying.Given as goal
 

@@ -1,4 +1,4 @@
--- The bytes removed from `rest` were appended, and no call failed.
+-- The loop of `write_all`: the bytes that are no longer in `rest` were appended to the sink, and no call failed.
 use Rattle.std.proofs.Common.{◌≡◌, length}
 use Rattle.byte_streams.proofs.KnownBytes.{Written}
 use Rattle.byte_streams.proofs.writing.write_all.Given as goal

@@ -1,4 +1,4 @@
--- `next` chooses the successor of the number. Assumes `Logic`.
+-- The proof of `next`, which chooses the successor as the ghost value of its result. Assumes `Logic`.
 use Rattle.std.proofs.Common.{◌+◌, List, [], ◌∷◌, ◌++◌, refl}
 use seplogic.Ra.Ura.{Ura}
 use mir.Syntax.{Fn}

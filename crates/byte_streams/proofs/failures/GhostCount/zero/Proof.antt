@@ -1,4 +1,4 @@
--- `zero` chooses the number 0. Assumes `Logic`.
+-- The proof of `zero`, which chooses 0 as the ghost value of its result. Assumes `Logic`.
 use Rattle.std.proofs.Common.{[], ◌∷◌, refl}
 use seplogic.Ra.Ura.{Ura}
 use mir.Syntax.{Fn}
