@@ -1,4 +1,4 @@
--- A machine with its state and its history.
+-- A machine with its state and its history, as contracts see it.
 use Rattle.std.specs.Prelude.{List, [], ◌∷◌, ◌++◌, Option, Some, None}
 
 pub record HeldValue (M S E : Type 0) : Type 0 where

@@ -1,8 +1,7 @@
--- Replays of lists of events, for any machine. The function next gives the state after an event, or None if the event is not
--- possible.
+-- Replays of lists of events, for any machine. The function `next` gives the state after an event, or None if the event is not possible.
 use Rattle.std.specs.Prelude.{◌≡◌, List, [], ◌∷◌, Option, Some, None}
 
--- the state after the events, or None if one of them is not possible
+-- the state to which the events lead from state s; None if one of them is not possible
 abbrev pub replay : {I E : Type 0} → (I → E → Option I) → Option I → List E → Option I
 replay next s [] = s
 replay next None (e ∷ events) = None

@@ -10,16 +10,16 @@ use crate::Machine;
 use std::alloc::{AllocError, Global};
 use std::marker::Model;
 
-/// A receipt for one event of a history: the event, and its number, counted from 0.
+/// A receipt for one event of a history: the event, and its number in the history, counted from 0.
 #[derive(Clone, Copy, Debug, PartialEq, Eq)]
 pub struct Receipt<E> {
     pub number: u64,
     pub event: E,
 }
 
-/// A machine with its state and its history, which is the list of the events that it performed.
+/// A machine with its state and its history, the list of the events that it performed.
 ///
-/// The state is always the one to which the history leads from the machine's start.
+/// The state is always the one to which the events of the history lead from the initial state.
 #[derive(Drop)]
 pub struct Held<M: Machine + Drop> {
     machine: M,
@@ -39,11 +39,11 @@ impl<M: Machine + Drop> Model for Held<M> {
 }
 
 impl<M: Machine + Drop> Held<M> {
-    /// Creates the machine at its start, with an empty history.
+    /// Creates the machine in its initial state, with an empty history.
     ///
     /// # Errors
     ///
-    /// Returns `AllocError` if there is not enough memory for its state. The machine is then
+    /// Returns `AllocError` if there is not enough memory for the state. The machine is then
     /// dropped.
     pub fn new(alloc: Global, machine: M) -> Result<Held<M>, AllocError>
         ensures machine { IfOk result (λ held. held.machine ≡ machine) }
@@ -58,7 +58,7 @@ impl<M: Machine + Drop> Held<M> {
         })
     }
 
-    /// Returns the machine's state.
+    /// Returns the stored state of the machine.
     pub fn state(&self) -> &M::State
         ensures value { result.now ≡ self.now.state }
         ensures replayed { IsReplayOf (M.next self.now.machine) (M.first self.now.machine)
@@ -67,7 +67,7 @@ impl<M: Machine + Drop> Held<M> {
         &self.state
     }
 
-    /// Returns the performed events, in order.
+    /// Returns the performed events in order.
     pub fn history(&self) -> &[M::Event]
         ensures value { result.now ≡ self.now.history }
         ensures replayed { IsReplayOf (M.next self.now.machine) (M.first self.now.machine)
@@ -76,7 +76,7 @@ impl<M: Machine + Drop> Held<M> {
         self.history.as_slice()
     }
 
-    /// Returns the performed events, in order. Allocates no memory.
+    /// Returns the performed events in order. Allocates no memory.
     pub fn into_history(self) -> Vec<M::Event>
         ensures value { result.items ≡ self.history }
         ensures replayed { IsReplayOf (M.next self.machine) (M.first self.machine)
@@ -93,7 +93,8 @@ impl<M: Machine + Drop> Held<M> {
     /// Returns `AllocError` if there is not enough memory for the event or for its entry in the
     /// history. The machine is then unchanged.
     pub fn act(&mut self, event: M::Event) -> Result<Option<Receipt<M::Event>>, AllocError>
-        // The event is performed exactly when it is possible after the current history.
+        // A receipt is returned exactly when the event is possible after the events of the old
+        // history.
         ensures made { IfOk result (λ receipt.
             (i : M.SpecState)
             → Leads (M.next self.old.machine) (M.first self.old.machine) self.old.history i

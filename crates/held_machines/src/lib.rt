@@ -1,4 +1,4 @@
-//! A machine whose state is stored with the history that led to it, without or with a lock.
+//! A machine whose state is stored with the history that led to it, with or without a lock.
 //!
 //! A [`Machine`] is specified by an initial state and a next state for each event. [`Held`] runs
 //! such a machine and records each event that it performed, so that its state is always the replay

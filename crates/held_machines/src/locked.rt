@@ -3,8 +3,8 @@
 use crate::{Held, Machine};
 use std::sync::{Condvar, Mutex, MutexGuard, Wait};
 
-/// A machine with its history, shared by threads. One thread at a time holds its lock; other
-/// threads can wait until the machine changes.
+/// A machine with its history, shared by threads. One thread at a time holds its lock. Other
+/// threads can wait for a change of the machine.
 #[derive(Drop)]
 pub struct Locked<M: Machine + Drop> {
     held: Mutex<Held<M>>,
@@ -12,7 +12,7 @@ pub struct Locked<M: Machine + Drop> {
 }
 
 impl<M: Machine + Drop> Locked<M> {
-    /// Creates the lock, in the unlocked state.
+    /// Creates the lock of a machine. No thread holds it yet.
     pub fn new(held: Held<M>) -> Locked<M> {
         Locked {
             held: Mutex::new(held),
@@ -25,8 +25,8 @@ impl<M: Machine + Drop> Locked<M> {
         self.held.lock(rt)
     }
 
-    /// Releases the lock, waits until [`Locked::notify_all`] is called, and acquires the lock
-    /// again. It may also return without such a call.
+    /// Releases the lock, waits until another thread calls [`Locked::notify_all`], and acquires the
+    /// lock again. The wait may also end without such a call.
     pub fn wait<'a, R: Wait>(
         &'a self,
         rt: &R,
@@ -35,12 +35,12 @@ impl<M: Machine + Drop> Locked<M> {
         self.changed.wait(rt, held)
     }
 
-    /// Wakes all waiting threads.
+    /// Wakes all threads that wait in [`Locked::wait`].
     pub fn notify_all(&self) {
         self.changed.notify_all();
     }
 
-    /// Returns the machine with its history.
+    /// Consumes the lock and returns the machine with its history.
     pub fn into_inner(self) -> Held<M> {
         self.held.into_inner()
     }

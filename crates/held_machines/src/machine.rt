@@ -5,30 +5,31 @@ ghost use Rattle.held_machines.specs.StoredState.{IsReached, Steps};
 
 use std::alloc::{AllocError, Global};
 
-/// A machine that performs one event at a time. The machine itself is a constant value, separate
-/// from its state.
+/// A machine that performs one event at a time. A value of this type is constant; the state of the
+/// machine is stored separately.
 ///
-/// Its specification is an initial state (`first`), and the next state for each event that is
-/// possible in a state (`next`). The running machine stores the content of such a state.
+/// The specification is an initial state (`first`), and the next state for each event that is
+/// possible in a state (`next`). The stored state is an image of such a specification state
+/// (`stored_state`).
 pub trait Machine {
-    /// The state that the running machine stores.
+    /// The type of the stored states.
     type State: Drop;
 
-    /// The events.
+    /// The type of the events.
     type Event: Copy;
 
-    // The specification states, the initial one, and the state after an event if the event is
-    // possible.
+    // The type of the specification states, the initial one, and the state after an event, or
+    // `None` if the event is not possible.
     ghost SpecState: { Type 0 };
 
     ghost first: { Self → SpecState };
 
     ghost next: { Self → SpecState → Self.Event → Option SpecState };
 
-    // The stored state that belongs to a specification state.
+    // The stored state for a specification state.
     ghost stored_state: { Self → SpecState → Self.State };
 
-    /// Returns the initial state.
+    /// Returns the stored state for the initial state.
     ///
     /// # Errors
     ///
