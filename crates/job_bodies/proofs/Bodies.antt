@@ -1,4 +1,4 @@
--- The properties of the bodies, pools and clients of a well-formed plan.
+-- The properties of the bodies, pools and client kinds of a well-formed plan.
 use Rattle.std.proofs.Common.{◌≡◌, ◌≤◌, ◌<◌, ◌+◌, ℕ, zero, suc, Bool, true, false, List, [], ◌∷◌, length, take, get_or, slice_get, Some, refl, sym, ap, subst, ◌∙◌, arith, inl, inr, zero-add}
 use Rattle.std.specs.List.{list_all, list_any, enumerate_from}
 use Rattle.std.proofs.lemmas.Bool.{and_parts, ltb-true, leb-true, eq-eqb, not-true, both_ways, cases_lt}
@@ -12,7 +12,7 @@ use Rattle.job_bodies.specs.Plan.{Pool, Plan, no_pool, no_class, no_client, pool
 use Rattle.job_bodies.specs.ValidBody.{IsValidBody}
 use Rattle.job_bodies.specs.WellFormed.{is_within, is_valid_action, is_valid_body, is_valid_pool, is_valid_class, is_valid_client, IsWellFormed}
 
--- every body is valid, every class has a pool, and every size and count is in range
+-- every body is valid, every class has an existing pool, and every size and count is in range
 pub record HasValidBodies (plan : Plan) : Type 0 where
   pub classes : (k : ℕ) → IsValidBody plan (class_at plan k).body
   pub clients : (c : ℕ) → IsValidBody plan (client_at plan c).body
@@ -25,13 +25,13 @@ pub record HasValidBodies (plan : Plan) : Type 0 where
   pub count : (c : ℕ) → c < length plan.clients → 1 ≤ (client_at plan c).count
   pub most_count : (c : ℕ) → c < length plan.clients → (client_at plan c).count ≤ MAX_SIZE
 
--- the two bounds of a range test
+-- the two bounds of a number that passes a range test
 pub within_bounds : (low high n : ℕ) → is_within low high n ≡ true → (low ≤ n) × (n ≤ high)
 within_bounds low high n h =
     let p = and_parts _ _ h in
     (leb-true low n p.0, leb-true n high p.1)
 
--- a test that all elements pass holds at each of them
+-- each element of a list passes a test that `list_all` says all elements pass
 pub list_all_get : {X : Type 0} (test : X → Bool) (xs : List X) (i : ℕ) (x : X) → list_all test xs ≡ true → slice_get xs i ≡ Some x → test x ≡ true
 list_all_get test [] i x h e = cc
 list_all_get test (y ∷ xs) zero x h e =
@@ -39,7 +39,7 @@ list_all_get test (y ∷ xs) zero x h e =
     ap test (sym same) ∙ (and_parts _ _ h).0
 list_all_get test (y ∷ xs) (suc i) x h e = list_all_get test xs i x (and_parts (test y) _ h).1 e
 
--- the same for a test that takes the index too
+-- each element of a list passes, with its index, a test that `list_all` says all elements pass with their indices
 pub list_all_enumerated : {X : Type 0} (test : ℕ × X → Bool) (n : ℕ) (xs : List X) (i : ℕ) (x : X) → list_all test (enumerate_from n xs) ≡ true → slice_get xs i ≡ Some x → test (n + i, x) ≡ true
 list_all_enumerated test n [] i x h e = cc
 list_all_enumerated test n (y ∷ xs) zero x h e =
@@ -57,7 +57,7 @@ valid_action classes body i action h e =
     let found : is_valid_action classes body (0 + i) action ≡ true = list_all_enumerated test 0 body i action (and_parts _ _ h).1 e in
     subst (λ (j : ℕ). is_valid_action classes body j action ≡ true) (zero-add i) found
 
--- no earlier get names the submit
+-- if a get before position h names submit t, `gets t` holds for some action before h
 none_before : (body : List Action) (g h t : ℕ) → g < h → h < length body → slice_get body g ≡ Some (Get t) → list_any (gets t) (take h body) ≡ true
 none_before body g h t earlier inside e =
     let long : length (take h body) ≡ h = length-take-le h body (omega arith) in
@@ -65,7 +65,7 @@ none_before body g h t earlier inside e =
     let names : gets t (get_or (take h body) g (Get t)) ≡ true = ap (gets t) there ∙ eq-eqb t t refl in
     list_any_at (gets t) (take h body) g (Get t) (omega arith) names
 
--- the conditions of a valid get
+-- the conditions that a valid get of t at position g satisfies
 record IsValidGet (body : List Action) (g t : ℕ) : Type 0 where
   behind : t < g
   of_submit : submits (slice_get body t) ≡ true
@@ -105,7 +105,7 @@ client_body plan w c = elim (cases_lt c (length plan.clients)) [
       rw e (empty_body plan)
 ]
 
--- the sizes of a pool
+-- the sizes of a pool are in range
 record AreValidSizes (pool : Pool) : Type 0 where
   core : 1 ≤ pool.core
   max : pool.core ≤ pool.max

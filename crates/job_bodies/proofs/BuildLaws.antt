@@ -1,4 +1,4 @@
--- A plan is built exactly when it is well-formed.
+-- Proofs that a plan is built exactly when it is well-formed.
 use Rattle.std.proofs.Common.{◌≡◌, ◌↔◌, ℕ, Bool, true, false, nat_le, nat_lt, List, length, take, map, slice_get, Some, Result, Ok, Err, refl, sym, ap, subst, ◌∙◌, zero-add, ◌+◌, option_map}
 use Rattle.std.specs.Prelude.{IsOk}
 use Rattle.std.specs.List.{list_all, list_any, enumerate_from}
@@ -21,7 +21,7 @@ use Rattle.job_bodies.proofs.Bodies.{list_all_get, list_all_enumerated}
 use Rattle.job_bodies.proofs.Passing.{both_passed, both_pass, test_passed, test_passes, EachPlace, each_passed, each_passes, list_all_from, list_all_enumerated_from, mapped_get}
 use Rattle.job_bodies.proofs.DistinctNames.{distinct_before, distinct_from}
 
--- ---- names and numbers: an entry's name, and one other test
+-- ---- the checks of a list of entries, each of which checks the name and one other property
 abbrev check_entry : {X : Type 0} → (X → List ℕ) → (X → Bool) → Part → ℕ → List X → ℕ → X → Result (Unit {0}) PlanFault
 check_entry name test part number xs index x = check_name (take index (map name xs)) part index (name x) >>= λ _. ensure (test x) (at_entry part index number)
 
@@ -49,14 +49,14 @@ entries_pass name test part number xs w = each_passes (check_entry name test par
     let new = not_from_false _ (distinct_before (map name xs) w.distinct i (name x) named) in
     both_pass _ _ tt (both_pass _ _ tt (test_passes _ _ (w.names i x e)) (test_passes _ _ new)) (test_passes _ _ (w.tests i x e)))
 
--- ---- lengths
+-- ---- the checks of the lengths of bodies
 lengths_passed : {X : Type 0} (body : X → List Action) (part : Part) (xs : List X) → check_each (λ index x. check_length part index (body x)) 0 xs ≡ Ok tt → EachPlace xs (λ i x. nat_le (length (body x)) MAX_ACTIONS ≡ true)
 lengths_passed body part xs h i x e = test_passed _ _ (each_passed (λ index x. check_length part index (body x)) xs h i x e)
 
 lengths_pass : {X : Type 0} (body : X → List Action) (part : Part) (xs : List X) → EachPlace xs (λ i x. nat_le (length (body x)) MAX_ACTIONS ≡ true) → check_each (λ index x. check_length part index (body x)) 0 xs ≡ Ok tt
 lengths_pass body part xs h = each_passes (λ index x. check_length part index (body x)) xs (λ i x e. test_passes _ _ (h i x e))
 
--- ---- bodies
+-- ---- the checks of bodies
 action_passed : (classes : ℕ) (part : Part) (index : ℕ) (body : List Action) (i : ℕ) (action : Action) → check_action classes part index body i action ≡ Ok tt → is_valid_action classes body i action ≡ true
 action_passed classes part index body i (Work u) h = test_passed _ _ h
 action_passed classes part index body i (Submit k) h = test_passed _ _ h
@@ -67,7 +67,7 @@ action_passes classes part index body i (Work u) h = test_passes _ _ h
 action_passes classes part index body i (Submit k) h = test_passes _ _ h
 action_passes classes part index body i (Get t) h = test_passes _ _ h
 
--- the actions of the body are valid
+-- whether all actions of the body are valid
 abbrev are_valid_actions : ℕ → List Action → Bool
 are_valid_actions classes body = list_all (λ entry. is_valid_action classes body entry.0 entry.1) (enumerate_from 0 body)
 
@@ -88,8 +88,8 @@ bodies_passed body classes part xs h i x e = body_passed classes part i (body x)
 bodies_pass : {X : Type 0} (body : X → List Action) (classes : ℕ) (part : Part) (xs : List X) → EachPlace xs (λ i x. are_valid_actions classes (body x) ≡ true) → check_each (λ index x. check_body classes part index (body x)) 0 xs ≡ Ok tt
 bodies_pass body classes part xs h = each_passes (λ index x. check_body classes part index (body x)) xs (λ i x e. body_passes classes part i (body x) (h i x e))
 
--- ---- the whole plan
--- each group of checks passed
+-- ---- the checks of a whole plan
+-- each of the four groups of checks passed
 record Passed (plan : Plan) : Type 0 where
   counts : check_counts plan ≡ Ok tt
   lengths : check_lengths plan ≡ Ok tt
@@ -108,7 +108,7 @@ all_pass : (plan : Plan) → Passed plan → build plan ≡ Ok plan
 all_pass plan p =
     both_pass (check_counts plan) _ plan p.counts (both_pass (check_lengths plan) _ plan p.lengths (both_pass (check_entries plan) _ plan p.entries (both_pass (check_bodies plan) _ plan p.bodies refl)))
 
--- a plan that is built is well-formed
+-- a plan for which `build` succeeds is well-formed
 pub well_formed : (plan built : Plan) → build plan ≡ Ok built → IsWellFormed plan
 well_formed plan built h =
     let p = all_passed plan built h in
@@ -137,7 +137,7 @@ well_formed plan built h =
       clients = list_all_from (is_valid_client plan) plan.clients (λ i client e. and_from _ _ (and_from _ _ (clients.names i client e) (clients.tests i client e)) (and_from _ _ (client_lengths i client e) (client_bodies i client e)));
     }
 
--- a well-formed plan is built
+-- `build` succeeds for a well-formed plan
 pub builds : (plan : Plan) → IsWellFormed plan → build plan ≡ Ok plan
 builds plan w =
     let pools : AreValid (λ pool. pool.name) has_valid_sizes plan.pools = record {
@@ -172,11 +172,11 @@ builds plan w =
           (bodies_pass (λ client. client.body) (length plan.classes) part.Client plan.clients (λ i client e. (and_parts _ _ (client_parts i client e).1).1));
     })
 
--- a plan is built exactly when it is well-formed
+-- `build` succeeds exactly when the plan is well-formed
 pub built_exactly : (plan : Plan) → (build plan ≡ Ok plan) ↔ IsWellFormed plan
 built_exactly plan = (well_formed plan plan, builds plan)
 
--- the same for the result of a builder
+-- a result that equals that of `build` is Ok exactly when the plan is well-formed
 pub answered_exactly : (plan : Plan) (answer : Result Plan PlanFault) → answer ≡ build plan → IsOk answer ↔ IsWellFormed plan
 answered_exactly plan (Ok built) h = (λ _. well_formed plan built (sym h), λ _. refl)
 answered_exactly plan (Err fault) h = (λ ok. cc, λ w. let e : build plan ≡ Ok plan = builds plan w in cc)

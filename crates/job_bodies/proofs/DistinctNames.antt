@@ -1,4 +1,4 @@
--- Names are unique exactly when each differs from all names before it.
+-- Names are distinct exactly when each name differs from all names before it.
 use Rattle.std.proofs.Common.{◌≡◌, ℕ, zero, suc, true, false, List, [], ◌∷◌, take, refl, sym, ◌∙◌}
 use Rattle.std.specs.List.{list_any}
 use Rattle.std.specs.Str.{bytes_eq}

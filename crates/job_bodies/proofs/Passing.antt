@@ -1,10 +1,10 @@
--- When a check passes: a step, a test, and a check of each element of a list.
+-- Lemmas about checks that pass: two steps in order, a test, and a check of each element of a list.
 use Rattle.std.proofs.Common.{◌≡◌, ◌+◌, ℕ, zero, suc, Bool, true, false, List, [], ◌∷◌, map, slice_get, Some, Result, Ok, Err, refl, sym, ap, subst, ◌∙◌, arith, zero-add}
 use Rattle.std.specs.List.{list_all, list_any, enumerate_from}
 use Rattle.std.proofs.lemmas.Bool.{and_from, or_parts}
 use Rattle.support.specs.Reading.{◌>>=◌, ensure, check_each}
 
--- both steps passed
+-- if two steps in order pass, each of them passes
 pub both_passed : {B F : Type 0} (r : Result (Unit {0}) F) (next : Unit {0} → Result B F) (y : B) → (r >>= next) ≡ Ok y → (r ≡ Ok tt) × (next tt ≡ Ok y)
 both_passed (Ok u) next y h = (refl, h)
 both_passed (Err fault) next y h = cc
@@ -21,11 +21,11 @@ pub test_passes : {F : Type 0} (b : Bool) (fault : F) → b ≡ true → ensure 
 test_passes true fault h = refl
 test_passes false fault h = cc
 
--- the property holds for each element at its index
+-- the property holds for each element with its index
 abbrev pub EachPlace : {X : Type 0} → List X → (ℕ → X → Type 0) → Type 0
 EachPlace xs P = (i : ℕ) (x : _) → slice_get xs i ≡ Some x → P i x
 
--- a property of each element of a list holds for its tail
+-- a property of each element with its index holds for each element of the list's tail, with the index increased by one
 each_of_tail : {X : Type 0} (P : ℕ → X → Type 0) (n : ℕ) (y : X) (xs : List X) → EachPlace (y ∷ xs) (λ i x. P (n + i) x) → EachPlace xs (λ i x. P (n + 1 + i) x)
 each_of_tail P n y xs h i x e =
     let place : n + suc i ≡ n + 1 + i = omega arith in
@@ -54,7 +54,7 @@ each_passed check xs h i x e = subst (λ (k : ℕ). check k x ≡ Ok tt) (zero-a
 pub each_passes : {X F : Type 0} (check : ℕ → X → Result (Unit {0}) F) (xs : List X) → EachPlace xs (λ i x. check i x ≡ Ok tt) → check_each check 0 xs ≡ Ok tt
 each_passes check xs h = each_passes_from check 0 xs (λ i x e. subst (λ (k : ℕ). check k x ≡ Ok tt) (sym (zero-add i)) (h i x e))
 
--- a test that each element passes
+-- `list_all` holds for a test that each element passes
 pub list_all_from : {X : Type 0} (test : X → Bool) (xs : List X) → EachPlace xs (λ i x. test x ≡ true) → list_all test xs ≡ true
 list_all_from test [] h = refl
 list_all_from test (y ∷ xs) h = and_from (test y) _ (h 0 y refl) (list_all_from test xs (λ i x e. h (suc i) x e))
@@ -66,7 +66,7 @@ list_all_enumerated_from test n (y ∷ xs) h =
     let first : test (n, y) ≡ true = subst (λ (k : ℕ). test (k, y) ≡ true) place (h 0 y refl) in
     and_from (test (n, y)) _ first (list_all_enumerated_from test (n + 1) xs (each_of_tail (λ i x. test (i, x) ≡ true) n y xs h))
 
--- a test that no element passes
+-- each element fails a test for which `list_any` does not hold
 pub list_any_get : {X : Type 0} (test : X → Bool) (xs : List X) → list_any test xs ≡ false → EachPlace xs (λ i x. test x ≡ false)
 list_any_get test [] h i x e = cc
 list_any_get test (y ∷ xs) h zero x e =
@@ -78,7 +78,7 @@ pub list_any_from : {X : Type 0} (test : X → Bool) (xs : List X) → EachPlace
 list_any_from test [] h = refl
 list_any_from test (y ∷ xs) h = rw (h 0 y refl) (list_any_from test xs (λ i x e. h (suc i) x e))
 
--- each element of a mapped list has a preimage at its index
+-- each element of a mapped list is the image of the list's element at the same index
 pub mapped_get : {X Y : Type 0} (f : X → Y) (xs : List X) (i : ℕ) (y : Y) → slice_get (map f xs) i ≡ Some y → (x : X) × (slice_get xs i ≡ Some x) × (f x ≡ y)
 mapped_get f [] i y e = cc
 mapped_get f (x ∷ xs) zero y e = (x, refl, cc)

@@ -1,22 +1,22 @@
--- The text of a plan's fault.
+-- The text of a fault of a plan.
 use Rattle.std.specs.Prelude.{ℕ, ◌++◌, List, [], Option, None, Some, codes, decimal}
 use Rattle.support.specs.Name.{head}
 use Rattle.job_bodies.specs.declared.fault.PlanFault.{PlanFault}
 use Rattle.job_bodies.specs.declared.fault.Part.{Part}
 use Rattle.job_bodies.specs.declared.fault.Part.TheVariants as part
 
--- the entry that has the fault
+-- the text of the entry that has the fault: ` at pool INDEX`; empty for a fault of the text
 abbrev pub part_text : Part → ℕ → List ℕ
 part_text part.Text index = []
 part_text part.Pool index = codes " at pool " ++ decimal index
 part_text part.Class index = codes " at class " ++ decimal index
 part_text part.Client index = codes " at client " ++ decimal index
 
--- the action that has the fault, if an action has it
+-- the text of the action that has the fault: ` action POSITION`; empty if no action has the fault
 abbrev pub action_text : Option ℕ → List ℕ
 action_text None = []
 action_text (Some action) = codes " action " ++ decimal action
 
--- the whole line, without a newline
+-- the text of a fault, without a newline
 abbrev pub fault_line : PlanFault → List ℕ
 fault_line fault = head fault.number ++ part_text fault.part fault.index ++ action_text fault.action

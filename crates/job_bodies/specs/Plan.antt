@@ -1,4 +1,4 @@
--- Plans: pools of threads, classes of jobs and kinds of client, each class and kind with a body of actions.
+-- Plans: pools of threads, classes of jobs and client kinds. Each class and each client kind has a body of actions.
 use Rattle.std.specs.Prelude.{ℕ, Bool, false, true, ◌==◌, if◌then◌else◌, List, [], map, Option, Some, slice_index_or, slice_get}
 use Rattle.std.specs.List.{list_any}
 use Rattle.job_bodies.specs.declared.action.Action.{Action}
@@ -16,7 +16,7 @@ pub record Class : Type 0 where
   pub pool : ℕ
   pub body : List Action
 
--- a kind of client
+-- a client kind
 pub record Client : Type 0 where
   pub name : List ℕ
   pub count : ℕ
@@ -28,7 +28,7 @@ pub record Plan : Type 0 where
   pub classes : List Class
   pub clients : List Client
 
--- the default for an index past the end of a list of the plan
+-- the default for an index past the end of the list of pools
 abbrev pub no_pool : Pool
 no_pool = record { name = []; core = 0; max = 0; queue = 0; prestart = false }
 
@@ -47,11 +47,11 @@ class_at plan k = slice_index_or plan.classes k no_class
 abbrev pub client_at : Plan → ℕ → Client
 client_at plan c = slice_index_or plan.clients c no_client
 
--- the names of the pools, in order
+-- the names of the pools, in plan order
 abbrev pub pool_names : Plan → List (List ℕ)
 pool_names plan = map (λ pool. pool.name) plan.pools
 
--- the number of workers that the pool starts with, all idle: core if they are prestarted, and 0 otherwise
+-- the number of threads that the pool has at first, all idle: core if they are prestarted, and otherwise 0
 abbrev pub first_workers : Pool → ℕ
 first_workers pool = if pool.prestart then pool.core else 0
 
@@ -60,20 +60,20 @@ abbrev pub submits : Option Action → Bool
 submits (Some (Submit k)) = true
 submits _ = false
 
--- the class that a submit names
+-- the class that the action submits, if it is a submit
 abbrev pub class_of_submit : Option Action → ℕ
 class_of_submit (Some (Submit k)) = k
 class_of_submit _ = 0
 
--- the class of the job that a get of the submit at position t waits for
+-- the class of the job that the submit at position t of the body creates, for which a get of that submit waits
 abbrev pub submitted_class : List Action → ℕ → ℕ
 submitted_class body t = class_of_submit (slice_get body t)
 
--- whether the action is a get of the submit at position t
+-- whether the action is a get of the submit at position t of its body
 abbrev pub gets : ℕ → Action → Bool
 gets t (Get u) = t == u
 gets t _ = false
 
--- whether one of the actions is a get of the submit at position t
+-- whether one of the actions is a get of the submit at position t of their body
 abbrev pub has_get_of : List Action → ℕ → Bool
 has_get_of body t = list_any (gets t) body

@@ -1,5 +1,5 @@
--- Well-formed plans: the sizes that ThreadPoolExecutor and ArrayBlockingQueue allow, within this project's limits; valid
--- names that are unique in their list; and bodies whose submits name classes and whose gets name submits.
+-- Well-formed plans. Their sizes are those that ThreadPoolExecutor and ArrayBlockingQueue allow, within the limits of this project. Names
+-- are valid and unique in their list. Submits name classes, and gets name submits.
 use Rattle.std.specs.Prelude.{◌≤◌, ℕ, Bool, true, not, ◌==◌, ◌&&◌, ◌||◌, nat_lt, nat_le, List, [], ◌∷◌, length, map, take, slice_index, slice_get, IsTrue}
 use Rattle.std.specs.List.{list_all, list_any, enumerate_from}
 use Rattle.std.specs.Str.{bytes_eq}
@@ -11,15 +11,15 @@ use Rattle.job_bodies.specs.Plan.{Pool, Class, Client, Plan, submits, has_get_of
 abbrev pub is_within : ℕ → ℕ → ℕ → Bool
 is_within low high n = nat_le low n && nat_le n high
 
--- a to z
+-- whether the byte is one of a to z
 abbrev pub is_letter : ℕ → Bool
 is_letter b = is_within 97 122 b
 
--- a to z, 0 to 9 or _
+-- whether the byte is one of a to z, 0 to 9 or _
 abbrev pub is_name_byte : ℕ → Bool
 is_name_byte b = is_letter b || is_within 48 57 b || b == 95
 
--- a letter followed by name bytes, within the limit on its length
+-- whether the name is a letter followed by letters, digits and underscores, within the limit on its length
 abbrev pub is_valid_name : List ℕ → Bool
 is_valid_name name = is_within 1 MAX_NAME_BYTES (length name) && is_letter (slice_index name 0) && list_all is_name_byte name
 
@@ -27,18 +27,18 @@ abbrev pub are_distinct : List (List ℕ) → Bool
 are_distinct [] = true
 are_distinct (x ∷ xs) = not (list_any (bytes_eq x) xs) && are_distinct xs
 
--- core at least 1, max at least core, a queue of at least 1, none above the limit
+-- whether core is at least 1, max at least core, and the queue at least 1, and none of them is above the limit
 abbrev pub has_valid_sizes : Pool → Bool
 has_valid_sizes pool = is_within 1 MAX_SIZE pool.core && is_within pool.core MAX_SIZE pool.max && is_within 1 MAX_SIZE pool.queue
 
 abbrev pub is_valid_pool : Pool → Bool
 is_valid_pool pool = is_valid_name pool.name && has_valid_sizes pool
 
--- a get at position i names an earlier submit of its body that no earlier get names
+-- whether a get of t at position i is valid: t is the position of an earlier submit of the body, and no earlier get names it
 abbrev pub is_valid_get : List Action → ℕ → ℕ → Bool
 is_valid_get body i t = nat_lt t i && submits (slice_get body t) && not (has_get_of (take i body) t)
 
--- the action at position i of the body is valid, in a plan with this number of classes
+-- whether an action at position i of the body is valid, in a plan with this number of classes
 abbrev pub is_valid_action : ℕ → List Action → ℕ → Action → Bool
 is_valid_action classes body i (Work u) = is_within 1 MAX_WORK u
 is_valid_action classes body i (Submit k) = nat_lt k classes

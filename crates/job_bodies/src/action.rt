@@ -1,23 +1,23 @@
-//! The actions of a job or a client.
+//! The actions in the body of a class or client kind.
 
 ghost use Rattle.std.specs.Prelude.{◌≡◌};
 ghost use Rattle.job_bodies.specs.Plan as spec;
 
-/// One action of a body.
+/// An action of a body.
 #[derive(Clone, Copy, Debug, PartialEq, Eq)]
 pub enum Action {
-    /// Works for this number of units, from 1 to 1,000,000.
+    /// The actor works for this number of units, from 1 to 1,000,000.
     Work(u32),
-    /// Submits a job of the class with this index to the pool of the class, as Java's `submit`
-    /// does, and continues.
+    /// The actor submits a job of the class with this index to the pool of the class, as Java's
+    /// `submit` does, and continues.
     Submit(usize),
-    /// Waits for the latest job that the submit at this position of the same body created, as
-    /// `Future.get` does. At most one get waits for each submit.
+    /// The actor waits for the job that its latest submit at this position of the same body
+    /// created, as Java's `Future.get` does. A body has at most one get for each of its submits.
     Get(usize),
 }
 
 impl Action {
-    /// Returns whether this is a get of the submit at this position of its body.
+    /// Returns whether this action is a get of the submit at this position of the same body.
     pub fn gets(self, submit: usize) -> bool
         ensures { result ≡ spec.gets submit self }
     {
@@ -28,7 +28,8 @@ impl Action {
     }
 }
 
-/// Returns whether one of these actions is a get of the submit at this position of their body.
+/// Returns whether one of these actions of a body is a get of the submit at this position of the
+/// body.
 pub fn has_get_of(actions: &[Action], submit: usize) -> bool
     ensures { result ≡ spec.has_get_of actions.now submit }
 {

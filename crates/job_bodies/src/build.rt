@@ -1,4 +1,4 @@
-//! The checks of a plan's lists, in the order of their faults.
+//! The checks of the lists of a plan, in the order in which their faults are reported.
 
 ghost use Rattle.std.specs.Prelude.{◌≡◌, List, length, map, take};
 ghost use Rattle.support.specs.Reading.{check_each};
@@ -13,7 +13,7 @@ use crate::limits::{MAX_CLASSES, MAX_CLIENT_KINDS, MAX_POOLS};
 use crate::{Class, Client, Part, PlanFault, Pool};
 use support::number::TOO_MANY;
 
-/// Checks that no list is too long.
+/// Checks that each list has at most its maximum number of entries.
 pub(crate) fn check_counts(
     pools: &[Pool],
     classes: &[Class],
@@ -51,7 +51,7 @@ fn check_client_lengths(clients: &[Client]) -> Result<(), PlanFault>
     Ok(())
 }
 
-/// Checks that no body is too long.
+/// Checks that each body has at most the maximum number of actions.
 pub(crate) fn check_lengths(classes: &[Class], clients: &[Client]) -> Result<(), PlanFault>
     ensures { (pools : List spec.Pool)
         → result ≡ check_lengths (plan_of_lists pools classes.now clients.now) }
@@ -93,7 +93,7 @@ fn check_clients(clients: &[Client]) -> Result<(), PlanFault>
     Ok(())
 }
 
-/// Checks the names and numbers, entry by entry.
+/// Checks the names and numbers of each pool, then of each class, then of each client kind.
 pub(crate) fn check_entries(
     pools: &[Pool],
     classes: &[Class],
@@ -129,7 +129,7 @@ fn check_client_bodies(classes: usize, clients: &[Client]) -> Result<(), PlanFau
     Ok(())
 }
 
-/// Checks the bodies, action by action.
+/// Checks each action of each body of a class, then of a client kind.
 pub(crate) fn check_bodies(classes: &[Class], clients: &[Client]) -> Result<(), PlanFault>
     ensures { (pools : List spec.Pool)
         → result ≡ check_bodies (plan_of_lists pools classes.now clients.now) }

@@ -1,4 +1,4 @@
-//! The checks of one entry of a plan, each with its fault.
+//! The checks of one entry of a plan. Each check returns a fault if the entry does not pass it.
 
 ghost use Rattle.std.specs.Prelude.{◌≡◌, ◌<◌, ◌++◌, ◌∷◌, [], List, length, map, take, slice_index_or};
 ghost use Rattle.job_bodies.specs.declared.action.Action.{Action};
@@ -14,7 +14,7 @@ use crate::names::check_name;
 use crate::{Action, Class, Client, Part, PlanFault, Pool, has_get_of};
 use support::number::{BAD_NUMBER, NO_SUCH_CLASS, NO_SUCH_POOL, SLOT_EMPTY, TOO_MANY};
 
-/// Checks that the pool at this index has a unique, valid name and valid sizes.
+/// Checks that the pool at this index has a valid name that no earlier pool has, and valid sizes.
 pub(crate) fn check_pool(pools: &[Pool], index: usize) -> Result<(), PlanFault>
     requires { index < length pools.now }
     ensures { let names = map (λ pool. pool.name) pools.now in
@@ -26,8 +26,8 @@ pub(crate) fn check_pool(pools: &[Pool], index: usize) -> Result<(), PlanFault>
     ensure(valid, PlanFault::at_entry(Part::Pool, index, BAD_NUMBER))
 }
 
-/// Checks that the class at this index has a unique, valid name and belongs to one of `pools`
-/// pools.
+/// Checks that the class at this index has a valid name that no earlier class has, and that its
+/// pool is one of the plan's pools, of which there are `pools`.
 pub(crate) fn check_class(pools: usize, classes: &[Class], index: usize) -> Result<(), PlanFault>
     requires { index < length classes.now }
     ensures { let names = map (λ class. class.name) classes.now in
@@ -39,7 +39,8 @@ pub(crate) fn check_class(pools: usize, classes: &[Class], index: usize) -> Resu
     ensure(found, PlanFault::at_entry(Part::Class, index, NO_SUCH_POOL))
 }
 
-/// Checks that the kind of client at this index has a unique, valid name and a valid count.
+/// Checks that the client kind at this index has a valid name that no earlier client kind has, and
+/// a valid count.
 pub(crate) fn check_client(clients: &[Client], index: usize) -> Result<(), PlanFault>
     requires { index < length clients.now }
     ensures { let names = map (λ client. client.name) clients.now in
@@ -59,8 +60,8 @@ pub(crate) fn check_length(part: Part, index: usize, body: &[Action]) -> Result<
     ensure(short, PlanFault::at_entry(part, index, TOO_MANY))
 }
 
-/// Returns whether one of these actions is a get of the submit. Uses their table for every position
-/// that a valid body can have.
+/// Returns whether one of these actions is a get of the submit at position `submit`. Uses the table
+/// `got` of the actions, which has an entry for each position of a valid body.
 fn has_get_in_table(actions: &[Action], got: &[bool; MAX_ACTIONS], submit: usize) -> bool
     requires { IsTableOf actions.now got.now }
     ensures { result ≡ has_get_of actions.now submit }
@@ -71,7 +72,7 @@ fn has_get_in_table(actions: &[Action], got: &[bool; MAX_ACTIONS], submit: usize
     }
 }
 
-/// Adds an action to the table of the actions before it.
+/// Adds an action to `got`, the table of the submits that the earlier actions get.
 fn add_to_table(got: &mut [bool; MAX_ACTIONS], action: Action)
     ensures { (actions : List Action)
         → IsTableOf actions got.old
@@ -84,8 +85,8 @@ fn add_to_table(got: &mut [bool; MAX_ACTIONS], action: Action)
     }
 }
 
-/// Returns whether a get at this position names an earlier submit of its body that no earlier get
-/// names.
+/// Returns whether a get at `position` that names `submit` is valid: `submit` is the position of an
+/// earlier submit of the body, and no earlier get names it.
 fn is_valid_get(body: &[Action], got: &[bool; MAX_ACTIONS], position: usize, submit: usize) -> bool
     requires position { position < length body.now }
     requires table { IsTableOf (take position body.now) got.now }
@@ -96,7 +97,7 @@ fn is_valid_get(body: &[Action], got: &[bool; MAX_ACTIONS], position: usize, sub
         && !has_get_in_table(&body[..position], got, submit)
 }
 
-/// Checks the action at this position.
+/// Checks the action at `position` of the body.
 fn check_action(
     classes: usize,
     part: Part,
@@ -118,7 +119,7 @@ fn check_action(
     ensure(valid, PlanFault::at_action(part, index, position, number))
 }
 
-/// Checks the actions of the body, in order.
+/// Checks each action of the body in order.
 #[tactic(auto, using(crate::proofs::Loops::check_each_turn))]
 pub(crate) fn check_body(
     classes: usize,

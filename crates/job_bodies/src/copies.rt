@@ -1,4 +1,4 @@
-//! Copies of plans and of their entries.
+//! Copies of plans and their entries.
 
 ghost use Rattle.std.specs.Prelude.{◌≡◌, IfOk};
 

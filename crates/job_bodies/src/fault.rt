@@ -1,4 +1,4 @@
-//! The faults of a plan, with their places.
+//! The faults of a plan, with their positions.
 
 ghost use Rattle.std.specs.Prelude.{◌≡◌};
 ghost use Rattle.support.specs.Reading.{ensure};
@@ -11,26 +11,25 @@ pub enum Part {
     Text,
     Pool,
     Class,
-    /// A kind of client.
+    /// A client kind.
     Client,
 }
 
-/// The first fault of a plan: its number, and the entry and the action that have it, counted from
-/// 0.
+/// A fault of a plan: its number, and the entry and the action that have it, each counted from 0.
 #[derive(Clone, Copy, Debug, PartialEq, Eq)]
 pub struct PlanFault {
     /// The fault's number: 1 to 13, or 20 if memory ran out.
     pub number: u8,
     /// The part of the plan that has the fault.
     pub part: Part,
-    /// The index of the pool, the class or the kind of client in its list, and 0 for the text.
+    /// The index of the pool, class or client kind in its list, or 0 if the part is `Text`.
     pub index: usize,
-    /// The position of the action in its body if an action has the fault.
+    /// The position in its body of the action that has the fault, or `None` if no action has it.
     pub action: Option<usize>,
 }
 
 impl PlanFault {
-    /// Returns a fault of the text, or of the plan as a whole.
+    /// Returns the fault with this number of the text, or of the plan as a whole.
     pub fn at_text(number: u8) -> PlanFault
         ensures { result ≡ at_text number }
     {
@@ -42,7 +41,7 @@ impl PlanFault {
         }
     }
 
-    /// Returns a fault of the entry at this index of its list.
+    /// Returns the fault with this number of the entry at `index` in the list for `part`.
     pub fn at_entry(part: Part, index: usize, number: u8) -> PlanFault
         ensures { result ≡ at_entry part index number }
     {
@@ -54,7 +53,8 @@ impl PlanFault {
         }
     }
 
-    /// Returns a fault of one action of the body of the entry at this index of its list.
+    /// Returns the fault with this number of the action at position `action` in the body of the
+    /// entry at `index` in the list for `part`.
     pub fn at_action(part: Part, index: usize, action: usize, number: u8) -> PlanFault
         ensures { result ≡ at_action part index action number }
     {
@@ -67,7 +67,7 @@ impl PlanFault {
     }
 }
 
-/// Returns the fault unless `holds` is true.
+/// Returns `Ok` if `holds` is true, and otherwise the fault.
 pub(crate) fn ensure(holds: bool, fault: PlanFault) -> Result<(), PlanFault>
     ensures { result ≡ ensure holds fault }
 {

@@ -1,4 +1,4 @@
-//! The text of a plan's fault.
+//! The text of a fault of a plan.
 
 ghost use Rattle.std.specs.Prelude.{Some};
 ghost use Rattle.job_bodies.specs.FaultText.{part_text, action_text, fault_line};
@@ -7,7 +7,7 @@ use crate::{Part, PlanFault};
 use std::fmt;
 use support::FaultHead;
 
-/// The entry that has a fault.
+/// The entry that has a fault, formatted as ` at pool 0`, or as nothing if the part is `Text`.
 #[derive(Clone, Copy)]
 struct FaultEntry {
     part: Part,
@@ -27,7 +27,8 @@ impl fmt::Display for FaultEntry {
     }
 }
 
-/// The position of the action that has a fault, if an action has it.
+/// The position of the action that has a fault, formatted as ` action 2`, or as nothing if no
+/// action has the fault.
 #[derive(Clone, Copy)]
 struct Position(Option<usize>);
 
@@ -42,8 +43,8 @@ impl fmt::Display for Position {
     }
 }
 
-/// Formats the fault's number and name, and the entry and the action that have it, such as `fault
-/// 13 SlotEmpty at client 0 action 2`.
+/// Formats the number and name of the fault, and the entry and the action that have it, such as
+/// `fault 13 SlotEmpty at client 0 action 2`.
 impl fmt::Display for PlanFault {
     ghost output = { λ fault. Some (fault_line fault) };
 

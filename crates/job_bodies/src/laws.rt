@@ -2,7 +2,8 @@
 
 ghost use Rattle.job_bodies.specs.Limits.{PlanLimitsAreStated, TextLimitsAreStated, RunLimitsAreStated};
 
-/// Proves that the limits of plans, certificates, texts, searches and runs are the documented ones.
+/// Proves that each limit of plans, certificates, texts, searches and runs has its documented
+/// value.
 pub fn limits_are_stated()
     ensures plans { PlanLimitsAreStated }
     ensures texts { TextLimitsAreStated }

@@ -1,9 +1,9 @@
-//! Plans: pools of threads, classes of jobs and kinds of client. Each class and each kind has a
+//! Plans: pools of threads, classes of jobs and client kinds. Each class and each client kind has a
 //! body of actions.
 //!
 //! [`Plan::build`] creates a plan from lists or returns their first fault. The type [`Plan`]
-//! guarantees that a plan is well-formed, so the crates above do not check it again. A reader of a
-//! text makes the same checks with [`is_valid_name`], [`Pool::has_valid_sizes`] and
+//! guarantees that a plan is well-formed, so the crates that use it do not check this again. A
+//! parser of plans makes the same checks with [`is_valid_name`], [`Pool::has_valid_sizes`] and
 //! [`is_within`].
 #![tactic(auto)]
 

@@ -1,5 +1,5 @@
-//! The limits of plans, certificates, texts, searches and runs, shared by readers, checks and
-//! messages.
+//! The limits of plans, certificates, texts, searches and runs. Parsers, checks and messages share
+//! them.
 
 ghost use Rattle.std.specs.Prelude.{◌≡◌};
 ghost use Rattle.job_bodies.specs.WellFormed.{is_within};
@@ -8,19 +8,19 @@ ghost use Rattle.job_bodies.specs.WellFormed.{is_within};
 pub const MAX_POOLS: usize = 64;
 /// The maximum number of classes of a plan.
 pub const MAX_CLASSES: usize = 256;
-/// The maximum number of kinds of client of a plan.
+/// The maximum number of client kinds of a plan.
 pub const MAX_CLIENT_KINDS: usize = 256;
-/// The maximum number of actions of a body. A body may be empty.
+/// The maximum number of actions of a body. The minimum is 0.
 pub const MAX_ACTIONS: usize = 256;
-/// The maximum of the sizes of a pool (core, maximum and queue capacity) and of the count of a kind
-/// of client. The minimum is 1.
+/// The maximum of each size of a pool (core, maximum and queue capacity) and of the count of a
+/// client kind. The minimum is 1.
 pub const MAX_SIZE: u64 = 1_000_000;
-/// The maximum length of an action `Work`, in units. The minimum is 1.
+/// The maximum number of units of a `Work` action. The minimum is 1.
 pub const MAX_WORK: u64 = 1_000_000;
 /// The maximum length of a name, in bytes. The minimum is 1.
 pub const MAX_NAME_BYTES: usize = 32;
 
-/// The maximum of the weights, ranks, reaches and levels of a certificate. The minimum is 0.
+/// The maximum of each weight, rank, reach and level of a certificate. The minimum is 0.
 pub const MAX_WEIGHT: u64 = 1_000_000_000;
 
 /// The maximum size of a plan's text, in bytes.
@@ -29,37 +29,39 @@ pub const MAX_PLAN_BYTES: usize = 1_048_576;
 pub const MAX_CERT_BYTES: usize = 1_048_576;
 /// The maximum size of the event lines of a replay, in bytes.
 pub const MAX_EVENT_BYTES: usize = 1_048_576;
-/// The maximum size of a whole input, in bytes: a plan, a separator line, and event lines. A reader
-/// requests one byte more to detect a longer input.
+/// The maximum size of a whole input, in bytes: a plan, a separator line, and event lines or a
+/// certificate. The program reads at most one byte more, which shows that an input is too long.
 pub const MAX_INPUT_BYTES: usize = 2_097_155;
-/// The maximum size of a whole input with a recording, in bytes.
+/// The maximum size of a whole input that contains a recording, in bytes.
 pub const MAX_RECORDED_BYTES: usize = 268_435_456;
-/// The maximum of a number in a line of events or of a recording. The minimum is 0.
+/// The maximum of each number in event lines and in lines of recordings. The minimum is 0.
 pub const MAX_LINE_NUMBER: usize = 1_000_000_000;
-/// The maximum number of rounds of a recording. Rounds are numbered from 0.
+/// The maximum number of rounds of a recording: the rounds are numbered from 0 to
+/// [`MAX_LINE_NUMBER`].
 pub const MAX_RECORDED_ROUNDS: u64 = 1_000_000_001;
-/// The maximum number of steps of the comparison of a body with a recorded path.
+/// The maximum number of steps when a body is compared with a recorded path.
 pub const MAX_PATH_STEPS: u64 = 1_000_000;
 
 /// The maximum number of threads of a search or a check. The minimum is 1.
 pub const MAX_WORKERS: u64 = 64;
 /// The default number of threads of a search or a check.
 pub const DEFAULT_WORKERS: u64 = 4;
-/// The maximum number of states of a search for a witness. The minimum is 1.
+/// The maximum number of states that a search for a witness may visit. The minimum is 1.
 pub const MAX_STATES: u64 = 10_000_000;
-/// The default number of states of a search for a witness.
+/// The default number of states that a search for a witness may visit.
 pub const DEFAULT_STATES: u64 = 100_000;
 
 /// The maximum number of rounds of a run. The minimum is 1.
 pub const MAX_ROUNDS: u64 = 1_000_000;
 /// The maximum number of clients of a run.
 pub const MAX_RUN_CLIENTS: u64 = 64;
-/// The maximum number of threads of all pools of a run together.
+/// The maximum number of threads of all pools of a run in total.
 pub const MAX_RUN_CARRIERS: u64 = 64;
-/// The maximum of the bound on the events of a run.
+/// The maximum number of events of a run. It limits the number that is computed from the plan
+/// before the run.
 pub const MAX_RUN_EVENTS: u64 = 1_000_000;
 
-/// Returns whether `low <= n <= high`.
+/// Returns whether `n` is from `low` to `high`, both included.
 pub fn is_within(low: u64, high: u64, n: u64) -> bool
     ensures { result ≡ is_within low high n }
 {

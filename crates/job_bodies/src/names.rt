@@ -1,5 +1,5 @@
-//! The checks of the names of pools, classes and clients: a name must be valid, and unique in its
-//! list.
+//! The checks of the names of pools, classes and client kinds: a name must be valid, and unique in
+//! its list.
 
 ghost use Rattle.std.specs.Prelude.{◌≡◌, ◌≤◌, ℕ, List, length, map, take};
 ghost use Rattle.std.specs.List.{list_all, list_any};
@@ -41,7 +41,7 @@ pub fn is_valid_name(name: &str) -> bool
         && are_name_bytes(bytes)
 }
 
-/// An entry with a name that is unique in its list.
+/// An entry of a list in which each name must be unique.
 pub(crate) trait Named {
     ghost name_of: { Self → List ℕ };
 
@@ -79,7 +79,7 @@ fn has_name<T: Named>(entries: &[T], name: &str) -> bool
     entries.iter().any(|entry| name == entry.name())
 }
 
-/// Checks that the name at this index of its list is valid and differs from all names before it.
+/// Checks that `name`, the name of the entry at `index`, is valid and that no earlier entry has it.
 #[tactic(auto, using(crate::proofs::Loops::list_any_of_names))]
 pub(crate) fn check_name<T: Named>(
     entries: &[T],

@@ -1,4 +1,4 @@
-//! The plan of a service: its pools of threads, its classes of jobs, and its kinds of client.
+//! The plan of a service: its pools of threads, its classes of jobs, and its client kinds.
 
 ghost use Rattle.std.specs.Prelude.{◌≡◌, ◌↔◌, ◌<◌, IsOk, IfOk, IsSome, IfSome, IfNone, length, string_bytes};
 ghost use Rattle.job_bodies.specs.Plan as spec;
@@ -15,23 +15,23 @@ use std::marker::Model;
 /// `ArrayBlockingQueue` and the default handler, `AbortPolicy`. `PoolState::offer` of
 /// `pool_machine` defines what the pool does with a submitted job.
 ///
-/// The ranges are those that the Javadoc gives for the constructors (a maximum of at least 1 and of
-/// at least core, a capacity of at least 1), with two restrictions: core is at least 1, and no size
-/// is above [`MAX_SIZE`].
+/// The ranges of the sizes are those of the constructor in the Javadoc (a maximum of at least 1 and
+/// of at least core, a capacity of at least 1), with two restrictions: core is at least 1, and no
+/// size is above [`MAX_SIZE`].
 #[derive(Debug, Drop)]
 pub struct Pool {
     /// The name of the pool, as plans and answers show it.
     pub name: String,
-    /// The core pool size in threads: from 1 to `max`. Each submitted job starts a thread until the
-    /// pool has this number of threads. They stay alive.
+    /// The core pool size in threads: from 1 to `max`. While the pool has fewer threads, each
+    /// submitted job starts one. The core threads never end.
     pub core: u64,
     /// The maximum pool size in threads: from `core` to 1,000,000.
     pub max: u64,
     /// The capacity of the queue in jobs: from 1 to 1,000,000.
     pub queue: u64,
-    /// Whether all core threads are started before the first job, as by Java's
-    /// `prestartAllCoreThreads`. If so, the first jobs wait in the queue, and otherwise they start
-    /// threads.
+    /// Whether all core threads are started before the first job is submitted, as by Java's
+    /// `prestartAllCoreThreads`. The first jobs then wait in the queue until idle threads take
+    /// them. If `prestart` is false, the first jobs start threads.
     pub prestart: bool,
 }
 
@@ -42,8 +42,8 @@ impl Model for Pool {
 }
 
 impl Pool {
-    /// Returns whether the sizes are in range: core from 1, the maximum from core, the queue from
-    /// 1, each up to 1,000,000.
+    /// Returns whether the sizes are in range: core from 1, the maximum from core, and the queue
+    /// from 1, each to 1,000,000.
     pub fn has_valid_sizes(&self) -> bool
         ensures { result ≡ has_valid_sizes self.now }
     {
@@ -52,8 +52,8 @@ impl Pool {
             && is_within(1, MAX_SIZE, self.queue)
     }
 
-    /// Returns the number of workers that the pool starts with, all idle: core if they are
-    /// prestarted, and 0 otherwise.
+    /// Returns the number of threads that the pool has at first, all idle: core if they are
+    /// prestarted, and otherwise 0.
     pub fn first_workers(&self) -> u64
         ensures { result ≡ spec.first_workers self.now }
     {
@@ -62,14 +62,14 @@ impl Pool {
 }
 
 /// A class of jobs. Each job of the class runs in the same pool and performs the actions of the
-/// body.
+/// body in order.
 #[derive(Debug, Drop)]
 pub struct Class {
     /// The name of the class, as plans and answers show it.
     pub name: String,
     /// The index of the pool that runs the jobs, counted from 0 in plan order.
     pub pool: usize,
-    /// The actions of a job, from its start to its end: at most 256.
+    /// The actions of a job of this class, in order: at most 256.
     pub body: Vec<Action>,
 }
 
@@ -79,16 +79,16 @@ impl Model for Class {
     ghost view = { λ k. record { name = string_bytes k.name; pool = k.pool; body = k.body.items } };
 }
 
-/// A kind of client. Clients are threads outside the pools that submit jobs to them.
+/// A client kind. Clients are threads outside the pools that submit jobs to the pools.
 #[derive(Debug, Drop)]
 pub struct Client {
-    /// The name of the kind, as plans and answers show it.
+    /// The name of the client kind, as plans and answers show it.
     pub name: String,
     /// The number of clients of this kind: from 1 to 1,000,000.
     pub count: u64,
-    /// Whether each client starts its body again at its end.
+    /// Whether each client starts its body again after the last action.
     pub repeat: bool,
-    /// The actions of a client: at most 256.
+    /// The actions of a client of this kind, in order: at most 256.
     pub body: Vec<Action>,
 }
 
@@ -100,9 +100,9 @@ impl Model for Client {
 
 /// A well-formed plan.
 ///
-/// Every plan keeps these rules: each limit holds; each name is valid and unique in its list; each
-/// class names an existing pool, and each submit an existing class; each get names an earlier
-/// submit of its body, and no two gets name the same one.
+/// Every plan satisfies these rules: its numbers are within their limits; each name is valid and
+/// unique in its list; each class names an existing pool, and each submit an existing class; each
+/// get names an earlier submit of its body, and no two gets of a body name the same submit.
 #[derive(Debug, Drop)]
 pub struct Plan {
     pools: Vec<Pool>,
@@ -119,21 +119,23 @@ impl Model for Plan {
 }
 
 impl Plan {
-    /// Creates a plan from these lists. Allocates nothing, and drops the lists on failure.
+    /// Creates a plan from these lists. Allocates no memory. If the lists have a fault, they are
+    /// dropped.
     ///
     /// # Errors
     ///
-    /// Returns the first fault, with its entry and, if an action has the fault, its action. The
-    /// order is:
+    /// Returns the first fault, with the entry that has it and, if an action has it, with the
+    /// action. The faults are checked in this order:
     ///
-    /// 1. 2 at the text: a list is too long (pools, classes, clients).
-    /// 2. 2: a body is too long (classes, then clients).
-    /// 3. Entry by entry, pools, then classes, then clients: 6 for an invalid name, 7 for a name
-    ///    that an earlier entry of the list has; then 8 for a size of a pool, 9 for a class whose
-    ///    pool does not exist, 8 for a client's count.
-    /// 4. Action by action, classes, then clients: 8 for a length of work out of range, 10 for a
-    ///    submit of a class that does not exist, 13 for a get that does not name an earlier submit,
-    ///    or names one that an earlier get names.
+    /// 1. Fault 2 of the text: a list of pools, classes or client kinds has too many entries.
+    /// 2. Fault 2 of a class, then of a client kind: its body has too many actions.
+    /// 3. For each pool, then each class, then each client kind: fault 6 if its name is invalid;
+    ///    fault 7 if an earlier entry of the list has the name; then fault 8 if a size of a pool is
+    ///    out of range, fault 9 if the pool of a class does not exist, fault 8 if the count of a
+    ///    client kind is out of range.
+    /// 4. For each action of each class, then of each client kind: fault 8 if a number of units of
+    ///    work is out of range; fault 10 if a submit names a class that does not exist; fault 13 if
+    ///    a get does not name an earlier submit, or names one that an earlier get names.
     pub fn build(
         _alloc: Global,
         pools: Vec<Pool>,
@@ -152,8 +154,8 @@ impl Plan {
         Ok(Plan::of_well_formed(pools, classes, clients))
     }
 
-    /// Creates a plan from lists that are known to be well-formed. It serves readers that have made
-    /// the checks already.
+    /// Creates a plan from lists that are known to be well-formed. Parsers use it, since they have
+    /// made all checks already.
     pub fn of_well_formed(pools: Vec<Pool>, classes: Vec<Class>, clients: Vec<Client>) -> Plan
         requires { IsWellFormed (plan_of_lists pools.items classes.items clients.items) }
         ensures { result ≡ plan_of_lists pools.items classes.items clients.items }
@@ -165,7 +167,8 @@ impl Plan {
         }
     }
 
-    /// Replaces the pools of the plan. Allocates nothing, and drops the old pools.
+    /// Returns the plan with its pools replaced by these. Allocates no memory, and drops the old
+    /// pools.
     pub fn with_pools(self, pools: Vec<Pool>) -> Plan
         requires { IsWellFormed (plan_of_lists pools.items self.classes self.clients) }
         ensures { result ≡ record self { pools = pools.items } }
@@ -193,7 +196,7 @@ impl Plan {
         self.classes.as_slice()
     }
 
-    /// Returns the kinds of client, in plan order: at most 256.
+    /// Returns the client kinds, in plan order: at most 256.
     pub fn clients(&self) -> &[Client]
         ensures value { result.now ≡ self.now.clients }
         ensures well_formed { IsWellFormed self.now }
@@ -219,7 +222,7 @@ impl Plan {
         self.classes.get(class)
     }
 
-    /// Returns the kind of client with this index, counted from 0, or `None` if there is none.
+    /// Returns the client kind with this index, counted from 0, or `None` if there is none.
     pub fn client_at(&self, client: usize) -> Option<&Client>
         ensures found { IfSome result (λ found. found.now ≡ spec.client_at self.now client) }
         ensures absent { IfNone result (spec.client_at self.now client ≡ spec.no_client) }
@@ -250,7 +253,7 @@ impl Plan {
         }
     }
 
-    /// Returns the name of the kind of client with this index, counted from 0, or an empty name if
+    /// Returns the name of the client kind with this index, counted from 0, or an empty name if
     /// there is none.
     pub fn client_name(&self, client: usize) -> &str
         ensures { result.now ≡ (spec.client_at self.now client).name }

@@ -1,4 +1,4 @@
--- The classes before this one were copied.
+-- The loop of `try_clone_classes`: the copies are the classes before the current one.
 use Rattle.std.proofs.Common.{◌≡◌, take}
 use Rattle.job_bodies.proofs.copies.try_clone_classes.Given as goal
 

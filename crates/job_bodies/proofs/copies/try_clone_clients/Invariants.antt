@@ -1,4 +1,4 @@
--- The clients before this one were copied.
+-- The loop of `try_clone_clients`: the copies are the client kinds before the current one.
 use Rattle.std.proofs.Common.{◌≡◌, take}
 use Rattle.job_bodies.proofs.copies.try_clone_clients.Given as goal
 

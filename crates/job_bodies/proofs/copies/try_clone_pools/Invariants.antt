@@ -1,4 +1,4 @@
--- The pools before this one were copied.
+-- The loop of `try_clone_pools`: the copies are the pools before the current one.
 use Rattle.std.proofs.Common.{◌≡◌, take}
 use Rattle.job_bodies.proofs.copies.try_clone_pools.Given as goal
 
