@@ -1,4 +1,4 @@
--- A text is the part before the first byte with a given value, that byte, and the part after it, unless it has no such byte.
+-- Lemmas about the part of a text before the first byte with a given value, and the part after it.
 use Rattle.std.proofs.Common.{◌≡◌, inl, inr, ℕ, suc, ◌+◌, ◌-◌, ◌<◌, ◌≤◌, true, false, not, ◌==◌, nat_lt, List, [], ◌∷◌, ◌++◌, length, take, drop, get_or, position, Some, None, refl, sym, ap, ap₂, subst, ◌∙◌, arith, append_assoc, length-append, get_or-append-add, take-append-drop, length-drop}
 use Rattle.std.specs.List.{All, position_or_len, before_first, after_first}
 use Rattle.std.proofs.Math.Seq.{take-append-add}
@@ -11,7 +11,7 @@ use Rattle.line_words.specs.Pieces.{is_newline, without_last_newline, lines_of, 
 use Rattle.line_words.proofs.Splits.{has_no, cut_at}
 use Rattle.line_words.proofs.LastNewline.{lines_of_some, cut_off, stays}
 
--- the parts before and after the first such byte
+-- the part of the text before its first byte c; the whole text if it has none
 abbrev pub before : ℕ → List ℕ → List ℕ
 before c text = before_first (λ b. b == c) text
 
@@ -21,20 +21,20 @@ rest_after c text = after_first (λ b. b == c) text
 abbrev pub place : ℕ → List ℕ → ℕ
 place c text = position_or_len (λ b. b == c) text
 
--- the text has such a byte
+-- a text with a byte c is the part before the first one, that byte, and the part after it
 pub cut_there : (c : ℕ) (text : List ℕ) → place c text < length text → text ≡ before c text ++ c ∷ rest_after c text
 cut_there c text within =
     let here : get_or text (place c text) 0 ≡ c = eqb-true _ c (passes_at_first (λ b. b == c) text 0 within) in
     split_at_first (λ b. b == c) text 0 within ∙ ap (λ (b : ℕ). before c text ++ b ∷ rest_after c text) here
 
--- the text has no such byte
+-- a text without a byte c is the part before it, and the part after it is empty
 pub uncut : (c : ℕ) (text : List ℕ) → length text ≤ place c text → (text ≡ before c text) × (rest_after c text ≡ [])
 uncut c text past = (sym (take_all (place c text) text past), drop_all (place c text + 1) text (omega arith))
 
 pub no_more_before : (c : ℕ) (text : List ℕ) → place c text ≤ length text
 no_more_before c text = prefix_len-le-length (λ b. not (b == c)) text
 
--- ---- the first line
+-- ---- the first line of a text
 place_found : (text : List ℕ) (newline : ℕ) → position is_newline text ≡ Some newline → place 10 text ≡ newline
 place_found text newline found = (cond_some (nat_lt (place 10 text) (length text)) _ newline found).1
 
@@ -57,7 +57,7 @@ first_nowhere text none = (uncut 10 text (none_found text none)).0
 pub after_nowhere : (text : List ℕ) → position is_newline text ≡ None → [] ≡ after_line text
 after_nowhere text none = sym (uncut 10 text (none_found text none)).1
 
--- a prefix without a newline
+-- if a prefix of a text has no newline, the first line of the text is the prefix followed by the first line of the rest
 pub first_after : (prefix rest : List ℕ) → has_no 10 prefix ≡ true → (first_line (prefix ++ rest) ≡ prefix ++ first_line rest) × (after_line (prefix ++ rest) ≡ after_line rest)
 first_after [] rest none = (refl, refl)
 first_after (b ∷ prefix) rest none =
@@ -69,11 +69,11 @@ first_after (b ∷ prefix) rest none =
       ap (λ n. drop (n + 1) (b ∷ (prefix ++ rest))) one ∙ ap (λ n. drop n (b ∷ (prefix ++ rest))) one_more ∙ further.1,
     )
 
--- the text is its first line and the rest
+-- a text is its first line followed by the rest of the text, which is empty or begins with a newline
 pub first_and_more : (text : List ℕ) → text ≡ first_line text ++ drop (place 10 text) text
 first_and_more text = sym (take-append-drop (place 10 text) text)
 
--- ---- the lines
+-- ---- the lines of a text
 wln_after : (prefix rest : List ℕ) → 0 < length rest → without_last_newline (prefix ++ rest) ≡ prefix ++ without_last_newline rest
 unfolding without_last_newline
 wln_after prefix rest some =
@@ -90,7 +90,7 @@ pub no_lines : lines_of [] ≡ []
 unfolding lines_of
 no_lines = refl
 
--- the lines of a text are the first line and the lines of the text after it
+-- the lines of a text that is not empty are its first line and the lines of the text after that line
 pub lines_first : (text : List ℕ) → 0 < length text → lines_of text ≡ first_line text ∷ lines_of (after_line text)
 lines_first text some =
     elim (cases_lt (place 10 text) (length text)) [
@@ -123,6 +123,6 @@ lines_first text some =
               ∙ ap (λ (ls : List (List ℕ)). prefix ∷ ls) (sym (ap lines_of nothing ∙ no_lines))
         ]
 
--- the text after the first line is shorter
+-- the text after the first line is shorter than the whole text
 pub after_shorter : (text : List ℕ) → 0 < length text → length (after_line text) < length text
 after_shorter text some = omega (arith, length-drop (place 10 text + 1) text)

@@ -1,4 +1,4 @@
--- The parts of a text before and after its first space, and its words.
+-- Lemmas about the parts of a text before and after its first space, and about its words.
 use Rattle.std.proofs.Common.{◌≡◌, inl, inr, ℕ, ◌+◌, ◌-◌, ◌<◌, true, not, nat_lt, List, [], ◌∷◌, ◌++◌, length, take, drop, get_or, position, Option, Some, None, option_map, refl, sym, ap, ap₂, ◌∙◌, arith, append_assoc, length-append, length-drop, take_at, drop_at}
 use Rattle.std.specs.List.{position_or_len, before_first, after_first}
 use Rattle.std.proofs.lemmas.Bool.{and_parts, cases_lt, cond-true, lt-ltb, ltb-true, eqb-true}
@@ -10,19 +10,19 @@ use Rattle.line_words.specs.Pieces.{split_space, words_of, is_space}
 use Rattle.line_words.proofs.Partial.{map_some, map_none}
 use Rattle.line_words.proofs.Splits.{has_no}
 
--- a text without a space
+-- a text without a space is not split
 pub split_nowhere : (text : List ℕ) → position is_space text ≡ None → split_space text ≡ None
 unfolding split_space
 split_nowhere text e = rw e refl
 
--- an index range past the space
+-- the slices before and after the place of the first space are the two parts of the text
 pub split_at : (text : List ℕ) (place : ℕ) → position is_space text ≡ Some place → Some (take place text, take (length text - (place + 1)) (drop (place + 1) text)) ≡ split_space text
 unfolding split_space
 split_at text place e =
     let whole : take (length text - (place + 1)) (drop (place + 1) text) ≡ drop (place + 1) text = take_rest text (place + 1) in
     rw (e, whole) refl
 
--- ---- the text has a first space
+-- ---- a text that has a first space
 place_of_space : (prefix rest : List ℕ) → has_no 32 prefix ≡ true → position_or_len is_space (prefix ++ 32 ∷ rest) ≡ length prefix
 place_of_space [] rest none = refl
 place_of_space (b ∷ prefix) rest none =
@@ -53,7 +53,7 @@ split_parts text words read =
 abbrev pub place : List ℕ → ℕ
 place text = position_or_len is_space text
 
--- the index of the first space
+-- if a text is split at its first space, the space is in the text, and the parts are those before and after it
 pub space_there : (text word rest : List ℕ) → Some (word, rest) ≡ split_space text → (place text < length text) × (take (place text) text ≡ word) × (drop (place text + 1) text ≡ rest)
 unfolding split_space
 space_there text word rest read =

@@ -1,4 +1,4 @@
--- Numbers at the start of a text that a loop parses digit by digit.
+-- Lemmas about the loop of `leading_number`, which parses the digits at the start of a text.
 use Rattle.std.proofs.Common.{◌≡◌, ◌≢◌, inl, inr, ℕ, zero, suc, ◌+◌, ◌-◌, ◌*◌, ◌<◌, ◌≤◌, true, false, not, ◌==◌, ◌&&◌, List, [], ◌∷◌, length, get_or, take, drop, Some, None, refl, sym, ap, ◌∙◌, arith}
 use Rattle.std.specs.Char.{is_ascii_digit, digit_value}
 use Rattle.std.specs.List.{list_all}
@@ -24,8 +24,8 @@ digit_of_all (x ∷ xs) (suc i) all inside = digit_of_all xs i (and_parts (is_as
 pub not_zero : (n : ℕ) → (n == 0) ≡ false → 0 < n
 not_zero n other = grind (arith, nat_tests)
 
--- ---- the loop
--- after one more digit
+-- ---- the loop of `leading_number`
+-- after one more digit was read, the value is that of all digits read until then
 pub digits_more : (text : List ℕ) (i value : ℕ) → is_ascii_digit (get_or text i 0) ≡ true → i < length text → value ≡ digits_value 10 (take i text)
     → value * 10 + (get_or text i 0 - 48) ≡ digits_value 10 (take (i + 1) text)
 digits_more text i value digit inside e =
@@ -36,7 +36,7 @@ digits_more text i value digit inside e =
 pub more_digits : (text : List ℕ) (i : ℕ) → i < length text → list_all is_ascii_digit (take i text) ≡ true → is_ascii_digit (get_or text i 0) ≡ true → list_all is_ascii_digit (take (i + 1) text) ≡ true
 more_digits text i inside digits digit = list_all_more is_ascii_digit text i 0 inside ∙ and_from _ _ digits digit
 
--- the bytes before an index are digits and are counted
+-- if the first i bytes are digits, `digit_count` is at least i
 pub counted_to : (text : List ℕ) (i : ℕ) → i ≤ length text → list_all is_ascii_digit (take i text) ≡ true → i ≤ digit_count text
 counted_to text zero inside digits = omega arith
 counted_to [] (suc i) inside digits = absurd (omega arith)
@@ -44,7 +44,7 @@ counted_to (b ∷ text) (suc i) inside digits =
     let parts = and_parts (is_ascii_digit b) (list_all is_ascii_digit (take i text)) digits in
     rw parts.0 (omega (arith, counted_to text i (omega arith) parts.1))
 
--- if the digits end at the index, it is their number
+-- if the first i bytes are digits and the next byte is not, `digit_count` is i
 pub counted : (text : List ℕ) (i : ℕ) → i ≤ length text → list_all is_ascii_digit (take i text) ≡ true → (i < length text → is_ascii_digit (get_or text i 0) ≡ false) → digit_count text ≡ i
 counted text i inside digits stops =
     let least = counted_to text i inside digits in
@@ -55,7 +55,7 @@ counted text i inside digits stops =
       | inr all ↦ omega arith
     ]
 
--- if a prefix of the digits is above the limit, the text is not a number
+-- if the value of a prefix of the digits is above the limit, the text is not that of a number
 past_limit : (text : List ℕ) (i value : ℕ) → value ≡ digits_value 10 (take i text) → MAX_LINE_NUMBER < value → number_of text ≡ None
 unfolding number_of
 past_limit text i value e past =
@@ -69,19 +69,19 @@ none_past text i value inside digits e past =
     let prefix : take i (take n text) ≡ take i text = take-take i n text (counted_to text i inside digits) in
     rw (past_limit (take n text) i value (e ∙ ap (digits_value 10) (sym prefix)) past) refl
 
--- digits that do not begin a number are not a number
+-- if the digits at the start are empty or have a leading zero, the text does not begin with a number
 pub none_begun : (text : List ℕ) (i : ℕ) → digit_count text ≡ i → (not (length (take i text) == 0) && not (has_leading_zero (take i text))) ≡ false → None ≡ leading_number text
 unfolding leading_number number_of is_whole_number
 none_begun text i all begins = rw (all, begins) refl
 
--- all digits are parsed
+-- if the digits at the start are valid and their value is within the limit, the text begins with that number
 pub some_read : (text : List ℕ) (i value : ℕ) → digit_count text ≡ i → list_all is_ascii_digit (take i text) ≡ true → (not (length (take i text) == 0) && not (has_leading_zero (take i text))) ≡ true
     → value ≡ digits_value 10 (take i text) → value ≤ MAX_LINE_NUMBER → Some (value, drop i text) ≡ leading_number text
 unfolding leading_number number_of is_whole_number
 some_read text i value all digits begins e within = rw (all, begins, digits, ← e) (grind (arith, nat_tests))
 
 -- ---- a whole text
--- a text with another byte in it is not a number
+-- a text with a byte that is not a digit is not the text of a number
 no_number : (text : List ℕ) (i : ℕ) → i < length text → is_ascii_digit (get_or text i 0) ≡ false → number_of text ≡ None
 unfolding number_of is_whole_number
 no_number text i inside other =
@@ -91,7 +91,7 @@ no_number text i inside other =
 stops_at_count : (text : List ℕ) → digit_count text < length text → is_ascii_digit (get_or text (digit_count text) 0) ≡ false
 stops_at_count text within = prefix_len_stops is_ascii_digit text 0 within
 
--- the parsed number, and the rest
+-- a number at the start of a text is the value of its digits, and the rest is the text after them
 pub prefix_read : (text : List ℕ) (n : ℕ) (rest : List ℕ) → Some (n, rest) ≡ leading_number text → (number_of (take (digit_count text) text) ≡ Some n) × (drop (digit_count text) text ≡ rest)
 unfolding leading_number
 prefix_read text n rest read =
@@ -122,14 +122,14 @@ whole_more text n rest read more =
     let within : digit_count text < length text = omega (arith, length-drop (digit_count text) text, ap (λ (t : List ℕ). length t) found.1) in
     sym (no_number text (digit_count text) within (stops_at_count text within))
 
--- ---- a line
+-- ---- the first line of a text
 no_newline : (b : ℕ) → is_ascii_digit b ≡ true → (b == 10) ≡ false
 no_newline b digit = grind (arith, nat_tests)
 
 no_digit : (b : ℕ) → (b == 10) ≡ true → is_ascii_digit b ≡ false
 no_digit b newline = grind (arith, nat_tests)
 
--- the digits have no newline
+-- the digits at the start of a text have no newline, so they end at or before the end of the first line
 digits_in_line : (text : List ℕ) → digit_count text ≤ place 10 text
 digits_in_line text =
     elim (cases_lt (place 10 text) (digit_count text)) [
@@ -139,14 +139,14 @@ digits_in_line text =
       | inr more ↦ more
     ]
 
--- the line continues after the digits
+-- if the first line continues after its digits, it is not the text of a number
 line_continues : (text : List ℕ) → digit_count text < place 10 text → number_of (first_line text) ≡ None
 line_continues text less =
     let inside : place 10 text ≤ length text = no_more_before 10 text in
     let same : get_or (first_line text) (digit_count text) 0 ≡ get_or text (digit_count text) 0 = get_or-take (place 10 text) text (digit_count text) 0 less in
     no_number (first_line text) (digit_count text) (omega (arith, length-take-le (place 10 text) text inside)) (ap is_ascii_digit same ∙ stops_at_count text (omega arith))
 
--- the number ends its line
+-- if the number at the start of a text ends with the first line, it is the number of that line
 line_ends : (text : List ℕ) (n : ℕ) (rest : List ℕ) → Some (n, rest) ≡ leading_number text → place 10 text ≡ digit_count text → number_of (first_line text) ≡ Some n
 line_ends text n rest read ends = ap (λ i. number_of (take i text)) ends ∙ (prefix_read text n rest read).0
 
@@ -165,7 +165,7 @@ line_none text read =
           split_none text (ap (λ i. number_of (take i text)) ends ∙ prefix_none text read)
     ]
 
--- the number ends the text
+-- if the number at the start of a text is the whole text, it is the number of the first line
 pub line_last : (text : List ℕ) (n : ℕ) (rest : List ℕ) → Some (n, rest) ≡ leading_number text → length rest ≡ 0 → Some (n, rest) ≡ split_number_line text
 line_last text n rest read none =
     let found = prefix_read text n rest read in
@@ -173,13 +173,13 @@ line_last text n rest read none =
     let ends : place 10 text ≡ digit_count text = omega (arith, digits_in_line text, no_more_before 10 text) in
     split_some text n rest (line_ends text n rest read ends) (nil_from_length rest none ∙ sym (drop_all (place 10 text + 1) text (omega arith)))
 
--- the byte after the digits
+-- the byte of a text after its digits is the first byte of the rest
 at_rest : (text : List ℕ) (n : ℕ) (rest : List ℕ) → Some (n, rest) ≡ leading_number text → get_or text (digit_count text) 0 ≡ get_or rest 0 0
 at_rest text n rest read =
     let found = prefix_read text n rest read in
     ap (λ i. get_or text i 0) (omega arith) ∙ sym (get_or-drop (digit_count text) text 0 0) ∙ ap (λ (t : List ℕ). get_or t 0 0) found.1
 
--- it is a newline
+-- if the number at the start of a text is followed by a newline, it is the number of the first line
 pub line_newline : (text : List ℕ) (n : ℕ) (rest : List ℕ) → Some (n, 10 ∷ rest) ≡ leading_number text → Some (n, rest) ≡ split_number_line text
 line_newline text n rest read =
     let found = prefix_read text n (10 ∷ rest) read in
@@ -197,7 +197,7 @@ begins_with : (rest : List ℕ) → 0 < length rest → get_or rest 0 0 ≡ 10 �
 begins_with [] more newline = absurd (omega arith)
 begins_with (b ∷ rest) more newline = ap (λ (x : ℕ). x ∷ rest) newline
 
--- it is another byte
+-- if the number at the start of a text is followed by a byte other than a newline, the first line is not the text of a number
 pub line_more : (text : List ℕ) (n : ℕ) (rest : List ℕ) → Some (n, rest) ≡ leading_number text → 0 < length rest → ((rest_after : List ℕ) → rest ≢ 10 ∷ rest_after) → None ≡ split_number_line text
 line_more text n rest read more other =
     let found = prefix_read text n rest read in

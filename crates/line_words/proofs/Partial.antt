@@ -1,4 +1,4 @@
--- The result of an optional parser.
+-- Lemmas about the result of an optional parser, mapped by a function.
 use Rattle.std.proofs.Common.{◌≡◌, Option, Some, None, option_map, refl}
 use Rattle.std.proofs.lemmas.Option.{none-some, same_Some}
 

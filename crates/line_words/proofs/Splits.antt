@@ -1,15 +1,15 @@
--- Texts that are split at each byte with a given value, and joined again.
+-- Lemmas about texts that are split at each byte with a given value, and about joining the parts again.
 use Rattle.std.proofs.Common.{◌≡◌, ℕ, zero, suc, ◌+◌, ◌-◌, ◌<◌, Bool, true, false, not, ◌==◌, ◌&&◌, nat_lt, List, [], ◌∷◌, ◌++◌, length, get_or, map, flat_map, refl, sym, ap, ◌∙◌, arith, append_assoc, append-nil, length-append, get_or-append-add}
 use Rattle.std.specs.List.{list_all, slice_split, onto_first, join_with_byte}
 use Rattle.std.proofs.lemmas.Bool.{and_parts, and_from, eq-eqb, ltb-true}
 use Rattle.std.proofs.lemmas.Bool.Decides.{nat_tests}
 use Rattle.std.proofs.lemmas.List.Splits.{slice_split-cons_yes, slice_split-cons_no}
 
--- the text does not contain the byte
+-- whether the text does not contain the byte c
 abbrev pub has_no : ℕ → List ℕ → Bool
 has_no c text = list_all (λ b. not (b == c)) text
 
--- the parts of a text between these bytes
+-- the parts of the text between its bytes c
 abbrev pub cut_at : ℕ → List ℕ → List (List ℕ)
 cut_at c text = slice_split (λ b. b == c) text
 
@@ -22,33 +22,33 @@ has_no-append c (b ∷ prefix) rest prefixes rests =
     let parts = and_parts (not (b == c)) (has_no c prefix) prefixes in
     and_from _ _ parts.0 (has_no-append c prefix rest parts.1 rests)
 
--- a text without the byte has one part
+-- a text without the byte is its only part
 pub cut_nowhere : (c : ℕ) (text : List ℕ) → has_no c text ≡ true → cut_at c text ≡ text ∷ []
 cut_nowhere c [] none = refl
 cut_nowhere c (b ∷ text) none =
     let parts = and_parts (not (b == c)) _ none in
     slice_split-cons_no (λ b. b == c) b text (not_this b c parts.0) ∙ ap (onto_first b) (cut_nowhere c text parts.1)
 
--- the first part ends at the first such byte
+-- the first part of a text is the prefix before its first byte c
 pub cut_first : (c : ℕ) (prefix rest : List ℕ) → has_no c prefix ≡ true → cut_at c (prefix ++ c ∷ rest) ≡ prefix ∷ cut_at c rest
 cut_first c [] rest none = slice_split-cons_yes (λ b. b == c) c rest (eq-eqb c c refl)
 cut_first c (b ∷ prefix) rest none =
     let parts = and_parts (not (b == c)) _ none in
     slice_split-cons_no (λ b. b == c) b (prefix ++ c ∷ rest) (not_this b c parts.0) ∙ ap (onto_first b) (cut_first c prefix rest parts.1)
 
--- parts without the byte that are joined with it are split into the same parts
+-- joining parts without the byte c with c, and splitting the result at c, gives the same parts
 pub cut_joined : (c : ℕ) (piece : List ℕ) (pieces : List (List ℕ)) → list_all (has_no c) (piece ∷ pieces) ≡ true → cut_at c (join_with_byte c (piece ∷ pieces)) ≡ piece ∷ pieces
 cut_joined c piece [] none = cut_nowhere c piece (and_parts (has_no c piece) true none).0
 cut_joined c piece (next ∷ pieces) none =
     let parts = and_parts (has_no c piece) (list_all (has_no c) (next ∷ pieces)) none in
     cut_first c piece (join_with_byte c (next ∷ pieces)) parts.0 ∙ ap (λ (rest : List (List ℕ)). piece ∷ rest) (cut_joined c next pieces parts.1)
 
--- parts with the byte before each
+-- parts joined with the byte c, with a c before the first, are the parts with a c before each
 pub joined_after : (c : ℕ) (piece : List ℕ) (pieces : List (List ℕ)) → c ∷ join_with_byte c (piece ∷ pieces) ≡ flat_map (λ x. c ∷ x) (piece ∷ pieces)
 joined_after c piece [] = ap (λ (x : List ℕ). c ∷ x) (sym (append-nil piece))
 joined_after c piece (next ∷ pieces) = ap (λ (rest : List ℕ). c ∷ (piece ++ rest)) (joined_after c next pieces)
 
--- parts with the byte after each
+-- parts joined with the byte c, with a c after the last, are the parts with a c after each
 pub joined_before : (c : ℕ) (piece : List ℕ) (pieces : List (List ℕ)) → join_with_byte c (piece ∷ pieces) ++ c ∷ [] ≡ flat_map (λ x. x ++ c ∷ []) (piece ∷ pieces)
 joined_before c piece [] = sym (append-nil (piece ++ c ∷ []))
 joined_before c piece (next ∷ pieces) =
@@ -56,27 +56,27 @@ joined_before c piece (next ∷ pieces) =
     ∙ (ap (λ (rest : List ℕ). piece ++ c ∷ rest) (joined_before c next pieces)
     ∙ sym (append_assoc piece (c ∷ []) (flat_map (λ x. x ++ c ∷ []) (next ∷ pieces))))
 
--- the text of each part is computed by a function
+-- joining the texts of mapped elements is joining the texts of their images
 pub flat_map-map : {X Y : Type 0} (f : Y → List ℕ) (g : X → Y) (xs : List X) → flat_map f (map g xs) ≡ flat_map (λ x. f (g x)) xs
 flat_map-map f g [] = refl
 flat_map-map f g (x ∷ xs) = ap (λ (rest : List ℕ). f (g x) ++ rest) (flat_map-map f g xs)
 
--- ---- the last byte
--- no index has the byte
+-- ---- the last byte of a text
+-- if a text does not contain the byte c, no byte of the text is c
 pub not_at : (c : ℕ) (text : List ℕ) (i : ℕ) → has_no c text ≡ true → i < length text → (get_or text i 0 == c) ≡ false
 not_at c [] i none within = absurd (omega arith)
 not_at c (b ∷ text) zero none within = not_this b c (and_parts (not (b == c)) _ none).0
 not_at c (b ∷ text) (suc i) none within = not_at c text i (and_parts (not (b == c)) _ none).1 (omega arith)
 
--- a nonempty text without the byte
+-- whether the text is not empty and does not contain the byte c
 abbrev pub is_piece : ℕ → List ℕ → Bool
 is_piece c text = nat_lt 0 (length text) && has_no c text
 
--- the text is not empty and does not end with the byte
+-- the text is not empty and does not end with the byte c
 abbrev pub EndsOtherwise : ℕ → List ℕ → Type 0
 EndsOtherwise c text = (0 < length text) × ((get_or text (length text - 1) 0 == c) ≡ false)
 
--- nonempty parts joined with the byte do not end with it
+-- if parts that are not empty and do not contain the byte c are joined with c, the result does not end with c
 pub joined_ends : (c : ℕ) (piece : List ℕ) (pieces : List (List ℕ)) → list_all (is_piece c) (piece ∷ pieces) ≡ true → EndsOtherwise c (join_with_byte c (piece ∷ pieces))
 joined_ends c piece [] good =
     let parts = and_parts (nat_lt 0 (length piece)) (has_no c piece) (and_parts (is_piece c piece) true good).0 in

@@ -1,4 +1,4 @@
--- A text parses as a number if and only if it is the number's decimal digits.
+-- Proofs that a text is that of a number exactly when it is the decimal digits of the number.
 use Rattle.std.proofs.Common.{◌≡◌, ℕ, zero, suc, ◌<◌, ◌^◌, true, false, not, ◌==◌, ◌&&◌, nat_lt, nat_le, List, [], ◌∷◌, length, slice_index, decimal, Some, refl, sym, ap, subst, ◌∙◌, arith, rules}
 use Rattle.std.specs.Char.{is_ascii_digit}
 use Rattle.std.specs.List.{list_all}
@@ -15,11 +15,11 @@ use Rattle.line_words.proofs.Splits.{has_no}
 digits_are : IsNumeralModel (λ digits. list_all is_ascii_digit digits ≡ true) (digits_value 10)
 digits_are = numerals_by_value _ (search rules)
 
--- a text that begins with 0 and has no leading zero is `0`
+-- a text without a leading zero that begins with 0 has one byte
 leading_alone : (text : List ℕ) → not (has_leading_zero text) ≡ true → 0 < length text → slice_index text 0 ≡ 48 → length text ≡ 1
 leading_alone text none some leads = grind (arith, nat_tests)
 
--- a text that parses as a number is its decimal digits, and the number is within the limit
+-- a text that is that of a number is the decimal digits of the number, which is within the limit
 pub number_read : (text : List ℕ) (n : ℕ) → number_of text ≡ Some n → (is_valid_number n ≡ true) × (text ≡ decimal n)
 unfolding number_of is_whole_number
 number_read text n read =
@@ -40,7 +40,7 @@ leads_validly (suc k) small =
     let other : (slice_index (decimal (suc k)) 0 == 48) ≡ false = grind (arith, nat_tests) in
     and_right (nat_lt 1 (length (decimal (suc k)))) _ other
 
--- the decimal digits of a number within the limit parse as that number
+-- the decimal digits of a number within the limit are the text of that number
 pub number_written : (n : ℕ) → is_valid_number n ≡ true → number_of (decimal n) ≡ Some n
 unfolding number_of is_whole_number
 number_written n valid =
@@ -52,7 +52,7 @@ number_written n valid =
     let fits : nat_le (digits_value 10 (decimal n)) MAX_LINE_NUMBER ≡ true = subst (λ (m : ℕ). nat_le m MAX_LINE_NUMBER ≡ true) (sym value) valid in
     cond-true _ _ _ (and_from _ _ full fits) ∙ ap (λ (m : ℕ). Some m) value
 
--- a digit is not a space or a newline
+-- a digit is not a byte below 48, such as a space or a newline
 digit_is_not : (c b : ℕ) → c < 48 → is_ascii_digit b ≡ true → not (b == c) ≡ true
 digit_is_not c b low digit = grind (arith, nat_tests)
 
@@ -62,6 +62,6 @@ digits_have_no c (b ∷ bs) low digits =
     let parts = and_parts (is_ascii_digit b) _ digits in
     and_from _ _ (digit_is_not c b low parts.0) (digits_have_no c bs low parts.1)
 
--- the digits of a number contain neither
+-- the decimal digits of a number contain no byte below 48, such as a space or a newline
 pub decimal_has_no : (c n : ℕ) → c < 48 → is_valid_number n ≡ true → has_no c (decimal n) ≡ true
 decimal_has_no c n low valid = digits_have_no c (decimal n) low (digits_decimal digits_are n (omega (arith, leb-true _ _ valid)))

@@ -1,4 +1,4 @@
--- Unsigned integers: decimal digits without a leading zero, except 0 itself, at most 1,000,000,000.
+-- The numbers in texts: decimal digits without a leading zero, except 0 itself, with a value of at most 1,000,000,000.
 use Rattle.std.specs.Prelude.{ℕ, Bool, ◌==◌, ◌&&◌, not, nat_lt, nat_le, if◌then◌else◌, List, length, take, drop, slice_index, Option, Some, None, option_map}
 use Rattle.std.specs.Char.{is_ascii_digit}
 use Rattle.std.specs.List.{list_all, prefix_len}
@@ -6,30 +6,30 @@ use Rattle.std.specs.Str.Parse.{digits_value}
 use Rattle.line_words.specs.Pieces.{first_line, after_line}
 use Rattle.job_bodies.specs.declared.limits.TheConstants.{MAX_LINE_NUMBER}
 
--- a number within the limit
+-- whether the number is within the limit
 abbrev pub is_valid_number : ℕ → Bool
 is_valid_number n = nat_le n MAX_LINE_NUMBER
 
--- a 0 followed by another byte
+-- whether the text begins with a 0 and has at least one more byte
 abbrev pub has_leading_zero : List ℕ → Bool
 has_leading_zero text = nat_lt 1 (length text) && slice_index text 0 == 48
 
--- one digit, or several digits of which the first is not 0
+-- whether the text is one digit, or several digits of which the first is not 0
 unfoldable pub is_whole_number : List ℕ → Bool
 is_whole_number text = not (length text == 0) && not (has_leading_zero text) && list_all is_ascii_digit text
 
--- the number with this text
+-- the number whose text this is; None if it is not the text of a number
 unfoldable pub number_of : List ℕ → Option ℕ
 number_of text = if is_whole_number text && nat_le (digits_value 10 text) MAX_LINE_NUMBER then Some (digits_value 10 text) else None
 
--- the number of digits at the start of a text
+-- how many digits are at the start of the text
 abbrev pub digit_count : List ℕ → ℕ
 digit_count text = prefix_len is_ascii_digit text
 
--- the number of the digits at the start of a text, and the rest
+-- the number at the start of the text, and the text after its digits; None if these digits are not the text of a number
 unfoldable pub leading_number : List ℕ → Option (ℕ × List ℕ)
 leading_number text = option_map (λ n. (n, drop (digit_count text) text)) (number_of (take (digit_count text) text))
 
--- the number on the first line of a text, and the text after that line
+-- the number that is the whole first line of the text, and the text after that line; None if the line is not the text of a number
 abbrev pub split_number_line : List ℕ → Option (ℕ × List ℕ)
 split_number_line text = option_map (λ n. (n, after_line text)) (number_of (first_line text))

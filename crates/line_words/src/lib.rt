@@ -1,4 +1,4 @@
-//! Splitting a text into lines and words, and parsing numbers in words.
+//! Splits texts into lines and words, and parses numbers in them.
 #![tactic(auto)]
 
 mod number;

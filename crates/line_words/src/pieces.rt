@@ -1,9 +1,9 @@
-//! Splitting a text into lines, and a line into words.
+//! Splits a text into lines, and a line into words.
 
 ghost use Rattle.std.specs.Prelude.{◌≡◌, option_map};
 ghost use Rattle.line_words.specs.Pieces as spec;
 
-/// Splits off the first line without its newline, and returns it with the rest.
+/// Returns the first line of a text, without its newline, and the text after that line.
 pub fn split_line(text: &[u8]) -> (&[u8], &[u8])
     ensures line { result.0.now ≡ spec.first_line text.now }
     ensures rest_after { result.1.now ≡ spec.after_line text.now }
@@ -14,7 +14,7 @@ pub fn split_line(text: &[u8]) -> (&[u8], &[u8])
     }
 }
 
-/// Splits a text at its first space.
+/// Returns the parts of a text before and after its first space, or `None` if it has no space.
 #[tactic(auto, unfolding(crate::specs::Pieces::split_space))]
 pub fn split_space(text: &[u8]) -> Option<(&[u8], &[u8])>
     ensures { option_map (λ parts. (parts.0.now, parts.1.now)) result ≡ spec.split_space text.now }
