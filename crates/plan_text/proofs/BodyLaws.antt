@@ -1,4 +1,4 @@
--- A body that was read is valid.
+-- Proofs that a parsed body is valid.
 use Rattle.std.proofs.Common.{◌≡◌, ℕ, zero, suc, ◌<◌, true, false, ◌==◌, nat_lt, List, [], ◌∷◌, length, take, slice_get, Option, Some, Result, Ok, refl, sym, ap, subst, ◌∙◌, arith, inl, inr}
 use Rattle.std.specs.Prelude.{is_none}
 use Rattle.std.specs.List.{list_any}
@@ -22,7 +22,7 @@ use Rattle.plan_text.specs.Bodies.{class_named, action_of, action_at, action_amo
 use Rattle.plan_text.proofs.ReadActions.{read_spelled}
 use Rattle.plan_text.proofs.FilledSlots.{HasParsedAction, fills}
 
--- ---- resolving a parsed action
+-- ---- the action of a parsed action
 abbrev IsOf : ℕ → (List ℕ → Option ℕ) → ParsedAction → Action → Type 0
 IsOf classes slots (work units) action = Work units ≡ action
 IsOf classes slots (submit class) action = (k : ℕ) × (Submit k ≡ action) × (nat_lt k classes ≡ true)
@@ -55,7 +55,7 @@ is_of classes slots fault (get slot) action e =
     let found = bind_ok (ok_or (slots slot) _) _ _ e in
     (found.0, action_is _ _ found.2, some_ok (slots slot) _ found.0 found.1)
 
--- the action at an index of a body, with its parsed action
+-- the action at position i, with the parsed action of the text there
 record Comes (classes : ℕ) (texts : List (List ℕ)) (i : ℕ) (action : Action) : Type 0 where
   within : i < length texts
   parsed_action : ParsedAction
@@ -75,7 +75,7 @@ comes classes part index texts body i action e here =
       is = is_of classes (filled (take i texts)) (at_action part index i) parsed_action.0 action parsed_action.2;
     }
 
--- ---- the parsed action at an index is unique
+-- ---- the parsed action at a position is unique
 parsed_action_is : (x y : Option ParsedAction) (a b : ParsedAction) → x ≡ Some a → y ≡ Some b → x ≡ y → a ≡ b
 parsed_action_is x y a b p q e = cc
 
@@ -86,7 +86,7 @@ same_parsed_action texts i a b p q =
     let same : p.text ≡ q.text = cc in
     parsed_action_is (parse_action p.text) (parse_action q.text) a b p.gives q.gives (ap parse_action same)
 
--- an element of a prefix of the list
+-- an element of the first i elements of a list is before index i, and is the list's element at its index
 taken : {X : Type 0} (xs : List X) (i j : ℕ) (x : X) → slice_get (take i xs) j ≡ Some x → (j < i) × (slice_get xs j ≡ Some x)
 taken [] zero j x e = absurd cc
 taken [] (suc i) j x e = absurd cc
@@ -96,19 +96,19 @@ taken (y ∷ xs) (suc i) (suc j) x e =
     let rest = taken xs i j x e in
     (omega (arith, rest.0), rest.1)
 
--- each index of the list has an element
+-- the list has an element at each index below its length
 there_is : {X : Type 0} (xs : List X) (i : ℕ) → i < length xs → (x : X) × (slice_get xs i ≡ Some x)
 there_is [] i within = absurd (omega arith)
 there_is (x ∷ xs) zero within = (x, refl)
 there_is (x ∷ xs) (suc i) within = there_is xs i (omega arith)
 
--- the action of a submit that fills a slot
+-- the action of a submit that fills a slot is a submit
 comes_submit : (classes : ℕ) (slots : List ℕ → Option ℕ) (parsed_action : ParsedAction) (class slot : List ℕ) (action : Action) → parsed_action ≡ submit_as class slot → IsOf classes slots parsed_action action → (k : ℕ) × (Submit k ≡ action)
 comes_submit classes slots parsed_action class slot action same is =
     let at = subst (λ (o : ParsedAction). IsOf classes slots o action) same is in
     (at.0, at.1)
 
--- this parsed action never resolves to a get of t
+-- the action of this parsed action is not a get of t, unless the parsed action is a get of a slot that t filled
 abbrev GetsNot : ℕ → (List ℕ → Option ℕ) → ParsedAction → ℕ → Action → Type 0
 GetsNot classes slots parsed_action t action = IsOf classes slots parsed_action action → ((slot : List ℕ) → parsed_action ≡ get slot → slots slot ≡ Some t → ⊥) → gets t action ≡ false
 
@@ -124,12 +124,12 @@ gets_not classes slots (get slot) t action is none =
       | inr other ↦ other
     ])
 
--- the body has one action for each text
+-- a parsed body has one action for each text
 pub body_length : (classes : List (List ℕ)) (part : Part) (index : ℕ) (texts : List (List ℕ)) (body : List Action) → body_of classes part index texts ≡ Ok body → length body ≡ length texts
 unfolding body_of
 body_length classes part index texts body e = read_length (action_among classes part index texts) 0 texts body e
 
--- a get that was read is valid
+-- each get of a parsed body is valid
 valid_get : (classes : List (List ℕ)) (part : Part) (index : ℕ) (texts : List (List ℕ)) (body : List Action) (i t : ℕ) (slot : List ℕ) → body_of classes part index texts ≡ Ok body → i < length texts
     → HasParsedAction texts i (get slot) → filled (take i texts) slot ≡ Some t → is_valid_get body i t ≡ true
 valid_get classes part index texts body i t slot e within ordered at =
@@ -150,7 +150,7 @@ valid_get classes part index texts body i t slot e within ordered at =
     f.since j g.before place.0 (subst (λ (o : ParsedAction). HasParsedAction texts j o) (same ∙ ap get (sym slot-is)) d.ordered))) in
     and_from _ _ (and_from _ _ (lt-ltb t i f.before) submitted) (not_from_false _ once)
 
--- a parsed action resolves to a valid action
+-- each action of a parsed body is valid
 valid_by : (classes : List (List ℕ)) (part : Part) (index : ℕ) (texts : List (List ℕ)) (body : List Action) (i : ℕ) (action : Action) (parsed_action : ParsedAction) → body_of classes part index texts ≡ Ok body → i < length texts
     → HasParsedAction texts i parsed_action → IsOf (length classes) (filled (take i texts)) parsed_action action → is_valid_action (length classes) body i action ≡ true
 valid_by classes part index texts body i action (work units) e within ordered is =
@@ -173,7 +173,7 @@ action_passes classes part index body i (Work u) h = test_passes _ _ h
 action_passes classes part index body i (Submit k) h = test_passes _ _ h
 action_passes classes part index body i (Get t) h = test_passes _ _ h
 
--- a body that was read passes the checks of a plan's bodies, at any entry
+-- a parsed body passes the check of a body, at any entry
 pub body_passes : (classes : List (List ℕ)) (part : Part) (index : ℕ) (texts : List (List ℕ)) (body : List Action) → body_of classes part index texts ≡ Ok body
     → (n : ℕ) (at : Part) (place : ℕ) → n ≡ length classes → check_body n at place body ≡ Ok tt
 body_passes classes part index texts body e n at place same =

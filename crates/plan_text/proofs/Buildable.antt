@@ -1,4 +1,4 @@
--- A plan that was read passes every check of a plan.
+-- Proofs that a parsed plan passes every check of a plan.
 use Rattle.std.proofs.Common.{◌≡◌, ℕ, true, nat_le, List, [], length, map, take, codes, Ok, refl, sym, ap, subst, ◌∙◌}
 use Rattle.std.proofs.lemmas.List.{length-map}
 use Rattle.toml.specs.Data.{Data, Members, get_member}
@@ -23,7 +23,7 @@ use Rattle.plan_text.specs.Bodies.{body_of, class_of, client_of}
 use Rattle.plan_text.specs.PlanOf.{plan_of_entries}
 use Rattle.plan_text.proofs.BodyLaws.{body_length, body_passes}
 
--- ---- lengths of lists and bodies
+-- ---- the lengths of lists and bodies
 few : (key : List ℕ) (most : ℕ) (document : Members) (values : List Data) → list_at key most document ≡ Ok values → nat_le (length values) most ≡ true
 unfolding list_at
 few key most document values e =
@@ -81,7 +81,7 @@ are_within_limits document entries e =
     } in
     subst AreWithinLimits (ok_injective {F = PlanFault} _ entries c.2) short
 
--- ---- names and numbers
+-- ---- the names and numbers of entries
 record ClassIs (pools classes : List (List ℕ)) (index : ℕ) (class : ClassEntry) (made : Class) : Type 0 where
   head : class_head pools class ≡ record { name = made.name; pool = made.pool; body = [] }
   name : made.name ≡ class.name
@@ -112,7 +112,7 @@ client_is classes index client made e =
       body = body.1 ∙ ap (λ (c : Client). given {F = PlanFault} c.body) same;
     }
 
--- the checks of entries that passed
+-- the checks of all pools, all classes and all client kinds pass
 abbrev PoolsPass : List Pool → Type 0
 PoolsPass pools = check_each (λ index. check_pool (take index (map (λ pool. pool.name) pools)) index) 0 pools ≡ Ok tt
 
@@ -134,7 +134,7 @@ clients_pass : (clients : List ClientEntry) (passed : Unit {0}) → check_client
 unfolding check_clients
 clients_pass clients passed e = e
 
--- the steps of a plan that was read
+-- the results of the steps that parsed a plan
 record IsRead (entries : Entries) (pools classes : List (List ℕ)) (plan : Plan) : Type 0 where
   pool_names_are : map (λ pool. pool.name) entries.pools ≡ pools
   class_names_are : class_names entries.classes ≡ classes
@@ -165,7 +165,7 @@ is_read entries plan e next =
       clients_are = at_cs ∙ ap (λ (p : Plan). given {F = PlanFault} p.clients) same;
     }))))))
 
--- ---- the checks of the plan
+-- ---- the checks of a parsed plan
 counts_pass : (plan : Plan) → nat_le (length plan.pools) MAX_POOLS ≡ true → nat_le (length plan.classes) MAX_CLASSES ≡ true → nat_le (length plan.clients) MAX_CLIENT_KINDS ≡ true → check_counts plan ≡ Ok tt
 counts_pass plan few_pools few_classes few_clients =
     both_pass _ _ tt (test_passes _ (at_text TOO_MANY) few_pools) (both_pass _ _ tt (test_passes _ (at_text TOO_MANY) few_classes) (test_passes _ (at_text TOO_MANY) few_clients))
@@ -229,7 +229,7 @@ bodies_pass entries pools classes plan r =
     let is = client_is classes i from.0 made from.2 in
     body_passes classes part.Client i from.0.body made.body is.body (length plan.classes) part.Client i long))
 
--- a plan that was read passes the checks of a plan
+-- a parsed plan passes all checks of a plan
 builds_read : (entries : Entries) (plan : Plan) → AreWithinLimits entries → plan_of_entries entries ≡ Ok plan → build plan ≡ Ok plan
 builds_read entries plan limits e = is_read entries plan e (λ pools classes r.
     let few_pools : nat_le (length plan.pools) MAX_POOLS ≡ true = rw (← r.pools_are) limits.few_pools in
@@ -240,6 +240,6 @@ builds_read entries plan limits e = is_read entries plan e (λ pools classes r.
     (both_pass (check_entries plan) _ plan (entries_pass entries pools classes plan r)
     (both_pass (check_bodies plan) _ plan (bodies_pass entries pools classes plan r) refl))))
 
--- a plan that was read is well-formed
+-- a parsed plan is well-formed
 pub well_formed_read : (entries : Entries) (plan : Plan) → AreWithinLimits entries → plan_of_entries entries ≡ Ok plan → IsWellFormed plan
 well_formed_read entries plan limits e = well_formed plan plan (builds_read entries plan limits e)

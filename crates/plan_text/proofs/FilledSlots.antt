@@ -1,4 +1,4 @@
--- A filled slot was filled by a submit with that slot, and no later get has emptied it.
+-- Proofs that a filled slot was filled by a submit with that slot, and that no get between has emptied it.
 use Rattle.std.proofs.Common.{◌≡◌, ℕ, zero, suc, ◌<◌, ◌≤◌, List, [], ◌∷◌, length, take, slice_get, Option, None, Some, refl, sym, ap, subst, ◌∙◌, arith, add-one, inl, inr, ◌⊎◌}
 use Rattle.std.specs.Str.{bytes_eq}
 use Rattle.std.proofs.lemmas.Bool.{cases_Bool, cases_lt}
@@ -7,20 +7,20 @@ use Rattle.plan_text.specs.ParsedActions.{ParsedAction, work, submit, submit_as,
 use Rattle.plan_text.specs.Slots.{filled_by, filled}
 use Rattle.plan_text.proofs.SlotStates.{filled_more}
 
--- the parsed action of the text at index i
+-- the text at index i parses as this action
 pub record HasParsedAction (texts : List (List ℕ)) (i : ℕ) (parsed_action : ParsedAction) : Type 0 where
   pub text : List ℕ
   pub here : slice_get texts i ≡ Some text
   pub gives : parse_action text ≡ Some parsed_action
 
--- the submit at t filled the slot before index i, and no later get has emptied it
+-- the submit at position t filled the slot before position i, and no get between them names the slot
 pub record Fills (texts : List (List ℕ)) (i : ℕ) (slot : List ℕ) (t : ℕ) : Type 0 where
   pub before : t < i
   pub class : List ℕ
   pub submitted : HasParsedAction texts t (submit_as class slot)
   pub since : (j : ℕ) → t < j → j < i → HasParsedAction texts j (get slot) → ⊥
 
--- this action filled the slot, or an earlier one did and this one does not empty it
+-- the action at position i filled the slot, or the slot was filled before and this action is no get of it
 abbrev FilledHere : List ℕ → ℕ → Option ℕ → Option ParsedAction → ℕ → Type 0
 FilledHere slot i before parsed_action t =
     ((t ≡ i) × (class : List ℕ) × (parsed_action ≡ Some (submit_as class slot))) ⊎ ((before ≡ Some t) × (parsed_action ≡ Some (get slot) → ⊥))
@@ -48,7 +48,7 @@ filled_here slot i before (Some (get name)) t e =
           inr (rw other at e, apart)
     ]
 
--- each index of the list has a text
+-- the list has a text at each index below its length
 text_within : (texts : List (List ℕ)) (i : ℕ) → i < length texts → (text : List ℕ) × (slice_get texts i ≡ Some text)
 text_within [] i within = absurd (omega arith)
 text_within (text ∷ texts) zero within = (text, refl)
@@ -72,7 +72,7 @@ fills_more texts i slot t fills none = record {
       ];
 }
 
--- the submit that fills a slot at index i
+-- a slot that is filled before position i has a submit before i that filled it
 pub fills : (texts : List (List ℕ)) (i : ℕ) (slot : List ℕ) (t : ℕ) → i ≤ length texts → filled (take i texts) slot ≡ Some t → Fills texts i slot t
 fills texts zero slot t within e = absurd cc
 fills texts (suc i) slot t within e =

@@ -1,4 +1,4 @@
--- A loop that maps each element to a value: the invariant, one iteration, and the end.
+-- Lemmas about a loop that maps each element of a list to a value.
 use Rattle.std.proofs.Common.{◌≡◌, ◌≤◌, ◌<◌, ◌+◌, ℕ, zero, suc, List, [], ◌∷◌, ◌++◌, length, get_or, map, take, slice_get, Some, refl, sym, ap, ◌∙◌, add-one, arith}
 use Rattle.std.specs.List.{enumerate_from}
 use Rattle.std.proofs.lemmas.List.{map_push}
@@ -8,7 +8,7 @@ take_more [] i y e = absurd cc
 take_more (x ∷ ys) zero y e = let same : x ≡ y = cc in rw same refl
 take_more (x ∷ ys) (suc i) y e = ap (λ (zs : List _). x ∷ zs) (take_more ys i y e)
 
--- after the value of one more element
+-- after one more value was appended, the views of the values are the first i + 1 results
 pub image_pushed : {V Y : Type 0} (view : V → Y) (values : List V) (value : V) (ys : List Y) (i : ℕ) (y : Y) → slice_get ys i ≡ Some y → view value ≡ y → map view values ≡ take i ys
     → map view (values ++ value ∷ []) ≡ take (i + 1) ys
 image_pushed view values value ys i y here seen prior =
@@ -20,11 +20,11 @@ take_past [] (suc i) past = refl
 take_past (y ∷ ys) zero past = absurd (omega (arith, past))
 take_past (y ∷ ys) (suc i) past = ap (λ (zs : List _). y ∷ zs) (take_past ys i (omega (arith, past)))
 
--- after all elements
+-- after the last element, the views of the values are all results
 pub image_whole : {V Y : Type 0} (view : V → Y) (values : List V) (ys : List Y) (i : ℕ) → length ys ≤ i → map view values ≡ take i ys → map view values ≡ ys
 image_whole view values ys i past prior = prior ∙ take_past ys i past
 
--- an element with its index
+-- an element of an enumerated list is the list's element at that index, with its index
 enumerated_from : {X Y : Type 0} (f : ℕ × X → Y) (n : ℕ) (xs : List X) (i : ℕ) (d : X) → i < length xs → slice_get (map f (enumerate_from n xs)) i ≡ Some (f (n + i, get_or xs i d))
 enumerated_from f n [] i d inside = absurd (omega (arith, inside))
 enumerated_from f n (x ∷ xs) zero d inside =

@@ -1,4 +1,4 @@
--- The members of a table with one more entry.
+-- Lemmas about the members of a table with one more member.
 use Rattle.std.proofs.Common.{◌≡◌, Bool, true, false, if◌then◌else◌, codes, List, [], ◌∷◌, String, Global, Ordering, Less, Equal, Greater, string_bytes, refl, ap}
 use Rattle.std.specs.BTreeMap.{insert_entry}
 use Rattle.std.specs.Ordering.{match_ordering}
@@ -8,7 +8,7 @@ use Rattle.toml.specs.View.{view, members_view}
 use Rattle.toml.specs.declared.value.Value.{Value}
 use Rattle.plan_text.specs.PlanDocument.{with_member, prestart_and}
 
--- one index of the table
+-- the members of a table after a member was inserted before, at or after its first entry, as the order of the keys requires
 chosen : (o : Ordering) (k : String Global) (v : Value) (e : String Global × Value) (es more : List (String Global × Value)) → members_view more ≡ with_member (string_bytes k) (view v) (members_view es)
     → members_view (match_ordering o ((k, v) ∷ e ∷ es) ((e.0, v) ∷ es) (e ∷ more))
     ≡ match_ordering o (member (string_bytes k) (view v) (members_view (e ∷ es))) (member (string_bytes e.0) (view v) (members_view es)) (member (string_bytes e.0) (view e.1) (with_member (string_bytes k) (view v) (members_view es)))
@@ -20,7 +20,7 @@ pub members_with : (k : String Global) (v : Value) (es : List (String Global × 
 members_with k v [] = refl
 members_with k v (e ∷ es) = chosen (string_cmp k e.0) k v e es (insert_entry string_cmp es k v) (members_with k v es)
 
--- the keys of a pool, inserted in order
+-- inserting the keys of a pool in the order of the writer gives the members in ascending order
 pub pool_members : (core max name queue : Data) (prestart : Bool)
     → let named = with_member (codes "name") name (with_member (codes "max") max (with_member (codes "core") core no_members)) in
     with_member (codes "queue") queue (if prestart then with_member (codes "prestart") (boolean true) named else named)

@@ -1,4 +1,4 @@
--- The numbers of actions.
+-- Lemmas about the numbers of units in actions.
 use Rattle.std.proofs.Common.{◌≡◌, ℕ, ◌<◌, true, false, not, ◌==◌, nat_le, List, length, Result, Ok, Err, arith, rules, inl, inr}
 use Rattle.std.specs.Str.Parse.{digits_value, ParsesUnsigned}
 use Rattle.std.proofs.lemmas.Bool.{cases_Bool, and_parts, leb-true}
@@ -8,7 +8,7 @@ use Rattle.job_bodies.specs.declared.limits.TheConstants.{MAX_WORK}
 use Rattle.job_bodies.specs.WellFormed.{is_within}
 use Rattle.plan_text.specs.ParsedActions.{are_digits, is_positive_decimal}
 
--- digits form a numeral, in the form that the lemmas of std expect
+-- texts of digits are a model of numerals, as the lemmas of std require
 pub digits_are : IsNumeralModel (λ digits. are_digits digits ≡ true) (digits_value 10)
 digits_are = numerals_by_value _ (search rules)
 

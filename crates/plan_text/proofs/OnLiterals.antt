@@ -1,4 +1,4 @@
--- The definitions to unfold when a proof computes the plan of a literal text.
+-- The definitions that a proof unfolds to compute the plan of a literal text.
 use Rattle.std.specs.Prelude.{⊤}
 use Rattle.std.specs.Str.{chars, is_utf8}
 use Rattle.toml.proofs.OnLiterals.{toml_on_literals}

@@ -1,4 +1,4 @@
--- A text that parses as an action is the spelling of that action.
+-- Proofs that a text that parses as an action is the spelling of that action.
 use Rattle.std.proofs.Common.{◌≡◌, ◌↔◌, ℕ, zero, suc, ◌+◌, ◌<◌, Bool, true, not, ◌==◌, ◌&&◌, nat_le, List, [], ◌∷◌, ◌++◌, length, take, drop, slice_index, slice_get, codes, Option, None, Some, refl, sym, ap, subst, ◌∙◌, arith, add-one, inl, inr}
 use Rattle.std.specs.Prelude.{decimal}
 use Rattle.std.specs.List.{position_or_len}
@@ -14,7 +14,7 @@ use Rattle.plan_text.specs.ParsedActions.{ParsedAction, work, submit, submit_as,
 use Rattle.plan_text.proofs.Numbers.{digits_are, not_empty}
 use Rattle.plan_text.proofs.SpelledActions.{spelled}
 
--- ---- the split at the first space
+-- ---- the parts of a text before and after its first space
 abbrev is_space : ℕ → Bool
 is_space b = b == 32
 
@@ -34,7 +34,7 @@ cut [] n e = absurd cc
 cut (b ∷ text) zero e = let same : b ≡ 32 = cc in ap (λ (x : ℕ). x ∷ text) same
 cut (b ∷ text) (suc n) e = ap (λ (rest : List ℕ). b ∷ rest) (cut text n e)
 
--- the parts before and after the space, joined by a space, are the text
+-- a text is the parts before and after its first space, with a space between them
 joined : (text : List ℕ) (words : List ℕ × List ℕ) → split_space text ≡ Some words → text ≡ words.0 ++ 32 ∷ words.1
 joined text words e =
     let found = cond_some (_) _ _ e in
@@ -123,12 +123,12 @@ verb_spelled verb text parsed_action e =
           ]
     ]
 
--- a text that parses as an action is its spelling
+-- a text that parses as an action is the spelling of that action, and the action is valid
 pub read_spelled : (text : List ℕ) (parsed_action : ParsedAction) → parse_action text ≡ Some parsed_action → Spells text parsed_action
 unfolding parse_action
 read_spelled text parsed_action e =
     option_and_then_some _ (split_space text) _ e (λ words here h. subst (λ (t : List ℕ). Spells t parsed_action) (sym (joined text words here)) (verb_spelled words.0 words.1 parsed_action h))
 
--- a text parses as an action if and only if it is its spelling
+-- a text parses as an action exactly when the action is valid and the text is its spelling
 pub canonical : (text : List ℕ) (parsed_action : ParsedAction) → (parse_action text ≡ Some parsed_action) ↔ Spells text parsed_action
 canonical text parsed_action = (read_spelled text parsed_action, λ s. ap parse_action s.1 ∙ spelled parsed_action s.0)

@@ -1,4 +1,4 @@
--- Texts with known plans or faults, computed from the definitions.
+-- Texts whose plan or fault is computed from the definitions.
 use Rattle.std.proofs.Common.{◌≡◌, ℕ, List, [], ◌∷◌, ◌++◌, true, false, Ok, Err, codes, refl}
 use Rattle.job_bodies.specs.declared.action.Action.TheVariants.{Work, Submit, Get}
 use Rattle.job_bodies.specs.declared.fault.Part.TheVariants as part
@@ -30,7 +30,7 @@ again = record {
   clients = record { name = codes "c"; count = 2; repeat = true; body = Submit 0 ∷ Get 0 ∷ Submit 0 ∷ Get 2 ∷ [] } ∷ [];
 }
 
--- a pool, a class and two clients that submit and get
+-- the plan of a text with a pool, a class and a client kind that submits and gets
 one_of_each : plan_of (pool ++ class ++ client) ≡ Ok plan
 unfolding plan_on_literals
 one_of_each = refl
@@ -38,12 +38,12 @@ one_of_each = refl
 abbrev prestarted : Plan
 prestarted = record { pools = record { name = codes "p"; core = 1; max = 1; queue = 2; prestart = true } ∷ []; classes = []; clients = [] }
 
--- a pool with prestarted core threads
+-- the plan of a text with a pool whose core threads are prestarted
 prestarted_pool : plan_of (pool ++ codes "prestart = true\n") ≡ Ok prestarted
 unfolding plan_on_literals
 prestarted_pool = refl
 
--- a value that is not a boolean
+-- the fault of a value that should be a boolean and is not
 no_truth : plan_of (pool ++ codes "prestart = 1\n") ≡ Err (at_entry part.Pool 0 5)
 unfolding plan_on_literals
 no_truth = refl
@@ -51,32 +51,32 @@ no_truth = refl
 abbrev client_with : List ℕ → List ℕ
 client_with body = codes "[[client]]\nname = \"c\"\ncount = 2\nbody = [" ++ body ++ codes "]\n"
 
--- a get empties its slot
+-- the fault of a second get of a slot, which the first get has emptied
 empty_slot : plan_of (pool ++ class ++ client_with (codes "\"submit a as x\", \"get x\", \"get x\"")) ≡ Err (at_action part.Client 0 2 13)
 unfolding plan_on_literals
 empty_slot = refl
 
--- the slot is already filled
+-- the fault of a submit that fills a filled slot
 open_slot : plan_of (pool ++ class ++ client_with (codes "\"submit a as x\", \"submit a as x\"")) ≡ Err (at_action part.Client 0 1 12)
 unfolding plan_on_literals
 open_slot = refl
 
--- an empty slot can be filled again
+-- a slot can be filled again after a get has emptied it
 slot_again : plan_of (pool ++ class ++ codes "[[client]]\nname = \"c\"\ncount = 2\nrepeat = true\nbody = [\"submit a as x\", \"get x\", \"submit a as x\", \"get x\"]\n") ≡ Ok again
 unfolding plan_on_literals
 slot_again = refl
 
--- a maximum below core
+-- the fault of a maximum below core
 small_maximum : plan_of (codes "[[pool]]\nname = \"p\"\ncore = 2\nmax = 1\nqueue = 2\n") ≡ Err (at_entry part.Pool 0 8)
 unfolding plan_on_literals
 small_maximum = refl
 
--- work of length 0
+-- the fault of 0 units of work
 no_work : plan_of (pool ++ codes "[[class]]\nname = \"a\"\npool = \"p\"\nbody = [\"work 0\"]\n") ≡ Err (at_action part.Class 0 0 11)
 unfolding plan_on_literals
 no_work = refl
 
--- bytes that are not UTF-8
+-- the fault of bytes that are not UTF-8
 no_text : plan_of (255 ∷ []) ≡ Err (at_text 1)
 unfolding plan_on_literals
 no_text = refl

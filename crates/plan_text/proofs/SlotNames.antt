@@ -1,4 +1,4 @@
--- The slots that the writer names: each name is valid, and belongs to one position.
+-- Proofs that the names of slots that the writer uses are valid, and differ for different positions.
 use Rattle.std.proofs.Common.{◌≡◌, ℕ, ◌<◌, ◌≤◌, ◌^◌, true, drop, length, refl, ap, arith}
 use Rattle.std.specs.Prelude.{decimal}
 use Rattle.std.specs.List.{list_all}
@@ -9,7 +9,7 @@ use Rattle.plan_text.proofs.SpelledActions.{digits_in_name}
 use Rattle.plan_text.proofs.Numbers.{digits_are}
 use Rattle.plan_text.specs.Spelling.{slot_name}
 
--- a slot's name is valid, and belongs to one position
+-- the name of the slot of a position is valid
 pub slot_valid : (position : ℕ) → position < 256 → is_valid_name (slot_name position) ≡ true
 slot_valid position within =
     let small : position < 2 ^ 64 = omega arith in

@@ -1,4 +1,4 @@
--- The slots of a body after each text.
+-- Lemmas about the slots of a body after each action.
 use Rattle.std.proofs.Common.{◌≡◌, ℕ, zero, suc, ◌+◌, ◌<◌, List, [], ◌∷◌, ◌++◌, length, take, slice_get, Option, None, Some, refl, ap, ◌∙◌, arith, add-one}
 use Rattle.std.proofs.lemmas.List.{length-take}
 use Rattle.plan_text.specs.ParsedActions.{parse_action}
@@ -21,7 +21,7 @@ take_next (first ∷ texts) (suc i) text e =
     let rest = take_next texts i text e in
     (ap (λ (ts : List (List ℕ)). first ∷ ts) rest.0, omega (arith, rest.1))
 
--- after one more text
+-- the state of a slot after the first i + 1 actions is its state after the first i, changed by the action at i
 pub filled_more : (slot : List ℕ) (texts : List (List ℕ)) (i : ℕ) (text : List ℕ) → slice_get texts i ≡ Some text → filled (take (i + 1) texts) slot ≡ filled_by slot i (filled (take i texts) slot) (parse_action text)
 filled_more slot texts i text here =
     let next = take_next texts i text here in
@@ -29,6 +29,6 @@ filled_more slot texts i text here =
     let place : 0 + length (take i texts) ≡ i = omega (arith, length-take i texts, next.1) in
     ap (λ (ts : List (List ℕ)). filled ts slot) grown ∙ filled_from_last slot 0 None (take i texts) text ∙ ap (λ (n : ℕ). filled_by slot n (filled (take i texts) slot) (parse_action text)) place
 
--- function extensionality
+-- two functions with equal values are equal
 pub same_functions : {A B : Type 0} (f g : A → B) → ((x : A) → f x ≡ g x) → f ≡ g
 same_functions f g same = λ i x. same x i

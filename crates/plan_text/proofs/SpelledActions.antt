@@ -1,4 +1,4 @@
--- The spelling of a valid action parses as that action.
+-- Proofs that the spelling of a valid action parses as that action.
 use Rattle.std.proofs.Common.{◌≡◌, ℕ, ◌+◌, ◌<◌, ◌≤◌, ◌^◌, Bool, true, false, not, ◌==◌, nat_lt, nat_le, List, [], ◌∷◌, ◌++◌, length, take, drop, slice_index, codes, Option, None, Some, refl, sym, ap, ap₂, subst, ◌∙◌, arith, append_assoc}
 use Rattle.std.specs.Prelude.{if◌then◌else◌, option_and_then, decimal}
 use Rattle.std.specs.List.{list_all, position_or_len, before_first, after_first}
@@ -13,11 +13,11 @@ use Rattle.job_bodies.specs.WellFormed.{is_within, is_letter, is_name_byte, is_v
 use Rattle.plan_text.proofs.Numbers.{digits_are}
 use Rattle.plan_text.specs.ParsedActions.{ParsedAction, work, submit, submit_as, get, split_space, name_of, is_digit, are_digits, is_positive_decimal, parse_units, parse_submit_as, submit_parts, parse_submit, parse_action_of_verb, parse_action, spelling, IsValidParsedAction}
 
--- ---- the split at the first space
+-- ---- the parts of a text before and after its first space
 abbrev is_space : ℕ → Bool
 is_space b = b == 32
 
--- no byte is a space
+-- whether no byte of the text is a space
 abbrev has_no_space : List ℕ → Bool
 has_no_space text = list_all (λ b. not (is_space b)) text
 
@@ -47,7 +47,7 @@ stays_whole text none =
     let past : nat_lt (position_or_len is_space text) (length text) ≡ false = le-ltb _ _ (omega (arith, nowhere text none)) in
     cond-false _ _ _ past
 
--- ---- names
+-- ---- names have no space
 name_byte_no_space : (b : ℕ) → is_name_byte b ≡ true → not (is_space b) ≡ true
 name_byte_no_space b h = grind (arith, nat_tests)
 
@@ -60,7 +60,7 @@ bytes_no_space (b ∷ bytes) h =
 name_no_space : (name : List ℕ) → is_valid_name name ≡ true → has_no_space name ≡ true
 name_no_space name valid = bytes_no_space name (and_parts _ (list_all is_name_byte name) valid).1
 
--- ---- numbers
+-- ---- numbers have no space
 digit_in_name : (b : ℕ) → is_digit b ≡ true → is_name_byte b ≡ true
 digit_in_name b h = or_left _ _ (or_right (is_letter b) _ h)
 
@@ -83,8 +83,8 @@ units_read units within =
     let fits : is_within 1 MAX_WORK (digits_value 10 (decimal units)) ≡ true = subst (λ (n : ℕ). is_within 1 MAX_WORK n ≡ true) (sym value) within in
     cond-true _ _ _ (and_from _ _ full fits) ∙ ap (λ (n : ℕ). Some n) value
 
--- ---- the spellings
--- the result of the parser for each spelling
+-- ---- the spellings of actions
+-- the parser splits a text at its first space into the verb and the rest
 by_verb : (verb text : List ℕ) → has_no_space verb ≡ true → parse_action (verb ++ 32 ∷ text) ≡ parse_action_of_verb verb text
 unfolding parse_action
 by_verb verb text none = ap (λ o. option_and_then (λ words. parse_action_of_verb words.0 words.1) o) (splits verb text none)
@@ -96,7 +96,7 @@ submit_read : (class : List ℕ) → is_valid_name class ≡ true → parse_subm
 unfolding parse_submit
 submit_read class valid = ap (submit_parts class) (stays_whole class (name_no_space class valid)) ∙ ap (λ o. option_and_then (λ name. Some (submit name)) o) (name_read class valid)
 
--- a submit that fills a slot, after its class and then its slot are parsed
+-- the submit of this class that fills the slot, if the slot is a valid name
 abbrev with_slot : List ℕ → Option (List ℕ) → Option ParsedAction
 with_slot class slot = option_and_then (λ name. Some (submit_as class name)) slot
 

@@ -1,4 +1,4 @@
--- The texts of a valid body read back to that body.
+-- Proofs that the texts of a valid body parse as that body.
 use Rattle.std.proofs.Common.{codes, ◌++◌, ◌≡◌, ℕ, zero, suc, ◌+◌, ◌-◌, ◌<◌, ◌≤◌, true, false, if◌then◌else◌, nat_lt, List, [], ◌∷◌, length, map, take, get_or, slice_get, Option, None, Some, Result, Ok, refl, sym, ap, subst, ◌∙◌, arith, zero-add, inl, inr, ◌⊎◌}
 use Rattle.std.specs.Prelude.{option_map}
 use Rattle.std.specs.List.{list_any, enumerate_from}
@@ -32,8 +32,8 @@ use Rattle.plan_text.proofs.FilledSlots.{HasParsedAction, fills}
 use Rattle.plan_text.proofs.SpelledActions.{spelled}
 use Rattle.plan_text.proofs.SlotNames.{slot_valid, slot_injective}
 
--- ---- names
--- the index of a name in a list of distinct names
+-- ---- the names of classes and slots
+-- the index of the name at place p is p, in a list of distinct names
 pub place_is : (names : List (List ℕ)) → are_distinct names ≡ true → (place : ℕ) → place < length names → place_of names (name_at names place) ≡ place
 place_is names distinct place within =
     let name = name_at names place in
@@ -44,7 +44,7 @@ place_is names distinct place within =
     list_any_get (bytes_eq name) (take place names) none k (get_or names k []) there in
     position_or_len_is (λ known. bytes_eq name known) names place [] (omega (arith, within)) other (λ _. (bytes_eq-Decides name name).1 refl)
 
--- the slots of two positions have different names
+-- the slots of different positions have different names
 slots_apart : (i j : ℕ) → i < 256 → j < 256 → (i ≡ j → ⊥) → bytes_eq (slot_name i) (slot_name j) ≡ false
 slots_apart i j p q apart =
     elim (cases_Bool (bytes_eq (slot_name i) (slot_name j))) [
@@ -55,8 +55,8 @@ slots_apart i j p q apart =
 same_slot : (i : ℕ) → bytes_eq (slot_name i) (slot_name i) ≡ true
 same_slot i = (bytes_eq-Decides (slot_name i) (slot_name i)).1 refl
 
--- ---- the texts
--- an element with its index in the enumerated list
+-- ---- the texts of a body
+-- the element of an enumerated list at index i is the list's element with its index
 enumerated_get : {X : Type 0} (n : ℕ) (xs : List X) (i : ℕ) (x : X) → slice_get xs i ≡ Some x → slice_get (enumerate_from n xs) i ≡ Some (n + i, x)
 enumerated_get n [] i x e = absurd cc
 enumerated_get n (y ∷ xs) zero x e =
@@ -67,26 +67,26 @@ enumerated_get n (y ∷ xs) (suc i) x e =
     let place : n + suc i ≡ n + 1 + i = omega arith in
     rw place (enumerated_get (n + 1) xs i x e)
 
--- the text of the action at a position
+-- the text at position i is that of the action at position i
 text_here : (classes : List (List ℕ)) (body : List Action) (i : ℕ) (action : Action) → slice_get body i ≡ Some action → slice_get (body_texts classes body) i ≡ Some (action_text classes body i action)
 unfolding body_texts
 text_here classes body i action here =
     let spell : ℕ × Action → List ℕ = λ entry. action_text classes body entry.0 entry.1 in
     slice_get-map spell (enumerate_from 0 body) i ∙ ap (option_map spell) (enumerated_get 0 body i action here) ∙ ap (λ (n : ℕ). Some (action_text classes body n action)) (zero-add i)
 
--- one for each action
+-- a body has one text for each action
 pub length-texts : (classes : List (List ℕ)) (body : List Action) → length (body_texts classes body) ≡ length body
 unfolding body_texts
 length-texts classes body = length-map (enumerate_from 0 body) _ ∙ length-enumerate_from 0 body
 
--- ---- their parsed actions
--- the parsed action at a position
+-- ---- the parsed actions of the texts
+-- the parsed action of the text at position i
 abbrev parsed_action_here : List (List ℕ) → List Action → ℕ → Action → ParsedAction
 parsed_action_here classes body i (Work units) = work units
 parsed_action_here classes body i (Submit class) = if list_any (gets i) body then submit_as (name_at classes class) (slot_name i) else submit (name_at classes class)
 parsed_action_here classes body i (Get t) = get (slot_name t)
 
--- a valid body, and classes with distinct, valid names
+-- the body is valid, and the names of the classes are valid and distinct
 record IsSpelled (classes : List (List ℕ)) (body : List Action) : Type 0 where
   distinct : are_distinct classes ≡ true
   names : EachPlace classes (λ i name. is_valid_name name ≡ true)
@@ -119,19 +119,19 @@ has_parsed_action classes body given i action here = record {
   gives = parsed_action_is classes body given i action here;
 }
 
--- ---- the slots
+-- ---- the slots of a body
 none_or_some : (o : Option ℕ) → (o ≡ None) ⊎ ((t : ℕ) × (o ≡ Some t))
 none_or_some None = inl refl
 none_or_some (Some t) = inr (t, refl)
 
--- each index of the body has an action
+-- a body has an action at each position below its length
 action_there : (body : List Action) (i : ℕ) → i < length body → (action : Action) × (slice_get body i ≡ Some action)
 action_there body i within = (get_or body i (Work 0), slice_get-get_or body i (Work 0) within)
 
 some_parsed_action : (a b : ParsedAction) (o : Option ParsedAction) → o ≡ Some a → o ≡ Some b → a ≡ b
 some_parsed_action a b o p q = cc
 
--- a submit fills only its own slot
+-- a submit at position i fills only the slot of position i
 slot_is : (classes : List (List ℕ)) (body : List Action) (i : ℕ) (action : Action) (class slot : List ℕ) → parsed_action_here classes body i action ≡ submit_as class slot → slot ≡ slot_name i
 slot_is classes body i (Work units) class slot e = absurd cc
 slot_is classes body i (Submit k) class slot e =
@@ -141,7 +141,7 @@ slot_is classes body i (Submit k) class slot e =
     ]
 slot_is classes body i (Get t) class slot e = absurd cc
 
--- a slot is empty before the submit that fills it
+-- the slot of position i is empty before position i
 slot_empty : (classes : List (List ℕ)) (body : List Action) → IsSpelled classes body → (i : ℕ) → i < length body → filled (take i (body_texts classes body)) (slot_name i) ≡ None
 slot_empty classes body given i within =
     let texts = body_texts classes body in
@@ -160,7 +160,7 @@ slot_empty classes body given i within =
           absurd (omega (arith, place, by.before))
     ]
 
--- a slot after one more action
+-- the state of a slot after the first i + 1 actions is its state after the first i, changed by the action at i
 slot_more : (classes : List (List ℕ)) (body : List Action) → IsSpelled classes body → (slot : List ℕ) (i : ℕ) (action : Action) → slice_get body i ≡ Some action
     → filled (take (i + 1) (body_texts classes body)) slot ≡ filled_by slot i (filled (take i (body_texts classes body)) slot) (Some (parsed_action_here classes body i action))
 slot_more classes body given slot i action here =
@@ -168,11 +168,11 @@ slot_more classes body given slot i action here =
     let has = has_parsed_action classes body given i action here in
     filled_more slot texts i has.text has.here ∙ ap (filled_by slot i (filled (take i texts) slot)) has.gives
 
--- a submit that a get names fills its slot
+-- a submit that a get names fills the slot of its position
 filled_first : (classes : List (List ℕ)) (body : List Action) (t class : ℕ) (before : Option ℕ) → list_any (gets t) body ≡ true → filled_by (slot_name t) t before (Some (parsed_action_here classes body t (Submit class))) ≡ Some t
 filled_first classes body t class before got = rw (got, same_slot t) refl
 
--- a later action leaves the slot filled unless it is a get of that submit
+-- an action after the submit at t leaves the slot of t filled, unless it is a get of t
 filled_kept : (classes : List (List ℕ)) (body : List Action) → IsSpelled classes body → (t j : ℕ) (action : Action) → slice_get body j ≡ Some action → t < j → (action ≡ Get t → ⊥)
     → filled_by (slot_name t) j (Some t) (Some (parsed_action_here classes body j action)) ≡ Some t
 filled_kept classes body given t j (Work units) here after other = refl
@@ -192,11 +192,11 @@ submit_there (Some (Work units)) e = absurd cc
 submit_there (Some (Submit class)) e = (class, refl)
 submit_there (Some (Get t)) e = absurd cc
 
--- the submit of a get has a get
+-- if the body has a get of t, `gets t` holds for some action
 has_get_of : (body : List Action) (g t : ℕ) → slice_get body g ≡ Some (Get t) → list_any (gets t) body ≡ true
 has_get_of body g t here = list_any_at (gets t) body g (Get t) (slice_get_within body g (Get t) here) (ap (gets t) (get_or_from_slice_get body g (Get t) (Get t) here) ∙ eq-eqb t t refl)
 
--- the slot of a submit that a get names stays filled up to that get
+-- the slot of t is filled from the submit at t to the get of t
 filled_until : (classes : List (List ℕ)) (body : List Action) → IsSpelled classes body → (g t : ℕ) → slice_get body g ≡ Some (Get t) → (n : ℕ) → t + 1 + n ≤ g
     → filled (take (t + 1 + n) (body_texts classes body)) (slot_name t) ≡ Some t
 filled_until classes body given g t here zero within =
@@ -221,7 +221,7 @@ slot_filled classes body given g t here =
     let place : t + 1 + (g - (t + 1)) ≡ g = omega (arith, behind) in
     subst (λ (k : ℕ). filled (take k (body_texts classes body)) (slot_name t) ≡ Some t) place (filled_until classes body given g t here (g - (t + 1)) (omega (arith, behind)))
 
--- ---- the actions
+-- ---- the actions of a body
 class_found : (classes : List (List ℕ)) (fault : ℕ → PlanFault) → are_distinct classes ≡ true → (class : ℕ) → nat_lt class (length classes) ≡ true → class_named classes fault (name_at classes class) ≡ Ok class
 class_found classes fault distinct class within = rw (place_is classes distinct class (ltb-true class (length classes) within), within) refl
 
@@ -245,7 +245,7 @@ action_back classes part index body given i text action there here =
     let same : text ≡ has.text = cc in
     rw (same, has.gives) (action_is classes body given (at_action part index i) i action here)
 
--- reading each element gives these values, if it does at each index
+-- reading the elements of a list gives these values, if reading each element gives the value at its index
 read_gives_from : {X Y F : Type 0} (read : ℕ → X → Result Y F) (n : ℕ) (xs : List X) (ys : List Y) → length xs ≡ length ys
     → ((i : ℕ) (x : X) (y : Y) → slice_get xs i ≡ Some x → slice_get ys i ≡ Some y → read (n + i) x ≡ Ok y) → read_each read n xs ≡ Ok ys
 read_gives_from read n [] [] same each = refl
@@ -263,7 +263,7 @@ read_gives : {X Y F : Type 0} (read : ℕ → X → Result Y F) (xs : List X) (y
     → ((i : ℕ) (x : X) (y : Y) → slice_get xs i ≡ Some x → slice_get ys i ≡ Some y → read i x ≡ Ok y) → read_each read 0 xs ≡ Ok ys
 read_gives read xs ys same each = read_gives_from read 0 xs ys same (λ i x y p q. subst (λ (k : ℕ). read k x ≡ Ok y) (sym (zero-add i)) (each i x y p q))
 
--- a plan with these classes
+-- a plan with classes of these names, and no pools or client kinds
 plan_with : List (List ℕ) → Plan
 plan_with classes = record { pools = []; classes = map (λ name. record { name = name; pool = 0; body = [] }) classes; clients = [] }
 
@@ -284,7 +284,7 @@ is_spelled classes body distinct names valid =
       once = is.once;
     }
 
--- each text reads back to its action, and so the texts read back to the body
+-- each text of a valid body parses as its action, so all texts parse as the body
 pub reads_back : (classes : List (List ℕ)) (part : Part) (index : ℕ) (body : List Action) → are_distinct classes ≡ true → EachPlace classes (λ i name. is_valid_name name ≡ true)
     → is_valid_body (length classes) body ≡ true → body_of classes part index (body_texts classes body) ≡ Ok body
 unfolding body_of

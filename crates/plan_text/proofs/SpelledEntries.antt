@@ -1,4 +1,4 @@
--- The entries that are read from the document of a plan.
+-- Proofs that the entries of a plan are read from its document.
 use Rattle.std.proofs.Common.{◌≡◌, ℕ, suc, ◌+◌, ◌≤◌, Bool, true, false, nat_le, List, [], ◌∷◌, length, map, codes, Some, Result, Ok, refl, sym, ap, subst, ◌∙◌, arith, zero-add}
 use Rattle.std.proofs.lemmas.List.{length-map}
 use Rattle.std.proofs.Math.Nat.{max-le}
@@ -17,7 +17,7 @@ use Rattle.plan_text.specs.Spelling.{name_at, body_texts}
 use Rattle.plan_text.specs.PlanDocument.{list_data, texts_data, pool_data, class_data, client_data, plan_document}
 use Rattle.plan_text.proofs.Tables.{elements-items_of}
 
--- ---- reading each element of a list that was mapped from another
+-- ---- reading the images of a list's elements
 read_made_from : {X Y Z F : Type 0} (read : ℕ → Y → Result Z F) (make : X → Y) (image : X → Z) (n : ℕ) (xs : List X) → EachPlace xs (λ i x. read (n + i) (make x) ≡ Ok (image x))
     → read_each read n (map make xs) ≡ Ok (map image xs)
 read_made_from read make image n [] each = refl
@@ -35,12 +35,12 @@ pub map_same : {X : Type 0} (xs : List X) → map (λ x. x) xs ≡ xs
 map_same [] = refl
 map_same (x ∷ xs) = ap (λ (ys : List _). x ∷ ys) (map_same xs)
 
--- the same if the elements read back unchanged
+-- reading the images of a list's elements gives the elements, if reading each image gives its element
 pub read_again : {X Y F : Type 0} (read : ℕ → Y → Result X F) (make : X → Y) (xs : List X) → EachPlace xs (λ i x. read i (make x) ≡ Ok x) → read_each read 0 (map make xs) ≡ Ok xs
 read_again read make xs each = read_made read make (λ x. x) xs each ∙ ap (λ (ys : List _). Ok ys) (map_same xs)
 
 -- ---- one entry
--- the entries that a plan's text has
+-- the entry of a class in the text of a plan
 abbrev pub class_entry : List (List ℕ) → List (List ℕ) → Class → ClassEntry
 class_entry pools classes class = record { name = class.name; pool = name_at pools class.pool; body = body_texts classes class.body }
 
@@ -61,7 +61,7 @@ pool_again index name core max queue false = refl
 pool_back : (index : ℕ) (pool : Pool) → read_pool index (pool_data pool) ≡ Ok pool
 pool_back index pool = pool_again index pool.name pool.core pool.max pool.queue pool.prestart
 
--- the entry for a table
+-- the entry with this table; an entry with an empty table if the value is not a table
 abbrev entry_at : Part → ℕ → Data → Entry
 entry_at part index (table members) = record { table = members; part = part; index = index }
 entry_at part index _ = record { table = no_members; part = part; index = index }
@@ -87,7 +87,7 @@ entries_in plan = record {
   clients = map (client_entry (class_names_of plan)) plan.clients;
 }
 
--- no list and no body is too long
+-- no list of the plan and no body is longer than its limit
 pub record IsShort (plan : Plan) : Type 0 where
   pub few_pools : nat_le (length plan.pools) MAX_POOLS ≡ true
   pub few_classes : nat_le (length plan.classes) MAX_CLASSES ≡ true
@@ -121,7 +121,7 @@ pub keys_are_known : (plan : Plan) → has_only (codes "pool" ∷ codes "class" 
 unfolding plan_document
 keys_are_known plan = refl
 
--- ---- the depth of its nesting
+-- ---- the depth of nesting in the document
 each_at_most : {X : Type 0} (make : X → Data) (most : ℕ) → ((x : X) → depth (make x) ≤ most) → (xs : List X) → items_depth (items_of (map make xs)) ≤ most
 each_at_most make most each [] = omega arith
 each_at_most make most each (x ∷ xs) = max-le (each x) (each_at_most make most each xs)

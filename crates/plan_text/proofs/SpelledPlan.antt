@@ -1,4 +1,4 @@
--- The document of a plan reads back to that plan.
+-- Proofs that the document of a plan is read as that plan.
 use Rattle.std.proofs.Common.{◌≡◌, ℕ, ◌≤◌, true, le-leb, List, [], length, map, take, slice_get, Some, Ok, refl, ap, subst, ◌∙◌}
 use Rattle.std.specs.Str.{is_utf8}
 use Rattle.std.proofs.lemmas.Bool.{and_parts, ltb-true}
@@ -51,7 +51,7 @@ class_body plan w i class e = (and_parts _ _ (class_parts plan w i class e)).1
 client_body : (plan : Plan) → IsWellFormed plan → EachPlace plan.clients (λ i client. is_valid_body (length plan.classes) client.body ≡ true)
 client_body plan w i client e = (and_parts _ _ (client_parts plan w i client e)).1
 
--- the index of a class's pool is the index of its name
+-- the pool that a class's entry names is the pool of the class
 pool_place : (plan : Plan) → IsWellFormed plan → (i : ℕ) (class : Class) → slice_get plan.classes i ≡ Some class
     → class_head (pool_names plan) (class_entry (pool_names plan) (class_names_of plan) class) ≡ record { name = class.name; pool = class.pool; body = [] }
 pool_place plan w i class e =
@@ -94,7 +94,7 @@ clients_checked plan w =
     let passed = each_passed (λ index. check_client (take index (map (λ client. client.name) plan.clients)) index) plan.clients (checked plan w).clients i from.0 from.1 in
     rw (← from.2, client_names_of_entries plan) passed)
 
--- ---- the bodies
+-- ---- the bodies of classes and client kinds
 class_names_valid : (plan : Plan) → IsWellFormed plan → EachPlace (class_names_of plan) (λ i name. is_valid_name name ≡ true)
 class_names_valid plan w i name e =
     let from = mapped_get (λ class. class.name) plan.classes i name e in
@@ -125,7 +125,7 @@ entries_again plan w =
     let clients = read_again (client_of (class_names_of plan)) (client_entry (class_names_of plan)) plan.clients (client_again plan w) in
     rw (pools_checked plan w, classes_checked plan w, clients_checked plan w, classes, clients) refl
 
--- ---- the text
+-- ---- the text of a plan
 is_short : (plan : Plan) → IsWellFormed plan → IsShort plan
 is_short plan w = record {
   few_pools = le-leb _ _ w.few_pools;
@@ -135,7 +135,7 @@ is_short plan w = record {
   clients = λ i client e. rw (length-texts (class_names_of plan) client.body) (and_parts _ _ (client_body plan w i client e)).0;
 }
 
--- a text that represents the document of a plan, within the limit on its length, reads back to the plan
+-- a text for the document of a plan, if it is not longer than a plan's text may be, is read as that plan
 pub text_again : (plan : Plan) (text : List ℕ) → IsWellFormed plan → is_utf8 text ≡ true → length text ≤ MAX_PLAN_BYTES → parse_document text ≡ Some (plan_document plan) → plan_of text ≡ Ok plan
 unfolding plan_of document_of
 text_again plan text w valid short parsed =

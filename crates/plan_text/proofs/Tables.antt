@@ -1,4 +1,4 @@
--- The tables and arrays of `toml`, as its values represent them.
+-- Lemmas about the tables and arrays of `toml`, as the views of its values show them.
 use Rattle.std.proofs.Common.{◌≡◌, ℕ, List, [], ◌∷◌, map, String, Bor, Global, string_bytes, refl, ap}
 use Rattle.std.specs.List.{list_any, list_all}
 use Rattle.std.specs.Map.{keys_of}
@@ -14,7 +14,7 @@ pub elements-items_of : (values : List Data) → elements (items_of values) ≡ 
 elements-items_of [] = refl
 elements-items_of (value ∷ values) = ap (λ (rest : List Data). value ∷ rest) (elements-items_of values)
 
--- every key of a map is one of these
+-- every key of a table is one of the known keys exactly when its members have only these keys
 pub has_only_of_keys : (known : List (Bor (List ℕ))) (entries : List (String Global × Value))
     → list_all (λ key. list_any (λ k. bytes_eq k.now (string_bytes key)) known) (keys_of entries) ≡ has_only (map (λ k. k.now) known) (members_view entries)
 has_only_of_keys known [] = refl

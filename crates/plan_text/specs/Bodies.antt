@@ -1,5 +1,5 @@
--- Parsing of bodies, action by action. Resolves class names to indices, and the slots of gets to the positions of their
--- submits.
+-- The parsed bodies, action by action. Class names become class indices, and the slot of a get becomes the position of the submit that
+-- filled the slot.
 use Rattle.std.specs.Prelude.{ℕ, nat_lt, is_none, List, length, take, Option, Result, Ok}
 use Rattle.support.specs.Reading.{◌>>=◌, ensure, ok_or, read_each}
 use Rattle.job_bodies.specs.declared.action.Action.{Action}
@@ -15,12 +15,12 @@ use Rattle.plan_text.specs.Checks.{place_of}
 use Rattle.plan_text.specs.ParsedActions.{ParsedAction, work, submit, submit_as, get, parse_action}
 use Rattle.plan_text.specs.Slots.{filled}
 
--- the index of the class with this name
+-- the index of the class with this name; a fault if no class has it
 abbrev pub class_named : List (List ℕ) → (ℕ → PlanFault) → List ℕ → Result ℕ PlanFault
 class_named classes fault name =
     ensure (nat_lt (place_of classes name) (length classes)) (fault NO_SUCH_CLASS) >>= λ _. Ok (place_of classes name)
 
--- resolves a parsed action; slots maps each filled slot to its position
+-- the action of a parsed action; `slots` gives the position of the submit that filled each filled slot
 abbrev pub action_of : List (List ℕ) → (List ℕ → Option ℕ) → (ℕ → PlanFault) → ParsedAction → Result Action PlanFault
 action_of classes slots fault (work units) = Ok (Work units)
 action_of classes slots fault (submit class) = class_named classes fault class >>= λ k. Ok (Submit k)
@@ -28,26 +28,26 @@ action_of classes slots fault (submit_as class slot) =
     class_named classes fault class >>= λ k. ensure (is_none (slots slot)) (fault SLOT_OPEN) >>= λ _. Ok (Submit k)
 action_of classes slots fault (get slot) = ok_or (slots slot) (fault SLOT_EMPTY) >>= λ t. Ok (Get t)
 
--- parses and resolves an action; slots maps each filled slot to its position
+-- the action with this text; `slots` gives the position of the submit that filled each filled slot
 unfoldable pub action_at : List (List ℕ) → (List ℕ → Option ℕ) → (ℕ → PlanFault) → List ℕ → Result Action PlanFault
 action_at classes slots fault text =
     ok_or (parse_action text) (fault BAD_ACTION) >>= λ parsed_action. action_of classes slots fault parsed_action
 
--- the action of the text at position i of a body, with the slots as the texts before it leave them
+-- the action with the text at position i of the texts of a body, where the texts before it determine which slots are filled
 abbrev pub action_among : List (List ℕ) → Part → ℕ → List (List ℕ) → ℕ → List ℕ → Result Action PlanFault
 action_among classes part index texts i text = action_at classes (filled (take i texts)) (at_action part index i) text
 
--- the actions of a body
+-- the actions of a body with these texts
 unfoldable pub body_of : List (List ℕ) → Part → ℕ → List (List ℕ) → Result (List Action) PlanFault
 body_of classes part index texts = read_each (action_among classes part index texts) 0 texts
 
--- a class with its body
+-- a class with its parsed body
 abbrev pub class_of : List (List ℕ) → List (List ℕ) → ℕ → ClassEntry → Result Class PlanFault
 class_of pools classes index class =
     body_of classes part.Class index class.body >>= λ body.
     Ok (record { name = class.name; pool = place_of pools class.pool; body = body })
 
--- a kind of client with its body
+-- a client kind with its parsed body
 abbrev pub client_of : List (List ℕ) → ℕ → ClientEntry → Result Client PlanFault
 client_of classes index client =
     body_of classes part.Client index client.body >>= λ body.

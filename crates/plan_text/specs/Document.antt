@@ -1,4 +1,4 @@
--- The document as TOML: its length, its bytes, and its top-level keys.
+-- The TOML document of a plan: its size, its encoding, and its top-level keys.
 use Rattle.std.specs.Prelude.{ℕ, Bool, true, ◌&&◌, nat_le, List, [], ◌∷◌, length, codes, Option, None, Some, option_map, Result, Ok}
 use Rattle.std.specs.List.{list_any}
 use Rattle.std.specs.Str.{bytes_eq, is_utf8}
@@ -10,7 +10,7 @@ use Rattle.support.specs.declared.number.TheConstants.{NOT_TOML, TOO_MANY, UNKNO
 use Rattle.job_bodies.specs.Checks.{at_text}
 use Rattle.job_bodies.specs.declared.limits.TheConstants.{MAX_PLAN_BYTES}
 
--- every key of the table is one of these
+-- whether every key of the table is one of these
 abbrev pub has_only : List (List ℕ) → Members → Bool
 has_only keys no_members = true
 has_only keys (member key value rest) = list_any (λ known. bytes_eq known key) keys && has_only keys rest
@@ -20,19 +20,19 @@ abbrev pub elements : Items → List Data
 elements no_items = []
 elements (item value rest) = value ∷ elements rest
 
--- the elements of a value that is an array
+-- the elements of the value; None if it is not an array
 abbrev pub as_list : Data → Option (List Data)
 as_list value = option_map elements (as_array value)
 
--- the bytes if they are UTF-8
+-- the bytes as a text; a fault if they are not UTF-8
 abbrev pub text_of : List ℕ → Result (List ℕ) PlanFault
 text_of bytes = ensure (is_utf8 bytes) (at_text NOT_TOML) >>= λ _. Ok bytes
 
--- the TOML table of a text
+-- the TOML table of the text; a fault if it is not TOML
 abbrev pub table_of : List ℕ → Result Members PlanFault
 table_of text = ok_or (parse_document text) (at_text NOT_TOML)
 
--- the table of a document within the limit on its length, which has only the keys of a plan
+-- the TOML table of the bytes; a fault if they are more than a plan may have, are not UTF-8 or TOML, or have a key that no plan has
 unfoldable pub document_of : List ℕ → Result Members PlanFault
 document_of bytes =
     ensure (nat_le (length bytes) MAX_PLAN_BYTES) (at_text TOO_MANY) >>= λ _.
@@ -41,12 +41,12 @@ document_of bytes =
     ensure (has_only (codes "pool" ∷ codes "class" ∷ codes "client" ∷ []) document) (at_text UNKNOWN_KEY) >>= λ _.
     Ok document
 
--- the elements of a top-level value that is an array, or none if the value is absent
+-- the elements of a top-level array, or no elements if it is absent; a fault if the value is not an array
 abbrev pub list_of : Option Data → Result (List Data) PlanFault
 list_of None = Ok []
 list_of (Some value) = ok_or (as_list value) (at_text WRONG_TYPE)
 
--- the elements of the array at a key, at most `most`
+-- the elements of the top-level array at this key; a fault if it has more than `most`
 unfoldable pub list_at : List ℕ → ℕ → Members → Result (List Data) PlanFault
 list_at key most document =
     list_of (get_member key document) >>= λ values.

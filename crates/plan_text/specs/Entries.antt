@@ -1,4 +1,4 @@
--- The shape of the entries of a plan's text: each key must be present and have its type.
+-- The shape of the entries in the text of a plan: each required key must be present, and each value must have the type of its key.
 use Rattle.std.specs.Prelude.{◌≡◌, ℕ, Bool, true, nat_le, List, [], ◌∷◌, length, slice_get, codes, Some, Result, Ok}
 use Rattle.toml.specs.Data.{Data, Members}
 use Rattle.support.specs.Reading.{◌>>=◌, read_each}
@@ -9,26 +9,26 @@ use Rattle.job_bodies.specs.Plan.{Pool}
 use Rattle.plan_text.specs.Document.{list_at}
 use Rattle.plan_text.specs.Entry.{entry_of, text_at, number_at, flag_at, texts_at}
 
--- a class as the text gives it: its pool by name, its actions as texts
+-- a class as its text gives it: the pool is a name, and the actions are texts
 pub record ClassEntry : Type 0 where
   pub name : List ℕ
   pub pool : List ℕ
   pub body : List (List ℕ)
 
--- a kind of client as the text gives it
+-- a client kind as its text gives it: the actions are texts
 pub record ClientEntry : Type 0 where
   pub name : List ℕ
   pub count : ℕ
   pub repeat : Bool
   pub body : List (List ℕ)
 
--- all entries of a text
+-- the entries of a document, in the order of the text
 pub record Entries : Type 0 where
   pub pools : List Pool
   pub classes : List ClassEntry
   pub clients : List ClientEntry
 
--- no list and no body is too long
+-- no list of the entries and no body is longer than its limit
 pub record AreWithinLimits (entries : Entries) : Type 0 where
   pub few_pools : nat_le (length entries.pools) MAX_POOLS ≡ true
   pub few_classes : nat_le (length entries.classes) MAX_CLASSES ≡ true
@@ -63,7 +63,7 @@ read_client index value =
     texts_at entry (codes "body") >>= λ body.
     Ok (record { name = name; count = count; repeat = repeat; body = body })
 
--- the entries of a document: first the three lists, then the shape of each entry
+-- the entries of a document, or the first fault; the lengths of the three lists are checked before the shape of each entry
 unfoldable pub entries_of : Members → Result Entries PlanFault
 entries_of document =
     list_at (codes "pool") MAX_POOLS document >>= λ pools.

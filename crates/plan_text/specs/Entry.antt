@@ -1,4 +1,4 @@
--- One entry of a list: a table with known keys, whose values have known types.
+-- The table of one entry, with values of the expected types.
 use Rattle.std.specs.Prelude.{ℕ, ℤ, pos, negsuc, Bool, false, nat_le, List, length, Option, None, Some, Result, Ok}
 use Rattle.toml.specs.Data.{Data, Members, get_member, as_str, as_integer, as_bool, as_table}
 use Rattle.toml.specs.View.{table_view}
@@ -11,61 +11,61 @@ use Rattle.job_bodies.specs.Checks.{at_entry, at_action}
 use Rattle.plan_text.specs.declared.entry.Entry as read
 use Rattle.plan_text.specs.Document.{has_only, as_list}
 
--- a table of a list, and its place
+-- the table of one entry, with the list that has the entry and the index of the entry in this list
 pub record Entry : Type 0 where
   pub table : Members
   pub part : Part
   pub index : ℕ
 
--- the specification's view of an entry: its table as members
+-- an entry of the code as the specifications see it, with its table as members
 abbrev pub entry_view : read.Entry → Entry
 entry_view entry = record { table = table_view entry.table.now; part = entry.part; index = entry.index }
 
--- a fault of the entry
+-- the fault with this number of the entry
 abbrev pub fault_at : Entry → ℕ → PlanFault
 fault_at entry number = at_entry entry.part entry.index number
 
--- an integer as a count: 0 for a negative one, which is out of range for every number of a plan
+-- an integer as a count; 0 for a negative one, which is out of range for every number of a plan
 abbrev pub count_of : ℤ → ℕ
 count_of (pos n) = n
 count_of (negsuc n) = 0
 
--- the value as an entry: a table that has only these keys
+-- the value as an entry; a fault if it is not a table, or has a key that is not one of these
 unfoldable pub entry_of : Part → ℕ → List (List ℕ) → Data → Result Entry PlanFault
 entry_of part index keys value =
     ok_or (as_table value) (at_entry part index WRONG_TYPE) >>= λ table.
     ensure (has_only keys table) (at_entry part index UNKNOWN_KEY) >>= λ _.
     Ok (record { table = table; part = part; index = index })
 
--- the value at a required key
+-- the value at this key; a fault if the key is absent
 abbrev pub value_at : Entry → List ℕ → Result Data PlanFault
 value_at entry key = ok_or (get_member key entry.table) (fault_at entry MISSING_KEY)
 
--- the string at a key
+-- the string at this key; a fault if the key is absent or the value has another type
 unfoldable pub text_at : Entry → List ℕ → Result (List ℕ) PlanFault
 text_at entry key = value_at entry key >>= λ value. ok_or (as_str value) (fault_at entry WRONG_TYPE)
 
--- the integer at a key
+-- the integer at this key, as a count; a fault if the key is absent or the value has another type
 unfoldable pub number_at : Entry → List ℕ → Result ℕ PlanFault
 number_at entry key =
     value_at entry key >>= λ value.
     ok_or (as_integer value) (fault_at entry WRONG_TYPE) >>= λ number.
     Ok (count_of number)
 
--- the boolean of a value, or false if there is no value
+-- the boolean value, or false if there is no value; a fault if the value has another type
 abbrev pub flag_of : Entry → Option Data → Result Bool PlanFault
 flag_of entry None = Ok false
 flag_of entry (Some value) = ok_or (as_bool value) (fault_at entry WRONG_TYPE)
 
--- the boolean at a key, or false if the key is absent
+-- the boolean at this key, or false if the key is absent; a fault if the value has another type
 unfoldable pub flag_at : Entry → List ℕ → Result Bool PlanFault
 flag_at entry key = flag_of entry (get_member key entry.table)
 
--- the text of an action of the entry at an index
+-- the text of an action of an entry; a fault if the value is not a string
 abbrev pub action_text : Part → ℕ → ℕ → Data → Result (List ℕ) PlanFault
 action_text part index action value = ok_or (as_str value) (at_action part index action WRONG_TYPE)
 
--- the strings at a key, up to the maximum number of actions of a body
+-- the strings in the array at this key, at most the maximum number of actions of a body; otherwise a fault
 unfoldable pub texts_at : Entry → List ℕ → Result (List (List ℕ)) PlanFault
 texts_at entry key =
     value_at entry key >>= λ value.

@@ -8,14 +8,14 @@ use Rattle.job_bodies.specs.WellFormed.{is_valid_name, is_within}
 use Rattle.plan_text.specs.declared.parsed_action.ParsedAction as read
 use Rattle.plan_text.specs.declared.parsed_action.ParsedAction.TheVariants.{Work, Submit, SubmitAs, Get}
 
--- a parsed action, with classes and slots by name
+-- a parsed action, in which classes and slots are names
 pub data ParsedAction : Type 0 where
   work : ℕ → ParsedAction
   submit : List ℕ → ParsedAction
   submit_as : List ℕ → List ℕ → ParsedAction
   get : List ℕ → ParsedAction
 
--- the specification's view of a parsed action
+-- a parsed action of the code as the specifications see it
 abbrev pub parsed_action_view : read.ParsedAction → ParsedAction
 parsed_action_view (Work units) = work units
 parsed_action_view (Submit class) = submit class.now
@@ -26,38 +26,38 @@ infixl 10 ◌>>?◌
 abbrev pub ◌>>?◌ : {A B : Type 0} → Option A → (A → Option B) → Option B
 o >>? f = option_and_then f o
 
--- the parts before and after the first space
+-- the parts of the text before and after its first space; None if it has no space
 abbrev pub split_space : List ℕ → Option (List ℕ × List ℕ)
 split_space text =
     if nat_lt (position_or_len (λ b. b == 32) text) (length text)
     then Some (before_first (λ b. b == 32) text, after_first (λ b. b == 32) text) else None
 
--- the text if it is a valid name
+-- the text if it is a valid name; otherwise None
 abbrev pub name_of : List ℕ → Option (List ℕ)
 name_of text = if is_valid_name text then Some text else None
 
--- 0 to 9
+-- whether the byte is a digit
 abbrev pub is_digit : ℕ → Bool
 is_digit b = is_within 48 57 b
 
 abbrev pub are_digits : List ℕ → Bool
 are_digits bytes = list_all is_digit bytes
 
--- one or more digits without a leading zero
+-- whether the text is one or more digits without a leading zero
 abbrev pub is_positive_decimal : List ℕ → Bool
 is_positive_decimal digits = not (length digits == 0) && not (slice_index digits 0 == 48) && are_digits digits
 
--- the length of an action `work`: a decimal number from 1 to the limit
+-- the number of units of an action `work` with this text: a decimal number from 1 to the limit
 unfoldable pub parse_units : List ℕ → Option ℕ
 parse_units text = if is_positive_decimal text && is_within 1 MAX_WORK (digits_value 10 text) then Some (digits_value 10 text) else None
 
--- a submit that fills a slot, from its class and the text after the class
+-- the submit of this class that fills the slot given by the text after the class, which is `as SLOT`
 unfoldable pub parse_submit_as : List ℕ → List ℕ → Option ParsedAction
 parse_submit_as class text =
     split_space text >>? λ words.
     if bytes_eq words.0 (codes "as") then (name_of class >>? λ class. name_of words.1 >>? λ slot. Some (submit_as class slot)) else None
 
--- a submit, from the text after its verb
+-- the submit given by the text after its verb, and that text split at its first space
 abbrev pub submit_parts : List ℕ → Option (List ℕ × List ℕ) → Option ParsedAction
 submit_parts text None = name_of text >>? λ class. Some (submit class)
 submit_parts text (Some words) = parse_submit_as words.0 words.1
@@ -65,7 +65,7 @@ submit_parts text (Some words) = parse_submit_as words.0 words.1
 unfoldable pub parse_submit : List ℕ → Option ParsedAction
 parse_submit text = submit_parts text (split_space text)
 
--- a parsed action, from its verb and the text after the verb
+-- the action with this verb, given the text after it
 unfoldable pub parse_action_of_verb : List ℕ → List ℕ → Option ParsedAction
 parse_action_of_verb verb text =
     if bytes_eq verb (codes "work") then (parse_units text >>? λ units. Some (work units))
@@ -73,7 +73,7 @@ parse_action_of_verb verb text =
     else if bytes_eq verb (codes "get") then (name_of text >>? λ slot. Some (get slot))
     else None
 
--- parses an action
+-- the action with this text; None if the text is not one of the four forms
 unfoldable pub parse_action : List ℕ → Option ParsedAction
 parse_action text = split_space text >>? λ words. parse_action_of_verb words.0 words.1
 
@@ -84,7 +84,7 @@ spelling (submit class) = codes "submit " ++ class
 spelling (submit_as class slot) = codes "submit " ++ class ++ (codes " as " ++ slot)
 spelling (get slot) = codes "get " ++ slot
 
--- the length of its work is within the limit, or its names are valid
+-- whether the number of units of the action is within the limit, or its names are valid
 abbrev pub is_valid_parsed_action : ParsedAction → Bool
 is_valid_parsed_action (work units) = is_within 1 MAX_WORK units
 is_valid_parsed_action (submit class) = is_valid_name class

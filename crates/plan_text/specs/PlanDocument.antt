@@ -1,5 +1,4 @@
--- The document of a plan: a table with a list of pools, of classes and of clients. The keys of each table are in ascending
--- order.
+-- The document of a plan: a table with the arrays of pools, of classes and of client kinds. The keys of each table are in ascending order.
 use Rattle.std.specs.Prelude.{ℕ, pos, Bool, true, false, if◌then◌else◌, List, map, codes}
 use Rattle.std.specs.Ordering.{nat_cmp, match_ordering}
 use Rattle.std.specs.Cmp.Lexicographic.{slice_cmp}
@@ -9,7 +8,7 @@ use Rattle.toml.specs.Text.{IsDocumentText}
 use Rattle.job_bodies.specs.Plan.{Pool, Class, Client, Plan, pool_names}
 use Rattle.plan_text.specs.Spelling.{name_at, body_texts}
 
--- an integer, a list, and the texts of a body
+-- an integer of a document
 abbrev pub number_data : ℕ → Data
 number_data number = integer (pos number)
 
@@ -19,7 +18,7 @@ list_data values = array (items_of values)
 abbrev pub texts_data : List (List ℕ) → Data
 texts_data texts = list_data (map string texts)
 
--- the key `prestart` if the core threads are prestarted, followed by the later keys
+-- the members `rest`, after the key `prestart` if the core threads are prestarted
 abbrev pub prestart_and : Bool → Members → Members
 prestart_and prestart rest = if prestart then member (codes "prestart") (boolean true) rest else rest
 
@@ -31,14 +30,14 @@ pool_data pool =
     (prestart_and pool.prestart
     (member (codes "queue") (number_data pool.queue) no_members)))))
 
--- a class, given the names of all pools and classes
+-- the table of a class, given the names of all pools and classes
 unfoldable pub class_data : List (List ℕ) → List (List ℕ) → Class → Data
 class_data pools classes class =
     table (member (codes "body") (texts_data (body_texts classes class.body))
     (member (codes "name") (string class.name)
     (member (codes "pool") (string (name_at pools class.pool)) no_members)))
 
--- a kind of client, given the names of all classes
+-- the table of a client kind, given the names of all classes
 unfoldable pub client_data : List (List ℕ) → Client → Data
 client_data classes client =
     table (member (codes "body") (texts_data (body_texts classes client.body))
@@ -54,11 +53,11 @@ plan_document plan =
     (member (codes "client") (list_data (map (client_data classes) plan.clients))
     (member (codes "pool") (list_data (map pool_data plan.pools)) no_members))
 
--- the text represents this document
+-- the text is TOML for the document of the plan
 abbrev pub IsPlanText : Plan → List ℕ → Type 0
 IsPlanText plan text = IsDocumentText false (plan_document plan) text
 
--- the members with one more, inserted before the first greater key, or replacing the member with the same key
+-- the members with this key set to this value: an earlier value is replaced, and a new key is inserted before the first greater one
 abbrev pub with_member : List ℕ → Data → Members → Members
 with_member key value no_members = member key value no_members
 with_member key value (member first there rest) =

@@ -1,4 +1,4 @@
--- The plan of a text. Reads the document, the shape of the entries, the names and numbers, and then the bodies.
+-- The plan of a text. The steps are the document, the shapes of the entries, the names and numbers, and the bodies.
 use Rattle.std.specs.Prelude.{ℕ, List, Result, Ok}
 use Rattle.support.specs.Reading.{◌>>=◌, read_each}
 use Rattle.job_bodies.specs.declared.fault.PlanFault.{PlanFault}
@@ -8,20 +8,20 @@ use Rattle.plan_text.specs.Entries.{Entries, entries_of}
 use Rattle.plan_text.specs.Checks.{check_pools, check_classes, check_clients}
 use Rattle.plan_text.specs.Bodies.{class_of, client_of}
 
--- the plan of entries whose pools and classes have these names
+-- the plan with these entries, given the names of its pools and classes; otherwise the first fault in a body
 abbrev pub plan_of_named : List (List ℕ) → List (List ℕ) → Entries → Result Plan PlanFault
 plan_of_named pool_names class_names entries =
     read_each (class_of pool_names class_names) 0 entries.classes >>= λ classes.
     read_each (client_of class_names) 0 entries.clients >>= λ clients.
     Ok (record { pools = entries.pools; classes = classes; clients = clients })
 
--- the plan of entries
+-- the plan with these entries; otherwise the first fault in the names and numbers, or in the bodies
 unfoldable pub plan_of_entries : Entries → Result Plan PlanFault
 plan_of_entries entries =
     check_pools entries.pools >>= λ pool_names.
     check_classes pool_names entries.classes >>= λ class_names.
     check_clients entries.clients >>= λ _. plan_of_named pool_names class_names entries
 
--- the plan that the bytes represent, or the first fault
+-- the plan with this text, or the first fault of the text
 unfoldable pub plan_of : List ℕ → Result Plan PlanFault
 plan_of bytes = document_of bytes >>= λ document. entries_of document >>= λ entries. plan_of_entries entries

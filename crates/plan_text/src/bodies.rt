@@ -1,5 +1,5 @@
-//! Parsing of bodies, action by action. Resolves class names to indices, and the slots of gets to
-//! the positions of their submits.
+//! Parsing of bodies, action by action. The parsers replace class names by class indices, and the
+//! slot of a get by the position of the submit that filled the slot.
 
 ghost use Rattle.std.specs.Prelude.{◌≡◌, List, ℕ, map, OnOk, Some};
 ghost use Rattle.support.specs.Reading as each;
@@ -20,7 +20,7 @@ use std::alloc::Global;
 use support::number::{BAD_ACTION, NO_SUCH_CLASS, SLOT_EMPTY, SLOT_OPEN};
 use support::{ReadError, read_each};
 
-/// The place of an action: its entry, and its position in the body.
+/// The position of an action: the entry that has it, and its position in the body of that entry.
 #[derive(Clone, Copy)]
 struct ActionPlace {
     part: Part,
@@ -171,7 +171,7 @@ fn client_of<'a>(
     })
 }
 
-/// Builds the classes of these entries, with their bodies. Frees each entry after its class is
+/// Parses the bodies of these entries and returns the classes. Frees each entry when its class is
 /// built.
 pub fn classes_of<'p, 'd: 'p>(
     alloc: Global,
@@ -190,7 +190,7 @@ pub fn classes_of<'p, 'd: 'p>(
     Ok(classes)
 }
 
-/// Builds the kinds of client of these entries, with their bodies.
+/// Parses the bodies of these entries and returns the client kinds.
 pub fn clients_of<'a>(
     alloc: Global,
     names: &Names<'a>,

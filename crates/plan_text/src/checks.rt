@@ -1,5 +1,5 @@
-//! The checks of names and numbers: each name must be valid and unique in its list, each number in
-//! range, and the pool of each class must exist.
+//! The checks of names and numbers: each name must be valid and unique in its list, each number
+//! must be in range, and the pool of each class must exist.
 
 ghost use Rattle.std.specs.Prelude.{◌≡◌, ◌++◌, ◌∷◌, [], OnOk, length};
 ghost use Rattle.support.specs.Results.{Gives};
@@ -14,7 +14,8 @@ use std::alloc::Global;
 use support::ReadError;
 use support::number::{BAD_NAME, BAD_NUMBER, DOUBLE_NAME, NO_SUCH_POOL};
 
-/// Adds an entry's name to the earlier names of its list.
+/// Checks that the name of the entry at `index` is valid and not in `names`, the names of the
+/// earlier entries of the list. Then adds it to `names`.
 fn check_name<'a>(
     names: &mut Names<'a>,
     part: Part,
@@ -78,7 +79,7 @@ fn check_client<'a>(
     Ok(())
 }
 
-/// Returns the names of the pools if all names and sizes are valid.
+/// Checks that all names and sizes of the pools are valid. Returns the names, in order.
 #[tactic(auto, unfolding(crate::specs::Checks::check_pools))]
 pub fn check_pools<'a>(alloc: Global, pools: &'a [Pool]) -> Result<Names<'a>, TextError>
     ensures { Gives (λ names. names) result (spec.check_pools pools.now) }
@@ -90,8 +91,8 @@ pub fn check_pools<'a>(alloc: Global, pools: &'a [Pool]) -> Result<Names<'a>, Te
     Ok(names)
 }
 
-/// Returns the names of the classes if all names are valid and each class belongs to one of these
-/// pools.
+/// Checks that all names of the classes are valid and that each class belongs to a pool with one of
+/// the names in `pools`. Returns the names of the classes, in order.
 #[tactic(auto, unfolding(crate::specs::Checks::check_classes))]
 pub fn check_classes<'a>(
     alloc: Global,
@@ -107,7 +108,7 @@ pub fn check_classes<'a>(
     Ok(names)
 }
 
-/// Checks the names and the counts of the clients.
+/// Checks that all names and counts of the client kinds are valid.
 #[tactic(auto, unfolding(crate::specs::Checks::check_clients))]
 pub fn check_clients(alloc: Global, clients: &[ClientEntry]) -> Result<(), TextError>
     ensures { Gives (λ _. tt) result (spec.check_clients clients.now) }

@@ -1,4 +1,4 @@
-//! The document as TOML: its length, its bytes, and its top-level keys.
+//! The TOML document of a plan: its size, its encoding, and its top-level keys.
 
 ghost use Rattle.std.specs.Prelude.{◌≡◌, map, option_map, string_bytes};
 ghost use Rattle.std.specs.BTreeMap.{keys};
@@ -16,7 +16,8 @@ use support::ReadError;
 use support::number::{NOT_TOML, TOO_MANY, UNKNOWN_KEY, WRONG_TYPE};
 use toml::{Table, Value};
 
-/// Parses the document and returns its table, which has only the keys of a plan.
+/// Parses the bytes as a TOML document and returns its table. Faults: more bytes than a plan may
+/// have, no UTF-8, no TOML, or a top-level key other than `pool`, `class` and `client`.
 #[tactic(auto, unfolding(crate::specs::Document::document_of))]
 pub fn document_of(alloc: Global, bytes: &[u8]) -> Result<Table, TextError>
     ensures { Gives table_view result (spec.document_of bytes.now) }
@@ -53,7 +54,7 @@ fn table_of(alloc: Global, text: &str) -> Result<Table, TextError>
     })
 }
 
-/// Returns whether every key of the table is one of these.
+/// Returns whether every key of the table is one of `keys`.
 pub fn has_only(table: &Table, keys: &[&str]) -> bool
     ensures { result ≡ spec.has_only (map (λ key. key.now) keys.now) (table_view table.now) }
 {
@@ -68,7 +69,7 @@ fn are_among(table: &Table, known: &[&str]) -> bool
     table.keys().all(|key| known.contains(&key.as_str()))
 }
 
-/// Returns the value at a key.
+/// Returns the value at a key, or `None` if the table does not have the key.
 pub fn value_at<'a>(table: &'a Table, key: &str) -> Option<&'a Value>
     ensures { option_map (λ value. view value.now) result
         ≡ get_member key.now (table_view table.now) }
@@ -76,7 +77,7 @@ pub fn value_at<'a>(table: &'a Table, key: &str) -> Option<&'a Value>
     table.get(key)
 }
 
-/// Returns the elements of a value that is an array.
+/// Returns the elements of the value, or `None` if it is not an array.
 pub fn list_in(value: &Value) -> Option<&[Value]>
     ensures { option_map (λ values. map view values.now) result ≡ spec.as_list (view value.now) }
 {
@@ -84,8 +85,8 @@ pub fn list_in(value: &Value) -> Option<&[Value]>
     Some(values.as_slice())
 }
 
-/// Returns the entries of a top-level list with at most `most` entries, or none if its key is
-/// absent.
+/// Returns the elements of the top-level array at this key, or an empty slice if the key is absent.
+/// Faults: the value is not an array, or it has more than `most` elements.
 #[tactic(auto, unfolding(crate::specs::Document::list_at))]
 pub fn list_at<'a>(document: &'a Table, key: &str, most: usize) -> Result<&'a [Value], TextError>
     ensures { Gives (λ values. map view values.now) result

@@ -1,4 +1,5 @@
-//! The shape of the entries of a plan's text: each key must be present and have its type.
+//! The shape of the entries in the text of a plan: each required key must be present, and each
+//! value must have the type of its key.
 
 ghost use Rattle.std.specs.Prelude.{◌≡◌, map};
 ghost use Rattle.toml.specs.View.{view, table_view};
@@ -15,7 +16,7 @@ use std::marker::Model;
 use support::read_each;
 use toml::{Table, Value};
 
-/// A class of jobs as the text gives it, with its pool by name.
+/// A class as its text gives it: the pool is a name, and the actions are not parsed yet.
 #[derive(Drop)]
 pub struct ClassEntry<'a> {
     pub name: &'a str,
@@ -29,7 +30,7 @@ impl<'a> Model for ClassEntry<'a> {
     ghost view = { λ k. record { name = k.name.now; pool = k.pool.now; body = map (λ text. text.now) k.body.items } };
 }
 
-/// A kind of client as the text gives it.
+/// A client kind as its text gives it: the actions are not parsed yet.
 #[derive(Drop)]
 pub struct ClientEntry<'a> {
     pub name: &'a str,
@@ -44,7 +45,7 @@ impl<'a> Model for ClientEntry<'a> {
     ghost view = { λ c. record { name = c.name.now; count = c.count; repeat = c.repeat; body = map (λ text. text.now) c.body.items } };
 }
 
-/// The entries of a document.
+/// The entries of a document, in the order of the text.
 #[derive(Drop)]
 pub struct Entries<'a> {
     pub pools: Vec<Pool>,
@@ -137,7 +138,8 @@ fn client_entries_of(alloc: Global, values: &[Value]) -> Result<Vec<ClientEntry<
     )
 }
 
-/// Reads the entries of a document: first the three lists, then the shape of each entry.
+/// Reads the entries of a document. Checks the length of each of the three lists, and then the
+/// shape of each entry.
 #[tactic(auto, unfolding(crate::specs::Entries::entries_of))]
 pub fn entries_of(alloc: Global, document: &Table) -> Result<Entries<'_>, TextError>
     ensures { Gives (λ entries. entries) result (spec.entries_of (table_view document.now)) }

@@ -1,4 +1,4 @@
-//! One entry of a list: a table with known keys, whose values have known types.
+//! The table of one entry, with values of the expected types.
 
 ghost use Rattle.std.specs.Prelude.{◌≡◌, map};
 ghost use Rattle.toml.specs.View.{view};
@@ -15,7 +15,8 @@ use support::number::{MISSING_KEY, TOO_MANY, UNKNOWN_KEY, WRONG_TYPE};
 use support::{ReadError, read_each};
 use toml::{Table, Value};
 
-/// A table of a list, and its place.
+/// The table of one entry, with the list that has the entry and the index of the entry in this
+/// list.
 #[derive(Drop)]
 pub struct Entry<'a> {
     table: &'a Table,
@@ -23,7 +24,7 @@ pub struct Entry<'a> {
     index: usize,
 }
 
-/// Converts an integer of the text to a count. A negative integer gives 0, which is out of range
+/// Converts an integer of the text to a count. A negative integer becomes 0, which is out of range
 /// for every number of a plan.
 fn count_of(number: i64) -> u64
     ensures { result ≡ spec.count_of number }
@@ -32,7 +33,8 @@ fn count_of(number: i64) -> u64
 }
 
 impl<'a> Entry<'a> {
-    /// Reads a value as an entry: a table that has only these keys.
+    /// Checks that the value is a table that has only these keys, and returns it as the entry at
+    /// `index` in the list for `part`.
     #[tactic(auto, unfolding(crate::specs::Entry::entry_of))]
     pub fn of(
         value: &'a Value,
@@ -65,7 +67,8 @@ impl<'a> Entry<'a> {
         value_at(self.table, key).ok_or(self.refuses(MISSING_KEY))
     }
 
-    /// Returns the string at a key.
+    /// Returns the string at this key. It is a fault if the key is absent or the value has another
+    /// type.
     #[tactic(auto, unfolding(crate::specs::Entry::text_at))]
     pub fn text(&self, key: &str) -> Result<&'a str, TextError>
         ensures { Gives (λ text. text.now) result (spec.text_at (entry_view self.now) key.now) }
@@ -74,7 +77,8 @@ impl<'a> Entry<'a> {
         value.as_str().ok_or(self.refuses(WRONG_TYPE))
     }
 
-    /// Returns the integer at a key.
+    /// Returns the integer at this key, as a count. It is a fault if the key is absent or the value
+    /// has another type.
     #[tactic(auto, unfolding(crate::specs::Entry::number_at))]
     pub fn number(&self, key: &str) -> Result<u64, TextError>
         ensures { Gives (λ number. number) result (spec.number_at (entry_view self.now) key.now) }
@@ -84,7 +88,8 @@ impl<'a> Entry<'a> {
         Ok(count_of(number))
     }
 
-    /// Returns the boolean at a key, or `false` if the key is absent.
+    /// Returns the boolean at this key, or `false` if the key is absent. It is a fault if the value
+    /// has another type.
     #[tactic(auto, unfolding(crate::specs::Entry::flag_at))]
     pub fn flag(&self, key: &str) -> Result<bool, TextError>
         ensures { Gives (λ flag. flag) result (spec.flag_at (entry_view self.now) key.now) }
@@ -95,7 +100,8 @@ impl<'a> Entry<'a> {
         value.as_bool().ok_or(self.refuses(WRONG_TYPE))
     }
 
-    /// Returns the strings at a key, up to the maximum number of actions of a body.
+    /// Returns the strings in the array at this key, at most the maximum number of actions of a
+    /// body. It is a fault if the key is absent, the array is longer, or a value has another type.
     #[tactic(auto, unfolding(crate::specs::Entry::texts_at))]
     pub fn texts(&self, alloc: Global, key: &str) -> Result<Vec<&'a str>, TextError>
         ensures { Gives (λ texts. map (λ text. text.now) texts.items) result

@@ -1,7 +1,7 @@
-//! The error of the readers.
+//! The error of the functions that read the text of a plan.
 
 use job_bodies::PlanFault;
 use support::ReadError;
 
-/// The error of a reader of a plan's text: out of memory, or the first fault.
+/// The error of a function that reads the text of a plan: out of memory, or the first fault.
 pub type TextError = ReadError<PlanFault>;

@@ -1,9 +1,9 @@
-//! Laws of the grammar of actions.
+//! A law of the grammar of actions, as the contract of an empty function.
 
 ghost use Rattle.std.specs.Prelude.{◌≡◌, ◌↔◌, ℕ, List, Some};
 ghost use Rattle.plan_text.specs.ParsedActions.{ParsedAction, parse_action, spelling, IsValidParsedAction};
 
-/// Proves that each action has exactly one spelling: a text parses as an action if and only if the
+/// Proves that each action has exactly one spelling: a text parses as an action exactly when the
 /// action is valid and the text is its spelling.
 pub fn spelling_is_canonical()
     ensures { (text : List ℕ) (parsed_action : ParsedAction)

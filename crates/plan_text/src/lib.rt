@@ -1,6 +1,6 @@
-//! The text of a plan: TOML.
+//! The text of a plan, which is TOML.
 //!
-//! [`read_plan`] reads a plan, or returns the first fault. [`write_plan`] writes the text that reads back to the same plan.
+//! [`read_plan`] parses a plan, or returns the first fault. [`write_plan`] writes a text that is parsed as the same plan.
 //! [`Places`] finds the line and column of each part of a plan in its text.
 #![tactic(auto)]
 

@@ -1,4 +1,4 @@
-//! The names of a list, numbered in order of appearance.
+//! The names of a list, with their indices.
 
 ghost use Rattle.std.specs.Prelude.{◌≡◌, ◌++◌, ◌∷◌, [], List, ℕ, map, not, length, if◌then◌else◌, position, IfOk};
 ghost use Rattle.std.specs.List.{list_any};
@@ -8,7 +8,7 @@ use indexmap::IndexSet;
 use std::alloc::{AllocError, Global};
 use std::marker::Model;
 
-/// The distinct names of a list, each with its index.
+/// The distinct names of a list, in order. Finds the index of a name by a hash.
 #[derive(Drop)]
 pub struct Names<'a> {
     names: IndexSet<&'a str>,
@@ -30,7 +30,7 @@ impl<'a> Names<'a> {
         }
     }
 
-    /// Appends a name if it is new, and returns whether it is.
+    /// Appends the name if it is new, and returns whether it is.
     pub fn add(&mut self, name: &'a str) -> Result<bool, AllocError>
         ensures is_new { IfOk result
             (λ is_new. is_new ≡ not (list_any (bytes_eq name.now) self.old)) }
@@ -41,7 +41,7 @@ impl<'a> Names<'a> {
         Ok(is_new)
     }
 
-    /// Returns the index of a name if it is in the list.
+    /// Returns the index of the name, or `None` if it is not in the list.
     pub fn place(&self, name: &str) -> Option<usize>
         ensures { result ≡ position (bytes_eq name.now) self.now }
     {

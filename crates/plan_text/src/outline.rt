@@ -1,54 +1,57 @@
-//! The outline of a text: its tables, their keys, and the offsets of values and list elements.
+//! The outline of a text: its tables with their keys, and the offsets of the values and of the
+//! elements of arrays. All offsets are in bytes.
 
 use crate::token::{Kind, Token};
 use std::alloc::{AllocError, Global};
 
-/// A key, and its value.
+/// A key with its range in the text (`start` to `end`), and the offset of its value.
 #[derive(Drop)]
 pub(crate) struct Key {
     pub(crate) start: usize,
     pub(crate) end: usize,
-    /// The offset of its value.
+    /// The offset of the key's value.
     pub(crate) value: usize,
-    /// The offset of each element if the value is a list.
+    /// The offsets of the elements if the value is an array.
     pub(crate) elements: Vec<usize>,
 }
 
-/// A table header, such as `[[pool]]`, and the keys after it. The first table has no header.
+/// A table header, such as `[[pool]]`, with the keys after it. The first table has no header: its
+/// keys are those before any header.
 #[derive(Drop)]
 pub(crate) struct Table {
-    /// The offset of the header.
+    /// The offset of the first bracket of the header.
     pub(crate) header: usize,
-    /// The range of the name in the header.
+    /// The range of the table's name in the header.
     pub(crate) name: (usize, usize),
     /// Whether the header has double brackets.
     pub(crate) in_list: bool,
     pub(crate) keys: Vec<Key>,
 }
 
-/// The state of the parser within a line.
+/// The state of the outline's parser within a line.
 #[derive(Clone, Copy)]
 enum LineState {
-    /// At the start.
+    /// At the start of a line.
     Begin,
     /// In a table header, after this number of brackets.
     Head(u8),
     /// After a key.
     Key,
-    /// In a value, inside `depth` brackets. `is_next` tells whether an element can begin here.
+    /// In a value, inside `depth` brackets. `is_next` says whether the next token begins the value
+    /// or an element.
     Value { depth: usize, is_next: bool },
-    /// In syntax that no plan has.
+    /// After syntax that no plan has, up to the end of the line.
     Rest,
 }
 
-/// The outline so far.
+/// The tables of the tokens that were processed, and the state after them.
 #[derive(Drop)]
 struct Outline {
     at: LineState,
     tables: Vec<Table>,
 }
 
-/// Returns the tables of a text with these tokens.
+/// Returns the tables of a text, given its tokens.
 pub(crate) fn outline_of(alloc: Global, tokens: &[Token]) -> Result<Vec<Table>, AllocError> {
     let mut outline = Outline {
         at: LineState::Begin,
@@ -80,7 +83,7 @@ fn key_at(alloc: Global, token: Token) -> Key {
 }
 
 impl Outline {
-    /// Processes the next token.
+    /// Processes one token.
     fn process(&mut self, alloc: Global, token: Token) -> Result<(), AllocError> {
         match self.at {
             LineState::Begin => self.begin(alloc, token),
@@ -184,7 +187,8 @@ impl Outline {
         Ok(())
     }
 
-    /// Records the offset of the last key's value or of one of its elements.
+    /// Records the offset of a token that begins the value of the last key (`depth` 0) or an
+    /// element of that value (`depth` 1).
     fn record_start(&mut self, depth: usize, start: usize) -> Result<(), AllocError> {
         let Some(table) = self.tables.last_mut() else {
             return Ok(());

@@ -5,7 +5,7 @@ ghost use Rattle.plan_text.specs.ParsedActions as spec;
 
 use job_bodies::{MAX_WORK, is_valid_name, is_within};
 
-/// A parsed action, with classes and slots by name.
+/// A parsed action, in which classes and slots are names.
 #[derive(Clone, Copy, PartialEq, Eq)]
 pub enum ParsedAction<'a> {
     Work(u32),
@@ -14,7 +14,7 @@ pub enum ParsedAction<'a> {
     Get(&'a str),
 }
 
-/// Parses an action.
+/// Parses an action, or returns `None` if the text is not one of the four forms.
 #[tactic(auto, unfolding(crate::specs::ParsedActions::parse_action))]
 pub fn parse_action(text: &str) -> Option<ParsedAction<'_>>
     ensures { option_map spec.parsed_action_view result ≡ spec.parse_action text.now }
@@ -56,7 +56,7 @@ fn parse_submit_as<'a>(class: &'a str, text: &'a str) -> Option<ParsedAction<'a>
     Some(ParsedAction::SubmitAs(name_of(class)?, name_of(slot)?))
 }
 
-/// Splits a text at its first space.
+/// Returns the parts of the text before and after its first space, or `None` if it has no space.
 fn split_space(text: &str) -> Option<(&str, &str)>
     ensures { option_map (λ words. (words.0.now, words.1.now)) result ≡ spec.split_space text.now }
 {
@@ -73,7 +73,8 @@ fn name_of(text: &str) -> Option<&str>
     }
 }
 
-/// Parses the length of an action `work`: digits without a leading zero, from 1 to the limit.
+/// Parses the number of units of an action `work`: digits without a leading zero, from 1 to
+/// [`MAX_WORK`].
 #[tactic(auto, unfolding(crate::specs::ParsedActions::parse_units))]
 fn parse_units(text: &str) -> Option<u32>
     ensures { result ≡ spec.parse_units text.now }

@@ -1,4 +1,4 @@
-//! Lines and columns.
+//! Positions in a text as lines and columns.
 
 ghost use Rattle.std.specs.Prelude.{◌≡◌, ◌≤◌, length, count_by, take};
 ghost use Rattle.std.specs.List.{IsAfterLastMatch};
@@ -6,7 +6,7 @@ ghost use Rattle.plan_text.specs.TextPlace.{IsPositionAfter, is_newline, begins_
 
 use std::fmt;
 
-/// A position in a text.
+/// A position in a text, as a line and a column.
 #[derive(Clone, Copy, PartialEq, Eq)]
 pub struct TextPlace {
     /// The line, counted from 1.
@@ -28,8 +28,8 @@ impl fmt::Display for TextPlace {
     }
 }
 
-/// Returns the position of the byte at this offset of a UTF-8 text, or of the text's end if the
-/// offset is past it.
+/// Returns the position of the byte at this offset of a UTF-8 text. If the offset is past the end
+/// of the text, returns the position of the end.
 pub fn place_at(text: &[u8], offset: usize) -> TextPlace
     ensures { IsPositionAfter (take offset text.now) result }
 {
@@ -54,7 +54,8 @@ fn characters(text: &[u8]) -> usize
     text.iter().filter(|byte| **byte / 64 != 2).count()
 }
 
-/// Returns the offset of the last line of a text: after its last newline, or 0.
+/// Returns the offset of the last line of the text: the offset after the last newline, or 0 if
+/// there is none.
 fn last_line_start(text: &[u8]) -> usize
     ensures within { result ≤ length text.now }
     ensures after_newline { IsAfterLastMatch is_newline text.now result }

@@ -1,16 +1,16 @@
-//! The positions of the parts of a plan's text.
+//! The positions of the parts of a plan in its text.
 
 use crate::outline::{Key, Table, outline_of};
 use crate::place::{TextPlace, place_at};
 use crate::tokens::tokens_of;
 use std::alloc::{AllocError, Global};
 
-/// An index of the positions of the parts of a text.
+/// An index of the positions of the parts of a plan in its text.
 ///
-/// Any text has an index. If the text is not TOML, or does not write its plan with `[[pool]]`,
-/// `[[class]]` and `[[client]]`, the index may lack the position of a part. The caller then takes
-/// that of a larger part. The contracts do not state at which byte a part begins; only
-/// [`place_at`] promises the line and the column of a byte.
+/// Any text has an index. The index may lack a part if the text is not TOML, or if it does not
+/// write the plan with `[[pool]]`, `[[class]]` and `[[client]]`. The caller then uses the position
+/// of a larger part. The contracts do not say at which byte a part begins. Only [`place_at`]
+/// promises the line and column of a byte.
 #[derive(Drop)]
 pub struct Places<'a> {
     text: &'a [u8],
@@ -29,27 +29,27 @@ impl<'a> Places<'a> {
         Ok(Places { text, tables })
     }
 
-    /// Returns the position of the header of the table at this index, from 0, in the list with this
-    /// name, such as the `[[pool]]` of a pool.
+    /// Returns the position of the header of an entry: the table at this index, counted from 0, in
+    /// the list with this name. An example is the `[[pool]]` of a pool.
     pub fn entry(&self, list: &str, index: usize) -> Option<TextPlace> {
         let table = self.table(list, index)?;
         Some(place_at(self.text, table.header))
     }
 
-    /// Returns the position of a key of such a table.
+    /// Returns the position of this key in the entry at this index of the list.
     pub fn key(&self, list: &str, index: usize, key: &str) -> Option<TextPlace> {
         let key = self.key_of(self.table(list, index)?, key)?;
         Some(place_at(self.text, key.start))
     }
 
-    /// Returns the position of the value at a key of such a table.
+    /// Returns the position of the value at this key in the entry at this index of the list.
     pub fn value(&self, list: &str, index: usize, key: &str) -> Option<TextPlace> {
         let key = self.key_of(self.table(list, index)?, key)?;
         Some(place_at(self.text, key.value))
     }
 
-    /// Returns the position of the list element at this index, from 0, at a key of such a table,
-    /// such as an action of a body.
+    /// Returns the position of one element of the array at this key in the entry at this index of
+    /// the list, such as an action of a body. Elements are counted from 0.
     pub fn element(
         &self,
         list: &str,
@@ -62,8 +62,8 @@ impl<'a> Places<'a> {
         Some(place_at(self.text, *start))
     }
 
-    /// Returns the position of the first table with this name, or of the first key with this name
-    /// before any table.
+    /// Returns the position of the first table with this name. If there is none, returns the
+    /// position of the first key with this name before any table.
     pub fn top(&self, name: &str) -> Option<TextPlace> {
         for table in &self.tables {
             if self.is_named(table.name, name) {
@@ -94,7 +94,7 @@ impl<'a> Places<'a> {
             .find(|key| self.is_named((key.start, key.end), name))
     }
 
-    /// Returns whether this range of the text is the name, with or without quotes.
+    /// Returns whether this range of the text is the name, written with or without quotes.
     fn is_named(&self, range: (usize, usize), name: &str) -> bool {
         let (start, end) = range;
         match self.text.get(start..end) {

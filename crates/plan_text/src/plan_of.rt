@@ -1,4 +1,4 @@
-//! Parsing a plan.
+//! Parsing of a whole plan.
 
 ghost use Rattle.std.specs.Prelude.{◌≡◌, ◌≢◌, List, IfOk, IfErr, Ok, Err};
 ghost use Rattle.support.specs.Results.{Gives};
@@ -18,12 +18,12 @@ use std::alloc::Global;
 use support::ReadError;
 use support::number::MEMORY;
 
-/// Parses a plan.
+/// Parses the bytes of a plan.
 ///
 /// # Errors
 ///
-/// Returns the first fault, or a fault with the number `MEMORY` if memory runs out, which says
-/// nothing about the text.
+/// Returns the first fault of the bytes. If memory runs out, returns a fault with the number
+/// [`MEMORY`], which says nothing about the bytes.
 pub fn read_plan(alloc: Global, bytes: &[u8]) -> Result<Plan, PlanFault>
     ensures plan { IfOk result (λ plan. spec.plan_of bytes.now ≡ Ok plan) }
     ensures fault { IfErr result
@@ -36,7 +36,8 @@ pub fn read_plan(alloc: Global, bytes: &[u8]) -> Result<Plan, PlanFault>
     }
 }
 
-/// Parses a plan. A plan that passes the checks of a text is well-formed.
+/// Parses the bytes of a plan. A plan that passes these checks is well-formed, so [`Plan::build`]
+/// need not check it again.
 #[tactic(auto, unfolding(crate::specs::PlanOf::plan_of))]
 fn plan_of(alloc: Global, bytes: &[u8]) -> Result<Plan, TextError>
     ensures { Gives (λ plan. plan) result (spec.plan_of bytes.now) }
@@ -51,7 +52,7 @@ fn plan_of(alloc: Global, bytes: &[u8]) -> Result<Plan, TextError>
     Ok(Plan::of_well_formed(pools, bodies.classes, bodies.clients))
 }
 
-/// The classes and clients of a plan.
+/// The classes and client kinds of a plan.
 #[derive(Drop)]
 struct Bodies {
     classes: Vec<Class>,

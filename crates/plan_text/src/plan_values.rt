@@ -1,4 +1,4 @@
-//! The document of a plan, as TOML values.
+//! The TOML document of a plan, as values.
 
 ghost use Rattle.std.specs.Prelude.{◌≡◌, ◌≤◌, true, if◌then◌else◌, map, IfOk, OnOk};
 ghost use Rattle.toml.specs.Data.{boolean};
@@ -14,7 +14,7 @@ use job_bodies::{Class, Client, Plan, Pool};
 use std::alloc::{AllocError, Global};
 use toml::{Table, Value};
 
-/// Inserts a value at a key.
+/// Inserts the value at the key, replacing an earlier value.
 fn insert_value(alloc: Global, table: &mut Table, key: &str, value: Value) -> Result<(), AllocError>
     ensures { OnOk result
         (table_view table.new ≡ spec.with_member key.now (view value) (table_view table.old)) }
@@ -24,7 +24,7 @@ fn insert_value(alloc: Global, table: &mut Table, key: &str, value: Value) -> Re
     Ok(())
 }
 
-/// Inserts `true` at a key if the flag is set.
+/// Inserts `true` at the key if the flag is set, and otherwise nothing.
 fn insert_flag(alloc: Global, table: &mut Table, key: &str, flag: bool) -> Result<(), AllocError>
     ensures { OnOk result
         (table_view table.new
@@ -169,7 +169,7 @@ fn client_values(alloc: Global, plan: &Plan) -> Result<Value, AllocError>
     Ok(Value::Array(values))
 }
 
-/// Builds the document of a plan.
+/// Builds the TOML document of a plan.
 #[tactic(auto, unfolding(crate::specs::PlanDocument::plan_document))]
 pub fn plan_document(alloc: Global, plan: &Plan) -> Result<Table, AllocError>
     ensures well_formed { IsWellFormed plan.now }

@@ -1,4 +1,4 @@
-//! The filled slots of a body, each with the position of the submit that filled it.
+//! The filled slots of a body, with the positions of the submits that filled them.
 
 ghost use Rattle.std.specs.Prelude.{◌≡◌, List, [], ℕ, map, None, Some, if◌then◌else◌, OnOk};
 ghost use Rattle.std.specs.Str.{bytes_eq};
@@ -8,7 +8,7 @@ use indexmap::IndexMap;
 use std::alloc::{AllocError, Global};
 use std::marker::Model;
 
-/// A map from the names of the filled slots to positions.
+/// A map from the name of each filled slot to the position of the submit that filled it.
 #[derive(Drop)]
 pub struct Slots<'a> {
     positions: IndexMap<&'a str, usize>,
@@ -30,14 +30,14 @@ impl<'a> Slots<'a> {
         }
     }
 
-    /// Returns the position of the submit that fills the slot, if the slot is filled.
+    /// Returns the position of the submit that filled the slot, or `None` if the slot is empty.
     pub fn filled(&self, slot: &str) -> Option<usize>
         ensures { result ≡ position_in self.now slot.now }
     {
         self.positions.get(slot).copied()
     }
 
-    /// Marks the slot as filled by the submit at this position.
+    /// Marks the slot as filled by the submit at `position`.
     pub fn set_filled(&mut self, slot: &'a str, position: usize) -> Result<(), AllocError>
         ensures { OnOk result
             ((other : List ℕ)
@@ -48,7 +48,7 @@ impl<'a> Slots<'a> {
         Ok(())
     }
 
-    /// Removes the slot from the map.
+    /// Marks the slot as empty.
     pub fn set_empty(&mut self, slot: &str)
         ensures { (other : List ℕ)
             → position_in self.new other

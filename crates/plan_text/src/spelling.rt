@@ -1,5 +1,5 @@
-//! The texts of a body. A class is written as its name, and a slot is named after the position of
-//! the submit that fills it.
+//! The texts of the actions of a body. A class is written as its name. The slot of a submit is
+//! named after the position of the submit.
 
 ghost use Rattle.std.specs.Prelude.{◌≡◌, map, IfOk, Some, string_bytes};
 ghost use Rattle.toml.specs.View.{view};
@@ -11,7 +11,7 @@ use std::alloc::{AllocError, Global};
 use std::fmt;
 use toml::Value;
 
-/// Returns the name of the class at an index, or an empty name past the end.
+/// Returns the name of the class at index `place`, or an empty name if there is none.
 fn class_name(classes: &[Class], place: usize) -> &str
     ensures { result.now ≡ spec.name_at (map (λ class. class.name) classes.now) place }
 {
@@ -21,7 +21,8 @@ fn class_name(classes: &[Class], place: usize) -> &str
     }
 }
 
-/// The part of a submit after its class: the slot that it fills, if a get of the body names it.
+/// The end of the text of a submit: ` as SLOT` if a get of the body names the submit, and otherwise
+/// nothing.
 #[derive(Clone, Copy)]
 struct SlotPart<'a> {
     body: &'a [Action],
@@ -40,7 +41,7 @@ impl<'a> fmt::Display for SlotPart<'a> {
     }
 }
 
-/// Formats the action at a position.
+/// Returns the text of the action at `position` in the body.
 #[tactic(auto, unfolding(crate::specs::Spelling::action_text))]
 fn action_text(
     alloc: Global,
@@ -64,7 +65,7 @@ fn action_text(
     }
 }
 
-/// Builds the list of the texts of a body.
+/// Builds the array of the texts of the actions of a body.
 pub fn body_value(alloc: Global, classes: &[Class], body: &[Action]) -> Result<Value, AllocError>
     ensures { IfOk result (λ value.
         view value

@@ -1,9 +1,9 @@
-//! The tokens of a text.
+//! The tokens of a TOML text.
 
 /// The kind of a token.
 #[derive(Clone, Copy, PartialEq, Eq)]
 pub(crate) enum Kind {
-    /// A key without quotes, or a value that is neither a string, a list nor a table.
+    /// A key without quotes, or a value that is not a string, an array or a table.
     Word,
     /// A string, with its quotes.
     Quoted,
@@ -13,7 +13,7 @@ pub(crate) enum Kind {
     LineEnd,
 }
 
-/// A token and its range: from `start` up to, but excluding, `end`.
+/// A token and its range in the text: the bytes from `start` up to, but excluding, `end`.
 #[derive(Clone, Copy, PartialEq, Eq)]
 pub(crate) struct Token {
     pub(crate) kind: Kind,

@@ -1,9 +1,9 @@
-//! A tokenizer that skips white space and comments.
+//! A tokenizer of TOML that skips white space and comments.
 
 use crate::token::{Kind, Token};
 use std::alloc::{AllocError, Global};
 
-/// The construct that the bytes so far leave open.
+/// The token or comment that is not complete yet.
 #[derive(Clone, Copy)]
 enum OpenToken {
     Nothing,
@@ -16,14 +16,14 @@ enum OpenToken {
     Lines(Text),
 }
 
-/// An open string.
+/// A string that is not complete yet.
 #[derive(Clone, Copy)]
 struct Text {
     start: usize,
     quote: u8,
     /// Whether the last byte was a `\` that escapes the next byte.
     escaped: bool,
-    /// The number of consecutive quotes at the end so far.
+    /// The number of consecutive quotes at the end of the string read until now.
     quotes: u8,
 }
 
@@ -37,7 +37,7 @@ impl Text {
         }
     }
 
-    /// Returns the state of the string after one more byte.
+    /// Returns the state of the string after this byte.
     fn after(self, byte: u8) -> Text {
         let is_quote = byte == self.quote && !self.escaped;
         Text {
@@ -52,14 +52,14 @@ impl Text {
     }
 }
 
-/// The tokens so far.
+/// The complete tokens, and the token or comment that is not complete yet.
 #[derive(Drop)]
 struct Tokens {
     open: OpenToken,
     found: Vec<Token>,
 }
 
-/// Returns the tokens of a text.
+/// Returns the tokens of a text, in order.
 pub(crate) fn tokens_of(alloc: Global, text: &[u8]) -> Result<Vec<Token>, AllocError> {
     let mut tokens = Tokens {
         open: OpenToken::Nothing,
@@ -95,7 +95,7 @@ impl Tokens {
         }
     }
 
-    /// Processes a byte outside any construct.
+    /// Processes a byte that is not part of a token or comment.
     fn begin(&mut self, offset: usize, byte: u8) -> Result<(), AllocError> {
         self.open = OpenToken::Nothing;
         match byte {
@@ -142,8 +142,8 @@ impl Tokens {
         }
     }
 
-    /// Processes a byte of a string that began with one quote. An empty string with a third quote
-    /// after it is a multi-line string.
+    /// Processes a byte of a string that began with one quote. If the string is empty and a third
+    /// quote follows, it is a multi-line string.
     fn line(&mut self, text: Text, offset: usize, byte: u8) -> Result<(), AllocError> {
         if text.quotes == 1 {
             if byte == text.quote && offset == text.start.saturating_add(2) {
@@ -153,7 +153,7 @@ impl Tokens {
             self.push(Kind::Quoted, text.start, offset)?;
             return self.begin(offset, byte);
         }
-        // A single-line string without a closing quote ends at the end of its line.
+        // A single-line string that is not closed ends at the end of its line.
         if byte == b'\n' {
             self.push(Kind::Quoted, text.start, offset)?;
             return self.begin(offset, byte);

@@ -1,4 +1,4 @@
-//! A writer for the text of a plan.
+//! A writer of the text of a plan.
 
 ghost use Rattle.std.specs.Prelude.{◌≡◌, ◌≤◌, length, IfOk, Ok, string_bytes};
 ghost use Rattle.job_bodies.specs.declared.limits.TheConstants.{MAX_PLAN_BYTES};
@@ -9,11 +9,11 @@ use crate::plan_values::plan_document;
 use job_bodies::Plan;
 use std::alloc::{AllocError, Global};
 
-/// Writes a plan that was built in code as TOML. [`read_plan`](crate::read_plan) reads the text
-/// back to the same plan, unless the text is longer than the limit for plans.
+/// Writes a plan as TOML. [`read_plan`](crate::read_plan) parses the text as the same plan, unless
+/// the text is longer than a plan's text may be.
 ///
-/// A submit that a get names fills a slot of its own, with the name `s` followed by the submit's
-/// position in its body. Other submits fill no slot.
+/// A submit that a get names fills a slot of its own, which is named `s` and the position of the
+/// submit in its body. Other submits fill no slot.
 ///
 /// # Errors
 ///
