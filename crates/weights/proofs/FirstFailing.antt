@@ -1,15 +1,15 @@
--- The first failing row of a list, as a visitor finds it.
+-- Lemmas about the first failing row of a list, as a visitor finds it.
 use Rattle.std.proofs.Common.{◌≡◌, Bool, true, false, List, [], ◌∷◌, ◌++◌, refl, sym, ap, subst, ◌∙◌, append_assoc}
 use Rattle.std.specs.Prelude.{Option, Some, None, is_some, if◌then◌else◌}
 use Rattle.weights.specs.declared.row.Row.{Row}
 use Rattle.weights.specs.Row.{fails, first_failing}
 
--- the first failing row of the first list, or of the second list if the first has none
+-- the first option if it has a row, and otherwise the second
 abbrev pub or_else : Option Row → Option Row → Option Row
 or_else None second = second
 or_else (Some x) second = Some x
 
--- of a concatenation
+-- the first failing row of joined lists is that of the first list, or that of the second if the first has none
 pub first_failing-append : (xs ys : List Row) → first_failing (xs ++ ys) ≡ or_else (first_failing xs) (first_failing ys)
 first_failing-append [] ys = refl
 first_failing-append (x ∷ xs) ys =
@@ -18,7 +18,7 @@ first_failing-append (x ∷ xs) ys =
       | false ↦ first_failing-append xs ys
     ]
 
--- a later row that holds changes nothing
+-- a row that does not fail, appended to a list, does not change the first failing row
 pub passing_row_extends : (rows : List Row) (x : Row) → fails x ≡ false → first_failing (rows ++ x ∷ []) ≡ first_failing rows
 passing_row_extends rows x holds = first_failing-append rows (x ∷ []) ∙ rw holds (or_else_none (first_failing rows))
   where
@@ -26,16 +26,16 @@ passing_row_extends rows x holds = first_failing-append rows (x ∷ []) ∙ rw h
     or_else_none None = refl
     or_else_none (Some x) = refl
 
--- a row after a failing one changes nothing
+-- if a list has a failing row, a row appended to it does not change the first one
 pub found_before : (rows : List Row) (x y : Row) → first_failing rows ≡ Some y → first_failing (rows ++ x ∷ []) ≡ Some y
 found_before rows x y found = first_failing-append rows (x ∷ []) ∙ rw found refl
 
--- once a row has failed, a later row changes nothing
+-- a visitor that has found a failing row keeps it after the next row
 pub found_already : (rows : List Row) (x : Row) (first : Option Row) → is_some first ≡ true → first ≡ first_failing rows → first ≡ first_failing (rows ++ x ∷ [])
 found_already rows x None some e = absurd cc
 found_already rows x (Some y) some e = sym (found_before rows x y (sym e))
 
--- if no row has failed, the next row that fails is the first
+-- a visitor that has found no failing row keeps the next row if that one fails
 pub found_now : (rows : List Row) (x : Row) (first : Option Row) → is_some first ≡ false → fails x ≡ true → first ≡ first_failing rows → Some x ≡ first_failing (rows ++ x ∷ [])
 found_now rows x None none wrong e = sym (first_failing-append rows (x ∷ []) ∙ rw (← e, wrong) refl)
 found_now rows x (Some y) none wrong e = absurd cc

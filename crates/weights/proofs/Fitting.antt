@@ -26,19 +26,19 @@ pub record Fits (plan : Plan) (v : Vector) : Type 0 where
   pub small_class : (k i : ℕ) → slice_index (class_weights v k) i ≤ MAX_WEIGHT
   pub small_client : (c i : ℕ) → slice_index (client_weights v c) i ≤ MAX_WEIGHT
 
--- an element of a list of small numbers is small
+-- if all numbers of a list are at most MAX_WEIGHT, each of them is
 pub small_in : (xs : List ℕ) (i : ℕ) → list_all is_small xs ≡ true → slice_index xs i ≤ MAX_WEIGHT
 small_in [] i small = omega arith
 small_in (x ∷ xs) zero small = leb-true x MAX_WEIGHT (and_parts _ _ small).0
 small_in (x ∷ xs) (suc i) small = small_in xs i (and_parts (is_small x) _ small).1
 
--- an element of a list of lists of small numbers is small
+-- if all numbers of all rows are at most MAX_WEIGHT, each of them is
 small_at : (rows : List (List ℕ)) (k i : ℕ) → list_all (list_all is_small) rows ≡ true → slice_index (slice_index_or rows k []) i ≤ MAX_WEIGHT
 small_at [] k i small = omega arith
 small_at (row ∷ rows) zero i small = small_in row i (and_parts (list_all is_small row) _ small).0
 small_at (row ∷ rows) (suc k) i small = small_at rows k i (and_parts (list_all is_small row) _ small).1
 
--- a test that all elements pass with their indices holds at each index
+-- each element of a list passes, with its index, a test that `list_all` says all elements pass with their indices
 passed_at : {X : Type 0} (test : ℕ × X → Bool) (xs : List X) (i : ℕ) (d : X) → list_all test (enumerate_from 0 xs) ≡ true → i < length xs → test (i, get_or xs i d) ≡ true
 passed_at test xs i d all inside =
     let found : test (0 + i, get_or xs i d) ≡ true = list_all_enumerated test 0 xs i _ all (slice_get-get_or xs i d inside) in
@@ -64,7 +64,7 @@ fits plan v all =
       small_client = λ c i. small_at v.clients c i numbers.1;
     }
 
--- the class with index k has its weights
+-- the vector has all weights of class k, and each is within the limit
 pub record ClassFits (plan : Plan) (v : Vector) (k : ℕ) (class : Class) : Type 0 where
   pub known : k < length v.classes
   pub pool : class.pool < length v.workers
@@ -74,7 +74,7 @@ pub record ClassFits (plan : Plan) (v : Vector) (k : ℕ) (class : Class) : Type
   pub small_worker : workers_weight v class.pool ≤ MAX_WEIGHT
   pub is_class : class_at plan k ≡ class
 
--- the weights of a job's positions follow that of the queued job
+-- the weights of a job of class k at its positions are its weights without the first one, which is that of a queued job
 pub at_position : (v : Vector) (k i : ℕ) → slice_index (drop 1 (class_weights v k)) i ≡ job_weight v k i
 at_position v k i =
     let swapped : 1 + i ≡ i + 1 = omega arith in
@@ -105,13 +105,13 @@ class_fits plan v k class well all here =
       is_class = same;
     }
 
--- the last weight of a class is that of the done job
+-- the last of the weights of class k is that of a done job
 pub last_is_done : (plan : Plan) (v : Vector) (k : ℕ) → IsTrue (vector_fits plan v) → k < length plan.classes → slice_index (class_weights v k) (length (class_weights v k) - 1) ≡ done_weight plan v k
 last_is_done plan v k all inside =
     let long = (fits plan v all).class k inside in
     ap (slice_index (class_weights v k)) (omega arith)
 
--- the kind of client with index c has its weights
+-- the vector has all weights of client kind c, and each is within the limit
 pub record ClientFits (plan : Plan) (v : Vector) (c : ℕ) (client : Client) : Type 0 where
   pub known : c < length v.clients
   pub long : length (client_weights v c) ≡ length client.body + 1
@@ -133,13 +133,13 @@ client_fits plan v c client well all here =
       };
     }
 
--- each class has a weight for a queued job
+-- the vector has a weight for a queued job of each class
 pub submitted_known : (plan : Plan) (v : Vector) (k : ℕ) → IsTrue (vector_fits plan v) → k < length plan.classes → 0 < length (class_weights v k)
 submitted_known plan v k all inside =
     let long = (fits plan v all).class k inside in
     omega arith
 
--- the class of a job that a valid body gets exists
+-- the class of the job that a valid body gets exists
 pub got_known : (plan : Plan) (body : List Action) (i t : ℕ) → IsValidBody plan body → slice_get body i ≡ Some (Get t) → submitted_class body t < length plan.classes
 got_known plan body i t valid here = of_submit (slice_get body t) refl (valid.of_submit i t here)
   where

@@ -1,4 +1,4 @@
--- The numbers that ranks that fit a plan have for its classes.
+-- The numbers that the classes of a plan have in ranks that fit it.
 use Rattle.std.proofs.Common.{◌≡◌, ◌≤◌, ◌<◌, ℕ, List, length, get_or, slice_get, Some, inl, inr, ap, ◌∙◌, subst, sym, arith}
 use Rattle.std.specs.Prelude.{not, leb, ltb, IsTrue}
 use Rattle.std.proofs.lemmas.Bool.{and_parts, eqb-true, cases_lt, lt-leb, le-leb, lt-ltb, le-ltb}
@@ -32,7 +32,7 @@ fitting plan ranks all =
       small_level = λ k. small_in ranks.levels k but_levels.1;
     }
 
--- the class with index k has a reach and a level, and its pool a rank
+-- class k has a reach and a level, and its pool has a rank
 pub record ClassFits (plan : Plan) (ranks : Ranks) (k : ℕ) (class : Class) : Type 0 where
   pub known : k < length plan.classes
   pub reach : k < length ranks.reach
@@ -56,31 +56,31 @@ class_fits plan ranks k class well all here =
       is_class = same;
     }
 
--- the class of the job that a get waits for has a reach
+-- the class of the job that a get of class k waits for has a reach
 pub got_reaches : (plan : Plan) (ranks : Ranks) (k : ℕ) (class : Class) (i t : ℕ) → IsWellFormed plan → IsTrue (ranks_fit plan ranks) → slice_get plan.classes k ≡ Some class → slice_get class.body i ≡ Some (Get t)
     → submitted_class class.body t < length ranks.reach
 got_reaches plan ranks k class i t well all here action =
     let known = got_known plan class.body i t (class_fits plan ranks k class well all here).valid action in
     omega (arith, (fitting plan ranks all).reach)
 
--- the action at a position, as the code reads it
+-- the action that the code reads at a position is the action of the body there
 pub action_read : (actions body : List Action) (i : ℕ) (action : Action) → actions ≡ body → i < length body → get_or actions i (Work 0) ≡ action → slice_get body i ≡ Some action
 action_read actions body i action same inside is =
     slice_get-get_or body i (Work 0) inside ∙ ap (λ (x : Action). Some x) (subst (λ (b : List Action). get_or b i (Work 0) ≡ action) same is)
 
--- whether the action at a position is counted, by the action
+-- whether position i of class k is a counted get depends only on the action there
 pub counted_at : (plan : Plan) (ranks : Ranks) (k : ℕ) (class : Class) (i : ℕ) (action : Action) → class_at plan k ≡ class → slice_get class.body i ≡ Some action → is_counted plan ranks k i ≡ is_counted_action plan ranks k (Some action)
 counted_at plan ranks k class i action same here =
     ap (λ (c : Class). is_counted_action plan ranks k (slice_get c.body i)) same ∙ ap (is_counted_action plan ranks k) here
 
--- b ≤ a if and only if not a < b
+-- b ≤ a exactly when a < b does not hold
 not_below : (a b : ℕ) → leb b a ≡ not (ltb a b)
 not_below a b = elim (cases_lt a b) [
   | inl below ↦ lt-leb b a below ∙ sym (ap not (lt-ltb a b below))
   | inr above ↦ le-leb b a above ∙ sym (ap not (le-ltb a b above))
 ]
 
--- a get is counted if the reach of its job's class is at least the rank of its own class's pool
+-- a get of class k is counted exactly when the reach of the class of its job is at least the rank of the pool of k
 pub get_counted : (plan : Plan) (ranks : Ranks) (k : ℕ) (class : Class) (i t : ℕ) → class_at plan k ≡ class → slice_get class.body i ≡ Some (Get t)
     → leb (rank ranks class.pool) (reach ranks (submitted_class class.body t)) ≡ is_counted plan ranks k i
 get_counted plan ranks k class i t same here =

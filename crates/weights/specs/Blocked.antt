@@ -1,4 +1,4 @@
--- The conditions of a pool's blocked vector: fewer jobs than core wait at counted gets.
+-- The conditions of the blocked vector of pool p: fewer jobs of p than core wait at counted gets.
 use Rattle.std.specs.Prelude.{ℕ, ◌-◌, Bool, true, false, ◌&&◌, List, [], ◌∷◌, ◌++◌, map, filter}
 use Rattle.std.specs.List.{flat_map, enumerate_from}
 use Rattle.job_bodies.specs.declared.action.Action.{Action}
@@ -16,12 +16,13 @@ abbrev pub is_get : Action → Bool
 is_get (Get t) = true
 is_get _ = false
 
--- of the counted gets of class k
+-- the rows B1 of the counted gets of class k
 abbrev pub counted_rows : (ℕ → ℕ → Bool) → Vector → ℕ → Class → List Row
 counted_rows counted v k class =
     map (λ entry. row B1 (place.ClassAction k entry.0) 1 (job_weight v k entry.0))
     (filter (λ entry. is_get entry.1 && counted k entry.0) (enumerate_from 0 class.body))
 
+-- the conditions of the blocked vector v of pool p: V2 to V7, then B1 of each counted get of each class of p, then B2
 abbrev pub blocked_rows : Plan → ℕ → (ℕ → ℕ → Bool) → Vector → List Row
 blocked_rows plan p counted v =
     rows DoneWeight plan v

@@ -1,4 +1,4 @@
--- A body, and the weight of its actor at each position.
+-- A body, and the weights of its actor at each position of it.
 use Rattle.std.specs.Prelude.{◌≤◌, ◌<◌, ℕ, List, length, slice_index}
 use Rattle.job_bodies.specs.declared.action.Action.{Action}
 use Rattle.job_bodies.specs.Plan.{Plan}
@@ -9,12 +9,12 @@ use Rattle.weights.specs.declared.row.Place.TheVariants.{ClassAction, ClientActi
 use Rattle.weights.specs.declared.body.BodyOwner.{BodyOwner}
 use Rattle.weights.specs.declared.body.BodyOwner.TheVariants.{Class, Client}
 
--- the place of the action at position i
+-- the place of the action at position i of the body
 abbrev pub place_at : BodyOwner → ℕ → Place
 place_at (Class k) i = ClassAction k i
 place_at (Client c) i = ClientAction c i
 
--- a valid body with a weight for each of its positions, none above the limit
+-- the body is valid, and has a weight within the limit for each of its positions and for its end
 pub record IsWeighed (plan : Plan) (actions : List Action) (weights : List ℕ) : Type 0 where
   pub valid : IsValidBody plan actions
   pub long : length actions < length weights

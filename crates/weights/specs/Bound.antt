@@ -1,4 +1,4 @@
--- The vector that bounds a pool's queue: a standing one or a lifetime one.
+-- The vector that bounds the queue of a pool: a standing or a lifetime vector.
 use Rattle.std.specs.Prelude.{ℕ, Bool, true, false, List}
 use Rattle.job_bodies.specs.Plan.{Plan, pool_at}
 use Rattle.weights.specs.declared.row.Row.{Row}
@@ -21,11 +21,12 @@ abbrev pub bound_get_return : Bound → GetReturn
 bound_get_return (Standing v) = DoneWeight
 bound_get_return (Lifetime v) = NoWeight
 
--- the limit of the vector's total
+-- the limit of the total of the bound of pool p: the capacity of its queue, or the number of jobs that p accepts before it can refuse one
 abbrev pub bound_limit : Plan → ℕ → Bound → ℕ
 bound_limit plan p (Standing v) = (pool_at plan p).queue
 bound_limit plan p (Lifetime v) = lifetime_limit (pool_at plan p)
 
+-- the conditions of the bound of pool p
 abbrev pub bound_rows : Plan → ℕ → Bound → List Row
 bound_rows plan p (Standing v) = standing_rows plan p v
 bound_rows plan p (Lifetime v) = lifetime_rows plan p v

@@ -1,4 +1,4 @@
--- The weight that a get returns to its actor.
+-- The weight that a get gives its actor.
 use Rattle.std.specs.Prelude.{ℕ}
 use Rattle.job_bodies.specs.Plan.{Plan}
 pub use Rattle.weights.specs.declared.get_return.GetReturn.{GetReturn}
@@ -7,17 +7,17 @@ use Rattle.weights.specs.declared.row.Rule.{Rule}
 use Rattle.weights.specs.declared.row.Rule.TheVariants.{V5, L5}
 use Rattle.weights.specs.Vector.{Vector, done_weight}
 
--- the rule for a get
+-- the rule of a get
 abbrev pub get_rule : GetReturn → Rule
 get_rule DoneWeight = V5
 get_rule NoWeight = L5
 
--- the weight that the get of a job of class k returns
+-- the weight that a get of a job of class k gives its actor
 abbrev pub returned_weight : GetReturn → Plan → Vector → ℕ → ℕ
 returned_weight DoneWeight plan v k = done_weight plan v k
 returned_weight NoWeight plan v k = 0
 
--- the weight of a job of class k after its get
+-- the weight that a job of class k still has after its get
 abbrev pub claimed_weight : GetReturn → Plan → Vector → ℕ → ℕ
 claimed_weight DoneWeight plan v k = 0
 claimed_weight NoWeight plan v k = done_weight plan v k

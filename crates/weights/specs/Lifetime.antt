@@ -1,4 +1,4 @@
--- The conditions of a pool's lifetime vector: the queue and the threads have room for all jobs that are ever submitted.
+-- The conditions of the lifetime vector of pool p: the queue and the threads of p have room for all jobs that are ever submitted to it.
 use Rattle.std.specs.Prelude.{ℕ, ◌+◌, ◌-◌, List, [], ◌∷◌, ◌++◌, map}
 use Rattle.std.specs.List.{flat_map, enumerate_from}
 use Rattle.job_bodies.specs.Plan.{Pool, Plan, pool_at, first_workers}
@@ -10,10 +10,11 @@ use Rattle.weights.specs.Vector.{Vector, workers_weight, class_weights, total}
 use Rattle.weights.specs.GetReturn.{NoWeight}
 use Rattle.weights.specs.Rows.{rows, classes_of}
 
--- the number of jobs that a pool accepts before it can reject one: its queue and its maximum, less its prestarted threads
+-- the number of jobs that the pool accepts before it can refuse one: its queue plus its maximum, minus its prestarted threads
 abbrev pub lifetime_limit : Pool → ℕ
 lifetime_limit pool = pool.queue + pool.max - first_workers pool
 
+-- the conditions of the lifetime vector v of pool p: L1 of each pool, V2 to V7 with L5 in place of V5, L2 of each class of p, and L3
 abbrev pub lifetime_rows : Plan → ℕ → Vector → List Row
 lifetime_rows plan p v =
     map (λ entry. row L1 (place.Worker entry.0) (workers_weight v entry.0) 0) (enumerate_from 0 plan.pools)

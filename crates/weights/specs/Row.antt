@@ -1,23 +1,23 @@
--- Rows: rules at their places.
+-- Rows: the rules of a certificate at their places.
 use Rattle.std.specs.Prelude.{◌≤◌, ℕ, Bool, nat_lt, if◌then◌else◌, List, [], ◌∷◌, Option, Some, None}
 use Rattle.support.specs.In.{In}
 use Rattle.weights.specs.declared.row.Rule.{Rule}
 use Rattle.weights.specs.declared.row.Place.{Place}
 use Rattle.weights.specs.declared.row.Row.{Row}
 
--- the rule at this place: left is at most right
+-- the row of this rule at this place, which requires that left is at most right
 abbrev pub row : Rule → Place → ℕ → ℕ → Row
 row rule place left right = record { rule = rule; place = place; left = left; right = right }
 
--- left is greater than right
+-- whether the row fails: left is greater than right
 abbrev pub fails : Row → Bool
 fails x = nat_lt x.right x.left
 
--- the first row that fails
+-- the first row of the list that fails; None if none fails
 abbrev pub first_failing : List Row → Option Row
 first_failing [] = None
 first_failing (x ∷ xs) = if fails x then Some x else first_failing xs
 
--- each row's left is at most its right
+-- no row of the list fails
 abbrev pub AllHold : List Row → Type 0
 AllHold rows = (x : Row) → In x rows → x.left ≤ x.right

@@ -1,4 +1,4 @@
--- The conditions of a pool's standing vector: the number of queued jobs never exceeds the capacity of the queue.
+-- The conditions of the standing vector of pool p: the number of queued jobs of p never exceeds the capacity of its queue.
 use Rattle.std.specs.Prelude.{ℕ, List, [], ◌∷◌, ◌++◌, map}
 use Rattle.job_bodies.specs.Plan.{Plan, pool_at}
 use Rattle.weights.specs.declared.row.Rule.TheVariants.{S1, S2}
@@ -9,6 +9,7 @@ use Rattle.weights.specs.Vector.{Vector, queued_weight, total}
 use Rattle.weights.specs.GetReturn.{DoneWeight}
 use Rattle.weights.specs.Rows.{rows, classes_of}
 
+-- the conditions of the standing vector v of pool p: V2 to V7, then S1 of each class of p, then S2
 abbrev pub standing_rows : Plan → ℕ → Vector → List Row
 standing_rows plan p v =
     rows DoneWeight plan v

@@ -1,5 +1,5 @@
--- Vectors of weights: a number for each pool's workers, for each class's queued, positions and done, and for each position
--- of each kind of client.
+-- Vectors of weights: a number for a worker of each pool; for a job of each class when it is queued, at each position, and when it is done;
+-- and for a client of each kind at each position.
 use Rattle.std.specs.Prelude.{ℕ, ◌+◌, ◌*◌, ◌==◌, ◌&&◌, nat_le, Bool, List, [], length, sum_by, slice_index, slice_index_or}
 use Rattle.std.specs.List.{list_all, enumerate_from}
 use Rattle.job_bodies.specs.Plan.{Plan, class_at}
@@ -14,14 +14,14 @@ pub record Vector : Type 0 where
 abbrev pub workers_weight : Vector → ℕ → ℕ
 workers_weight v p = slice_index v.workers p
 
--- the weights of a job of class k: queued, at each position of its body, and done
+-- the weights of a job of class k: when it is queued, at each position of its body, and when it is done
 abbrev pub class_weights : Vector → ℕ → List ℕ
 class_weights v k = slice_index_or v.classes k []
 
 abbrev pub queued_weight : Vector → ℕ → ℕ
 queued_weight v k = slice_index (class_weights v k) 0
 
--- the weight of a job of class k at position i
+-- the weight of a job of class k at position i of its body
 abbrev pub job_weight : Vector → ℕ → ℕ → ℕ
 job_weight v k i = slice_index (class_weights v k) (i + 1)
 
@@ -32,11 +32,11 @@ done_weight plan v k = slice_index (class_weights v k) (length (class_at plan k)
 abbrev pub client_weights : Vector → ℕ → List ℕ
 client_weights v c = slice_index_or v.clients c []
 
--- the weight of a client of kind c at position i
+-- the weight of a client of kind c at position i of its body
 abbrev pub client_weight : Vector → ℕ → ℕ → ℕ
 client_weight v c i = slice_index (client_weights v c) i
 
--- V1: a number for each pool, for each point of each class, and for each position of each kind of client
+-- V1: whether the vector has a number for each pool, for each point of each class, and for each position of each client kind
 abbrev pub has_shape : Plan → Vector → Bool
 has_shape plan v =
     length v.workers == length plan.pools && length v.classes == length plan.classes && length v.clients == length plan.clients
@@ -52,7 +52,7 @@ has_small_numbers v = list_all is_small v.workers && list_all (list_all is_small
 abbrev pub vector_fits : Plan → Vector → Bool
 vector_fits plan v = has_shape plan v && has_small_numbers v
 
--- the weight of the initial state: every client at 0, and the maximum number of workers of each pool
+-- the total of a vector: the weight of all clients at position 0 and of the maximum of workers of each pool
 abbrev pub total : Plan → Vector → ℕ
 total plan v =
     sum_by (λ entry. entry.1.count * client_weight v entry.0 0) (enumerate_from 0 plan.clients)

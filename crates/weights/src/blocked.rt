@@ -1,4 +1,4 @@
-//! The conditions of a pool's blocked vector.
+//! The conditions of the blocked vector of a pool.
 
 ghost use Rattle.std.specs.Prelude.{◌≡◌, ◌==◌, ◌&&◌, ◌<◌, ◌+◌, ◌∷◌, [], if◌then◌else◌, ℕ, IsTrue, Some, length, map, slice_get};
 ghost use Rattle.std.specs.List.{flat_map};
@@ -15,10 +15,11 @@ ghost use Rattle.weights.specs.Blocked.{is_get, counted_rows, blocked_rows};
 use crate::{Counted, FirstFault, GetReturn, Place, Row, RowVisitor, Rule, Vector};
 use job_bodies::{Action, Class, Plan};
 
-/// A row whose `left` is greater than its `right`.
+/// A failing row of a blocked vector: its `left` is greater than its `right`.
 pub type BlockedFault = Row;
 
-/// Visits B1 of the action at this position of a class with these weights, if it is a counted get.
+/// Passes row B1 of the action at `position` of class `number` to the visitor, if the action is a
+/// counted get.
 fn visit_counted_row<C: Counted, V: RowVisitor>(
     counted: &C,
     vector: &Vector,
@@ -43,7 +44,7 @@ fn visit_counted_row<C: Counted, V: RowVisitor>(
     }
 }
 
-/// Visits B1 of each counted get of a class.
+/// Passes row B1 of each counted get of class `number` to the visitor.
 fn visit_counted_rows<C: Counted, V: RowVisitor>(
     plan: &Plan,
     counted: &C,
@@ -64,7 +65,8 @@ fn visit_counted_rows<C: Counted, V: RowVisitor>(
     }
 }
 
-/// Visits B1 of each counted get of a class if the class belongs to the pool.
+/// Passes row B1 of each counted get of class `number` to the visitor, if the class belongs to the
+/// pool.
 fn visit_counted_rows_of<C: Counted, V: RowVisitor>(
     plan: &Plan,
     pool: usize,
@@ -86,7 +88,7 @@ fn visit_counted_rows_of<C: Counted, V: RowVisitor>(
     }
 }
 
-/// Visits B1 of each counted get of each class of the pool.
+/// Passes row B1 of each counted get of each class of the pool to the visitor.
 fn visit_all_counted_rows<C: Counted, V: RowVisitor>(
     plan: &Plan,
     pool: usize,
@@ -106,8 +108,8 @@ fn visit_all_counted_rows<C: Counted, V: RowVisitor>(
     }
 }
 
-/// Visits the conditions of the pool's blocked vector: V2 to V7, then B1 of each counted get of
-/// each class of the pool, then B2.
+/// Passes all conditions of the pool's blocked vector to the visitor: V2 to V7, then B1 of each
+/// counted get of each class of the pool, then B2.
 pub fn visit_blocked_rows<C: Counted, V: RowVisitor>(
     plan: &Plan,
     pool: usize,
@@ -130,7 +132,7 @@ pub fn visit_blocked_rows<C: Counted, V: RowVisitor>(
 }
 
 /// Returns the first condition of the pool's blocked vector that fails, in the order V2 to V7, B1,
-/// B2. Allocates nothing.
+/// B2. Allocates no memory.
 pub fn blocked_fault<C: Counted>(
     plan: &Plan,
     pool: usize,

@@ -1,4 +1,4 @@
-//! The rows of a body, one for each of its actions.
+//! The rows of the actions of a body.
 
 ghost use Rattle.std.specs.Prelude.{◌≡◌, ◌<◌, ℕ, List, length, slice_index, slice_index_or, IsTrue};
 ghost use Rattle.job_bodies.specs.declared.action.Action.TheVariants.{Work};
@@ -12,17 +12,17 @@ ghost use Rattle.weights.specs.Visits.{Visits};
 use crate::{GetReturn, Place, Row, RowVisitor, Rule, Vector};
 use job_bodies::{Action, Plan};
 
-/// The owner of a body.
+/// The class or client kind that a body belongs to.
 #[derive(Clone, Copy)]
 pub(crate) enum BodyOwner {
-    /// A job of the class with this index.
+    /// The class with this index.
     Class(usize),
-    /// A client of the kind with this index.
+    /// The client kind with this index.
     Client(usize),
 }
 
 impl BodyOwner {
-    /// Returns the place of the action at this position.
+    /// Returns the place of the action at `position` of the body.
     fn place_at(self, position: usize) -> Place
         ensures { result ≡ place_at self position }
     {
@@ -33,7 +33,7 @@ impl BodyOwner {
     }
 }
 
-/// A body, and the weight of its actor at each position.
+/// A body, and the weights of its actor at each position of it.
 #[derive(Clone, Copy)]
 pub(crate) struct Body<'a> {
     pub(crate) actor: BodyOwner,
@@ -41,7 +41,8 @@ pub(crate) struct Body<'a> {
     pub(crate) weights: &'a [u64],
 }
 
-/// Returns the class of the job that a get of the submit at position `submit` waits for.
+/// Returns the class of the job that the submit at position `submit` of the body creates, or 0 if
+/// that position has no submit.
 pub fn submitted_class(actions: &[Action], submit: usize) -> usize
     ensures { result ≡ submitted_class actions.now submit }
 {
@@ -51,7 +52,7 @@ pub fn submitted_class(actions: &[Action], submit: usize) -> usize
     }
 }
 
-/// Returns the weight that the get of a job of the class returns to its actor.
+/// Returns the weight that a get of a job of the class gives its actor.
 fn returned_weight(get_return: GetReturn, plan: &Plan, vector: &Vector, class: usize) -> u64
     requires fits { IsTrue (spec.vector_fits plan.now vector.now) }
     requires class { class < length plan.now.classes }
@@ -66,7 +67,7 @@ fn returned_weight(get_return: GetReturn, plan: &Plan, vector: &Vector, class: u
     }
 }
 
-/// Returns the row of the action at this position.
+/// Returns the row of the action at `position` of the body.
 fn action_row(
     get_return: GetReturn,
     plan: &Plan,
@@ -98,7 +99,7 @@ fn action_row(
     Row::new(rule, place, left, right)
 }
 
-/// Visits the row of each action of a body.
+/// Passes the row of each action of the body to the visitor, in order.
 pub(crate) fn visit_body_rows<V: RowVisitor>(
     get_return: GetReturn,
     plan: &Plan,

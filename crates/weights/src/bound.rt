@@ -1,4 +1,4 @@
-//! The vector that bounds a pool's queue.
+//! The vector that bounds the queue of a pool.
 
 ghost use Rattle.std.specs.Prelude.{◌≡◌, ◌<◌, IsTrue, length};
 ghost use Rattle.job_bodies.specs.Plan.{pool_at};
@@ -11,17 +11,18 @@ use crate::lifetime::lifetime_limit;
 use crate::{RowVisitor, StandingFault, Vector};
 use job_bodies::Plan;
 
-/// The vector that proves that a pool never rejects a job.
+/// The vector that shows that a pool never refuses a job.
 #[derive(Debug, Drop)]
 pub enum Bound {
-    /// Bounds the number of queued jobs at any time by the capacity of the queue.
+    /// A standing vector: the number of queued jobs never exceeds the capacity of the queue.
     Standing(Vector),
-    /// Bounds the number of jobs ever submitted by the room in the queue and the threads.
+    /// A lifetime vector: the number of all jobs that are ever submitted to the pool is at most the
+    /// number that its queue and its threads have room for.
     Lifetime(Vector),
 }
 
 impl Bound {
-    /// Returns the vector.
+    /// Returns the vector of this bound.
     pub fn vector(&self) -> &Vector
         ensures { result.now ≡ spec.bound_vector self.now }
     {
@@ -37,8 +38,8 @@ impl Bound {
         matches!(self, Bound::Lifetime(_))
     }
 
-    /// Returns the limit of the vector's total: the capacity of the queue or, for a lifetime
-    /// vector, the number of jobs that the pool accepts before it can reject one.
+    /// Returns the limit of the vector's total: the capacity of the queue, or for a lifetime vector
+    /// the number of jobs that the pool accepts before it can refuse one.
     pub fn limit(&self, plan: &Plan, pool: usize) -> u64
         requires { pool < length plan.now.pools }
         ensures { result ≡ spec.bound_limit plan.now pool self.now }
@@ -50,7 +51,7 @@ impl Bound {
         }
     }
 
-    /// Visits the conditions of the pool's bound.
+    /// Passes all conditions of the pool's bound to the visitor.
     pub fn visit_rows<V: RowVisitor>(&self, plan: &Plan, pool: usize, visitor: &mut V)
         requires fits { IsTrue (vector_fits plan.now (spec.bound_vector self.now)) }
         requires pool { pool < length plan.now.pools }
@@ -62,7 +63,7 @@ impl Bound {
         }
     }
 
-    /// Returns the first condition of the pool's bound that fails. Allocates nothing.
+    /// Returns the first condition of the pool's bound that fails. Allocates no memory.
     pub fn fault(&self, plan: &Plan, pool: usize) -> Option<StandingFault>
         requires fits { IsTrue (vector_fits plan.now (spec.bound_vector self.now)) }
         requires pool { pool < length plan.now.pools }

@@ -1,17 +1,17 @@
-//! The choice of counted gets.
+//! The gets that are counted.
 
 ghost use Rattle.std.specs.Prelude.{◌≡◌, ℕ, Bool};
 
-/// A choice of the gets to count. A get that is not counted waits for a job that always makes
-/// progress.
+/// A rule that decides which gets are counted. The blocked vector of a pool gives its jobs weight
+/// at counted gets. A get that is not counted waits for a job that always makes progress.
 pub trait Counted {
-    // The choice is defined at this position of this class.
+    // Whether the rule decides the get at this position of this class.
     ghost Answers: { Self → ℕ → ℕ → Type 0 };
 
-    // Whether the get there is counted.
+    // Whether the action at this position of this class is a counted get.
     ghost is_counted: { Self → ℕ → ℕ → Bool };
 
-    /// Returns whether the get at this position of this class is counted.
+    /// Returns whether the get at `position` of the class is counted.
     fn counted(&self, class: usize, position: usize) -> bool
         requires { Answers self.now class position }
         ensures { result ≡ is_counted self.now class position };

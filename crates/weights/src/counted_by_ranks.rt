@@ -1,4 +1,4 @@
-//! The gets that the ranks count.
+//! The gets that are counted because of the ranks and reaches of a certificate.
 
 ghost use Rattle.std.specs.Prelude.{◌≡◌, ◌<◌, IsTrue, Some, length, slice_get};
 ghost use Rattle.job_bodies.specs.Plan.{class_at};
@@ -8,7 +8,7 @@ ghost use Rattle.weights.specs.Ranks as spec;
 use crate::{Counted, Ranks, submitted_class};
 use job_bodies::{Action, Class, Plan};
 
-/// Returns whether the action at this position of a class is a counted get.
+/// Returns whether the action at `position` of class `number` is a counted get.
 fn is_counted_in(plan: &Plan, ranks: &Ranks, number: usize, class: &Class, position: usize) -> bool
     requires fits { IsTrue (spec.ranks_fit plan.now ranks.now) }
     requires well_formed { IsWellFormed plan.now }
@@ -27,8 +27,8 @@ fn is_counted_in(plan: &Plan, ranks: &Ranks, number: usize, class: &Class, posit
 }
 
 impl Ranks {
-    /// Returns whether the action at this position of the class is a counted get. A get is counted
-    /// unless the reach of its job's class is below the rank of this class's pool.
+    /// Returns whether the action at `position` of the class is a counted get. A get is counted
+    /// unless the reach of the class of its job is below the rank of the pool of this class.
     pub fn is_counted(&self, plan: &Plan, class: usize, position: usize) -> bool
         requires fits { IsTrue (spec.ranks_fit plan.now self.now) }
         requires class { class < length plan.now.classes }
@@ -39,7 +39,7 @@ impl Ranks {
     }
 }
 
-/// A plan with ranks that fit it, which choose the counted gets.
+/// A plan with ranks that fit it, which decide which gets of the plan are counted.
 #[derive(Clone, Copy)]
 pub struct RanksOf<'a> {
     pub plan: &'a Plan,
@@ -48,7 +48,7 @@ pub struct RanksOf<'a> {
 }
 
 impl<'a> RanksOf<'a> {
-    /// Pairs a plan with ranks that fit it.
+    /// Creates the pair of a plan and ranks that fit it.
     pub fn new(plan: &'a Plan, ranks: &'a Ranks) -> RanksOf<'a>
         requires { IsTrue (spec.ranks_fit plan.now ranks.now) }
         ensures plan { result.plan.now ≡ plan.now }

@@ -1,4 +1,4 @@
-//! The test whether a vector has the shape of a plan and its numbers are within the limit.
+//! The test that a vector has the shape of a plan and numbers within the limit.
 
 ghost use Rattle.std.specs.Prelude.{◌≡◌, ◌+◌, ◌==◌, length, map};
 ghost use Rattle.std.specs.List.{list_all, enumerate_from};
@@ -7,14 +7,14 @@ ghost use Rattle.weights.specs.Vector as spec;
 use crate::Vector;
 use job_bodies::{MAX_WEIGHT, Plan};
 
-/// Returns whether no number is above [`MAX_WEIGHT`].
+/// Returns whether each number is at most [`MAX_WEIGHT`].
 pub fn are_small(numbers: &[u64]) -> bool
     ensures { result ≡ list_all spec.is_small numbers.now }
 {
     numbers.iter().all(|number| *number <= MAX_WEIGHT)
 }
 
-/// Returns whether no number of the rows is above [`MAX_WEIGHT`].
+/// Returns whether each number of each row is at most [`MAX_WEIGHT`].
 #[tactic(auto, using(crate::proofs::Loops::images_turn))]
 fn are_small_rows(rows: &[Vec<u64>]) -> bool
     ensures { result ≡ list_all (list_all spec.is_small) (map (λ row. row.items) rows.now) }
@@ -29,14 +29,15 @@ fn are_small_rows(rows: &[Vec<u64>]) -> bool
 
 impl Vector {
     /// Returns whether the vector has a number for each pool, for each point of each class and for
-    /// each position of each kind of client, and no number is above [`MAX_WEIGHT`].
+    /// each position of each client kind, and each number is at most [`MAX_WEIGHT`].
     pub fn fits(&self, plan: &Plan) -> bool
         ensures { result ≡ spec.vector_fits plan.now self.now }
     {
         self.has_shape(plan) && self.has_small_numbers()
     }
 
-    /// Returns whether the vector has a number for each point of the plan.
+    /// Returns whether the vector has a number for each pool, for each point of each class and for
+    /// each position of each client kind.
     fn has_shape(&self, plan: &Plan) -> bool
         ensures { result ≡ spec.has_shape plan.now self.now }
     {
@@ -47,8 +48,8 @@ impl Vector {
             && self.has_client_shapes(plan)
     }
 
-    /// Returns whether each class has a number for queued, for each position of its body, and for
-    /// done.
+    /// Returns whether the vector has, for each class, a number for a queued job, for each position
+    /// of its body, and for a done job.
     fn has_class_shapes(&self, plan: &Plan) -> bool
         requires { length self.now.classes ≡ length plan.now.classes }
         ensures { result
@@ -64,7 +65,8 @@ impl Vector {
         true
     }
 
-    /// Returns whether each kind of client has a number for each position of its body.
+    /// Returns whether the vector has, for each client kind, a number for each position of its
+    /// body.
     fn has_client_shapes(&self, plan: &Plan) -> bool
         requires { length self.now.clients ≡ length plan.now.clients }
         ensures { result
@@ -80,7 +82,7 @@ impl Vector {
         true
     }
 
-    /// Returns whether no number is above [`MAX_WEIGHT`].
+    /// Returns whether each number of the vector is at most [`MAX_WEIGHT`].
     pub fn has_small_numbers(&self) -> bool
         ensures { result ≡ spec.has_small_numbers self.now }
     {

@@ -1,11 +1,11 @@
-//! The weight that a get returns to its actor.
+//! The weight that a get gives its actor.
 
 ghost use Rattle.std.specs.Prelude.{◌≡◌};
 ghost use Rattle.weights.specs.GetReturn.{get_rule};
 
 use crate::Rule;
 
-/// The part of a job's weight that a get returns to its actor.
+/// The weight of a done job that a get gives its actor.
 #[derive(Clone, Copy, PartialEq, Eq)]
 pub enum GetReturn {
     /// The whole weight of the done job, as in standing and blocked vectors.
@@ -15,7 +15,7 @@ pub enum GetReturn {
 }
 
 impl GetReturn {
-    /// Returns the rule for a get.
+    /// Returns the rule of a get.
     pub fn rule(self) -> Rule
         ensures { result ≡ get_rule self }
     {

@@ -1,7 +1,8 @@
-//! The parts of a certificate, and the conditions on them: vectors of weights, bounds on blocked jobs, and ranks of pools.
+//! The parts of a certificate, and the conditions on them: vectors of weights, which bound queued, submitted and blocked
+//! jobs, and ranks of pools.
 //!
-//! A walk over the conditions shows each of them, a [`Row`], to a [`RowVisitor`]. Functions such as
-//! [`Vector::standing_fault`] return the first condition that fails.
+//! A walk over the conditions passes each of them, a [`Row`], to a [`RowVisitor`]. Functions such
+//! as [`Vector::standing_fault`] return the first condition that fails.
 #![tactic(auto)]
 
 mod blocked;

@@ -1,5 +1,5 @@
-//! The conditions of a pool's lifetime vector: the queue and the threads have room for all jobs
-//! that are ever submitted.
+//! The conditions of the lifetime vector of a pool: the queue and the threads have room for all
+//! jobs that are ever submitted.
 
 ghost use Rattle.std.specs.Prelude.{◌≡◌, ◌==◌, ◌<◌, ◌∷◌, [], if◌then◌else◌, IsTrue, Some, length, map, slice_get};
 ghost use Rattle.std.specs.List.{flat_map, enumerate_from};
@@ -15,8 +15,8 @@ ghost use Rattle.weights.specs.Visits.{Visits};
 use crate::{FirstFault, GetReturn, Place, Row, RowVisitor, Rule, StandingFault, Vector};
 use job_bodies::{Class, Plan, Pool};
 
-/// Returns the number of jobs that a pool accepts before it can reject one: the capacity of its
-/// queue and its maximum, less its prestarted threads.
+/// Returns the number of jobs that a pool accepts before it can refuse one: the capacity of its
+/// queue plus its maximum, minus its prestarted threads.
 pub(crate) fn lifetime_limit(pool: &Pool) -> u64
     requires { IsTrue (has_valid_sizes pool.now) }
     ensures { result ≡ lifetime.lifetime_limit pool.now }
@@ -24,7 +24,7 @@ pub(crate) fn lifetime_limit(pool: &Pool) -> u64
     pool.queue + pool.max - pool.first_workers()
 }
 
-/// Visits L1 of each pool.
+/// Passes row L1 of each pool to the visitor.
 fn visit_worker_rows<V: RowVisitor>(plan: &Plan, vector: &Vector, visitor: &mut V)
     requires { IsTrue (spec.vector_fits plan.now vector.now) }
     ensures { let all = map (λ entry. row L1 (place.Worker entry.0) (spec.workers_weight vector.now entry.0) 0) (enumerate_from 0 plan.now.pools) in
@@ -40,7 +40,7 @@ fn visit_worker_rows<V: RowVisitor>(plan: &Plan, vector: &Vector, visitor: &mut 
     }
 }
 
-/// Visits L2 of a class with these weights.
+/// Passes row L2 of each of these weights of the class to the visitor.
 fn visit_l2_rows<V: RowVisitor>(class: usize, weights: &[u64], visitor: &mut V)
     ensures { Visits V.HasSeen visitor.old visitor.new
         (map (λ weight. row L2 (place.Class class) 1 weight) weights.now) }
@@ -50,7 +50,7 @@ fn visit_l2_rows<V: RowVisitor>(class: usize, weights: &[u64], visitor: &mut V)
     }
 }
 
-/// Visits L2 of a class if the class belongs to the pool.
+/// Passes row L2 of each weight of class `number` to the visitor, if the class belongs to the pool.
 fn visit_l2_rows_of<V: RowVisitor>(
     plan: &Plan,
     pool: usize,
@@ -70,7 +70,7 @@ fn visit_l2_rows_of<V: RowVisitor>(
     }
 }
 
-/// Visits L2 of each class of the pool.
+/// Passes row L2 of each weight of each class of the pool to the visitor.
 fn visit_all_l2_rows<V: RowVisitor>(plan: &Plan, pool: usize, vector: &Vector, visitor: &mut V)
     requires { IsTrue (spec.vector_fits plan.now vector.now) }
     ensures { let all = flat_map (λ entry. map (λ weight. row L2 (place.Class entry.0) 1 weight) (spec.class_weights vector.now entry.0)) (classes_of plan.now pool) in
@@ -82,8 +82,8 @@ fn visit_all_l2_rows<V: RowVisitor>(plan: &Plan, pool: usize, vector: &Vector, v
 }
 
 impl Vector {
-    /// Visits the conditions of the pool's lifetime vector: L1 of each pool, then V2 to V7 with L5
-    /// in place of V5, then L2 of each class of the pool, then L3.
+    /// Passes all conditions of the pool's lifetime vector to the visitor: L1 of each pool, then V2
+    /// to V7 with L5 in place of V5, then L2 of each weight of each class of the pool, then L3.
     pub fn visit_lifetime_rows<V: RowVisitor>(&self, plan: &Plan, pool: usize, visitor: &mut V)
         requires fits { IsTrue (spec.vector_fits plan.now self.now) }
         requires pool { pool < length plan.now.pools }
@@ -101,7 +101,7 @@ impl Vector {
         ));
     }
 
-    /// Returns the first condition of the pool's lifetime vector that fails. Allocates nothing.
+    /// Returns the first condition of the pool's lifetime vector that fails. Allocates no memory.
     pub fn lifetime_fault(&self, plan: &Plan, pool: usize) -> Option<StandingFault>
         requires fits { IsTrue (spec.vector_fits plan.now self.now) }
         requires pool { pool < length plan.now.pools }

@@ -1,4 +1,4 @@
-//! The conditions of ranks: K1 to K3.
+//! The conditions of ranks: K1, K2 and K3.
 
 ghost use Rattle.std.specs.Prelude.{◌≡◌, ◌<◌, ◌+◌, IsTrue, Some, length, slice_get};
 ghost use Rattle.std.specs.List.{flat_map, enumerate_from};
@@ -14,11 +14,11 @@ ghost use Rattle.weights.specs.Ranks as spec;
 use crate::{FirstFault, Place, Ranks, Row, RowVisitor, Rule, submitted_class};
 use job_bodies::{Action, Class, Plan};
 
-/// A row whose `left` is greater than its `right`.
+/// A failing row of ranks: its `left` is greater than its `right`.
 pub type RankFault = Row;
 
-/// Returns K2 of a get at this position: the reach of the class is at least that of the job's
-/// class.
+/// Returns row K2 of the get at `position` of class `number`: the reach of the class is at least
+/// the reach of the class of the job.
 fn get_row(
     plan: &Plan,
     ranks: &Ranks,
@@ -42,8 +42,8 @@ fn get_row(
     )
 }
 
-/// Returns K3 of a submit at this position: the level of the class is above that of the submitted
-/// class.
+/// Returns row K3 of the submit at `position` of class `number`: the level of the class is above
+/// the level of the submitted class.
 fn submit_row(plan: &Plan, ranks: &Ranks, number: usize, position: usize, submitted: usize) -> Row
     requires fits { IsTrue (spec.ranks_fit plan.now ranks.now) }
     requires class { number < length plan.now.classes }
@@ -60,7 +60,8 @@ fn submit_row(plan: &Plan, ranks: &Ranks, number: usize, position: usize, submit
     )
 }
 
-/// Visits the row of the action at this position of a class: K2 of a get, K3 of a submit.
+/// Passes the row of the action at `position` of class `number` to the visitor: K2 of a get, or K3
+/// of a submit.
 fn visit_action_row<V: RowVisitor>(
     plan: &Plan,
     ranks: &Ranks,
@@ -88,7 +89,7 @@ fn visit_action_row<V: RowVisitor>(
     }
 }
 
-/// Returns K1 of a class: its reach is at least the rank of its pool.
+/// Returns row K1 of class `number`: its reach is at least the rank of its pool.
 fn own_row(plan: &Plan, ranks: &Ranks, number: usize, class: &Class) -> Row
     requires fits { IsTrue (spec.ranks_fit plan.now ranks.now) }
     requires well_formed { IsWellFormed plan.now }
@@ -105,7 +106,7 @@ fn own_row(plan: &Plan, ranks: &Ranks, number: usize, class: &Class) -> Row
     )
 }
 
-/// Visits the rows of a class's actions.
+/// Passes the row of each get and submit of class `number` to the visitor.
 fn visit_action_rows<V: RowVisitor>(
     plan: &Plan,
     ranks: &Ranks,
@@ -124,7 +125,7 @@ fn visit_action_rows<V: RowVisitor>(
     }
 }
 
-/// Visits the rows of a class: K1, then its actions.
+/// Passes the rows of class `number` to the visitor: K1, then those of its actions.
 fn visit_class_rows<V: RowVisitor>(
     plan: &Plan,
     ranks: &Ranks,
@@ -143,8 +144,8 @@ fn visit_class_rows<V: RowVisitor>(
 }
 
 impl Ranks {
-    /// Visits the conditions of the ranks, class by class: K1, then K2 of each get and K3 of each
-    /// submit.
+    /// Passes all conditions of the ranks to the visitor. They are, for each class, K1, then K2 of
+    /// each get and K3 of each submit.
     pub fn visit_rank_rows<V: RowVisitor>(&self, plan: &Plan, visitor: &mut V)
         requires { IsTrue (spec.ranks_fit plan.now self.now) }
         ensures { Visits V.HasSeen visitor.old visitor.new (spec.rank_rows plan.now self.now) }
@@ -154,7 +155,7 @@ impl Ranks {
         }
     }
 
-    /// Returns the first condition of the ranks that fails. Allocates nothing.
+    /// Returns the first condition of the ranks that fails. Allocates no memory.
     pub fn fault(&self, plan: &Plan) -> Option<RankFault>
         requires { IsTrue (spec.ranks_fit plan.now self.now) }
         ensures { result ≡ first_failing (spec.rank_rows plan.now self.now) }

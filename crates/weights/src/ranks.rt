@@ -1,4 +1,4 @@
-//! The ranks of pools, and the reach and level of classes.
+//! The ranks of pools, and the reaches and levels of classes.
 
 ghost use Rattle.std.specs.Prelude.{◌≡◌, ◌<◌, length};
 ghost use Rattle.weights.specs.Ranks as spec;
@@ -7,8 +7,8 @@ use crate::are_small;
 use job_bodies::Plan;
 use std::marker::Model;
 
-/// The ranks of pools, and the reach and level of classes: integers from 0 to
-/// [`MAX_WEIGHT`](job_bodies::MAX_WEIGHT), in plan order.
+/// The ranks of pools, and the reaches and levels of classes, in plan order. Each number is from 0
+/// to [`MAX_WEIGHT`](job_bodies::MAX_WEIGHT).
 #[derive(Debug, Drop)]
 pub struct Ranks {
     /// The rank of each pool.
@@ -51,8 +51,8 @@ impl Ranks {
         self.levels[class]
     }
 
-    /// Returns whether there is a rank for each pool and a reach and a level for each class, and no
-    /// number is above the limit.
+    /// Returns whether there are a rank for each pool and a reach and a level for each class, and
+    /// each number is at most [`MAX_WEIGHT`](job_bodies::MAX_WEIGHT).
     pub fn fits(&self, plan: &Plan) -> bool
         ensures { result ≡ spec.ranks_fit plan.now self.now }
     {

@@ -1,9 +1,9 @@
-//! One condition of a certificate, and its place in the plan.
+//! A condition of a certificate, and its place in the plan.
 
 ghost use Rattle.std.specs.Prelude.{◌≡◌};
 ghost use Rattle.weights.specs.Row.{fails, row};
 
-/// A rule of a certificate.
+/// A rule of a certificate. Each rule applies at several places of the plan.
 #[derive(Clone, Copy, Debug, PartialEq, Eq)]
 pub enum Rule {
     /// The reach of a class is at least the rank of its pool.
@@ -12,30 +12,31 @@ pub enum Rule {
     K2,
     /// The level of a class is above that of each class that it submits.
     K3,
-    /// Work does not increase the weight of its actor.
+    /// `work` does not increase the weight of its actor.
     V2,
-    /// The weight of an actor before a submit covers its weight afterwards and that of the queued
-    /// job.
+    /// The weight of an actor before a submit is at least its weight afterwards plus the weight of
+    /// the queued job.
     V3,
-    /// The weights of a queued job and of the worker that takes it cover the weight of the job at
-    /// its first position.
+    /// The weight of a job at its first position is at most the weight of the queued job plus that
+    /// of a worker of its pool.
     V4,
     /// A get increases the weight of its actor by at most the weight of the done job.
     V5,
-    /// The weight of a job at its end covers those of the done job and of its idle worker.
+    /// The weight of a job at its end is at least the weight of the done job plus that of a worker
+    /// of its pool.
     V6,
-    /// The weight of a client at its end covers its weight at its start.
+    /// A client that repeats weighs at its end at least as much as at its start.
     V7,
     /// The weight of a queued job of the pool in its standing vector is at least 1.
     S1,
     /// The total of the standing vector is at most the capacity of the queue.
     S2,
-    /// Workers have weight 0 in a lifetime vector.
+    /// The weight of each worker in a lifetime vector is 0.
     L1,
     /// The weight of a job of the pool in its lifetime vector is at least 1 at every point.
     L2,
     /// The total of the lifetime vector is at most the number of jobs that the queue and the
-    /// threads have room for.
+    /// threads of the pool have room for.
     L3,
     /// A get does not increase the weight of its actor in a lifetime vector.
     L5,
@@ -45,15 +46,15 @@ pub enum Rule {
     B2,
 }
 
-/// The place of a rule: a class or a kind of client, one action of its body, the workers of a pool,
-/// or the whole plan. Pools, classes, kinds and actions are counted from 0.
+/// The place of a rule: a class or a client kind, one action of its body, the workers of a pool, or
+/// the whole plan. Pools, classes, client kinds and actions are counted from 0.
 #[derive(Clone, Copy, Debug, PartialEq, Eq)]
 pub enum Place {
     Class(usize),
     /// A class, and the position of an action in its body.
     ClassAction(usize, usize),
     Client(usize),
-    /// A kind of client, and the position of an action in its body.
+    /// A client kind, and the position of an action in its body.
     ClientAction(usize, usize),
     /// The workers of a pool.
     Worker(usize),
@@ -70,7 +71,7 @@ pub struct Row {
 }
 
 impl Row {
-    /// Creates the row for this rule at this place.
+    /// Creates the row of this rule at this place.
     pub fn new(rule: Rule, place: Place, left: u64, right: u64) -> Row
         ensures { result ≡ row rule place left right }
     {
@@ -82,7 +83,7 @@ impl Row {
         }
     }
 
-    /// Returns whether `left` is greater than `right`.
+    /// Returns whether the inequality does not hold: `left` is greater than `right`.
     pub fn fails(self) -> bool
         ensures { result ≡ fails self }
     {
@@ -90,7 +91,7 @@ impl Row {
     }
 }
 
-/// A row whose `left` is greater than its `right`.
+/// A failing row: its `left` is greater than its `right`.
 pub type RowFault = Row;
 /// A failing row of a pool's standing or lifetime vector.
 pub type StandingFault = Row;

@@ -1,4 +1,4 @@
-//! The rows of a vector at each point of a plan.
+//! The rows V2 to V7 of a vector, for all classes and client kinds of a plan.
 
 ghost use Rattle.std.specs.Prelude.{◌≡◌, ◌+◌, IsTrue, Some, length, slice_get};
 ghost use Rattle.std.specs.List.{flat_map, enumerate_from};
@@ -14,8 +14,8 @@ use crate::body::{Body, BodyOwner, visit_body_rows};
 use crate::{GetReturn, Place, Row, RowVisitor, Rule, Vector};
 use job_bodies::{Class, Client, Plan};
 
-/// Returns V4 of a class: the weights of a queued job and of its worker cover that of the job at
-/// its first position.
+/// Returns row V4 of class `number`: the weight of a job at its first position is at most the
+/// weight of the queued job plus that of a worker of its pool.
 fn take_row(plan: &Plan, vector: &Vector, number: usize, class: &Class) -> Row
     requires fits { IsTrue (spec.vector_fits plan.now vector.now) }
     requires well_formed { IsWellFormed plan.now }
@@ -34,8 +34,8 @@ fn take_row(plan: &Plan, vector: &Vector, number: usize, class: &Class) -> Row
     )
 }
 
-/// Returns V6 of a class: the weight of a job at its end covers those of the done job and of its
-/// idle worker.
+/// Returns row V6 of class `number`: the weight of a job at its end is at least the weight of the
+/// done job plus that of a worker of its pool.
 fn end_row(plan: &Plan, vector: &Vector, number: usize, class: &Class) -> Row
     requires fits { IsTrue (spec.vector_fits plan.now vector.now) }
     requires well_formed { IsWellFormed plan.now }
@@ -54,7 +54,7 @@ fn end_row(plan: &Plan, vector: &Vector, number: usize, class: &Class) -> Row
     )
 }
 
-/// Visits the rows of a class: V4, its actions, V6.
+/// Passes the rows of class `number` to the visitor: V4, then those of its actions, then V6.
 fn visit_class_rows<V: RowVisitor>(
     get_return: GetReturn,
     plan: &Plan,
@@ -79,8 +79,8 @@ fn visit_class_rows<V: RowVisitor>(
     visitor.visit(end_row(plan, vector, number, class));
 }
 
-/// Returns V7 of a kind of client: the weight of a client at its end covers its weight at its
-/// start.
+/// Returns row V7 of client kind `number`: the weight of a client at its end is at least its weight
+/// at its start.
 fn loop_row(plan: &Plan, vector: &Vector, number: usize, client: &Client) -> Row
     requires fits { IsTrue (spec.vector_fits plan.now vector.now) }
     requires well_formed { IsWellFormed plan.now }
@@ -97,7 +97,8 @@ fn loop_row(plan: &Plan, vector: &Vector, number: usize, client: &Client) -> Row
     )
 }
 
-/// Visits the rows of a kind of client: its actions, and V7 if it repeats.
+/// Passes the rows of client kind `number` to the visitor: those of its actions, and V7 if it
+/// repeats.
 fn visit_client_rows<V: RowVisitor>(
     get_return: GetReturn,
     plan: &Plan,
@@ -123,7 +124,7 @@ fn visit_client_rows<V: RowVisitor>(
     }
 }
 
-/// Visits the rows of all classes.
+/// Passes the rows of each class to the visitor.
 fn visit_classes<V: RowVisitor>(
     get_return: GetReturn,
     plan: &Plan,
@@ -139,7 +140,7 @@ fn visit_classes<V: RowVisitor>(
     }
 }
 
-/// Visits the rows of all kinds of client.
+/// Passes the rows of each client kind to the visitor.
 fn visit_clients<V: RowVisitor>(
     get_return: GetReturn,
     plan: &Plan,
@@ -156,8 +157,8 @@ fn visit_clients<V: RowVisitor>(
 }
 
 impl Vector {
-    /// Visits the rows V2 to V7 of each class and then of each kind of client. If a get returns
-    /// nothing, L5 takes the place of V5.
+    /// Passes the rows V2 to V7 of each class and then of each client kind to the visitor. L5
+    /// replaces V5 if `get_return` is `NoWeight`.
     pub fn visit_rows<V: RowVisitor>(&self, plan: &Plan, get_return: GetReturn, visitor: &mut V)
         requires fits { IsTrue (spec.vector_fits plan.now self.now) }
         ensures { Visits V.HasSeen visitor.old visitor.new (rows get_return plan.now self.now) }

@@ -1,5 +1,5 @@
-//! The conditions of a pool's standing vector: the number of queued jobs never exceeds the capacity
-//! of the queue.
+//! The conditions of the standing vector of a pool: the number of queued jobs never exceeds the
+//! capacity of the queue.
 
 ghost use Rattle.std.specs.Prelude.{◌≡◌, ◌==◌, ◌<◌, ◌∷◌, [], if◌then◌else◌, IsTrue, Some, length, map, slice_get};
 ghost use Rattle.job_bodies.specs.WellFormed.{IsWellFormed};
@@ -15,7 +15,7 @@ ghost use Rattle.weights.specs.Visits.{Visits};
 use crate::{FirstFault, GetReturn, Place, Row, RowFault, RowVisitor, Rule, StandingFault, Vector};
 use job_bodies::{Class, Plan};
 
-/// Visits S1 of a class if the class belongs to the pool.
+/// Passes row S1 of class `number` to the visitor, if the class belongs to the pool.
 fn visit_queued_row<V: RowVisitor>(
     plan: &Plan,
     pool: usize,
@@ -40,7 +40,7 @@ fn visit_queued_row<V: RowVisitor>(
     }
 }
 
-/// Visits S1 of each class of the pool.
+/// Passes row S1 of each class of the pool to the visitor.
 fn visit_queued_rows<V: RowVisitor>(plan: &Plan, pool: usize, vector: &Vector, visitor: &mut V)
     requires { IsTrue (spec.vector_fits plan.now vector.now) }
     ensures { let all = map (λ entry. row S1 (place.Class entry.0) 1 (spec.queued_weight vector.now entry.0)) (classes_of plan.now pool) in
@@ -52,8 +52,8 @@ fn visit_queued_rows<V: RowVisitor>(plan: &Plan, pool: usize, vector: &Vector, v
 }
 
 impl Vector {
-    /// Visits the conditions of the pool's standing vector: V2 to V7, then S1 of each class of the
-    /// pool, then S2.
+    /// Passes all conditions of the pool's standing vector to the visitor: V2 to V7, then S1 of
+    /// each class of the pool, then S2.
     pub fn visit_standing_rows<V: RowVisitor>(&self, plan: &Plan, pool: usize, visitor: &mut V)
         requires fits { IsTrue (spec.vector_fits plan.now self.now) }
         requires pool { pool < length plan.now.pools }
@@ -65,7 +65,7 @@ impl Vector {
         visitor.visit(Row::new(Rule::S2, Place::Total, self.total(plan), pool.queue));
     }
 
-    /// Returns the first of the conditions V2 to V7 that fails. Allocates nothing.
+    /// Returns the first of the conditions V2 to V7 that fails. Allocates no memory.
     pub fn first_fault(&self, plan: &Plan) -> Option<RowFault>
         requires { IsTrue (spec.vector_fits plan.now self.now) }
         ensures { result ≡ first_failing (rows DoneWeight plan.now self.now) }
@@ -76,7 +76,7 @@ impl Vector {
     }
 
     /// Returns the first condition of the pool's standing vector that fails, in the order V2 to V7,
-    /// S1, S2. Allocates nothing.
+    /// S1, S2. Allocates no memory.
     pub fn standing_fault(&self, plan: &Plan, pool: usize) -> Option<StandingFault>
         requires fits { IsTrue (spec.vector_fits plan.now self.now) }
         requires pool { pool < length plan.now.pools }

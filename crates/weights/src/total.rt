@@ -1,4 +1,5 @@
-//! The weight of the initial state of a plan.
+//! The total of a vector: the weight of all clients at their start and of the maximum of workers of
+//! each pool.
 
 ghost use Rattle.std.specs.Prelude.{◌≡◌, ◌≤◌, ◌*◌, sum_by, IsTrue};
 ghost use Rattle.std.specs.List.{enumerate_from};
@@ -23,7 +24,7 @@ fn clients_total(plan: &Plan, vector: &Vector) -> u64
     total
 }
 
-/// Returns the weight of the maximum number of workers of all pools.
+/// Returns the weight of all workers if each pool has its maximum of them.
 fn workers_total(plan: &Plan, vector: &Vector) -> u64
     requires { IsTrue (spec.vector_fits plan.now vector.now) }
     ensures value { result
@@ -39,7 +40,7 @@ fn workers_total(plan: &Plan, vector: &Vector) -> u64
 }
 
 impl Vector {
-    /// Returns the weight of the initial state: every client at its start, and the maximum number
+    /// Returns the total of the vector: the weight of all clients at their start and of the maximum
     /// of workers of each pool. The sum never overflows.
     pub fn total(&self, plan: &Plan) -> u64
         requires { IsTrue (spec.vector_fits plan.now self.now) }

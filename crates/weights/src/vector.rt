@@ -5,16 +5,17 @@ ghost use Rattle.weights.specs.Vector as spec;
 
 use std::marker::Model;
 
-/// The weights of the points of a plan for one bound of one pool: integers from 0 to
-/// [`MAX_WEIGHT`](job_bodies::MAX_WEIGHT), in plan order.
+/// The weights of all points of a plan, for one bound of one pool, in plan order. Each weight is
+/// from 0 to [`MAX_WEIGHT`](job_bodies::MAX_WEIGHT).
 #[derive(Debug, Drop)]
 pub struct Vector {
     /// The weight of one worker of each pool.
     pub workers: Vec<u64>,
-    /// The weights of a job of each class: queued, at each position of its body from 0 to its
-    /// length, and done.
+    /// The weights of a job of each class: when it is queued, at each position of its body from 0
+    /// to the length of the body, and when it is done.
     pub classes: Vec<Vec<u64>>,
-    /// The weights of a client of each kind, at each position of its body from 0 to its length.
+    /// The weights of a client of each kind: at each position of its body from 0 to the length of
+    /// the body.
     pub clients: Vec<Vec<u64>>,
 }
 
@@ -33,7 +34,8 @@ impl Vector {
         self.workers[pool]
     }
 
-    /// Returns the weights of a job of the class: queued, at each position of its body, and done.
+    /// Returns the weights of a job of the class: when it is queued, at each position of its body,
+    /// and when it is done.
     pub fn class_weights(&self, class: usize) -> &[u64]
         requires { class < length self.now.classes }
         ensures { result.now ≡ spec.class_weights self.now class }
@@ -41,7 +43,7 @@ impl Vector {
         &self.classes[class]
     }
 
-    /// Returns the weights of a client of the kind at each position of its body.
+    /// Returns the weights of a client of this kind at each position of its body.
     pub fn client_weights(&self, client: usize) -> &[u64]
         requires { client < length self.now.clients }
         ensures { result.now ≡ spec.client_weights self.now client }

@@ -7,21 +7,21 @@ ghost use Rattle.weights.specs.Visits.{Visits};
 
 use crate::{Row, RowFault};
 
-/// A visitor of the rows of a list, in order. The same walk over the conditions of a certificate
-/// finds the first one that fails and lists all of them.
+/// A visitor of a list of rows. One walk over the conditions of a certificate serves a visitor that
+/// finds the first failing row, and another that lists all rows.
 pub trait RowVisitor {
-    // The state of the visitor is correct after a visit of exactly these rows.
+    // The state of the visitor is that after exactly these rows.
     ghost HasSeen: { Self → List FirstFailing → Type 0 };
 
-    /// Visits the next row.
+    /// Processes the next row.
     fn visit(&mut self, row: Row)
         ensures { Visits HasSeen self.old self.new (row ∷ []) };
 }
 
-/// A visitor that finds the first row that fails. Allocates nothing.
+/// A visitor that finds the first failing row. Allocates no memory.
 #[derive(Clone, Copy)]
 pub struct FirstFault {
-    /// The first failing row so far.
+    /// The first failing row of those that were visited, or `None` if none of them fails.
     pub found: Option<RowFault>,
 }
 

@@ -1,4 +1,4 @@
--- The rows of the classes before this one were visited.
+-- The loop of `visit_all_counted_rows`: the rows of the classes before the current one were visited.
 use Rattle.std.proofs.Common.{[]}
 use Rattle.std.specs.Prelude.{◌==◌, if◌then◌else◌}
 use Rattle.weights.proofs.Walks.{HasVisited}

@@ -1,4 +1,4 @@
--- The rows of the actions before this position were visited.
+-- The loop of `visit_counted_rows`: the rows of the actions before the current position were visited.
 use Rattle.std.proofs.Common.{[], ◌∷◌, ◌&&◌}
 use Rattle.std.specs.Prelude.{if◌then◌else◌}
 use Rattle.weights.specs.declared.row.Rule.TheVariants.{B1}

@@ -1,4 +1,4 @@
--- The rows of the actions before this position were visited.
+-- The loop of `visit_body_rows`: the rows of the actions before the current position were visited.
 use Rattle.std.proofs.Common.{[], ◌∷◌}
 use Rattle.std.specs.Prelude.{slice_index}
 use Rattle.weights.specs.Body.{place_at}

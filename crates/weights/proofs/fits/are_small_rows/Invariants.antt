@@ -1,4 +1,4 @@
--- The remaining rows decide the result.
+-- The loop of `are_small_rows`: the numbers of all rows are within the limit exactly when those of the remaining rows are.
 use Rattle.std.proofs.Common.{◌≡◌, List, ℕ, drop, map}
 use Rattle.std.specs.List.{list_all}
 use Rattle.weights.specs.Vector.{is_small}

@@ -1,4 +1,4 @@
--- The rows of the weights before this one were visited.
+-- The loop of `visit_l2_rows`: the rows of the weights before the current one were visited.
 use Rattle.std.proofs.Common.{[], ◌∷◌}
 use Rattle.weights.specs.declared.row.Rule.TheVariants.{L2}
 use Rattle.weights.specs.declared.row.Place.TheVariants.{Class}

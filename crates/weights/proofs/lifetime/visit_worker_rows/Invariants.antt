@@ -1,4 +1,4 @@
--- The rows of the pools before this one were visited.
+-- The loop of `visit_worker_rows`: the rows of the pools before the current one were visited.
 use Rattle.std.proofs.Common.{[], ◌∷◌}
 use Rattle.weights.specs.declared.row.Rule.TheVariants.{L1}
 use Rattle.weights.specs.declared.row.Place.TheVariants.{Worker}

@@ -1,4 +1,4 @@
--- The rows of the actions before this position were visited.
+-- The loop of `visit_action_rows`: the rows of the actions before the current position were visited.
 use Rattle.weights.proofs.Walks.{HasVisited}
 use Rattle.weights.specs.Ranks.{rank_rows_of_action}
 use Rattle.weights.proofs.rank_rows.visit_action_rows.Given as goal

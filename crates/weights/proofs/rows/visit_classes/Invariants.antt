@@ -1,4 +1,4 @@
--- The rows of the classes before this one were visited.
+-- The loop of `visit_classes`: the rows of the classes before the current one were visited.
 use Rattle.weights.specs.Rows.{class_rows}
 use Rattle.weights.proofs.Walks.{HasVisited}
 use Rattle.weights.proofs.rows.visit_classes.Given as goal

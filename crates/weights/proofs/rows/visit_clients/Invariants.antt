@@ -1,4 +1,4 @@
--- The rows of the kinds of client before this one were visited.
+-- The loop of `visit_clients`: the rows of the client kinds before the current one were visited.
 use Rattle.weights.specs.Rows.{client_rows}
 use Rattle.weights.proofs.Walks.{HasVisited}
 use Rattle.weights.proofs.rows.visit_clients.Given as goal

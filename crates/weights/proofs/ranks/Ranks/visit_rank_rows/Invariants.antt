@@ -1,4 +1,4 @@
--- The rows of the classes before this one were visited.
+-- The loop of `visit_rank_rows`: the rows of the classes before the current one were visited.
 use Rattle.weights.proofs.Walks.{HasVisited}
 use Rattle.weights.specs.Ranks.{rank_rows_of_class}
 use Rattle.weights.proofs.ranks.Ranks.visit_rank_rows.Given as goal

@@ -1,4 +1,4 @@
--- The remaining classes decide the result.
+-- The loop of `has_class_shapes`: all classes have their numbers exactly when the remaining classes do.
 use Rattle.std.proofs.Common.{◌≡◌, ◌+◌, length, drop}
 use Rattle.std.specs.Prelude.{◌==◌}
 use Rattle.std.specs.List.{list_all, enumerate_from}

@@ -1,4 +1,4 @@
--- The remaining kinds of client decide the result.
+-- The loop of `has_client_shapes`: all client kinds have their numbers exactly when the remaining ones do.
 use Rattle.std.proofs.Common.{◌≡◌, ◌+◌, length, drop}
 use Rattle.std.specs.Prelude.{◌==◌}
 use Rattle.std.specs.List.{list_all, enumerate_from}
