@@ -1,4 +1,4 @@
-//! The levels of classes above those that they submit.
+//! The levels of classes: each class has a higher level than the classes that it submits.
 
 ghost use Rattle.std.specs.Prelude.{◌≡◌, IfOk, IfSome, length, vec_len};
 
@@ -7,29 +7,30 @@ use crate::submitted::submitted_classes;
 use job_bodies::{Action, Class, Plan};
 use std::alloc::{AllocError, Global};
 
-/// The placeholder for the level of a class that has none yet.
+/// The value in `Levels::of_classes` of a class whose level is not known yet.
 const NO_LEVEL: u64 = u64::MAX;
 
-/// The levels of a plan's classes, and which of them are submitted.
+/// The levels of the classes of a plan, and which classes are submitted.
 #[derive(Drop)]
 pub struct Levels {
     /// The level of each class: 1 plus the greatest level of the classes that it submits, or 0 if
     /// it submits none.
     pub of_classes: Vec<u64>,
-    /// The classes in ascending order of levels, so that each comes after all that it submits.
+    /// The classes in ascending order of levels: each class comes after all classes that it
+    /// submits.
     pub order: Vec<usize>,
-    /// Whether each class is submitted by a client, or by a job that a client causes. There are no
-    /// jobs of other classes, so no total counts them.
+    /// For each class, whether a client submits it, directly or through jobs of other classes. A
+    /// plan never has jobs of other classes, so these do not count towards any total.
     pub submitted: Vec<bool>,
 }
 
 impl Levels {
-    /// Returns the levels of the plan's classes, or `None` if a class submits itself, directly or
-    /// through other classes.
+    /// Returns the levels of the classes of the plan, or `None` if a class submits itself, directly
+    /// or through other classes.
     ///
     /// # Errors
     ///
-    /// [`AllocError`] if memory runs out.
+    /// Returns [`AllocError`] if memory runs out.
     pub fn of(alloc: Global, plan: &Plan) -> Result<Option<Levels>, AllocError>
         ensures { IfOk result (λ found.
             IfSome found (λ levels. vec_len levels.of_classes ≡ length plan.now.classes)) }
@@ -51,14 +52,14 @@ impl Levels {
         Ok(Some(levels))
     }
 
-    /// Returns whether the class is submitted.
+    /// Returns whether a client submits the class, directly or through jobs of other classes.
     pub(crate) fn is_submitted(&self, class: usize) -> bool {
         self.submitted.get(class).copied().unwrap_or(false)
     }
 
-    /// Gives this level to the classes that have no level yet and submit only classes of lower
-    /// levels. `known` has, for each class, how many actions at the start of its body are known to
-    /// do so, so that none is looked at twice.
+    /// Gives `level` to each class that has no level yet and submits only classes of lower levels.
+    /// For each class, `known` has the length of a prefix of its body that submits only classes of
+    /// lower levels, so that no action of this prefix is checked again.
     fn add_level(&mut self, plan: &Plan, level: u64, known: &mut [usize]) -> Result<(), AllocError>
         ensures { vec_len self.new.of_classes ≡ vec_len self.old.of_classes }
     {
@@ -74,8 +75,8 @@ impl Levels {
         Ok(())
     }
 
-    /// Returns how many actions at the start of the class's body submit only classes below this
-    /// level. The first `known` ones do.
+    /// Returns the length of the longest prefix of the class's body that submits only classes below
+    /// `level`. It is at least `known`.
     fn known_actions(&self, class: &Class, level: u64, known: usize) -> usize {
         let mut known = known;
         for action in class.body.iter().skip(known) {
@@ -87,7 +88,7 @@ impl Levels {
         known
     }
 
-    /// Returns whether the action submits nothing, or a class below this level.
+    /// Returns whether the action is not a submit, or submits a class below `level`.
     fn is_below(&self, action: Action, level: u64) -> bool {
         match action {
             Action::Submit(class) => number_at(&self.of_classes, class) < level,

@@ -1,9 +1,9 @@
-//! Least vectors of weights. A vector gives each part of a plan a weight so that the jobs of a pool
-//! have weight where they must, and no event makes a state heavier.
+//! Least vectors of weights. A vector gives each point of a plan a weight, so that the jobs of one
+//! pool weigh at least 1 where its bound needs it, and no event increases the sum of the weights.
 //!
-//! Searches for certificates are built from them. The contracts promise only the shape of the
-//! vectors, so a caller must check a vector before it relies on it, for example with
-//! `cert_check::accepts`. Tests show that the vectors are the intended ones.
+//! Searches for certificates use these vectors. The contracts promise only the shape of a vector,
+//! so a caller must check a vector before it relies on it, for example with `cert_check::accepts`.
+//! Tests show that the vectors are the intended ones.
 #![tactic(auto)]
 
 mod levels;

@@ -1,5 +1,5 @@
-//! The search for a vector with a small total. A loan gives the workers of a pool a weight, which
-//! makes its queued jobs lighter.
+//! The search for a vector with a small total. A *loan* gives each worker of one pool a weight, so
+//! that the queued jobs of this pool, the *lender*, can weigh less.
 
 ghost use Rattle.std.specs.Prelude.{◌≡◌, ◌<◌, ◌≤◌, length, IfOk, IfSome, IsTrue, vec_len};
 ghost use Rattle.weights.specs.Vector.{vector_fits};
@@ -15,10 +15,12 @@ use job_bodies::Plan;
 use std::alloc::{AllocError, Global};
 use weights::Vector;
 
-/// The maximum number of loans for one vector. Each makes the total smaller, so few are enough.
+/// The maximum number of loans for one vector. Each loan makes the total smaller, so few are
+/// enough.
 const MAX_LOANS: usize = 256;
 
-/// A new weight for the workers of a pool, and the index of the resulting sketch.
+/// A loan: the pool, the new weight of each of its workers, and the index of the resulting sketch
+/// in the cache.
 #[derive(Clone, Copy)]
 pub(crate) struct Loan {
     pub(crate) pool: usize,
@@ -26,30 +28,30 @@ pub(crate) struct Loan {
     pub(crate) place: usize,
 }
 
-/// The worker weights of each pool, and the resulting sketch.
+/// The weight of a worker of each pool after all loans, and the resulting sketch.
 #[derive(Drop)]
 pub(crate) struct Loans {
     pub(crate) workers: Vec<u64>,
-    /// The pools that got a loan, including those whose workers weigh nothing again.
+    /// The pools that got a loan at some time. The workers of some of them may weigh 0 again.
     pub(crate) lenders: Vec<usize>,
     pub(crate) sketch: Sketch,
 }
 
-/// Returns the loans that bring the total of the target within its limit or, if none do, those
-/// after which no further loan makes it smaller.
+/// Makes loans until the total of the target is within its limit, or no further loan makes the
+/// total smaller. Returns the resulting worker weights and their sketch.
 ///
-/// While the total is above its limit, one more pool lends: its workers get at most the weight of
-/// its jobs, so that its queued jobs weigh less. Each time, the loan with the smallest total is
-/// chosen.
+/// While the total is above its limit, one more pool becomes a lender: each of its workers gets the
+/// largest weight that a job of the pool has in its body, so that its queued jobs weigh less. Each
+/// time, the loan that gives the smallest total is chosen.
 ///
-/// Classes that are never submitted are left out, because a loan for their jobs would have no
-/// effect on the total. Only if the weight of such a class is above the limit, so that there is no
-/// vector, a pool lends as little as that class needs.
+/// Classes that are never submitted are ignored, because a loan for their jobs does not change the
+/// total. But if such a class has a weight above the limit, there is no vector. In this case the
+/// workers of one pool get the least weight with which fewer such classes are above the limit.
 ///
-/// The sketch of each combination of worker weights is computed once, since all that were tried are
-/// kept. The weight of a lender's jobs is looked up in the sketch in which that pool lends nothing.
-/// For the last lender that is the sketch before its loan, and for another lender often one that
-/// was tried and not chosen.
+/// A cache has the sketches of all combinations of worker weights that were tried, so none is
+/// computed twice. The largest weight of a lender's jobs comes from the sketch in which its workers
+/// weigh 0. For the last lender, this is the sketch before its loan. For another lender, it is
+/// often one that was tried and not chosen.
 pub(crate) fn minimize_total(
     alloc: Global,
     plan: &Plan,
@@ -82,8 +84,8 @@ pub(crate) fn minimize_total(
     })
 }
 
-/// Returns the least vector for the target, or `None` if none with a total within its limit is
-/// found.
+/// Returns a vector for the target with a total within its limit, or `None` if the search finds
+/// none.
 pub(crate) fn least_vector(
     alloc: Global,
     plan: &Plan,
@@ -103,8 +105,8 @@ pub(crate) fn least_vector(
     vector_of(alloc, plan, target, workers, &sketch)
 }
 
-/// Returns the next loan after the sketch at `place`, which belongs to these worker weights.
-/// `workers` is unchanged afterwards.
+/// Returns the next loan, or `None` if no loan helps. The sketch at `place` is that of the worker
+/// weights `workers`, which are unchanged afterwards.
 fn next_loan(
     sketch_cache: &mut SketchCache,
     workers: &mut [u64],
@@ -123,10 +125,11 @@ fn next_loan(
     }
 }
 
-/// Returns the loan with the smallest total, if that is smaller than the total at `place`.
-/// `workers` is unchanged afterwards.
+/// Returns the loan that gives the smallest total, or `None` if no loan gives a total below that of
+/// the sketch at `place`. This sketch is that of the worker weights `workers`, which are unchanged
+/// afterwards.
 ///
-/// A loan is skipped if the workers alone weigh as much as the smallest total so far.
+/// A loan is not tried if the workers alone would weigh as much as the smallest total found before.
 fn best_loan(
     sketch_cache: &mut SketchCache,
     workers: &mut [u64],
@@ -169,8 +172,8 @@ fn best_loan(
     Ok(best)
 }
 
-/// Returns the largest weight of a job of the pool in its body, when neither the pool's workers nor
-/// its done jobs have weight. For a pool that does not lend, the sketch at `place` has that number.
+/// Returns the largest weight that a job of the pool has in its body if the pool's workers and done
+/// jobs weigh 0. If its workers weigh 0 now, the sketch at `place` has this number.
 fn peak(
     sketch_cache: &mut SketchCache,
     workers: &mut [u64],

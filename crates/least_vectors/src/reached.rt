@@ -1,4 +1,4 @@
-//! The reach of classes.
+//! The reaches of classes.
 
 ghost use Rattle.std.specs.Prelude.{◌≡◌, IfOk, length, vec_len};
 
@@ -8,12 +8,12 @@ use job_bodies::{Action, Class, Plan};
 use std::alloc::{AllocError, Global};
 use weights::submitted_class;
 
-/// Returns the reach of each class for these ranks: the greatest of the rank of its own pool and of
-/// the reaches of the classes that its jobs get.
+/// Returns the reach of each class for these ranks: the maximum of the rank of its pool and of the
+/// reaches of the classes whose jobs it gets.
 ///
 /// # Errors
 ///
-/// [`AllocError`] if memory runs out.
+/// Returns [`AllocError`] if memory runs out.
 pub fn reach(
     alloc: Global,
     plan: &Plan,

@@ -1,5 +1,5 @@
-//! Loans for the sake of classes that are never submitted. No total counts their jobs, but their
-//! weights have a limit too.
+//! Loans that bring the weights of classes that are never submitted within the limit. Jobs of such
+//! a class do not count towards the total, but the vector must have weights for them.
 
 ghost use Rattle.std.specs.Prelude.{◌≡◌, ◌<◌, ◌≤◌, IfOk, IfSome, vec_len, length};
 
@@ -9,13 +9,13 @@ use crate::sketch_cache::SketchCache;
 use job_bodies::MAX_SIZE;
 use std::alloc::AllocError;
 
-/// The number of bisection steps over the weights up to [`MAX_SIZE`].
+/// The number of bisection steps that find one weight from 0 to [`MAX_SIZE`].
 const HALVINGS: usize = 20;
 
-/// Returns the loan that leaves the fewest classes that are never submitted above the weight limit.
-/// Among several such loans, the workers of the returned one weigh least. Returns `None` if no loan
-/// leaves fewer than the sketch at `place`, which belongs to these worker weights. `workers` is
-/// unchanged afterwards.
+/// Returns the loan after which the fewest classes that are never submitted have a weight above the
+/// limit. If several loans are equal in this, returns the one with the least weight of all workers.
+/// Returns `None` if no loan leaves fewer such classes than the sketch at `place` has. This sketch
+/// is that of the worker weights `workers`, which are unchanged afterwards.
 pub(crate) fn relieving_loan(
     sketch_cache: &mut SketchCache,
     workers: &mut [u64],
@@ -62,8 +62,9 @@ pub(crate) fn relieving_loan(
     Ok(best)
 }
 
-/// Returns the least weight of the pool's workers for which no more than `overweight_unsubmitted` classes that are
-/// never submitted are above the weight limit. Heavier workers never leave more of them.
+/// Returns the least weight of the pool's workers with which at most `overweight_unsubmitted`
+/// classes that are never submitted are above the weight limit. Bisection finds it, because heavier
+/// workers never leave more such classes above the limit.
 fn least_weight(
     sketch_cache: &SketchCache,
     workers: &mut [u64],

@@ -1,4 +1,4 @@
-//! The lightest vectors of a pool, for a search that changes the sizes of a plan.
+//! The lightest vectors of a pool, for searches that change the sizes of a plan.
 
 ghost use Rattle.std.specs.Prelude.{◌≡◌, ◌<◌, length, IfOk, IfSome, IsTrue, vec_len};
 ghost use Rattle.weights.specs.Vector.{vector_fits};
@@ -12,37 +12,39 @@ use job_bodies::Plan;
 use std::alloc::{AllocError, Global};
 use weights::Vector;
 
-/// A vector without its rows.
+/// The summary of a vector: the weights of workers and the total, without the weights of jobs and
+/// clients.
 #[derive(Drop)]
 pub struct VectorSummary {
     /// The weight of a worker of each pool.
     pub workers: Vec<u64>,
-    /// The pools whose workers got weight during the search. The search is the same for other
-    /// maximums if these pools have the same ones and the others no smaller ones.
+    /// The pools whose workers had weight at some time in the search. For other maximums, the
+    /// search gives the same result if the maximums of these pools are equal and those of the other
+    /// pools are not smaller.
     pub lenders: Vec<usize>,
-    /// The weight of the plan's start state.
+    /// The total of the vector.
     pub total: u64,
 }
 
-/// The kind of vector of a pool, for any core and queue of that pool.
+/// The kind of a vector of a pool. It does not depend on the core and the queue of the pool.
 #[derive(Clone, Copy)]
 pub enum Kind<'a> {
-    /// A standing vector. The workers of every pool can have weight.
+    /// A standing vector. The workers of each pool may have weight.
     Standing,
-    /// A lifetime vector.
+    /// A lifetime vector. No workers have weight.
     Lifetime,
-    /// A blocked vector for this rank of the pool. The pool's own workers never have weight:
-    /// together they would weigh more than any core leaves.
+    /// A blocked vector, for this rank of the pool. The workers of the pool itself never have
+    /// weight: the maximum of them would weigh at least core, but the total must be below core.
     Blocked {
         /// The reach of each class.
         reach: &'a [u64],
         rank: u64,
-        /// Whether the workers of other pools can have weight.
+        /// Whether the workers of other pools may have weight.
         lending: bool,
     },
 }
 
-/// A plan with other maximums than it declares.
+/// A plan whose maximums are replaced by others.
 #[derive(Clone, Copy)]
 pub struct ResizedPlan<'a> {
     pub plan: &'a Plan,
@@ -52,12 +54,13 @@ pub struct ResizedPlan<'a> {
 }
 
 impl ResizedPlan<'_> {
-    /// Returns the pool's vector with worker weights that bring its total down to `enough` or, if
-    /// none do, to the point where no further weight helps. Returns `None` if there is no vector.
+    /// Searches for worker weights with which the total of the pool's vector is at most `enough`.
+    /// If the search finds none, it uses the worker weights with the smallest total that it found.
+    /// Returns the summary of the vector, or `None` if there is no vector.
     ///
     /// # Errors
     ///
-    /// [`AllocError`] if memory runs out.
+    /// Returns [`AllocError`] if memory runs out.
     pub fn lightest(
         &self,
         alloc: Global,
@@ -84,12 +87,12 @@ impl ResizedPlan<'_> {
         }))
     }
 
-    /// Returns the pool's vector with these worker weights, or `None` if a number in it is above
-    /// the limit.
+    /// Returns the pool's vector with these worker weights, or `None` if one of its numbers is
+    /// above the limit.
     ///
     /// # Errors
     ///
-    /// [`AllocError`] if memory runs out.
+    /// Returns [`AllocError`] if memory runs out.
     pub fn vector(
         &self,
         alloc: Global,
@@ -106,7 +109,7 @@ impl ResizedPlan<'_> {
         vector_of(alloc, self.plan, &target, workers, &sketch)
     }
 
-    /// Creates the target of a search for a total of at most `limit`.
+    /// Returns the target of a search for a vector of this kind with a total of at most `limit`.
     fn target<'b>(&'b self, pool: usize, kind: Kind<'b>, limit: u64) -> Target<'b> {
         let target = match kind {
             Kind::Standing => Target::standing(pool, limit),

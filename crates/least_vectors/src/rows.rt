@@ -1,4 +1,4 @@
-//! The vector of a sketch, with a number for each position of each body.
+//! The complete vector of a sketch, with a weight for each position of each body.
 
 ghost use Rattle.std.specs.Prelude.{IfOk, IfSome, IsTrue};
 ghost use Rattle.weights.specs.Vector.{vector_fits};
@@ -11,8 +11,8 @@ use job_bodies::{Class, Client, Plan};
 use std::alloc::{AllocError, Global};
 use weights::Vector;
 
-/// Builds the vector of a sketch with these worker weights. Returns `None` if a number in it is
-/// above the limit.
+/// Builds the complete vector of a sketch with these worker weights. Returns `None` if one of its
+/// numbers is above the limit.
 pub(crate) fn vector_of(
     alloc: Global,
     plan: &Plan,
@@ -44,8 +44,8 @@ pub(crate) fn vector_of(
     })
 }
 
-/// Returns the weights of a job of the class when queued, at each position, and when done. They are
-/// computed from the end of the body.
+/// Returns the weights of a job of class `number`: when it is queued, at each position of its body,
+/// and when it is done. They are computed from the end of the body to its start.
 fn class_row(
     alloc: Global,
     target: &Target,
@@ -73,7 +73,8 @@ fn class_row(
     Ok(row)
 }
 
-/// Returns the weights of a client of the kind at each position, computed from the end of the body.
+/// Returns the weights of a client of this kind at each position of its body. They are computed
+/// from the end of the body to its start.
 fn client_row(
     alloc: Global,
     target: &Target,

@@ -1,5 +1,5 @@
-//! The weights of a plan's jobs and clients at their start and end, computed in one pass over the
-//! bodies.
+//! The weights of jobs when queued and when done, and of clients at their start, computed in one
+//! pass over the bodies.
 
 use crate::Levels;
 use crate::numbers::{number_at, put_at};
@@ -9,10 +9,11 @@ use job_bodies::{Action, Class, Client, MAX_WEIGHT, Plan};
 use std::alloc::{AllocError, Global};
 use weights::submitted_class;
 
-/// The total of a vector that does not exist, or is too heavy for every bound.
+/// The total of a sketch without a vector: a weight is above the limit, or a client that repeats
+/// would need ever more weight. A total that overflows is this number too.
 pub(crate) const TOO_HEAVY: u64 = u64::MAX;
 
-/// A vector without its rows.
+/// The parts of a vector that determine its total, without the weights at the positions of bodies.
 #[derive(Drop)]
 pub(crate) struct Sketch {
     /// The weight of a queued job of each class.
@@ -21,20 +22,20 @@ pub(crate) struct Sketch {
     pub(crate) done: Vec<u64>,
     /// The weight of a client of each kind at the start of its body.
     pub(crate) starts: Vec<u64>,
-    /// The largest weight of a job of each pool in its body, when its done jobs have no weight.
-    /// Classes that are never submitted do not count.
+    /// For each pool, the largest weight that a job has in its body if its done jobs weigh 0. Jobs
+    /// of classes that are never submitted are ignored.
     pub(crate) peaks: Vec<u64>,
-    /// The weight of all workers together.
+    /// The weight of all workers in total.
     pub(crate) on_loan: u64,
-    /// The number of classes that are never submitted and whose weight is above the limit.
+    /// The number of classes that are never submitted and have a weight above the limit.
     pub(crate) overweight_unsubmitted: usize,
-    /// The weight of the plan's start state.
+    /// The total of the vector, or [`TOO_HEAVY`].
     pub(crate) total: u64,
 }
 
 impl Sketch {
-    /// Computes the sketch of the target with these worker weights, from the lowest level of the
-    /// classes to the highest.
+    /// Computes the sketch of the target with these worker weights. The classes are processed in
+    /// ascending order of levels.
     pub(crate) fn of(
         alloc: Global,
         plan: &Plan,
@@ -63,8 +64,9 @@ impl Sketch {
         Ok(sketch)
     }
 
-    /// Computes the weights of a job of the class when queued and when done. A done job gets as
-    /// much weight as possible, so that a get returns much, but no more than when queued.
+    /// Computes the weights of a queued and of a done job of the class. A done job gets the
+    /// greatest weight that its body allows, since a get then returns more to its actor, but no
+    /// more than a queued job.
     fn weigh_class(
         &mut self,
         target: &Target,
@@ -99,9 +101,9 @@ impl Sketch {
         }
     }
 
-    /// Computes the weight of a client of the kind at the start of its body. A client that repeats
-    /// weighs the same at the end and at the start, so there is no vector if that makes the start
-    /// heavier.
+    /// Computes the weight of a client of this kind at the start of its body. A client that repeats
+    /// must weigh at the end as much as at the start. If raising the end to that weight also raises
+    /// the start, no vector exists.
     fn weigh_client(&mut self, target: &Target, client: &Client) -> Result<(), AllocError> {
         let mut weight = Weight::at_end(0);
         let mut peak = 0;
@@ -117,7 +119,7 @@ impl Sketch {
         Ok(())
     }
 
-    /// Returns the weight of an actor before the action, given its weight after it.
+    /// Returns the weight of an actor before the action, given its weight after the action.
     pub(crate) fn before(
         &self,
         target: &Target,
@@ -135,7 +137,7 @@ impl Sketch {
         }
     }
 
-    /// Adds a weight `count` times to the total.
+    /// Adds `count` times this weight to the total.
     fn add(&mut self, weight: u64, count: u64) {
         self.total = self.total.saturating_add(weight.saturating_mul(count));
     }

@@ -1,4 +1,4 @@
-//! A cache of the sketches that the search for one vector computes, so that none is computed twice.
+//! A cache of the sketches of one search, so that none is computed twice.
 
 ghost use Rattle.std.specs.Prelude.{◌<◌, ◌≤◌, IfOk, vec_len};
 
@@ -8,14 +8,14 @@ use crate::target::Target;
 use job_bodies::Plan;
 use std::alloc::{AllocError, Global};
 
-/// The worker weights of each pool, and the resulting sketch.
+/// The weight of a worker of each pool, and the resulting sketch.
 #[derive(Drop)]
 struct CachedSketch {
     workers: Vec<u64>,
     sketch: Sketch,
 }
 
-/// The target, and the sketches of all worker weights that were tried for it.
+/// A cache of the sketches of one target, by worker weights.
 #[derive(Drop)]
 pub(crate) struct SketchCache<'a> {
     alloc: Global,
@@ -42,7 +42,8 @@ impl<'a> SketchCache<'a> {
         }
     }
 
-    /// Returns the index of the sketch for these worker weights. Computes it if it is missing.
+    /// Returns the index of the sketch for these worker weights. Computes the sketch if the cache
+    /// does not have it.
     pub(crate) fn index_of(&mut self, workers: &[u64]) -> Result<usize, AllocError>
         ensures in_range { IfOk result (λ place. place < vec_len self.new.sketches) }
         ensures kept { vec_len self.old.sketches ≤ vec_len self.new.sketches }
@@ -61,8 +62,8 @@ impl<'a> SketchCache<'a> {
         Ok(place)
     }
 
-    /// Returns how many classes that are never submitted are above the weight limit with these
-    /// worker weights. The result is not cached.
+    /// Returns the number of classes that are never submitted and, with these worker weights, have
+    /// a weight above the limit. The sketch is not cached.
     pub(crate) fn overweight_unsubmitted(&self, workers: &[u64]) -> Result<usize, AllocError> {
         let sketch = Sketch::of(self.alloc, self.plan, self.levels, self.target, workers)?;
         Ok(sketch.overweight_unsubmitted)
@@ -75,7 +76,7 @@ impl<'a> SketchCache<'a> {
         &self.sketches[place].sketch
     }
 
-    /// Returns the sketch at this index and drops the others.
+    /// Returns the sketch at this index and drops the cache.
     pub(crate) fn into_sketch(mut self, place: usize) -> Sketch
         requires { place < vec_len self.sketches }
     {

@@ -1,10 +1,10 @@
-//! The classes that are submitted.
+//! The classes that clients submit, directly or through jobs of other classes.
 
 use job_bodies::{Action, Plan};
 use std::alloc::{AllocError, Global};
 
-/// Returns for each class whether it is submitted by a client, or by a job that a client causes. In
-/// `order` each class must come after all that it submits.
+/// Returns, for each class, whether a client submits it, directly or through jobs of other classes.
+/// In `order`, each class must come after all classes that it submits.
 pub(crate) fn submitted_classes(
     alloc: Global,
     plan: &Plan,

@@ -1,53 +1,54 @@
-//! The vector of a pool that is searched for.
+//! The target of a search for a vector of a pool.
 
 use crate::numbers::number_at;
 use job_bodies::{Action, Class, Plan, Pool};
 use weights::submitted_class;
 
-/// The states in which the jobs of the pool must weigh at least 1.
+/// The points at which each job of the pool must weigh at least 1.
 #[derive(Clone, Copy)]
 pub(crate) enum WeightRequirement<'a> {
-    /// While they are queued, as in a standing vector.
+    /// While the job is queued, as in a standing vector.
     WhileQueued,
-    /// At each get of a job of a class that reaches this rank, as in a blocked vector.
+    /// At each get of a job whose class has at least this rank as its reach, as in a blocked
+    /// vector.
     AtGets {
         /// The reach of each class.
         reach: &'a [u64],
         rank: u64,
     },
-    /// In every state, including done, as in a lifetime vector. A get then returns no weight, and
-    /// workers have no weight.
+    /// At every point, including done, as in a lifetime vector. A get then returns no weight to its
+    /// actor, and workers weigh 0.
     Everywhere,
 }
 
-/// The pools whose workers can have weight, so that their jobs weigh less.
+/// The pools whose workers may have weight, so that their queued jobs can weigh less.
 #[derive(Clone, Copy, PartialEq, Eq)]
 pub(crate) enum Lenders {
     /// All pools.
     All,
-    /// All pools except the one whose vector it is.
+    /// All pools except the pool of the target.
     Others,
     /// No pool.
     NoPool,
 }
 
-/// A search target: a vector of a pool.
+/// The target of a search: a vector of one pool, with a limit on its total.
 #[derive(Clone, Copy)]
 pub(crate) struct Target<'a> {
-    /// The pool's number.
+    /// The index of the pool.
     pub(crate) pool: usize,
-    /// The states in which its jobs weigh at least 1.
+    /// The points at which each job of the pool must weigh at least 1.
     pub(crate) requirement: WeightRequirement<'a>,
-    /// The largest allowed total.
+    /// The greatest total that the search accepts.
     pub(crate) limit: u64,
-    /// The pools whose workers can have weight.
+    /// The pools whose workers may have weight.
     pub(crate) lenders: Lenders,
-    /// The maximum of each pool, if it differs from the plan's.
+    /// The maximum of each pool, or `None` if these are the plan's.
     pub(crate) maxes: Option<&'a [u64]>,
 }
 
 impl<'a> Target<'a> {
-    /// Creates the target of a standing vector of the pool with a total of at most `limit`.
+    /// Creates the target of a standing vector of pool `number` with a total of at most `limit`.
     pub(crate) fn standing(number: usize, limit: u64) -> Target<'static> {
         Target {
             pool: number,
@@ -58,7 +59,7 @@ impl<'a> Target<'a> {
         }
     }
 
-    /// Creates the target of a lifetime vector of the pool with a total of at most `limit`.
+    /// Creates the target of a lifetime vector of pool `number` with a total of at most `limit`.
     pub(crate) fn lifetime(number: usize, limit: u64) -> Target<'static> {
         Target {
             pool: number,
@@ -69,8 +70,8 @@ impl<'a> Target<'a> {
         }
     }
 
-    /// Creates the target of a blocked vector of the pool for this rank and these reaches, with a
-    /// total of at most `limit`.
+    /// Creates the target of a blocked vector of pool `number` with a total of at most `limit`, for
+    /// this rank of the pool and these reaches of the classes.
     pub(crate) fn blocked(number: usize, limit: u64, reach: &'a [u64], rank: u64) -> Target<'a> {
         Target {
             pool: number,
@@ -81,8 +82,7 @@ impl<'a> Target<'a> {
         }
     }
 
-    /// Disables loans if no total with loans can be within the limit, which is so for the limit 0:
-    /// workers with weight make it positive.
+    /// Allows no lenders if the limit is 0: workers with weight would make the total positive.
     pub(crate) fn without_useless_loans(self) -> Target<'a> {
         if self.limit > 0 {
             return self;
@@ -93,7 +93,7 @@ impl<'a> Target<'a> {
         }
     }
 
-    /// Returns whether the workers of the pool can have weight.
+    /// Returns whether the workers of the pool may have weight.
     pub(crate) fn may_lend(&self, pool: usize) -> bool {
         match self.lenders {
             Lenders::All => true,
@@ -102,7 +102,7 @@ impl<'a> Target<'a> {
         }
     }
 
-    /// Returns the maximum number of workers of the pool of this number.
+    /// Returns the maximum number of workers of `pool`, whose index is `number`.
     pub(crate) fn max_of(&self, number: usize, pool: &Pool) -> u64 {
         match self.maxes {
             Some(maxes) => number_at(maxes, number),
@@ -110,7 +110,7 @@ impl<'a> Target<'a> {
         }
     }
 
-    /// Returns the weight of all workers together, given the weight of a worker of each pool.
+    /// Returns the weight of all workers in total, given the weight of a worker of each pool.
     pub(crate) fn workers_weigh(&self, plan: &Plan, workers: &[u64]) -> u64 {
         let mut total = 0u64;
         for (number, pool) in plan.pools().iter().enumerate() {
@@ -120,12 +120,12 @@ impl<'a> Target<'a> {
         total
     }
 
-    /// Returns whether a get gives the weight of the got job back to its actor.
+    /// Returns whether a get returns the weight of the done job to its actor.
     pub(crate) fn gives_back(&self) -> bool {
         !matches!(self.requirement, WeightRequirement::Everywhere)
     }
 
-    /// Returns the least weight of a queued job of the class.
+    /// Returns the least weight that a queued job of the class must have.
     pub(crate) fn need_queued(&self, class: &Class) -> u64 {
         match self.requirement {
             WeightRequirement::WhileQueued | WeightRequirement::Everywhere => self.one_of(class),
@@ -133,7 +133,7 @@ impl<'a> Target<'a> {
         }
     }
 
-    /// Returns the least weight of a job of the class at this action of its body.
+    /// Returns the least weight that a job of the class must have before this action of its body.
     pub(crate) fn need_at(&self, class: &Class, action: Action) -> u64 {
         match (self.requirement, action) {
             (WeightRequirement::Everywhere, _) => self.one_of(class),
@@ -149,7 +149,7 @@ impl<'a> Target<'a> {
         }
     }
 
-    /// Returns the least weight of a job of the class at the end of its body.
+    /// Returns the least weight that a job of the class must have at the end of its body.
     pub(crate) fn need_at_end(&self, class: &Class) -> u64 {
         match self.requirement {
             WeightRequirement::Everywhere => self.one_of(class),
@@ -157,7 +157,7 @@ impl<'a> Target<'a> {
         }
     }
 
-    /// Returns 1 for a class of the pool, and 0 for another one.
+    /// Returns 1 if the class belongs to the pool of the target, and otherwise 0.
     fn one_of(&self, class: &Class) -> u64 {
         if class.pool == self.pool { 1 } else { 0 }
     }

@@ -11,12 +11,12 @@ use job_bodies::Plan;
 use std::alloc::{AllocError, Global};
 use weights::{Bound, Vector};
 
-/// Returns the bound of the pool's queue: a standing vector, or a lifetime vector if no standing
-/// one is found. Returns `None` if neither is found.
+/// Returns the bound of the pool's queue: a standing vector or, if the search finds none, a
+/// lifetime vector. Returns `None` if the search finds neither.
 ///
 /// # Errors
 ///
-/// [`AllocError`] if memory runs out.
+/// Returns [`AllocError`] if memory runs out.
 pub fn pool_bound(
     alloc: Global,
     plan: &Plan,
@@ -40,11 +40,12 @@ pub fn pool_bound(
     }
 }
 
-/// Returns the pool's blocked vector for this rank and these reaches, or `None` if none is found.
+/// Returns the pool's blocked vector for this rank of the pool and these reaches of the classes, or
+/// `None` if the search finds none.
 ///
 /// # Errors
 ///
-/// [`AllocError`] if memory runs out.
+/// Returns [`AllocError`] if memory runs out.
 pub fn blocked_vector(
     alloc: Global,
     plan: &Plan,

@@ -1,25 +1,27 @@
-//! A number of a vector, computed from the end of a body to its start.
+//! The least weight at a position of a body, computed from the end of the body to its start.
 
 ghost use Rattle.std.specs.Prelude.{◌≡◌, ◌≤◌};
 
-/// The least weight of an actor at a point of its body.
+/// The least weight of an actor at a position of its body.
 #[derive(Clone, Copy, PartialEq, Eq)]
 pub(crate) struct Weight {
-    /// The weight if the end of the body has its least weight.
+    /// The least weight at this position, if the weight at the end of the body is the one given to
+    /// `at_end`.
     pub(crate) number: u64,
-    /// The amount by which the end of the body can be heavier without changing this weight.
+    /// The most by which the weight at the end of the body can be raised without raising the weight
+    /// at this position.
     pub(crate) slack: u64,
 }
 
 impl Weight {
-    /// Creates the weight at the end of a body.
+    /// Creates the weight at the end of a body, where the actor weighs `number`.
     pub(crate) fn at_end(number: u64) -> Weight
         ensures { result.number ≡ number }
     {
         Weight { number, slack: 0 }
     }
 
-    /// Returns the weight raised to at least `need`.
+    /// Returns this weight, raised to `need` if it is smaller.
     pub(crate) fn at_least(self, need: u64) -> Weight
         ensures { need ≤ result.number }
     {
@@ -30,7 +32,8 @@ impl Weight {
         }
     }
 
-    /// Adds the weight of a submitted job.
+    /// Returns the weight before a submit of a job that weighs `job`, given this weight after the
+    /// submit.
     pub(crate) fn plus(self, job: u64) -> Weight
         ensures { self.number ≤ result.number }
     {
@@ -40,7 +43,8 @@ impl Weight {
         }
     }
 
-    /// Subtracts returned weight, but does not go below 0.
+    /// Returns the weight before a get that returns `back`, given this weight after the get. It is
+    /// at least 0.
     pub(crate) fn less(self, back: u64) -> Weight
         ensures { result.number ≤ self.number }
     {
