@@ -1,4 +1,4 @@
--- White space after a written text does not change its value.
+-- Proofs that white space after a written text does not change the value that is read.
 use Rattle.std.proofs.Common.{◌≡◌, ◌⊎◌, inl, inr, ℕ, Bool, true, false, cond, ◌&&◌, nat_lt, List, [], ◌∷◌, ◌++◌, IsUtf8, option_and_then, refl, sym, ap, ap₂, subst, ◌∙◌, append_assoc, append-nil, arith}
 use Rattle.std.proofs.lemmas.Bool.{and_parts, and_from}
 use Rattle.std.proofs.lemmas.Bool.Decides.{nat_tests}
@@ -14,7 +14,7 @@ use Rattle.json.proofs.Numbered.{ArePrintableOrBad-tokens}
 use Rattle.serde_json.specs.Read.{of_json, read, max_depth}
 use Rattle.cert_text.specs.Canonical.{IsBlank}
 
--- the lexer reads both texts alike, and a word ends before each
+-- the lexer reads the same tokens from r and s, and a word before either of them is complete
 record AreAlike (r s : List ℕ) : Type 0 where
   lexed : lex between r ≡ lex between s
   first : ends_word r ≡ true
@@ -34,12 +34,12 @@ key_alike t r s same =
     ap (lex between) (append_assoc (quoted t) (58 ∷ []) r)
     ∙ quoted_alike t (58 ∷ r) (58 ∷ s) (ap (λ l. colon ∷ l) same) ∙ sym (ap (lex between) (append_assoc (quoted t) (58 ∷ []) s))
 
--- a literal followed by either text
+-- the tokens from a literal on are the same whether r or s follows it
 literal_alike : (t : Token) (r s : List ℕ) → AreAlike r s → (token (cond (ends_word r) t bad) ∷ lex in_word r) ≡ (token (cond (ends_word s) t bad) ∷ lex in_word s)
 literal_alike t r s alike =
     ap₂ (λ b l. token (cond b t bad) ∷ l) (alike.first ∙ sym alike.second) (in_word-ended r alike.first ∙ alike.lexed ∙ sym (in_word-ended s alike.second))
 
--- the text of a token followed by either text
+-- the tokens from the text of a token on are the same whether r or s follows it
 token_alike : (t : Token) (r s : List ℕ) → IsPrintableOrBad t → lex between r ≡ lex between s → (ends t ≡ true → AreAlike r s) → lex between (token_text t ++ r) ≡ lex between (token_text t ++ s)
 unfolding lex word
 token_alike begin_object r s h same alike = ap (λ l. token begin_object ∷ l) same
@@ -56,7 +56,7 @@ token_alike (boolean false) r s h same alike = literal_alike (boolean false) r s
 token_alike null r s h same alike = literal_alike null r s (alike refl)
 token_alike bad r s h same alike = same
 
--- a value is followed by a comma, a closing bracket or the end, each of which ends a word
+-- what follows a value (a comma, a closing bracket or the end) ends a word
 value_ends : (ts : List Token) (r : List ℕ) → ends_word r ≡ true → ends_word (print_from true ts ++ r) ≡ true
 unfolding print_from
 value_ends [] r ended = ended
@@ -76,7 +76,7 @@ unfolding lex
 separator_alike true r s same = ap (λ l. comma ∷ l) same
 separator_alike false r s same = same
 
--- the text of tokens followed by either text
+-- the tokens from the text of a list of tokens on are the same whether r or s follows it
 tokens_alike : (later : Bool) (ts : List Token) (r s : List ℕ) → ArePrintableOrBad ts → AreAlike r s → lex between (print_from later ts ++ r) ≡ lex between (print_from later ts ++ s)
 unfolding print_from
 tokens_alike later [] r s h alike = alike.lexed
@@ -91,11 +91,11 @@ tokens_alike later (t ∷ ts) r s h alike =
     let around : (u : List ℕ) → (separator later t ++ (token_text t ++ rest)) ++ u ≡ separator later t ++ (token_text t ++ (rest ++ u)) = λ u. simp append_assoc in
     ap (lex between) (around r) ∙ separator_alike (later && begins t) _ _ (token_alike t (rest ++ r) (rest ++ s) h.0 same ended) ∙ sym (ap (lex between) (around s))
 
--- white space is one of four bytes
+-- white space is a space, a tab, a newline or a carriage return
 space_is : (x : ℕ) → is_space x ≡ true → (x ≡ 32) ⊎ ((x ≡ 9) ⊎ ((x ≡ 10) ⊎ (x ≡ 13)))
 space_is x space = grind (arith, nat_tests)
 
--- the lexer skips white space, and a word ends before it
+-- the lexer skips white space, and white space ends a word
 passed_over : (x : ℕ) (xs : List ℕ) → is_space x ≡ true → (lex between (x ∷ xs) ≡ lex between xs) × (ends_word (x ∷ xs) ≡ true)
 unfolding lex
 passed_over x xs space = elim (space_is x space) [
@@ -122,7 +122,7 @@ tokens_before_blank text blank h compact =
     let same = tokens_alike false ts blank [] (ArePrintableOrBad-tokens text) (blank_alike blank h) in
     ap (punctuate fresh) (subst (λ (t : List ℕ). lex between (t ++ blank) ≡ lex between (t ++ [])) (sym compact) same ∙ ap (lex between) (append-nil text))
 
--- a text without space between its tokens reads the same if white space follows
+-- a text without white space between its tokens reads the same if white space follows it
 pub read_before_blank : (text blank : List ℕ) → IsBlank blank → text ≡ print (tokens text) → read (text ++ blank) ≡ read text
 read_before_blank text blank h compact =
     ap (λ ts. option_and_then of_json (option_and_then (λ p. json.if_last p.0 p.1) (json.value max_depth ts))) (tokens_before_blank text blank h compact)

@@ -1,4 +1,4 @@
--- A text in canonical form reads as the certificate that it was written from.
+-- Proofs that a text in canonical form is read as the certificate from which it was written.
 use Rattle.std.proofs.Common.{◌≡◌, ℕ, ◌^◌, ◌<◌, ◌≤◌, ◌&&◌, true, List, [], ◌∷◌, ◌++◌, length, length-append, append-nil, codes, Some, Ok, refl, sym, ap, subst, ◌∙◌, arith}
 use Rattle.std.specs.List.{list_all}
 use Rattle.std.specs.Str.{is_utf8}
@@ -33,7 +33,7 @@ numbers_readable numbers small = list_readable 0 number_data numbers (λ i n her
 rows_readable : (rows : List (List ℕ)) → list_all (list_all is_small) rows ≡ true → IsReadable 2 (rows_data rows)
 rows_readable rows small = list_readable 1 numbers_data rows (λ i row here. numbers_readable row (list_all_place (list_all is_small) rows small i row here))
 
--- the keys of certificates, and that they are in order
+-- the keys of certificates are keys, and are in ascending order
 record AreKeys : Type 0 where
   classes : IsKey (codes "classes")
   clients : IsKey (codes "clients")
@@ -112,7 +112,7 @@ canonical_back plan text cert canonical =
     let short : length whole ≤ MAX_CERT_BYTES = subst (λ (t : List ℕ). length t ≤ MAX_CERT_BYTES) same canonical.short in
     ap (λ (t : List ℕ). cert_of t plan) same ∙ cert_back whole plan cert utf8 reads canonical.fits short
 
--- the text of a certificate that fits reads back, with or without a newline
+-- the text of a certificate that fits the plan is read as that certificate, with or without a newline after it
 pub written_back : (plan : Plan) (text : List ℕ) (cert : Cert) → text ≡ cert_text cert → cert_fits plan cert ≡ true → length text ≤ MAX_CERT_BYTES → cert_of text plan ≡ Ok cert
 written_back plan text cert same fits within = canonical_back plan text cert (record { is_text = ([], refl, same ∙ sym (append-nil (cert_text cert))); short = within; fits = fits })
 

@@ -1,4 +1,4 @@
--- A certificate that was read fits the plan.
+-- Proofs that a certificate that was read fits the plan.
 use Rattle.std.proofs.Common.{◌≡◌, ℕ, ◌+◌, ◌==◌, ◌&&◌, ◌<◌, Bool, true, List, [], length, get_or, slice_get, Option, Some, None, Result, Ok, codes, sym, ap, subst, ◌∙◌, arith}
 use Rattle.std.specs.List.{list_all, enumerate_from}
 use Rattle.std.proofs.lemmas.Bool.{and_from, and_parts, eqb-true, eq-eqb}
@@ -59,7 +59,7 @@ client_rows_read plan value rows e =
       λ c row here. let from = read_at read found.0 rows c row found.2 here in numbers_counted (client_points plan c) from.0 row from.2,
     )
 
--- the lengths of the rows, in the form that the shape of a vector tests
+-- the lengths of the rows pass the test of `has_shape`
 rows_shaped : {X : Type 0} (points : X → ℕ) (none : X) (xs : List X) (rows : List (List ℕ)) → AreRows (length xs) (λ k. points (get_or xs k none)) rows
     → list_all (λ (entry : ℕ × X). length (get_or rows entry.0 []) == points entry.1) (enumerate_from 0 xs) ≡ true
 rows_shaped {X = X} points none xs rows are =
@@ -73,7 +73,7 @@ rows_shaped {X = X} points none xs rows are =
         let place : 0 + k ≡ k = omega arith in
         rw place (eq-eqb _ _ (long ∙ ap points (get_or_from_slice_get xs k x none here)))
 
--- a vector with a number for each pool and a row for each class and each kind of client has the shape
+-- a vector with a number for each pool and a row for each class and each client kind has the plan's shape
 pub rows_shape : (plan : Plan) (v : Vector) → length v.workers ≡ length plan.pools → AreRows (length plan.classes) (class_points plan) v.classes → AreRows (length plan.clients) (client_points plan) v.clients → has_shape plan v ≡ true
 rows_shape plan v workers classes clients =
     and_from _ _ (and_from _ _ (and_from _ _ (and_from _ _
@@ -162,7 +162,7 @@ ranks_read plan value ranks e =
     (eq-eqb _ _ (numbers_counted _ _ levels.0 levels.1)) in
     subst (λ (r : Ranks). ranks_have_shape plan r ≡ true) (ok_injective {F = CertFault} made ranks levels.2) shaped
 
--- a pool with the right shape and small numbers fits
+-- a pool's part fits the plan if it has the plan's shape and its numbers are within the limit
 pool_fits_of : (plan : Plan) (pool : PoolCert) → pool_has_shape plan pool ≡ true → pool_has_small_numbers pool ≡ true → pool_cert_fits plan pool ≡ true
 pool_fits_of plan pool shaped small =
     let shapes = and_parts (has_shape plan (bound_vector pool.bound)) _ shaped in

@@ -1,4 +1,4 @@
--- The number of elements and members is the same in the specification's data and in memory.
+-- Lemmas about lists: the number of elements in specifications and in memory, and tests and properties of all elements.
 use Rattle.std.proofs.Common.{◌≡◌, ℕ, zero, suc, ◌+◌, Bool, true, List, [], ◌∷◌, ◌++◌, length, map, refl, sym, ap, subst, ◌∙◌, arith, zero-add}
 use Rattle.std.specs.List.{list_all, enumerate_from}
 use Rattle.std.proofs.lemmas.Bool.{and_parts, and_from}
@@ -16,7 +16,7 @@ pub count_members-members_view : (entries : List Entry) → count_members (membe
 count_members-members_view [] = refl
 count_members-members_view (entry ∷ entries) = ap (λ (n : ℕ). suc n) (count_members-members_view entries)
 
--- each element of the list passes the test
+-- each element of a list passes a test that `list_all` says all elements pass
 pub list_all_place : {X : Type 0} (test : X → Bool) (xs : List X) → list_all test xs ≡ true → EachPlace xs (λ i x. test x ≡ true)
 list_all_place test [] h i x here = cc
 list_all_place test (y ∷ xs) h zero x here =
@@ -24,14 +24,14 @@ list_all_place test (y ∷ xs) h zero x here =
     ap test (sym same) ∙ (and_parts (test y) _ h).0
 list_all_place test (y ∷ xs) h (suc i) x here = list_all_place test xs (and_parts (test y) _ h).1 i x here
 
--- a list that passes the test still passes after a push
+-- a list whose elements all pass a test still has this property after an element that passes is appended
 pub list_all_push : {X : Type 0} (test : X → Bool) (xs : List X) (x : X) → list_all test xs ≡ true → test x ≡ true → list_all test (xs ++ x ∷ []) ≡ true
 list_all_push test [] x all here = and_from (test x) true here refl
 list_all_push test (y ∷ xs) x all here =
     let parts = and_parts (test y) _ all in
     and_from (test y) _ parts.0 (list_all_push test xs x parts.1 here)
 
--- a property of all places still holds after a push
+-- a property that holds for each element with its index still holds after an element with this property is appended
 pub each_place_push : {X : Type 0} (P : ℕ → X → Type 0) (xs : List X) (x : X) → EachPlace xs P → P (length xs) x → EachPlace (xs ++ x ∷ []) P
 each_place_push P [] x each here zero z at = let same : x ≡ z = cc in subst (P 0) same here
 each_place_push P [] x each here (suc i) z at = absurd cc
@@ -48,7 +48,7 @@ list_all_enumerated_place_from test n (y ∷ xs) h (suc i) x here =
     let place : n + suc i ≡ n + 1 + i = omega arith in
     rw place (list_all_enumerated_place_from test (n + 1) xs (and_parts (test (n, y)) _ h).1 i x here)
 
--- each element, with its index, passes the test
+-- each element of a list passes, with its index, a test that `list_all` says all elements pass with their indices
 pub list_all_enumerated_place : {X : Type 0} (test : ℕ × X → Bool) (xs : List X) → list_all test (enumerate_from 0 xs) ≡ true → EachPlace xs (λ i x. test (i, x) ≡ true)
 list_all_enumerated_place test xs h i x here = subst (λ (k : ℕ). test (k, x) ≡ true) (zero-add i) (list_all_enumerated_place_from test 0 xs h i x here)
 

@@ -1,4 +1,4 @@
--- The definitions to unfold when a proof computes the certificate of a literal text, or the text of a literal certificate.
+-- The definitions that a proof unfolds to compute the certificate of a literal text, or the text of a literal certificate.
 use Rattle.std.specs.Prelude.{⊤}
 use Rattle.std.specs.Fmt.{digits}
 use Rattle.std.specs.Str.{chars, is_utf8}

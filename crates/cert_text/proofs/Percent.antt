@@ -1,4 +1,4 @@
--- The text of a certificate has no `%`.
+-- Proofs that the text of a certificate contains no `%`.
 use Rattle.std.proofs.Common.{◌≡◌, ℕ, zero, suc, ◌+◌, ◌/◌, ◌%◌, if◌then◌else◌, Bool, true, false, nat_eq, ◌==◌, List, [], ◌∷◌, ◌++◌, map, codes, decimal, refl, arith}
 use Rattle.std.specs.Fmt.{digit_glyph, digits_onto, digits}
 use Rattle.std.proofs.lemmas.Bool.{lt-ltb, ne_eqb}
@@ -15,11 +15,11 @@ use Rattle.weights.specs.Ranks.{Ranks}
 use Rattle.cert_text.specs.Cert.{PoolCert, Cert}
 use Rattle.cert_text.specs.CertText.{number_data, list_data, numbers_data, rows_data, vector_data, bounded_data, pool_data, ranks_data, version_number, cert_data, cert_text, has_percent}
 
--- a text without `%`
+-- the text contains no `%`
 record IsBare (text : List ℕ) : Type 0 where
   bare : has_percent text ≡ false
 
--- a value and a key whose texts have no `%`
+-- the text of the value contains no `%`
 record IsBareData (d : Data) : Type 0 where
   text : IsBare (compact_text d)
 
@@ -66,7 +66,7 @@ numbers_bare numbers = list_bare number_data numbers number_bare
 rows_bare : (rows : List (List ℕ)) → IsBareData (rows_data rows)
 rows_bare rows = list_bare numbers_data rows numbers_bare
 
--- a member with its key and value, and the text after it
+-- the text of a member contains no `%` if the texts of its key, of its value and of what surrounds them contain none
 member_bare : (prefix key : List ℕ) (d : Data) (rest : List ℕ) → IsBare prefix → IsBareKey key → IsBareData d → IsBare rest → IsBare (prefix ++ (quoted key ++ 58 ∷ (compact_text d ++ rest)))
 member_bare prefix key d rest before name here remaining =
     let tail : IsBare (58 ∷ (compact_text d ++ rest)) = record { bare = (both_bare (compact_text d) rest here.text remaining).bare } in
@@ -90,7 +90,7 @@ triple_bare j k l d e f j_bare k_bare l_bare first second third =
     member_bare [] j d _ nothing_bare j_bare first (member_bare (44 ∷ []) k e _ (comma_bare true) k_bare second (member_bare (44 ∷ []) l f _ (comma_bare true) l_bare third end_bare)) in
     record { text = record { bare = inside.bare } }
 
--- the keys of certificates have no `%`
+-- the texts of the keys of certificates contain no `%`
 record AreBareKeys : Type 0 where
   classes : IsBareKey (codes "classes")
   clients : IsBareKey (codes "clients")

@@ -1,4 +1,4 @@
--- Lists and objects that are parsed at the start of a text, part by part.
+-- Lemmas about lists and objects that are parsed at the start of a text, part by part.
 use Rattle.std.proofs.Common.{◌≡◌, ℕ, suc, ◌+◌, Bool, true, false, nat_lt, List, [], ◌∷◌, ◌++◌, length, map, refl, sym, ap, ◌∙◌, append_assoc, append-nil, arith}
 use Rattle.std.proofs.lemmas.Bool.{lt-ltb}
 use Rattle.std.proofs.lemmas.List.{map_push, length_push, length-map}
@@ -9,12 +9,12 @@ use Rattle.serde_json.specs.Written.{comma_if, compact_text, items_text}
 use Rattle.cert_text.specs.CertText.{list_data}
 use Rattle.cert_text.specs.Canonical.{BeginsAs}
 
--- elements without the closing bracket; each has a comma before it, except the first if `later` is false
+-- the text of elements without the closing bracket; a comma precedes each element, except the first if `later` is false
 abbrev elements_text : Bool → List Data → List ℕ
 elements_text later [] = []
 elements_text later (d ∷ ds) = comma_if later ++ (compact_text d ++ elements_text true ds)
 
--- these elements, `count` in number, were parsed at the start of a list's text
+-- at the start of the text of a list, `count` elements were parsed, and `rest` follows them
 pub record BeginsList {X : Type 0} (made : X → Data) (text : List ℕ) (xs : List X) (count : ℕ) (rest : List ℕ) : Type 0 where
   pub as_many : length xs ≡ count
   pub prefix : text ≡ 91 ∷ (elements_text false (map made xs) ++ rest)
@@ -36,7 +36,7 @@ ended later (d ∷ ds) =
     append_assoc (comma_if later) (compact_text d ++ elements_text true ds) (93 ∷ [])
     ∙ ap (λ (t : List ℕ). comma_if later ++ t) (append_assoc (compact_text d) (elements_text true ds) (93 ∷ []) ∙ ap (λ (t : List ℕ). compact_text d ++ t) (ended true ds))
 
--- after one more element
+-- `BeginsList` holds after one more element is parsed
 pub list_more : {X : Type 0} (made : X → Data) (text : List ℕ) (xs : List X) (x : X) (count : ℕ) (rest element remaining : List ℕ) → BeginsList made text xs count rest → rest ≡ comma_if (nat_lt 0 count) ++ element
     → BeginsAs element (made x) remaining → BeginsList made text (xs ++ x ∷ []) (count + 1) remaining
 list_more made text xs x count rest element remaining begins comma here = record {
@@ -53,25 +53,25 @@ list_more made text xs x count rest element remaining begins comma here = record
     regroup : (a b c d : List ℕ) → a ++ (b ++ (c ++ d)) ≡ (a ++ (b ++ c)) ++ d
     regroup a b c d = simp append_assoc
 
--- after the closing bracket
+-- the list is parsed completely when its closing bracket is parsed
 pub list_whole : {X : Type 0} (made : X → Data) (text : List ℕ) (xs : List X) (count : ℕ) (rest remaining : List ℕ) → BeginsList made text xs count rest → rest ≡ 93 ∷ remaining → BeginsAs text (list_data (map made xs)) remaining
 list_whole made text xs count rest remaining begins closed =
     begins.prefix ∙ ap (λ (t : List ℕ). 91 ∷ t)
     (ap (λ (t : List ℕ). elements_text false (map made xs) ++ t) closed ∙ (sym (append_assoc (elements_text false (map made xs)) (93 ∷ []) remaining) ∙ ap (λ (t : List ℕ). t ++ remaining) (ended false (map made xs))))
 
--- the text of a key before its value, for the first member and for a later one
+-- the text of the first key of an object, up to its value
 abbrev pub first_key : List ℕ → List ℕ
 first_key key = 123 ∷ (quoted key ++ 58 ∷ [])
 
 abbrev pub next_key : List ℕ → List ℕ
 next_key key = 44 ∷ (quoted key ++ 58 ∷ [])
 
--- an object of three keys whose parts are parsed in order
+-- an object of three keys was parsed after its values were parsed in order
 pub triple_read : (j k l : List ℕ) (d e f : Data) (text at_d after_d at_e after_e at_f after_f rest : List ℕ) → text ≡ first_key j ++ at_d → BeginsAs at_d d after_d → after_d ≡ next_key k ++ at_e
     → BeginsAs at_e e after_e → after_e ≡ next_key l ++ at_f → BeginsAs at_f f after_f → after_f ≡ 125 ∷ rest → BeginsAs text (object (member j d (member k e (member l f no_members)))) rest
 triple_read j k l d e f text at_d after_d at_e after_e at_f after_f rest a b c p q r s = simp (a, b, c, p, q, r, s, append_assoc)
 
--- an object of two keys, of which the second is parsed together with its value
+-- an object of two keys was parsed, after the second key was parsed together with its value
 pub pair_read : (j k : List ℕ) (d e : Data) (text at_d after_d after_e rest : List ℕ) → text ≡ first_key j ++ at_d → BeginsAs at_d d after_d → after_d ≡ (next_key k ++ compact_text e) ++ after_e → after_e ≡ 125 ∷ rest
     → BeginsAs text (object (member j d (member k e no_members))) rest
 pair_read j k d e text at_d after_d after_e rest a b c p = simp (a, b, c, p, append_assoc)

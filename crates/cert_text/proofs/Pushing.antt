@@ -1,4 +1,4 @@
--- Lists and objects that are appended to a text, part by part.
+-- Lemmas about lists and objects that are appended to a text, part by part.
 use Rattle.std.proofs.Common.{◌≡◌, ℕ, ◌≤◌, Result, Ok, Err, OnOk, is_ok, cond, Bool, List, [], ◌∷◌, ◌++◌, length, map, drop, codes, decimal, refl, sym, ap, ◌∙◌, append_assoc}
 use Rattle.std.proofs.lemmas.List.{at_drop_all}
 use Rattle.serde_json.specs.Data.{Data, object, member, no_members}
@@ -18,33 +18,33 @@ use Rattle.cert_text.proofs.Prefixes.{first_key, next_key}
 abbrev rest_text : {X : Type 0} → (X → Data) → List X → ℕ → Bool → List ℕ
 rest_text made xs i later = items_text later (items_of (map made (drop i xs)))
 
--- the text so far is the whole text without the elements from index i on
+-- the text that was appended until now, followed by that of the elements from index i on, is the whole text
 pub record Grows {X : Type 0} (made : X → Data) (xs : List X) (i : ℕ) (later : Bool) (text whole : List ℕ) : Type 0 where
   pub rest : text ++ rest_text made xs i later ≡ whole
 
--- after the closing bracket
+-- the text is the whole text after the closing bracket is appended
 pub list_pushed : {X T E : Type 0} (r : Result T E) (made : X → Data) (xs : List X) (i : ℕ) (later : Bool) (text whole end new : List ℕ) → length xs ≤ i → Grows made xs i later text whole → end ≡ 93 ∷ []
     → new ≡ cond (is_ok r) (text ++ end) text → OnOk r (new ≡ whole)
 list_pushed (Ok x) made xs i later text whole end new past prior is_end pushed =
     pushed ∙ (ap (λ (t : List ℕ). text ++ t) (is_end ∙ sym (at_drop_all (λ (ys : List _). items_text later (items_of (map made ys))) xs i past)) ∙ prior.rest)
 list_pushed (Err e) made xs i later text whole end new past prior is_end pushed = tt
 
--- two texts appended in order
+-- appending two texts in order is appending the joined text
 pub both_pushed : {T E : Type 0} (r : Result T E) (old middle new first second : List ℕ) → middle ≡ old ++ first → OnOk r (new ≡ middle ++ second) → OnOk r (new ≡ old ++ (first ++ second))
 both_pushed (Ok x) old middle new first second is_first is_second = is_second ∙ (ap (λ (t : List ℕ). t ++ second) is_first ∙ append_assoc old first second)
 both_pushed (Err e) old middle new first second is_first is_second = tt
 
--- an object of three keys whose parts are appended in order
+-- an object of three keys is appended if its parts are appended in order
 triple_parts : (j k l : List ℕ) (d e f : Data) (old at_d after_d at_e after_e at_f after_f : List ℕ) → at_d ≡ old ++ first_key j → after_d ≡ at_d ++ compact_text d → at_e ≡ after_d ++ next_key k
     → after_e ≡ at_e ++ compact_text e → at_f ≡ after_e ++ next_key l → after_f ≡ at_f ++ compact_text f → after_f ++ 125 ∷ [] ≡ old ++ compact_text (object (member j d (member k e (member l f no_members))))
 triple_parts j k l d e f old at_d after_d at_e after_e at_f after_f a b c p q s = simp (a, b, c, p, q, s, append_assoc)
 
--- an object of two keys, of which the second is appended together with its value
+-- an object of two keys is appended if its parts are appended in order, the second key together with its value
 pair_parts : (j k : List ℕ) (d e : Data) (old at_d after_d after_e : List ℕ) → at_d ≡ old ++ first_key j → after_d ≡ at_d ++ compact_text d → after_e ≡ after_d ++ (next_key k ++ compact_text e)
     → after_e ++ 125 ∷ [] ≡ old ++ compact_text (object (member j d (member k e no_members)))
 pair_parts j k d e old at_d after_d after_e a b c = simp (a, b, c, append_assoc)
 
--- after the closing brace
+-- the text is the whole text after the closing brace is appended
 closed : {T E : Type 0} (r : Result T E) (text whole end new : List ℕ) → text ++ 125 ∷ [] ≡ whole → end ≡ 125 ∷ [] → new ≡ cond (is_ok r) (text ++ end) text → OnOk r (new ≡ whole)
 closed (Ok x) text whole end new all is_end pushed = pushed ∙ (ap (λ (t : List ℕ). text ++ t) is_end ∙ all)
 closed (Err e) text whole end new all is_end pushed = tt

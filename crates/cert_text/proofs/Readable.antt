@@ -1,4 +1,4 @@
--- Data whose text reads back as the same data: numbers of 64 bits, limited nesting, and keys in order.
+-- Proofs that data are read from their own text: numbers have at most 64 bits, nesting is limited, and keys are in order.
 use Rattle.std.proofs.Common.{◌≡◌, ℕ, suc, ◌^◌, ◌<◌, ◌≤◌, Bool, true, false, List, [], ◌∷◌, ◌++◌, map, option_map, option_and_then, Some, Greater, nat_cmp, IsUtf8, refl, sym, ap, ◌∙◌, arith, append-nil}
 use Rattle.std.specs.Cmp.Lexicographic.{slice_cmp}
 use Rattle.std.proofs.lemmas.Fmt.{IsAscii-decimal}
@@ -78,7 +78,7 @@ list_readable levels f xs each =
 pub record IsKey (key : List ℕ) : Type 0 where
   pub utf8 : IsUtf8 (quoted key)
 
--- the first key sorts before the second
+-- key j comes before key k in the order of keys
 pub record IsBefore (j k : List ℕ) : Type 0 where
   pub order : slice_cmp nat_cmp k j ≡ Greater
 
@@ -110,11 +110,11 @@ triple_readable levels j k l d e f first_key second_key third_key jk jl kl first
       (member_utf8 (44 ∷ []) k e _ (comma_utf8 true) second_key second.utf8 (member_utf8 (44 ∷ []) l f _ (comma_utf8 true) third_key third.utf8 end_utf8));
 }
 
--- ---- the text
+-- ---- the text of readable data
 tokens_of_text : (levels : ℕ) (d : Data) → IsReadable levels d → tokens (compact_text d) ≡ json_tokens (outline d)
 tokens_of_text levels d r = ap tokens (sym (print-outline d)) ∙ tokens-print (json_tokens (outline d)) (ArePrintable-json_tokens (outline d) r.numbers)
 
--- the text has no space between its tokens
+-- the text of readable data has no white space between its tokens
 pub text_is_compact : (levels : ℕ) (d : Data) → IsReadable levels d → compact_text d ≡ print (tokens (compact_text d))
 text_is_compact levels d r = sym (print-outline d) ∙ ap print (sym (tokens_of_text levels d r))
 

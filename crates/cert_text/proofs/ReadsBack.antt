@@ -1,4 +1,4 @@
--- The text of a certificate that fits reads back.
+-- Proofs that the text of a certificate that fits the plan is read as that certificate.
 use Rattle.std.proofs.Common.{◌≡◌, ℕ, suc, ◌+◌, ◌<◌, ◌≤◌, ◌==◌, ◌&&◌, Bool, true, false, List, [], ◌∷◌, length, map, get_or, Some, Result, Ok, refl, sym, ap, subst, ◌∙◌, arith, zero-add}
 use Rattle.std.specs.List.{list_all, list_any, enumerate_from}
 use Rattle.std.specs.Str.{is_utf8}
@@ -40,7 +40,7 @@ each_back_from read write n (y ∷ ys) back =
     let rest = each_back_from read write (n + 1) ys (λ i x here. let later : n + suc i ≡ n + 1 + i = omega arith in subst (λ (k : ℕ). read k (write x) ≡ Ok x) later (back (suc i) x here)) in
     rw (first, rest) refl
 
--- if each element reads back, the list does
+-- if each element is read from its own data, so is the list
 each_back : {X Y F : Type 0} (read : ℕ → X → Result Y F) (write : Y → X) (ys : List Y) → EachPlace ys (λ i y. read i (write y) ≡ Ok y) → read_each read 0 (map write ys) ≡ Ok ys
 each_back read write ys back = each_back_from read write 0 ys (λ i y here. subst (λ (k : ℕ). read k (write y) ≡ Ok y) (sym (zero-add i)) (back i y here))
 
@@ -60,7 +60,7 @@ client_rows_back plan rows long are =
     rw (elements_back (length plan.clients) (map numbers_data rows) (length-map rows numbers_data ∙ long))
     (each_back (λ c. numbers_of (client_points plan c)) numbers_data rows (λ c row here. numbers_back (client_points plan c) row (are c row here)))
 
--- the length of each row of a vector with the right shape
+-- each row of a vector with the plan's shape has the length for its index
 rows_long : {X : Type 0} (points : X → ℕ) (none : X) (xs : List X) (rows : List (List ℕ)) → length rows ≡ length xs
     → list_all (λ (entry : ℕ × X). length (get_or rows entry.0 []) == points entry.1) (enumerate_from 0 xs) ≡ true → EachPlace rows (λ k row. length row ≡ points (get_or xs k none))
 rows_long {X = X} points none xs rows long shaped k row here =
@@ -83,13 +83,13 @@ vector_back plan v shaped =
     let clients_read = client_rows_back plan v.clients client_count (rows_long (λ (client : Client). length client.body + 1) no_client plan.clients v.clients client_count clients.1) in
     rw (workers_read, classes_read, clients_read) refl
 
--- in version 2, which allows both kinds of vector
+-- a pool's part is read from its own data in version 2, which allows both kinds of bound
 bounded_back_two : (plan : Plan) (bound : Bound) (blocked : Vector) → has_shape plan (bound_vector bound) ≡ true → has_shape plan blocked ≡ true → pool_of Two plan (bounded_data (vector_data blocked) bound) ≡ Ok (record { bound = bound; blocked = blocked })
 unfolding pool_of check_keys standing_of lifetime_of bounded_data
 bounded_back_two plan (Standing v) blocked first second = rw (vector_back plan v first, vector_back plan blocked second) refl
 bounded_back_two plan (Lifetime v) blocked first second = rw (vector_back plan v first, vector_back plan blocked second) refl
 
--- in version 1, which allows standing vectors only
+-- a pool's part without a lifetime vector is read from its own data in version 1
 bounded_back_one : (plan : Plan) (bound : Bound) (blocked : Vector) → is_lifetime bound ≡ false → has_shape plan (bound_vector bound) ≡ true → has_shape plan blocked ≡ true
     → pool_of One plan (bounded_data (vector_data blocked) bound) ≡ Ok (record { bound = bound; blocked = blocked })
 unfolding pool_of check_keys standing_of bounded_data
@@ -105,7 +105,7 @@ pools_back : (version : Version) (plan : Plan) (pools : List PoolCert) → lengt
 unfolding pools_of
 pools_back version plan pools long back = rw (elements_back (length plan.pools) (map pool_data pools) (length-map pools pool_data ∙ long)) (each_back (λ _. pool_of version plan) pool_data pools back)
 
--- the parts of the test whether a certificate fits
+-- the parts of `cert_fits`
 record FitsByParts (plan : Plan) (cert : Cert) : Type 0 where
   count : length cert.pools ≡ length plan.pools
   ranks : ranks_fit plan cert.ranks ≡ true
@@ -117,7 +117,7 @@ by_parts plan cert fits =
     let inner = and_parts (length cert.pools == length plan.pools) _ outer.0 in
     record { count = eqb-true _ _ inner.0; ranks = inner.1; pools = list_all_place (pool_cert_fits plan) cert.pools outer.1 }
 
--- the parts of the test whether ranks fit
+-- the parts of `ranks_fit`
 record RanksByParts (plan : Plan) (ranks : Ranks) : Type 0 where
   pools : length ranks.pools ≡ length plan.pools
   reach : length ranks.reach ≡ length plan.classes
@@ -162,7 +162,7 @@ version_one : (cert : Cert) → list_any (λ (pool : PoolCert). is_lifetime pool
 unfolding version_of cert_data
 version_one cert e = rw e refl
 
--- by whether a pool has a lifetime vector
+-- a certificate that fits is read from its own data, whether or not a pool has a lifetime vector
 value_back : (some : Bool) (plan : Plan) (cert : Cert) → list_any (λ (pool : PoolCert). is_lifetime pool.bound) cert.pools ≡ some → cert_fits plan cert ≡ true → cert_of_value (cert_data cert) plan ≡ Ok cert
 unfolding cert_of_value
 value_back true plan cert e fits =
@@ -175,7 +175,7 @@ value_back false plan cert e fits =
     (λ p pool here. let shapes = pool_shapes plan pool (fit.pools p pool here) in bounded_back_one plan pool.bound pool.blocked (list_any_get (λ (pool : PoolCert). is_lifetime pool.bound) cert.pools e p pool here) shapes.0 shapes.1) in
     rw (version_one cert e, back, fits_small plan cert fits) refl
 
--- if a text reads as the data of a certificate, it reads back
+-- a text that is JSON for the data of a certificate is read as that certificate
 pub cert_back : (text : List ℕ) (plan : Plan) (cert : Cert) → is_utf8 text ≡ true → read text ≡ Some (cert_data cert) → cert_fits plan cert ≡ true → length text ≤ MAX_CERT_BYTES → cert_of text plan ≡ Ok cert
 unfolding cert_of document_of
 cert_back text plan cert utf8 reads fits within = rw (le-leb _ _ within, utf8, reads) (value_back _ plan cert refl fits)

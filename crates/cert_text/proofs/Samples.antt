@@ -1,4 +1,4 @@
--- Texts with known certificates or faults, and certificates with known texts, computed from the definitions.
+-- Texts whose certificate or fault is computed from the definitions, and certificates whose text is.
 use Rattle.std.proofs.Common.{◌≡◌, ℕ, List, [], ◌∷◌, ◌++◌, true, false, Ok, Err, codes, refl}
 use Rattle.job_bodies.specs.declared.action.Action.TheVariants.{Work, Submit, Get}
 use Rattle.job_bodies.specs.Plan.{Plan}
@@ -11,7 +11,7 @@ use Rattle.cert_text.specs.CertOf.{cert_of}
 use Rattle.cert_text.specs.CertText.{cert_text}
 use Rattle.cert_text.proofs.OnLiterals.{cert_on_literals}
 
--- one pool, one class and one kind of client
+-- a plan of one pool, one class and one client kind
 abbrev plan : Plan
 plan = record {
   pools = record { name = codes "p"; core = 1; max = 1; queue = 2; prestart = false } ∷ [];
@@ -25,7 +25,7 @@ nothing_blocked = record { workers = 0 ∷ []; classes = (0 ∷ 0 ∷ 0 ∷ 0 �
 abbrev ranks : Ranks
 ranks = record { pools = 0 ∷ []; reach = 0 ∷ []; levels = 0 ∷ [] }
 
--- each client has one job at a time
+-- a certificate with a standing vector: each client has at most one job at a time
 abbrev standing : Cert
 standing = record {
   pools = record { bound = Standing (record { workers = 0 ∷ []; classes = (1 ∷ 1 ∷ 1 ∷ 1 ∷ []) ∷ []; clients = (1 ∷ 0 ∷ 1 ∷ []) ∷ [] }); blocked = nothing_blocked } ∷ [];
@@ -43,7 +43,7 @@ reads_standing : cert_of standing_text plan ≡ Ok standing
 unfolding cert_on_literals
 reads_standing = refl
 
--- each client submits one job
+-- a certificate with a lifetime vector: each client submits one job
 abbrev lifetime : Cert
 lifetime = record {
   pools = record { bound = Lifetime (record { workers = 0 ∷ []; classes = (1 ∷ 1 ∷ 1 ∷ 1 ∷ []) ∷ []; clients = (1 ∷ 0 ∷ 0 ∷ []) ∷ [] }); blocked = nothing_blocked } ∷ [];
@@ -61,15 +61,15 @@ reads_lifetime : cert_of lifetime_text plan ≡ Ok lifetime
 unfolding cert_on_literals
 reads_lifetime = refl
 
--- ---- faults, for a plan of one pool and nothing else
+-- ---- faults, for a plan of one pool without classes and client kinds
 abbrev pool : Plan
 pool = record { pools = plan.pools; classes = []; clients = [] }
 
--- a vector with this number for the workers
+-- the text of a vector with this number for the workers of the pool
 abbrev vector : List ℕ → List ℕ
 vector number = codes "{\"workers\":[" ++ number ++ codes "],\"classes\":[],\"clients\":[]}"
 
--- a text of this version whose pool has these members and a blocked vector
+-- the text of a certificate of this version, whose pool has these members and a blocked vector
 abbrev text : List ℕ → List ℕ → List ℕ
 text version members = codes "{\"version\":" ++ version ++ codes ",\"pools\":[{" ++ members ++ codes "\"blocked\":" ++ vector (codes "0") ++ codes "}],\"ranks\":{\"pools\":[0],\"reach\":[],\"levels\":[]}}"
 
@@ -85,12 +85,12 @@ cert_of_number number = record {
   ranks = record { pools = 0 ∷ []; reach = []; levels = [] };
 }
 
--- keys are allowed in any order
+-- keys may be in any order
 any_order : cert_of (text (codes "1") (standing_of (codes "7"))) pool ≡ Ok (cert_of_number 7)
 unfolding cert_on_literals
 any_order = refl
 
--- version 2 allows standing vectors too
+-- version 2 also allows a standing vector
 standing_in_version_2 : cert_of (text (codes "2") (standing_of (codes "7"))) pool ≡ Ok (cert_of_number 7)
 unfolding cert_on_literals
 standing_in_version_2 = refl
@@ -140,7 +140,7 @@ large_number : cert_of (text (codes "1") (standing_of (codes "1000000001"))) poo
 unfolding cert_on_literals
 large_number = refl
 
--- the whole shape is checked before the size of the numbers
+-- the whole shape is checked before the limit of the numbers
 shape_before_sizes : cert_of (text (codes "1") (standing_of (codes "1000000001") ++ codes "\"note\":0,")) pool ≡ Err (fault 31)
 unfolding cert_on_literals
 shape_before_sizes = refl
@@ -165,12 +165,12 @@ greatest_of_64_bits : cert_of (text (codes "1") (standing_of (codes "18446744073
 unfolding cert_on_literals
 greatest_of_64_bits = refl
 
--- a number above the largest float is not JSON
+-- a number above the greatest float is not JSON
 past_floats : cert_of (text (codes "1") (standing_of (codes "1e400"))) pool ≡ Err (fault 30)
 unfolding cert_on_literals
 past_floats = refl
 
--- the last value of a repeated key counts
+-- if a key is repeated, its last value is used
 repeated_key : cert_of (text (codes "1") (standing_of (codes "6") ++ standing_of (codes "7"))) pool ≡ Ok (cert_of_number 7)
 unfolding cert_on_literals
 repeated_key = refl

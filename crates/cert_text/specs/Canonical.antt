@@ -1,4 +1,4 @@
--- Certificates in canonical form. Each part is parsed at the start of a text, and the rest remains.
+-- Certificates in canonical form, the form that is written. Each part is parsed at the start of a text, and the rest of the text remains.
 use Rattle.std.specs.Prelude.{◌≡◌, ℕ, ◌≤◌, true, List, ◌++◌, length, slice_get, Some, codes, decimal, IsTrue}
 use Rattle.std.specs.List.{list_all}
 use Rattle.json.specs.Word.{is_space}
@@ -11,28 +11,28 @@ use Rattle.cert_text.specs.Cert.{Cert, cert_fits}
 use Rattle.job_bodies.specs.declared.limits.TheConstants.{MAX_CERT_BYTES}
 use Rattle.cert_text.specs.CertText.{vector_data, version_number, cert_text}
 
--- the text begins with the text of a value, and this is the rest
+-- the text begins with the canonical form of the value, and `rest` is what follows
 abbrev pub BeginsAs : List ℕ → Data → List ℕ → Type 0
 BeginsAs text value rest = text ≡ compact_text value ++ rest
 
--- a list of `count` rows, each with the number of points at its index
+-- a list of `count` rows, each of the length that `points` gives for its index
 abbrev pub AreRows : ℕ → (ℕ → ℕ) → List (List ℕ) → Type 0
 AreRows count points rows = (length rows ≡ count) × ((place : ℕ) (row : List ℕ) → slice_get rows place ≡ Some row → length row ≡ points place)
 
--- a pool's bound with its key, in the form that follows its blocked vector
+-- the key and the vector of a pool's bound, with the comma that separates them from the blocked vector
 abbrev pub bound_text : Bound → List ℕ
 bound_text (Standing v) = codes ",\"standing\":" ++ compact_text (vector_data v)
 bound_text (Lifetime v) = codes ",\"lifetime\":" ++ compact_text (vector_data v)
 
--- a certificate's version with its key, in the form that follows its ranks, and the end of the text
+-- the end of the text of a certificate after its ranks: the key `version`, the version and the closing brace
 abbrev pub version_text : Cert → List ℕ
 version_text cert = codes ",\"version\":" ++ (decimal (version_number cert) ++ codes "}")
 
--- the text is only white space
+-- the text contains only white space
 abbrev pub IsBlank : List ℕ → Type 0
 IsBlank text = list_all is_space text ≡ true
 
--- the text is that of the certificate, followed by white space
+-- the text is that of the certificate, followed only by white space
 abbrev pub IsTextOf : List ℕ → Cert → Type 0
 IsTextOf text cert = (rest : List ℕ) × IsBlank rest × (text ≡ cert_text cert ++ rest)
 

@@ -1,4 +1,4 @@
--- The certificate of a text. Checks its length, its JSON, its version, its shape, and then the size of its numbers.
+-- The certificate of a text. The steps are its length, its JSON, its version, its shape, and the limit of its numbers.
 use Rattle.std.specs.Prelude.{ℕ, nat_le, List, length, Result, Ok}
 use Rattle.std.specs.Str.{is_utf8}
 use Rattle.serde_json.specs.Data.{Data}
@@ -14,22 +14,22 @@ use Rattle.cert_text.specs.Version.{version_of}
 use Rattle.cert_text.specs.Shape.{shape_of}
 use Rattle.cert_text.specs.Sizes.{cert_has_small_numbers}
 
--- the bytes if they are UTF-8
+-- the bytes as a text; a fault if they are not UTF-8
 abbrev pub text_of : List ℕ → Result (List ℕ) CertFault
 text_of bytes = ensure (is_utf8 bytes) (fault NOT_JSON) >>= λ _. Ok bytes
 
--- the JSON value of a text
+-- the JSON value of the text; a fault if it is not JSON
 abbrev pub json_of : List ℕ → Result Data CertFault
 json_of text = ok_or (read text) (fault NOT_JSON)
 
--- the JSON value of bytes, up to the limit of their length
+-- the JSON value of the bytes; a fault if they are more than a certificate may have
 unfoldable pub document_of : List ℕ → Result Data CertFault
 document_of bytes =
     ensure (nat_le (length bytes) MAX_CERT_BYTES) (fault CERT_TOO_LONG) >>= λ _.
     text_of bytes >>= λ text.
     json_of text
 
--- the certificate that a JSON value represents, for a plan
+-- the certificate for this plan that the JSON value represents, or the first fault
 unfoldable pub cert_of_value : Data → Plan → Result Cert CertFault
 cert_of_value value plan =
     version_of value >>= λ version.
@@ -37,6 +37,6 @@ cert_of_value value plan =
     ensure (cert_has_small_numbers cert) (fault WEIGHT_TOO_LARGE) >>= λ _.
     Ok cert
 
--- the certificate that the bytes represent, for a plan, or the first fault
+-- the certificate for this plan that the bytes represent, or the first fault
 unfoldable pub cert_of : List ℕ → Plan → Result Cert CertFault
 cert_of bytes plan = document_of bytes >>= λ value. cert_of_value value plan

@@ -29,7 +29,7 @@ vector_data v =
     (member (codes "clients") (rows_data v.clients)
     (member (codes "workers") (numbers_data v.workers) no_members)))
 
--- a pool with its blocked vector and this bound
+-- the object of a pool's part, with its blocked vector and this bound
 unfoldable pub bounded_data : Data → Bound → Data
 bounded_data blocked (Standing v) = object (member (codes "blocked") blocked (member (codes "standing") (vector_data v) no_members))
 bounded_data blocked (Lifetime v) = object (member (codes "blocked") blocked (member (codes "lifetime") (vector_data v) no_members))
@@ -43,7 +43,7 @@ ranks_data ranks =
     (member (codes "pools") (numbers_data ranks.pools)
     (member (codes "reach") (numbers_data ranks.reach) no_members)))
 
--- 2 if a pool has a lifetime vector, and 1 otherwise
+-- the lowest version that can represent the certificate: 2 if a pool has a lifetime vector, and otherwise 1
 abbrev pub version_number : Cert → ℕ
 version_number cert = if list_any (λ pool. is_lifetime pool.bound) cert.pools then 2 else 1
 
@@ -56,6 +56,6 @@ cert_data cert =
 abbrev pub cert_text : Cert → List ℕ
 cert_text cert = compact_text (cert_data cert)
 
--- one of the bytes is a `%`
+-- whether one of the bytes is a `%`
 abbrev pub has_percent : List ℕ → Bool
 has_percent text = list_any (nat_eq 37) text

@@ -1,4 +1,4 @@
--- The shape of a certificate's JSON in each version: the value at each key, and the length of each list.
+-- The shape of the JSON value of a certificate, in each version: the value at each key, and the length of each list.
 use Rattle.std.specs.Prelude.{List, length, codes, Option, Some, None, Result, Ok}
 use Rattle.serde_json.specs.Data.{Data}
 use Rattle.serde_json.specs.Find.{get}
@@ -14,7 +14,7 @@ use Rattle.cert_text.specs.declared.version.Version.TheVariants.{One, Two}
 use Rattle.cert_text.specs.Values.{elements_of, check_keys, value_at}
 use Rattle.cert_text.specs.Vectors.{numbers_of, vector_of}
 
--- a pool's standing vector
+-- the standing vector of a pool's object
 unfoldable pub standing_of : Plan → Data → Result Bound CertFault
 standing_of plan pool = value_at (codes "standing") pool >>= λ value. vector_of plan value >>= λ vector. Ok (Standing vector)
 
@@ -22,17 +22,17 @@ standing_of plan pool = value_at (codes "standing") pool >>= λ value. vector_of
 unfoldable pub lifetime_of : Plan → Data → Result Bound CertFault
 lifetime_of plan value = vector_of plan value >>= λ vector. Ok (Lifetime vector)
 
--- the lifetime vector if its key is present, and the pool's standing vector otherwise
+-- the lifetime vector if its key is present, and otherwise the standing vector of the pool's object
 abbrev pub lifetime_or_standing : Plan → Data → Option Data → Result Bound CertFault
 lifetime_or_standing plan pool (Some value) = lifetime_of plan value
 lifetime_or_standing plan pool None = standing_of plan pool
 
--- the vector that bounds a pool's queue
+-- the vector that bounds the queue of a pool, from the pool's object
 abbrev pub bound_of : Version → Plan → Data → Result Bound CertFault
 bound_of One plan pool = standing_of plan pool
 bound_of Two plan pool = lifetime_or_standing plan pool (get (codes "lifetime") pool)
 
--- the bound and the blocked vector of a pool, which has no other key
+-- the part of a pool, from its object, which has no other keys than those of the two vectors
 unfoldable pub pool_of : Version → Plan → Data → Result PoolCert CertFault
 pool_of version plan pool =
     check_keys 2 pool >>= λ _.
@@ -51,7 +51,7 @@ ranks_of plan value =
     value_at (codes "levels") value >>= λ levels. numbers_of (length plan.classes) levels >>= λ levels.
     Ok (record { pools = pools; reach = reach; levels = levels })
 
--- the certificate of a value; its third key is the version
+-- the certificate of the JSON value, whose keys are `pools`, `ranks` and `version`
 unfoldable pub shape_of : Version → Plan → Data → Result Cert CertFault
 shape_of version plan value =
     check_keys 3 value >>= λ _.

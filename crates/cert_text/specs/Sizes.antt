@@ -1,4 +1,4 @@
--- The limit on the numbers of a certificate.
+-- The limit of the numbers of a certificate.
 use Rattle.std.specs.Prelude.{Bool, ◌&&◌}
 use Rattle.std.specs.List.{list_all}
 use Rattle.weights.specs.Vector.{is_small, has_small_numbers}

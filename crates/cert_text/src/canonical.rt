@@ -1,7 +1,7 @@
-//! A fast parser for certificates in the exact form that [`write_cert`](crate::write_cert) writes.
-//! It builds no JSON tree.
+//! A fast parser of certificates in *canonical form*: exactly the form that
+//! [`write_cert`](crate::write_cert) writes. It builds no JSON tree.
 //!
-//! Nearly every text has this form. Any other text is rejected here and then parsed as JSON.
+//! Nearly every text has this form. Any other text is an error here, and is then parsed as JSON.
 
 ghost use Rattle.std.specs.Prelude.{◌≡◌, ◌++◌, IfOk, IsTrue, length, map};
 ghost use Rattle.std.specs.List.{list_all};
@@ -24,7 +24,8 @@ use job_bodies::{MAX_CERT_BYTES, Plan};
 use std::alloc::Global;
 use weights::{Bound, Ranks};
 
-/// Parses the bound that follows a pool's blocked vector, and returns it with the rest of the text.
+/// Parses the bound of a pool's queue, which follows the blocked vector in the text. Returns it
+/// with the rest of the text.
 fn parse_bound<'a>(
     alloc: Global,
     plan: &Plan,
@@ -102,8 +103,8 @@ fn parse_ranks<'a>(
     Ok((ranks, rest))
 }
 
-/// Strips the version that the certificate needs, with its key and the closing brace, and returns
-/// the rest.
+/// Strips the end of the text of `cert` after its ranks: the key `version`, the version and the
+/// closing brace. Returns the rest of the text.
 fn strip_version<'a>(cert: &Cert, text: &'a [u8]) -> Result<&'a [u8], CanonicalError>
     ensures { IfOk result (λ rest. text.now ≡ version_text cert.now ++ rest.now) }
 {
@@ -114,7 +115,7 @@ fn strip_version<'a>(cert: &Cert, text: &'a [u8]) -> Result<&'a [u8], CanonicalE
     }
 }
 
-/// Parses a certificate at the start of a text, and returns it with the rest.
+/// Parses the certificate at the start of a text, and returns it with the rest of the text.
 fn parse_cert<'a>(
     alloc: Global,
     plan: &Plan,
@@ -144,7 +145,7 @@ fn is_blank(text: &[u8]) -> bool
     text.iter().all(|byte| is_space(*byte))
 }
 
-/// Parses a certificate for this plan. White space may follow it.
+/// Parses the text of a certificate that fits the plan. White space may follow the certificate.
 pub fn parse_canonical_cert(alloc: Global, text: &[u8], plan: &Plan) -> Result<Cert, CanonicalError>
     ensures { IfOk result (IsCanonical plan.now text.now) }
 {

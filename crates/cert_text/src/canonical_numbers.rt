@@ -1,4 +1,4 @@
-//! Parsers for numbers in canonical form at the start of a text.
+//! Parsers of numbers in canonical form at the start of a text.
 
 ghost use Rattle.std.specs.Prelude.{◌≡◌, ◌<◌, ◌+◌, ◌∷◌, ◌++◌, [], length, nat_lt, decimal, IfOk, IfSome, IsTrue, vec_len, vec_capacity};
 ghost use Rattle.std.specs.List.{list_all};
@@ -11,12 +11,12 @@ use job_bodies::MAX_WEIGHT;
 use std::alloc::Global;
 use support::ReadError;
 
-/// The fault of a text that is not in the form that `write_cert` writes. It gives no further
-/// reason.
+/// The fault of a text that is not in canonical form, the form that
+/// [`write_cert`](crate::write_cert) writes. It does not say why.
 #[derive(Clone, Copy, PartialEq, Eq)]
 pub struct NotCanonical;
 
-/// The error of a canonical parser: out of memory, or a text that is not in canonical form.
+/// The error of a parser of canonical form: out of memory, or a text that is not in canonical form.
 pub type CanonicalError = ReadError<NotCanonical>;
 
 /// Returns the error for a text that is not in canonical form.
@@ -24,7 +24,8 @@ pub fn non_canonical_error() -> CanonicalError {
     ReadError::Fault(NotCanonical)
 }
 
-/// Strips a prefix and returns the rest.
+/// Strips the prefix and returns the rest of the text. It is an error if the text does not have the
+/// prefix.
 pub fn strip_bytes<'a>(text: &'a [u8], prefix: &[u8]) -> Result<&'a [u8], CanonicalError>
     ensures { IfOk result (λ rest. text.now ≡ prefix.now ++ rest.now) }
 {
@@ -34,7 +35,8 @@ pub fn strip_bytes<'a>(text: &'a [u8], prefix: &[u8]) -> Result<&'a [u8], Canoni
     }
 }
 
-/// Strips the first byte and returns the rest.
+/// Strips the first byte and returns the rest of the text. It is an error if the first byte is not
+/// `byte`.
 #[inline(always)]
 pub fn strip_byte(text: &[u8], byte: u8) -> Result<&[u8], CanonicalError>
     ensures { IfOk result (λ rest. text.now ≡ byte ∷ rest.now) }
@@ -45,8 +47,8 @@ pub fn strip_byte(text: &[u8], byte: u8) -> Result<&[u8], CanonicalError>
     }
 }
 
-/// Strips the comma before the list element at index `place` and returns the rest. The first
-/// element has no comma.
+/// Strips the comma before the list element at index `place`, and returns the rest of the text. The
+/// first element has no comma before it.
 #[inline(always)]
 pub fn strip_comma(text: &[u8], place: usize) -> Result<&[u8], CanonicalError>
     ensures { IfOk result (λ rest. text.now ≡ comma_if (nat_lt 0 place) ++ rest.now) }
@@ -58,8 +60,8 @@ pub fn strip_comma(text: &[u8], place: usize) -> Result<&[u8], CanonicalError>
     }
 }
 
-/// Creates an empty list with room for `count` elements. Fails if the text has fewer than `count`
-/// bytes, so that a short text never causes a large allocation.
+/// Creates an empty list with room for `count` elements. It is an error if the text has fewer than
+/// `count` bytes, so a short text never causes a large allocation.
 pub fn list_with_capacity<T>(
     alloc: Global,
     count: usize,
@@ -86,7 +88,8 @@ fn parse_digit(text: &[u8]) -> Option<(u64, &[u8])>
     }
 }
 
-/// Parses a number at the start of a text, and returns it with the rest.
+/// Parses the number at the start of a text, and returns it with the rest of the text. It is an
+/// error if the number is above [`MAX_WEIGHT`].
 #[inline(always)]
 fn parse_number(text: &[u8]) -> Result<(u64, &[u8]), CanonicalError>
     ensures text { IfOk result (λ read. text.now ≡ decimal read.0 ++ read.1.now) }
@@ -110,7 +113,8 @@ fn parse_number(text: &[u8]) -> Result<(u64, &[u8]), CanonicalError>
     Ok((value, rest))
 }
 
-/// Parses a list of `count` numbers at the start of a text, and returns it with the rest.
+/// Parses the list of `count` numbers at the start of a text, and returns it with the rest of the
+/// text.
 pub fn parse_numbers(
     alloc: Global,
     count: usize,

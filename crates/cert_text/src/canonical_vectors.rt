@@ -1,4 +1,4 @@
-//! Parsers for vectors in canonical form at the start of a text.
+//! Parsers of vectors in canonical form at the start of a text.
 
 ghost use Rattle.std.specs.Prelude.{◌≡◌, IfOk, IsTrue, length, map};
 ghost use Rattle.std.specs.List.{list_all};
@@ -15,7 +15,8 @@ use job_bodies::Plan;
 use std::alloc::Global;
 use weights::Vector;
 
-/// Parses a row for each class.
+/// Parses the list of the rows of all classes at the start of a text, and returns it with the rest
+/// of the text.
 fn parse_class_rows<'a>(
     alloc: Global,
     plan: &Plan,
@@ -41,7 +42,8 @@ fn parse_class_rows<'a>(
     Ok((rows, strip_byte(rest, b']')?))
 }
 
-/// Parses a row for each kind of client.
+/// Parses the list of the rows of all client kinds at the start of a text, and returns it with the
+/// rest of the text.
 fn parse_client_rows<'a>(
     alloc: Global,
     plan: &Plan,
@@ -67,7 +69,7 @@ fn parse_client_rows<'a>(
     Ok((rows, strip_byte(rest, b']')?))
 }
 
-/// Parses a vector at the start of a text, and returns it with the rest.
+/// Parses the vector at the start of a text, and returns it with the rest of the text.
 pub fn parse_vector<'a>(
     alloc: Global,
     plan: &Plan,

@@ -1,4 +1,4 @@
-//! A certificate.
+//! Certificates.
 
 ghost use Rattle.std.specs.Prelude.{◌≡◌, ◌<◌, length};
 ghost use Rattle.std.specs.List.{list_all};
@@ -11,9 +11,10 @@ use weights::{Bound, Ranks, Vector};
 /// The part of a certificate for one pool.
 #[derive(Debug, Drop)]
 pub struct PoolCert {
-    /// The proof that the pool never rejects a job.
+    /// The vector that shows that the pool never refuses a job.
     pub bound: Bound,
-    /// The proof that fewer of the pool's jobs than core wait at counted gets at any time.
+    /// The vector that shows that at any time fewer jobs of the pool than core wait at counted
+    /// gets.
     pub blocked: Vector,
 }
 
@@ -24,7 +25,7 @@ impl Model for PoolCert {
 }
 
 impl PoolCert {
-    /// Returns whether both vectors fit the plan.
+    /// Returns whether both vectors have the plan's shape and numbers within the limit.
     fn fits(&self, plan: &Plan) -> bool
         ensures { result ≡ spec.pool_cert_fits plan.now self.now }
     {
@@ -32,7 +33,7 @@ impl PoolCert {
     }
 }
 
-/// A certificate: a part for each pool, in plan order, and the ranks.
+/// A certificate: a part for each pool, in plan order, and the ranks of pools.
 #[derive(Debug, Drop)]
 pub struct Cert {
     pub pools: Vec<PoolCert>,
@@ -54,8 +55,9 @@ impl Cert {
         &self.pools[pool]
     }
 
-    /// Returns whether the certificate has a part for each pool, each list has the plan's shape,
-    /// and no number is above [`MAX_WEIGHT`](job_bodies::MAX_WEIGHT). Allocates nothing.
+    /// Returns whether the certificate has a part for each pool, each of its lists has the plan's
+    /// shape, and each number is at most [`MAX_WEIGHT`](job_bodies::MAX_WEIGHT). Allocates no
+    /// memory.
     pub fn fits(&self, plan: &Plan) -> bool
         ensures { result ≡ spec.cert_fits plan.now self.now }
     {

@@ -1,4 +1,4 @@
-//! The JSON value of a certificate's text.
+//! The JSON value of the text of a certificate.
 
 ghost use Rattle.support.specs.Results.{Gives};
 ghost use Rattle.serde_json.specs.View.{view};
@@ -11,7 +11,7 @@ use std::alloc::Global;
 use support::ReadError;
 use support::number::{CERT_TOO_LONG, NOT_JSON};
 
-/// Parses the bytes as JSON.
+/// Parses the bytes as JSON. Faults: more bytes than a certificate may have, no UTF-8, or no JSON.
 #[tactic(auto, unfolding(crate::specs::CertOf::document_of))]
 pub fn document_of(alloc: Global, bytes: &[u8]) -> Result<Value, CertError>
     ensures { Gives view result (spec.document_of bytes.now) }

@@ -1,4 +1,4 @@
-//! The faults of a certificate's text.
+//! The faults of the text of a certificate.
 
 ghost use Rattle.std.specs.Prelude.{◌≡◌, Some};
 ghost use Rattle.support.specs.Name.{head};
@@ -9,14 +9,14 @@ use std::fmt;
 use support::number::WRONG_SHAPE;
 use support::{FaultHead, ReadError};
 
-/// The first fault of a certificate's text.
+/// A fault of the text of a certificate.
 #[derive(Clone, Copy, Debug, PartialEq, Eq)]
 pub struct CertFault {
-    /// The fault's number: 30 to 34, or 20 if memory ran out.
+    /// The number of the fault: 30 to 34, or 20 if memory ran out.
     pub number: u8,
 }
 
-/// Formats the fault's number and name, such as `fault 31 WrongShape`.
+/// Formats the number and name of the fault, such as `fault 31 WrongShape`.
 impl fmt::Display for CertFault {
     ghost output = { λ fault. Some (head fault.number) };
 
@@ -28,17 +28,17 @@ impl fmt::Display for CertFault {
 
 impl std::error::Error for CertFault {}
 
-/// The error of a parser of a certificate's text: out of memory, or the first fault.
+/// The error of a function that reads the text of a certificate: out of memory, or the first fault.
 pub type CertError = ReadError<CertFault>;
 
-/// Returns the fault with this number.
+/// Returns the fault with this number, as an error.
 pub fn fault(number: u8) -> CertError
     ensures { result ≡ Fault (spec.fault number) }
 {
     ReadError::Fault(CertFault { number })
 }
 
-/// Returns the fault of a part with the wrong shape.
+/// Returns the fault `WRONG_SHAPE`, as an error.
 pub fn wrong_shape() -> CertError
     ensures { result ≡ Fault spec.wrong_shape }
 {

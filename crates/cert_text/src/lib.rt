@@ -1,7 +1,8 @@
-//! Certificates and their text, a JSON object of one of two versions.
+//! Certificates and their texts. A text is a JSON object, of version 1 or 2.
 //!
-//! A [`Cert`] has a queue bound and a blocked vector for each pool, and ranks. [`read_cert`] returns the certificate of a text
-//! if it fits the plan, and otherwise the first fault. [`write_cert`] writes the text that reads back to the certificate.
+//! A [`Cert`] has for each pool a bound of the queue and a blocked vector, and it has ranks. [`read_cert`] returns the
+//! certificate of a text if it fits the plan, and otherwise the first fault. [`write_cert`] writes the text that `read_cert`
+//! reads as the certificate.
 #![tactic(auto)]
 
 mod canonical;

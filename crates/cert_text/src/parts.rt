@@ -1,4 +1,4 @@
-//! Writers for the parts of a certificate's text. They append to a string and build no JSON tree.
+//! Writers of the parts of a certificate. They append to a text and build no JSON tree.
 
 ghost use Rattle.std.specs.Prelude.{◌≡◌, ◌++◌, map, codes};
 ghost use Rattle.serde_json.specs.Written.{comma_if, compact_text};
@@ -11,7 +11,7 @@ use std::alloc::AllocError;
 use support::push_number;
 use weights::{Bound, Ranks, Vector};
 
-/// Appends a comma if the next list element is not the first.
+/// Appends a comma if a list element precedes the next one (`later`).
 #[inline(always)]
 fn push_comma(text: &mut String, later: bool) -> Result<(), AllocError>
     ensures { Pushes result text.old text.new (comma_if later) }
@@ -58,7 +58,8 @@ fn push_vector(text: &mut String, vector: &Vector) -> Result<(), AllocError>
     text.push('}')
 }
 
-/// Appends a pool's bound with its key, in the form that follows the blocked vector.
+/// Appends the key and the vector of a pool's bound, with the comma that separates them from the
+/// blocked vector.
 fn push_bound(text: &mut String, bound: &Bound) -> Result<(), AllocError>
     ensures { Pushes result text.old text.new (bound_text bound.now) }
 {
@@ -83,7 +84,7 @@ fn push_pool(text: &mut String, pool: &PoolCert) -> Result<(), AllocError>
     text.push('}')
 }
 
-/// Appends the pools of a certificate.
+/// Appends the JSON list of the parts of all pools.
 pub fn push_pools(text: &mut String, pools: &[PoolCert]) -> Result<(), AllocError>
     ensures { Pushes result text.old text.new
         (compact_text (spec.list_data (map spec.pool_data pools.now))) }
@@ -98,7 +99,7 @@ pub fn push_pools(text: &mut String, pools: &[PoolCert]) -> Result<(), AllocErro
     text.push(']')
 }
 
-/// Appends the ranks of a certificate.
+/// Appends the JSON object of the ranks.
 pub fn push_ranks(text: &mut String, ranks: &Ranks) -> Result<(), AllocError>
     ensures { Pushes result text.old text.new (compact_text (spec.ranks_data ranks.now)) }
 {

@@ -1,4 +1,4 @@
-//! Parsing a certificate.
+//! Parsing of certificates.
 
 ghost use Rattle.std.specs.Prelude.{◌≡◌, ◌≢◌, IfOk, IfErr, IsTrue, Ok, Err};
 ghost use Rattle.support.specs.Results.{Gives};
@@ -19,20 +19,20 @@ use std::alloc::Global;
 use support::ReadError;
 use support::number::{MEMORY, WEIGHT_TOO_LARGE};
 
-/// Parses a certificate for this plan.
+/// Parses the text of a certificate that fits the plan.
 ///
 /// # Errors
 ///
-/// Returns the first fault, or a fault with the number `MEMORY` if memory runs out, which says
-/// nothing about the text. The faults are found in this order:
+/// Returns the first fault of the text. If memory runs out, returns a fault with the number
+/// [`MEMORY`], which says nothing about the text. The faults are checked in this order:
 ///
-/// 1. 34: the text has more than [`MAX_CERT_BYTES`](job_bodies::MAX_CERT_BYTES) bytes.
-/// 2. 30: the text is not UTF-8 or not JSON.
-/// 3. 31: the value is not an object with an unsigned integer at `version`.
-/// 4. 33: the version is neither 1 nor 2.
-/// 5. 31: a key is missing or unknown, the length of a list does not match the plan, or a value is
-///    not an unsigned 64-bit integer.
-/// 6. 32: a number is above 1,000,000,000.
+/// 1. Fault 34: the text has more than [`MAX_CERT_BYTES`](job_bodies::MAX_CERT_BYTES) bytes.
+/// 2. Fault 30: the text is not UTF-8 or not JSON.
+/// 3. Fault 31: the value is not an object with an unsigned integer at the key `version`.
+/// 4. Fault 33: the version is neither 1 nor 2.
+/// 5. Fault 31: a key is missing or unknown, the length of a list does not match the plan, or a
+///    value is not an unsigned 64-bit integer.
+/// 6. Fault 32: a number is above 1,000,000,000.
 pub fn read_cert(alloc: Global, bytes: &[u8], plan: &Plan) -> Result<Cert, CertFault>
     ensures cert { IfOk result (λ cert. spec.cert_of bytes.now plan.now ≡ Ok cert) }
     ensures fault { IfErr result
@@ -46,8 +46,8 @@ pub fn read_cert(alloc: Global, bytes: &[u8], plan: &Plan) -> Result<Cert, CertF
     }
 }
 
-/// Parses a certificate. Builds a JSON tree only if the text is not in the form that
-/// [`write_cert`](crate::write_cert) writes.
+/// Parses the text of a certificate. Builds a JSON tree only if the text is not in canonical form,
+/// which [`write_cert`](crate::write_cert) writes.
 #[tactic(auto, using(crate::proofs::CanonicalTexts::canonical_back))]
 fn cert_of(alloc: Global, bytes: &[u8], plan: &Plan) -> Result<Cert, CertError>
     ensures { Gives (λ cert. cert) result (spec.cert_of bytes.now plan.now) }

@@ -1,5 +1,5 @@
-//! The shape of a certificate's JSON in each version: the value at each key, and the length of each
-//! list.
+//! The shape of the JSON value of a certificate, in each version: the value at each key, and the
+//! length of each list.
 
 ghost use Rattle.std.specs.Prelude.{map, option_map};
 ghost use Rattle.support.specs.Reading.{read_each};
@@ -50,7 +50,7 @@ fn lifetime_or_standing(
     }
 }
 
-/// Reads the vector that bounds a pool's queue.
+/// Reads the vector that bounds the queue of a pool.
 fn bound_of(alloc: Global, version: Version, plan: &Plan, pool: &Value) -> Result<Bound, CertError>
     ensures { Gives (λ bound. bound) result (spec.bound_of version plan.now (view pool.now)) }
 {
@@ -125,7 +125,7 @@ fn ranks_of(alloc: Global, plan: &Plan, value: &Value) -> Result<Ranks, CertErro
     })
 }
 
-/// Reads a certificate from a JSON value without a limit on its numbers.
+/// Reads a certificate from a JSON value. Does not check whether its numbers are within the limit.
 #[tactic(auto, unfolding(crate::specs::Shape::shape_of))]
 pub fn shape_of(
     alloc: Global,

@@ -1,4 +1,4 @@
-//! The limit on the numbers of a certificate.
+//! The limit of the numbers of a certificate.
 
 ghost use Rattle.std.specs.Prelude.{◌≡◌};
 ghost use Rattle.std.specs.List.{list_all};
@@ -25,7 +25,8 @@ fn ranks_are_small(ranks: &Ranks) -> bool
     are_small(&ranks.pools) && are_small(&ranks.reach) && are_small(&ranks.levels)
 }
 
-/// Returns whether all numbers of the certificate are within the limit.
+/// Returns whether each number of the certificate is at most
+/// [`MAX_WEIGHT`](job_bodies::MAX_WEIGHT).
 #[tactic(auto, unfolding(crate::specs::Sizes::cert_has_small_numbers))]
 pub fn has_small_numbers(cert: &Cert) -> bool
     ensures { result ≡ spec.cert_has_small_numbers cert.now }

@@ -1,4 +1,4 @@
-//! The parts of a certificate's JSON: unsigned integers, lists of a known length, and objects with
+//! The JSON values in certificates: unsigned integers, lists of a known length, and objects with
 //! known keys.
 
 ghost use Rattle.std.specs.Prelude.{◌≡◌, map, option_map};
@@ -10,7 +10,7 @@ ghost use Rattle.cert_text.specs.Values as spec;
 use crate::fault::{CertError, wrong_shape};
 use serde_json::Value;
 
-/// Returns the value as an unsigned 64-bit integer.
+/// Returns the value as an unsigned 64-bit integer. Any other value is a fault.
 pub fn number_of(value: &Value) -> Result<u64, CertError>
     ensures { Gives (λ number. number) result (spec.number_of (view value.now)) }
 {
@@ -20,7 +20,7 @@ pub fn number_of(value: &Value) -> Result<u64, CertError>
     }
 }
 
-/// Returns the elements of the value if it is a list.
+/// Returns the elements of the value, or `None` if it is not a list.
 fn list_in(value: &Value) -> Option<&[Value]>
     ensures { option_map (λ values. map view values.now) result ≡ spec.as_list (view value.now) }
 {
@@ -30,7 +30,7 @@ fn list_in(value: &Value) -> Option<&[Value]>
     }
 }
 
-/// Returns the elements of a list of length `count`.
+/// Returns the elements of the value. It is a fault if the value is not a list of `count` elements.
 #[tactic(auto, unfolding(crate::specs::Values::elements_of))]
 pub fn elements_of(value: &Value, count: usize) -> Result<&[Value], CertError>
     ensures { Gives (λ values. map view values.now) result
@@ -45,7 +45,7 @@ pub fn elements_of(value: &Value, count: usize) -> Result<&[Value], CertError>
     Ok(values)
 }
 
-/// Returns the number of keys of the value if it is an object.
+/// Returns the number of keys of the value, or `None` if it is not an object.
 fn key_count(value: &Value) -> Option<usize>
     ensures { result ≡ option_map spec.count_members (as_object (view value.now)) }
 {
@@ -69,7 +69,7 @@ pub fn check_keys(value: &Value, count: usize) -> Result<(), CertError>
     Ok(())
 }
 
-/// Returns the value at a key of an object.
+/// Returns the value at this key of an object. It is a fault if there is none.
 pub fn value_at<'a>(value: &'a Value, key: &str) -> Result<&'a Value, CertError>
     ensures { Gives (λ found. view found.now) result (spec.value_at key.now (view value.now)) }
 {

@@ -1,5 +1,5 @@
-//! A vector of a certificate's text: numbers for the workers, and rows for the classes and for the
-//! kinds of client.
+//! The vectors in certificates: a number for each pool, and a row of numbers for each class and
+//! each client kind.
 
 ghost use Rattle.std.specs.Prelude.{◌≡◌, length, map};
 ghost use Rattle.support.specs.Reading.{read_each};
@@ -15,7 +15,7 @@ use serde_json::Value;
 use std::alloc::Global;
 use weights::Vector;
 
-/// Reads each value as a number.
+/// Reads each of the values as a number.
 fn numbers_in(alloc: Global, values: &[Value]) -> Result<Vec<u64>, CertError>
     ensures { Gives (λ numbers. numbers.items) result
         (read_each (λ _. value_spec.number_of) 0 (map view values.now)) }
@@ -28,7 +28,7 @@ fn numbers_in(alloc: Global, values: &[Value]) -> Result<Vec<u64>, CertError>
     Ok(numbers)
 }
 
-/// Reads a list of `count` numbers.
+/// Reads the value as a list of `count` numbers.
 #[tactic(auto, unfolding(crate::specs::Vectors::numbers_of))]
 pub fn numbers_of(alloc: Global, value: &Value, count: usize) -> Result<Vec<u64>, CertError>
     ensures { Gives (λ numbers. numbers.items) result (spec.numbers_of count (view value.now)) }
@@ -37,8 +37,8 @@ pub fn numbers_of(alloc: Global, value: &Value, count: usize) -> Result<Vec<u64>
     numbers_in(alloc, values)
 }
 
-/// Returns the number of weights in the row of a class: queued, each position of its body, its end,
-/// and done.
+/// Returns the number of weights in the row of a class: for a queued job, for each position of its
+/// body from 0 to the length of the body, and for a done job.
 pub fn class_points(plan: &Plan, class: usize) -> usize
     ensures { result ≡ spec.class_points plan.now class }
 {
@@ -48,8 +48,8 @@ pub fn class_points(plan: &Plan, class: usize) -> usize
     }
 }
 
-/// Returns the number of weights in the row of a kind of client: each position of its body, and its
-/// end.
+/// Returns the number of weights in the row of a client kind: for each position of its body from 0
+/// to the length of the body.
 pub fn client_points(plan: &Plan, client: usize) -> usize
     ensures { result ≡ spec.client_points plan.now client }
 {
@@ -83,7 +83,7 @@ fn client_rows_in(alloc: Global, plan: &Plan, values: &[Value]) -> Result<Vec<Ve
     Ok(rows)
 }
 
-/// Reads a row of numbers for each class.
+/// Reads the value as a list that has a row of numbers for each class.
 #[tactic(auto, unfolding(crate::specs::Vectors::class_rows))]
 fn class_rows(alloc: Global, plan: &Plan, value: &Value) -> Result<Vec<Vec<u64>>, CertError>
     ensures { Gives (λ rows. map (λ row. row.items) rows.items) result
@@ -93,7 +93,7 @@ fn class_rows(alloc: Global, plan: &Plan, value: &Value) -> Result<Vec<Vec<u64>>
     class_rows_in(alloc, plan, values)
 }
 
-/// Reads a row of numbers for each kind of client.
+/// Reads the value as a list that has a row of numbers for each client kind.
 #[tactic(auto, unfolding(crate::specs::Vectors::client_rows))]
 fn client_rows(alloc: Global, plan: &Plan, value: &Value) -> Result<Vec<Vec<u64>>, CertError>
     ensures { Gives (λ rows. map (λ row. row.items) rows.items) result
@@ -103,7 +103,7 @@ fn client_rows(alloc: Global, plan: &Plan, value: &Value) -> Result<Vec<Vec<u64>
     client_rows_in(alloc, plan, values)
 }
 
-/// Reads a vector.
+/// Reads the value as a vector.
 #[tactic(auto, unfolding(crate::specs::Vectors::vector_of))]
 pub fn vector_of(alloc: Global, plan: &Plan, value: &Value) -> Result<Vector, CertError>
     ensures { Gives (λ vector. vector) result (spec.vector_of plan.now (view value.now)) }

@@ -1,4 +1,4 @@
-//! The version of a certificate's text.
+//! The version of the text of a certificate.
 
 ghost use Rattle.std.specs.Prelude.{◌≡◌};
 ghost use Rattle.std.specs.List.{list_any};
@@ -14,7 +14,7 @@ use crate::{Cert, PoolCert};
 use serde_json::Value;
 use support::number::VERSION;
 
-/// A supported version.
+/// A supported version of the text of a certificate.
 #[derive(Clone, Copy, PartialEq, Eq)]
 pub enum Version {
     /// Each pool has a standing vector.
@@ -33,7 +33,7 @@ fn version_numbered(number: u64) -> Result<Version, CertError>
     }
 }
 
-/// Reads the version of a certificate's text.
+/// Reads the version of the JSON value of a certificate.
 #[tactic(auto, unfolding(crate::specs::Version::version_of))]
 pub fn version_of(value: &Value) -> Result<Version, CertError>
     ensures { Gives (λ version. version) result (spec.version_of (view value.now)) }
@@ -49,7 +49,8 @@ fn has_lifetime(pools: &[PoolCert]) -> bool
     pools.iter().any(|pool| pool.bound.is_lifetime())
 }
 
-/// Returns the lowest version that can represent the certificate.
+/// Returns the lowest version that can represent the certificate: 2 if a pool has a lifetime
+/// vector, and otherwise 1.
 pub fn version_number(cert: &Cert) -> u64
     ensures { result ≡ version_number cert.now }
 {

@@ -1,4 +1,4 @@
-//! Writing a certificate.
+//! A writer of certificates.
 
 ghost use Rattle.std.specs.Prelude.{◌≡◌, ◌<◌, ◌≤◌, ◌∷◌, ◌++◌, [], false, length, IfOk, IsTrue, Ok};
 ghost use Rattle.job_bodies.specs.Plan.{Plan};
@@ -15,12 +15,12 @@ use crate::version::version_number;
 use std::alloc::{AllocError, Global};
 use support::push_number;
 
-/// Writes a certificate as compact JSON, with the keys of each object in ascending order and no
-/// newline. The version is 2 if a pool has a lifetime vector, and 1 otherwise.
+/// Writes a certificate as compact JSON. The keys of each object are in ascending order, and the
+/// text has no newline. The version is 2 if a pool has a lifetime vector, and otherwise 1.
 ///
 /// If the certificate fits a plan and the text is not too long, [`read_cert`](crate::read_cert)
-/// reads it back for that plan, even if a newline follows. The text never has a `%`, so it can
-/// follow a `%%` line.
+/// reads the text as the certificate for that plan, even if a newline follows it. The text never
+/// contains a `%`, so it cannot be taken for a separator line `%%`.
 ///
 /// # Errors
 ///
@@ -54,7 +54,8 @@ fn push_cert(text: &mut String, cert: &Cert) -> Result<(), AllocError>
     push_version(text, cert)
 }
 
-/// Appends the version that the certificate needs, with its key, and the end of the text.
+/// Appends the end of the text after the ranks: the key `version`, the version that the certificate
+/// needs, and the closing brace.
 fn push_version(text: &mut String, cert: &Cert) -> Result<(), AllocError>
     ensures { Pushes result text.old text.new (version_text cert.now) }
 {

@@ -14,7 +14,7 @@ version_one : (cert : Cert) → version_number cert ≡ 1 → codes ",\"version\
 unfolding digits
 version_one cert e = ap (λ (n : ℕ). codes ",\"version\":" ++ (decimal n ++ codes "}")) (sym e)
 
--- if the version is not 2, it is 1
+-- a version that is not 2 is 1
 other_version : (some : Bool) → (◌≡◌ {A = ℕ} (cond some 2 1) 2 → ⊥) → ◌≡◌ {A = ℕ} (cond some 2 1) 1
 other_version true other = absurd (other refl)
 other_version false other = refl

@@ -1,4 +1,4 @@
--- The remaining parts decide the result.
+-- The loop of `all_fit`: all parts fit exactly when the remaining parts do.
 use Rattle.std.proofs.Common.{◌≡◌, drop}
 use Rattle.std.specs.List.{list_all}
 use Rattle.cert_text.specs.Cert.{pool_cert_fits}
