@@ -1,22 +1,22 @@
--- The relations between the pools before and after each operation.
+-- Lemmas about a pool before and after each operation.
 use Rattle.std.proofs.Common.{◌≡◌, ℕ, suc, ◌<◌, ◌≤◌, ◌⊎◌, ◌∷◌, length, Some, arith}
 use Rattle.std.proofs.lemmas.Grind.{common_steps}
 use Rattle.pool_machine.specs.declared.offer.Offer.TheVariants.{Started, Queued, Refused}
 use Rattle.pool_machine.specs.PoolState.{PoolView, answer, taken, retired}
 
--- a pool that starts a thread is below core or below its maximum
+-- if a new thread starts the job, the pool had fewer than core threads or fewer than its maximum
 pub started_below : (pool : PoolView) → answer pool ≡ Started → (pool.threads < pool.core) ⊎ (pool.threads < pool.max)
 started_below pool e = grind (arith, common_steps)
 
--- a pool that queues a job has at least core threads, and room in the queue
+-- if the job is queued, the pool had at least core threads, and room in the queue
 pub queued_at_core : (pool : PoolView) → answer pool ≡ Queued → (pool.core ≤ pool.threads) × (length pool.queue < pool.capacity)
 queued_at_core pool e = grind (arith, common_steps)
 
--- a pool that rejects a job has a full queue, and no room for a thread
+-- if the job is refused, the queue was full, and the pool had its maximum of threads
 pub refused_when_full : (pool : PoolView) → answer pool ≡ Refused → (pool.capacity ≤ length pool.queue) × (pool.max ≤ pool.threads)
 refused_when_full pool e = grind (arith, common_steps)
 
--- an idle worker takes the head of the queue, and nothing else changes
+-- an idle worker takes the head of the queue, and the rest of the pool is unchanged
 pub record Takes (pool after : PoolView) (job : ℕ) : Type 0 where
   pub idle : pool.idle ≡ suc after.idle
   pub queue : pool.queue ≡ job ∷ after.queue
@@ -28,7 +28,7 @@ pub record Takes (pool after : PoolView) (job : ℕ) : Type 0 where
 pub taken_takes : (pool after : PoolView) (job : ℕ) → taken pool ≡ Some (job, after) → Takes pool after job
 taken_takes pool after job e = grind (arith, common_steps)
 
--- an idle worker of a pool above core ends, and nothing else changes
+-- an idle worker of a pool with more than core threads ends, and the rest of the pool is unchanged
 pub record Retires (pool after : PoolView) : Type 0 where
   pub above_core : pool.core < pool.threads
   pub idle : pool.idle ≡ suc after.idle

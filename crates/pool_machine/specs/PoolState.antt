@@ -1,12 +1,12 @@
--- The state of a single pool, and the four operations on it. The rules are those of the Javadoc of ThreadPoolExecutor: core
--- and maximum pool sizes, queuing, rejected tasks.
+-- The state of a single pool, and its four operations. The rules are those of the Javadoc of ThreadPoolExecutor under "Core and maximum
+-- pool sizes", "Queuing" and "Rejected tasks".
 use Rattle.std.specs.Prelude.{ℕ, zero, suc, ◌+◌, ◌-◌, ◌≤◌, nat_lt, if◌then◌else◌, List, [], ◌∷◌, ◌++◌, length, Option, None, Some}
 use Rattle.job_bodies.specs.declared.limits.TheConstants.{MAX_SIZE}
 use Rattle.job_bodies.specs.Plan.{Pool, first_workers}
 use Rattle.pool_machine.specs.declared.offer.Offer.{Offer}
 use Rattle.pool_machine.specs.declared.offer.Offer.TheVariants.{Started, Queued, Refused}
 
--- the sizes of a pool, its threads, how many of them are idle, and the numbers of the jobs in its queue, the head first
+-- a pool: its sizes, the number of its threads, how many of them are idle, and the numbers of the jobs in its queue, the head first
 pub record PoolView : Type 0 where
   pub core : ℕ
   pub max : ℕ
@@ -15,12 +15,12 @@ pub record PoolView : Type 0 where
   pub idle : ℕ
   pub queue : List ℕ
 
--- the initial pool: its first workers are idle, and its queue is empty
+-- the pool at first: core idle workers if they are prestarted, otherwise no threads, and an empty queue
 abbrev pub new_pool : Pool → PoolView
 new_pool pool = record { core = pool.core; max = pool.max; capacity = pool.queue; threads = first_workers pool; idle = first_workers pool; queue = [] }
 
--- the answer of the pool to an offered job: below core threads, a new thread starts it; otherwise it is queued if the queue
--- has room; otherwise, below the maximum, a new thread starts it; otherwise it is rejected
+-- the answer of the pool to an offered job: with fewer than core threads, a new thread starts it; otherwise it is queued if the queue has
+-- room; otherwise, with fewer than the maximum of threads, a new thread starts it; otherwise it is refused
 abbrev pub answer : PoolView → Offer
 answer pool =
     if nat_lt pool.threads pool.core then Started
@@ -28,7 +28,7 @@ answer pool =
     else (if nat_lt pool.threads pool.max then Started
     else Refused))
 
--- the pool after it gave this answer to the job
+-- the pool after it gave this answer to the offered job
 abbrev pub apply_answer : PoolView → ℕ → Offer → PoolView
 apply_answer pool job Started = record pool { threads = pool.threads + 1 }
 apply_answer pool job Queued = record pool { queue = pool.queue ++ job ∷ [] }
@@ -42,8 +42,7 @@ abbrev pub taken_from : PoolView → ℕ → List ℕ → Option (ℕ × PoolVie
 taken_from pool (suc idle) (job ∷ queue) = Some (job, record pool { idle = idle; queue = queue })
 taken_from pool _ _ = None
 
--- the job that an idle worker takes from the head of the queue, and the pool afterwards; None if no worker is idle or the
--- queue is empty
+-- the job at the head of the queue, and the pool after an idle worker took this job; None if no worker is idle or the queue is empty
 abbrev pub taken : PoolView → Option (ℕ × PoolView)
 taken pool = taken_from pool pool.idle pool.queue
 
@@ -55,11 +54,11 @@ abbrev pub retired_of : PoolView → ℕ → Option PoolView
 retired_of pool zero = None
 retired_of pool (suc idle) = if nat_lt pool.core pool.threads then Some (record pool { threads = pool.threads - 1; idle = idle }) else None
 
--- the pool after an idle worker ended; None if no worker is idle or there are at most core threads
+-- the pool after an idle worker ended; None if no worker is idle or the pool has at most core threads
 abbrev pub retired : PoolView → Option PoolView
 retired pool = retired_of pool pool.idle
 
--- the invariant of a pool: its sizes are valid, and its threads and its queue are within them
+-- the invariant of a pool: its sizes are valid, and its idle workers, threads and queue are within their limits
 pub record IsSound (pool : PoolView) : Type 0 where
   pub some_core : 1 ≤ pool.core
   pub core_within_max : pool.core ≤ pool.max

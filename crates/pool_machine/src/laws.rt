@@ -6,36 +6,36 @@ ghost use Rattle.job_bodies.specs.WellFormed.{has_valid_sizes};
 ghost use Rattle.pool_machine.specs.PoolState.{PoolView, IsSound, new_pool};
 ghost use Rattle.pool_machine.specs.Laws.{IsInvariant, HasSizesOf, QueuesOnlyAtCore, LoadIsOffered, FailureConditions};
 
-/// Proves that no event changes a pool's core, maximum or capacity.
+/// Proves that no event changes the core, the maximum or the capacity of a pool.
 pub fn sizes_stay()
     ensures { (first : PoolView) → IsInvariant (HasSizesOf first) }
 {}
 
-/// Proves that a pool of valid sizes never has more threads than its maximum, more idle workers
-/// than threads or more queued jobs than its capacity.
+/// Proves that a pool with valid sizes never has more threads than its maximum, more idle workers
+/// than threads, or more queued jobs than its capacity.
 pub fn pools_stay_sound()
     ensures start { (pool : Pool) → IsTrue (has_valid_sizes pool) → IsSound (new_pool pool) }
     ensures kept { IsInvariant IsSound }
 {}
 
-/// Proves that a pool with a queued job has at least `core` threads. A pool queues a job only at
-/// `core` threads or more, and core threads never end.
+/// Proves that a pool with a queued job has at least core threads. The reason is that a pool queues
+/// a job only if it has at least core threads, and core threads never end.
 pub fn queues_only_at_core()
     ensures start { (pool : Pool) → QueuesOnlyAtCore (new_pool pool) }
     ensures kept { IsInvariant QueuesOnlyAtCore }
 {}
 
-/// Proves that a pool's load, which is the number of its threads and queued jobs, begins with the
-/// number of first workers, and that only an offer increases it, by at most 1. A pool that rejects
-/// a job was therefore offered at least as many jobs as its capacity and its maximum together, less
-/// its first workers.
+/// Proves that only an offer increases the load of a pool (its threads plus its queued jobs), by at
+/// most 1. The load of a new pool is the number of its prestarted threads. Therefore, before a pool
+/// refuses a job, at least as many jobs were offered to it as its capacity plus its maximum, minus
+/// its prestarted threads.
 pub fn load_is_offered()
     ensures { LoadIsOffered }
 {}
 
-/// Proves when an operation of a pool fails. The pool rejects a job exactly when its queue is full
-/// and it has `max` threads. A take returns nothing exactly when no worker is idle or the queue is
-/// empty. No worker ends exactly when no worker is idle or there are at most `core` threads.
+/// Proves when an operation of a pool fails. The pool refuses a job exactly when its queue is full
+/// and it has its maximum of threads. No job is taken exactly when no worker is idle or the queue
+/// is empty. No worker ends exactly when no worker is idle or the pool has at most core threads.
 pub fn failure_conditions()
     ensures { (pool : PoolView) → IsSound pool → FailureConditions pool }
 {}

@@ -1,4 +1,4 @@
-//! One bounded thread pool, as `ThreadPoolExecutor` behaves with an `ArrayBlockingQueue` and
+//! A bounded thread pool, as Java's `ThreadPoolExecutor` with an `ArrayBlockingQueue` and
 //! `AbortPolicy`.
 #![tactic(auto)]
 

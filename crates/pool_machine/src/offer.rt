@@ -7,6 +7,7 @@ pub enum Offer {
     Started,
     /// The job is appended to the queue.
     Queued,
-    /// The queue is full and the pool has `max` threads: `AbortPolicy` rejects the job.
+    /// The queue is full and the pool has its maximum of threads, so the job is refused. Java's
+    /// `AbortPolicy` rejects it.
     Refused,
 }

@@ -1,4 +1,4 @@
-//! The state of a pool: its threads, its idle workers, and its queue.
+//! The state of a pool: its threads, its idle workers and its queue.
 
 ghost use Rattle.std.specs.Prelude.{◌≡◌, ◌-◌, ◌<◌, ◌≤◌, ◌⊎◌, ◌↔◌, [], length, slice_get};
 ghost use Rattle.std.specs.Prelude.{IsTrue, IsNone, IfSome, IfNone, IfOk, OnOk, OnErr};
@@ -15,9 +15,9 @@ use std::marker::Model;
 /// A bounded thread pool: its sizes, the number of its threads, how many of them are idle, and the
 /// numbers of the jobs in its queue.
 ///
-/// A worker that finished a job is idle until it takes the head of the queue. The queue can
-/// therefore be full while workers are idle. The rules are those of Java's `ThreadPoolExecutor`
-/// with an `ArrayBlockingQueue`.
+/// A worker that finished a job is idle until it takes the head of the queue. So the queue can be
+/// full while workers are idle. The rules are those of Java's `ThreadPoolExecutor` with an
+/// `ArrayBlockingQueue`.
 #[derive(Drop)]
 pub struct PoolState {
     core: u64,
@@ -53,11 +53,11 @@ impl Model for PoolState {
 }
 
 impl PoolState {
-    /// Creates a pool of these sizes, with an empty queue. A prestarted pool has `core` idle
-    /// workers. Any other pool has no threads; it starts them as jobs arrive.
+    /// Creates a pool of these sizes with an empty queue. A prestarted pool has core idle workers.
+    /// Any other pool has no threads at first.
     ///
-    /// The sizes must be valid: `core` at least 1, the maximum at least `core` and the queue
-    /// capacity at least 1, each at most `MAX_SIZE`. Allocates no memory.
+    /// The sizes must be valid: core at least 1, the maximum at least core, and the queue capacity
+    /// at least 1, each at most `MAX_SIZE`. Allocates no memory.
     pub fn new(alloc: Global, pool: &Pool) -> PoolState
         requires { IsTrue (has_valid_sizes pool.now) }
         ensures { result ≡ new_pool pool.now }
@@ -73,12 +73,13 @@ impl PoolState {
         }
     }
 
-    /// Offers the job with this number to the pool, like Java's `execute`. If the pool has fewer
-    /// than `core` threads, a new thread starts the job, even if workers are idle. Otherwise the
-    /// job is appended to the queue. If the queue is full, a new thread starts the job, and if the
-    /// pool has `max` threads as well, it rejects the job.
+    /// Offers the job with this number to the pool, as Java's `execute` does. If the pool has fewer
+    /// than core threads, a new thread starts the job, even if workers are idle. Otherwise the job
+    /// is appended to the queue if there is room. Otherwise a new thread starts it if the pool has
+    /// fewer than its maximum of threads. Otherwise the job is refused.
     ///
-    /// A new thread is busy with its job from the start. After `Refused` the pool is unchanged.
+    /// A new thread is busy with its job from the start. If the job is refused, the pool is
+    /// unchanged.
     ///
     /// # Errors
     ///
@@ -114,7 +115,7 @@ impl PoolState {
         }
     }
 
-    /// Lets an idle worker take the head of the queue, and returns the number of that job.
+    /// Lets an idle worker take the head of the queue. Returns the number of that job.
     ///
     /// Returns `None` if no worker is idle or the queue is empty. The pool is then unchanged.
     /// Allocates no memory.
@@ -131,7 +132,7 @@ impl PoolState {
         Some(job)
     }
 
-    /// Makes a busy worker idle, since its job is done. Allocates no memory.
+    /// Makes a busy worker idle because its job is done. Allocates no memory.
     pub fn finish(&mut self)
         requires { self.old.idle < self.old.threads }
         ensures { self.new ≡ finished self.old }
@@ -139,9 +140,9 @@ impl PoolState {
         self.idle += 1;
     }
 
-    /// Ends an idle worker if there are more than `core` threads, whatever the queue holds. Core
-    /// threads never end. Returns `false` if no worker is idle or there are at most `core` threads.
-    /// The pool is then unchanged. Allocates no memory.
+    /// Ends an idle worker if the pool has more than core threads, whether or not jobs are queued.
+    /// Returns whether a worker ended. If none is idle, or the pool has at most core threads, the
+    /// pool is unchanged. Allocates no memory.
     pub fn retire(&mut self) -> bool
         ensures ended { OnTrue result (retired self.old ≡ Some self.new) }
         ensures nothing { OnFalse result (retired self.old ≡ None) }
@@ -155,14 +156,15 @@ impl PoolState {
         ends
     }
 
-    /// Returns the number of threads below which each job gets a new thread: 1 to the maximum.
+    /// Returns the core pool size: 1 to the maximum. While the pool has fewer threads, each offered
+    /// job starts a new one.
     pub fn core(&self) -> u64
         ensures { result ≡ self.now.core }
     {
         self.core
     }
 
-    /// Returns the maximum number of threads: `core` to `MAX_SIZE`.
+    /// Returns the maximum number of threads: core to `MAX_SIZE`.
     pub fn max(&self) -> u64
         ensures { result ≡ self.now.max }
     {
@@ -208,7 +210,7 @@ impl PoolState {
         self.queue.len()
     }
 
-    /// Returns the job that has waited longest, or `None` if the queue is empty.
+    /// Returns the number of the job at the head of the queue, or `None` if the queue is empty.
     pub fn head(&self) -> Option<usize>
         ensures { result ≡ slice_get self.now.queue 0 }
     {
