@@ -1,4 +1,4 @@
--- The parser returns the lines of the text in order.
+-- Proofs that the parser returns the lines of the text in order.
 use Rattle.std.proofs.Common.{◌≡◌, ℕ, zero, suc, ◌+◌, ◌<◌, ◌≤◌, List, [], ◌∷◌, length, map, Option, Some, None, refl, sym, ap, ap₂, ◌∙◌, arith}
 use Rattle.std.proofs.lemmas.List.{length-map, nil_from_length}
 use Rattle.support.specs.Reading.{read_each}
@@ -27,7 +27,7 @@ pub none_left : (plan : Plan) (text : List ℕ) → length text ≡ 0 → lines_
 none_left plan text none = ap (lines_read plan) (nil_from_length text none) ∙ ap (map (line_of plan)) no_lines
 
 -- ---- all lines
--- there are at most as many lines as bytes
+-- a text has at most as many lines as bytes
 few_within : (most : ℕ) (text : List ℕ) → length text ≤ most → length (lines_of text) ≤ length text
 few_within most [] within = omega (arith, ap (λ (ls : List (List ℕ)). length ls) no_lines)
 few_within zero (b ∷ text) within = absurd (omega arith)
@@ -38,7 +38,7 @@ few_within (suc most) (b ∷ text) within =
 pub lines_few : (plan : Plan) (text : List ℕ) → length (lines_read plan text) ≤ length text
 lines_few plan text = omega (arith, length-map (lines_of text) (line_of plan), few_within (length text) text (omega arith))
 
--- the lines that the parser returns are those of the text
+-- the lines that the parser returns one at a time are those of the whole text
 each_read : (plan : Plan) (i : ℕ) (texts : List (List ℕ)) → all_from i (map (line_of plan) texts) ≡ read_each (line_at plan) i texts
 each_read plan i [] = refl
 each_read plan i (text ∷ texts) = rw (each_read plan (i + 1) texts) refl

@@ -1,4 +1,4 @@
--- The content of a line, by its first word.
+-- Lemmas about the content of a line, by its verb.
 use Rattle.std.proofs.Common.{◌≡◌, ◌≢◌, ℕ, true, List, [], ◌∷◌, ◌++◌, drop, codes, Option, Some, None, option_map, refl, ap, ◌∙◌, append_assoc}
 use Rattle.job_bodies.specs.Plan.{Plan}
 use Rattle.written_machine.specs.declared.event.Event.{Event}
@@ -33,11 +33,11 @@ pub stuck_line : (plan : Plan) (line words : List ℕ) → line ≡ codes "stuck
 unfolding line_of_verb stuck_of
 stuck_line plan line words is = ap (line_of plan) is ∙ by_verb plan (codes "stuck") words refl
 
--- the line does not begin with this text
+-- the line does not begin with this prefix
 abbrev pub LacksPrefix : List ℕ → List ℕ → Type 0
 LacksPrefix front line = (rest : List ℕ) → line ≢ front ++ rest
 
--- a line that begins with none of the verbs is malformed
+-- a line that begins with none of the five verbs is malformed
 pub no_line : (plan : Plan) (line : List ℕ) → LacksPrefix (codes "client ") line → LacksPrefix (codes "job ") line → LacksPrefix (codes "take ") line → LacksPrefix (codes "retire ") line
     → LacksPrefix (codes "stuck ") line → None ≡ line_of plan line
 no_line plan line client job take retire stuck = by_read (line_of plan line) refl
@@ -54,8 +54,8 @@ no_line plan line client job take retire stuck = by_read (line_of plan line) ref
     by_read None read = refl
     by_read (Some said) read = absurd (by_text said read (read_line_is_text plan line said read).1)
 
--- ---- the first line
--- the content of a line of a client or job, given the number on the first line
+-- ---- the first line of a text
+-- the content of a first line that names a client or a job, given the number that is the rest of the line
 actor_line : (plan : Plan) (text word number : List ℕ) (event : ℕ → Event) → text ≡ word ++ number → has_no 10 word ≡ true
     → line_of plan (word ++ first_line number) ≡ option_map Perform (option_map event (number_of (first_line number)))
     → split_event_line plan text ≡ option_map {U = Line × List ℕ} (λ read. (Perform (event read.0), read.1)) (split_number_line number)
@@ -75,6 +75,6 @@ client_first plan text number is = actor_line plan text (codes "client ") number
 pub job_first : (plan : Plan) (text number : List ℕ) → text ≡ codes "job " ++ number → split_event_line plan text ≡ option_map {U = Line × List ℕ} (λ read. (Perform (Job read.0), read.1)) (split_number_line number)
 job_first plan text number is = actor_line plan text (codes "job ") number (λ n. Job n) is refl (job_line plan (first_line number))
 
--- if a text does not begin with this prefix, neither does its first line
+-- if a text does not begin with a prefix, its first line does not begin with it
 pub first_otherwise : (front text : List ℕ) → LacksPrefix front text → LacksPrefix front (first_line text)
 first_otherwise front text other = λ rest is. other (rest ++ drop (place 10 text) text) (first_and_more text ∙ ap (λ (l : List ℕ). l ++ drop (place 10 text) text) is ∙ append_assoc front rest (drop (place 10 text) text))

@@ -1,4 +1,4 @@
--- Numbers that a loop parses word by word.
+-- Lemmas about the loops of `NamedJobs`, which parse numbers word by word.
 use Rattle.std.proofs.Common.{◌≡◌, ℕ, true, false, List, [], ◌∷◌, ◌++◌, Option, Some, None, is_some, option_map, refl, sym, ap, ◌∙◌, append_assoc}
 use Rattle.std.proofs.lemmas.Bool.{true≢false}
 use Rattle.std.proofs.lemmas.Option.{none-some, same_Some}
@@ -7,7 +7,7 @@ use Rattle.line_words.specs.Number.{number_of}
 use Rattle.event_lines.specs.Words.{all_of, unwrap_or_empty, members_in}
 use Rattle.line_words.proofs.FirstSpace.{words_more, words_end}
 
--- ---- their numbers
+-- ---- the numbers of the first word and of the others
 members_more : (text word rest : List ℕ) (n : ℕ) → Some (word, rest) ≡ split_space text → number_of word ≡ Some n → members_in text ≡ option_map (λ ns. n ∷ ns) (members_in rest)
 members_more text word rest n read number = ap (all_of number_of) (words_more text word rest read) ∙ rw number refl
 
@@ -21,7 +21,7 @@ members_last_bad : (text : List ℕ) → None ≡ split_space text → None ≡ 
 members_last_bad text read none = ap (all_of number_of) (words_end text read) ∙ rw (← none) refl
 
 -- ---- whether all words are numbers
--- the remaining words are numbers exactly if all words are
+-- the remaining words are numbers exactly when all words are
 abbrev pub SameReading : List ℕ → List ℕ → Type 0
 SameReading rest words = is_some (members_in rest) ≡ is_some (members_in words)
 
@@ -53,7 +53,7 @@ pub whole_members : (words : List ℕ) → is_some (members_in words) ≡ true �
 whole_members words all = some_there (members_in words) all
 
 -- ---- the list of the numbers
--- these numbers, followed by those of the remaining words, are all numbers
+-- the numbers in `front`, followed by those of the remaining words, are the numbers of all words
 abbrev pub Front : List ℕ → List ℕ → List ℕ → Type 0
 Front front rest all = option_map (λ ns. front ++ ns) (members_in rest) ≡ Some all
 

@@ -1,4 +1,4 @@
--- A line parses as exactly the content whose canonical text it is.
+-- Proofs that a line parses exactly as the content whose canonical text it is.
 use Rattle.std.proofs.Common.{◌≡◌, ℕ, zero, suc, ◌<◌, ◌⊎◌, inl, inr, ⊎_elim, Bool, true, false, cond, not, nat_lt, nat_le, List, [], ◌∷◌, ◌++◌, length, drop, map, flat_map, slice_index_or, codes, decimal, bytes_eq, Option, Some, None, option_map, option_and_then, refl, sym, ap, ap₂, subst, ◌∙◌, arith}
 use Rattle.std.specs.List.{list_all, list_any, position_or_len, join_with_byte}
 use Rattle.std.proofs.lemmas.Bool.{and_parts, and_from, lt-ltb, ltb-true, le-leb, cond-true, not-true, or_parts}
@@ -20,12 +20,12 @@ use Rattle.line_words.proofs.FirstSpace.{splits, split_parts}
 use Rattle.line_words.proofs.Partial.{map_some}
 use Rattle.line_words.proofs.WrittenNumbers.{number_read, number_written, decimal_has_no}
 
--- a conditional has the value of one of its branches
+-- if a conditional is `Some z`, its condition is true and its first branch is `Some z`, or its second branch is `Some z`
 choose : {Y : Type 0} (b : Bool) (x y : Option Y) (z : Y) → cond b x y ≡ Some z → ((b ≡ true) × (x ≡ Some z)) ⊎ (y ≡ Some z)
 choose true x y z e = inl (refl, e)
 choose false x y z e = inr e
 
--- ---- names
+-- ---- the names of pools
 name_read : (plan : Plan) (name : List ℕ) (p : ℕ) → pool_named plan name ≡ Some p → (nat_lt p (length plan.pools) ≡ true) × (name ≡ (pool_at plan p).name)
 unfolding pool_named
 name_read plan name p read =
@@ -34,7 +34,7 @@ name_read plan name p read =
     let same : (pool_at plan (position_or_len test plan.pools)).name ≡ name = (bytes_eq-Decides _ name).0 (passes_at_first test plan.pools no_pool (ltb-true _ _ place.0)) in
     (subst (λ (q : ℕ). nat_lt q (length plan.pools) ≡ true) place.1 place.0, sym same ∙ ap (λ q. (pool_at plan q).name) place.1)
 
--- no name in the list is equal to this one
+-- if no pool of the list has this name, the pool at p does not have it
 others_differ : (name : List ℕ) (pools : List Pool) (p : ℕ) → list_any (bytes_eq name) (map (λ (pool : Pool). pool.name) pools) ≡ false → p < length pools → bytes_eq name (slice_index_or pools p no_pool).name ≡ false
 others_differ name [] p none within = absurd (omega arith)
 others_differ name (pool ∷ pools) zero none within = (or_parts (bytes_eq name pool.name) _ none).0
@@ -57,8 +57,8 @@ name_written plan p distinct within =
     let inside : nat_lt (position_or_len test plan.pools) (length plan.pools) ≡ true = subst (λ (q : ℕ). nat_lt q (length plan.pools) ≡ true) (sym place) within in
     cond-true _ _ _ inside ∙ ap (λ (q : ℕ). Some q) place
 
--- ---- members
--- the words are the digits of valid numbers
+-- ---- the job numbers of a question
+-- the words are the decimal digits of these numbers, which are within the limit
 abbrev AreMembers : List (List ℕ) → List ℕ → Type 0
 AreMembers words members = (list_all is_valid_number members ≡ true) × (words ≡ map decimal members)
 
@@ -78,11 +78,11 @@ members_written (n ∷ members) valid =
     let parts = and_parts (is_valid_number n) (list_all is_valid_number members) valid in
     rw (number_written n parts.0, members_written members parts.1) refl
 
--- the text after `stuck`
+-- a space and the joined digits of the numbers are the digits of each number with a space before it
 behind_stuck : (n : ℕ) (members : List ℕ) → 32 ∷ join_with_byte 32 (map decimal (n ∷ members)) ≡ flat_map (λ m. 32 ∷ decimal m) (n ∷ members)
 behind_stuck n members = joined_after 32 (decimal n) (map decimal members) ∙ flat_map-map (λ x. 32 ∷ x) decimal (n ∷ members)
 
--- words that are the digits of members make up the text of the question
+-- a text whose words are the digits of these numbers is, after a space, the end of the text of the question
 words_read : (rest : List ℕ) (members : List ℕ) → words_of rest ≡ map decimal members → (nat_le 1 (length members) ≡ true) × (32 ∷ rest ≡ flat_map (λ m. 32 ∷ decimal m) members)
 unfolding words_of
 words_read rest [] same = absurd (omega (arith, length-slice_split is_space rest, ap (λ (ws : List (List ℕ)). length ws) same))
@@ -101,12 +101,12 @@ words_written n members valid =
     let same : join_with_byte 32 (map decimal (n ∷ members)) ≡ decimal n ++ flat_map (λ m. 32 ∷ decimal m) members = ap (drop 1) (behind_stuck n members) in
     ap (cut_at 32) (sym same) ∙ cut_joined 32 (decimal n) (map decimal members) (digits_without_space (n ∷ members) valid)
 
--- ---- a verb and the rest
--- the verb and the rest are the text of the valid event
+-- ---- a verb and the text after it
+-- the verb and the text after it are the text of the event, which is valid
 abbrev IsEventText : Plan → List ℕ → List ℕ → Event → Type 0
 IsEventText plan verb rest event = (is_valid_event plan event ≡ true) × (verb ++ 32 ∷ rest ≡ event_text plan event)
 
--- the verb and the rest are the text of the valid line
+-- the verb and the text after it are the text of the line, which is valid
 abbrev IsLineText : Plan → List ℕ → List ℕ → Line → Type 0
 IsLineText plan verb rest line = (is_valid_line plan line ≡ true) × (verb ++ 32 ∷ rest ≡ line_text plan line)
 
@@ -166,8 +166,8 @@ verb_read plan verb rest line read =
     subst (λ (l : Line). IsLineText plan verb rest l) found.2 (event_read plan verb rest found.0 found.1))
     (choose (bytes_eq verb (codes "stuck")) _ _ line read)
 
--- ---- lines
--- if a text parses as a line, it is the line's text, and the line is valid
+-- ---- whole lines
+-- a text that parses as a line is the text of that line, and the line is valid
 pub read_line_is_text : (plan : Plan) (text : List ℕ) (line : Line) → line_of plan text ≡ Some line → (is_valid_line plan line ≡ true) × (text ≡ line_text plan line)
 unfolding line_of
 read_line_is_text plan text line read =
@@ -179,7 +179,7 @@ pub by_verb : (plan : Plan) (verb rest : List ℕ) → has_no 32 verb ≡ true �
 unfolding line_of
 by_verb plan verb rest none = ap (λ o. option_and_then (λ words. line_of_verb plan words.0 words.1) o) (splits verb rest none)
 
--- if the pool names are distinct, the text of a valid line parses as that line
+-- the text of a valid line parses as that line, if the names of the pools are distinct
 pub text_reads_as_line : (plan : Plan) (line : Line) → are_distinct (pool_names plan) ≡ true → is_valid_line plan line ≡ true → line_of plan (line_text plan line) ≡ Some line
 unfolding line_of_verb event_of stuck_of
 text_reads_as_line plan (Perform (Client c)) distinct valid = by_verb plan (codes "client") (decimal c) refl ∙ ap (λ o. option_map Perform (option_map (λ n. Client n) o)) (number_written c valid)
@@ -200,7 +200,7 @@ members_on_one_line (n ∷ members) valid =
     let parts = and_parts (is_valid_number n) (list_all is_valid_number members) valid in
     has_no-append 10 (decimal n) _ (decimal_has_no 10 n (omega arith) parts.0) (members_on_one_line members parts.1)
 
--- the name of the pool has no newline
+-- whether the name of the pool has no newline
 abbrev pub has_plain_name : Pool → Bool
 has_plain_name pool = has_no 10 pool.name
 

@@ -1,4 +1,4 @@
--- A text parses as exactly the lines whose canonical text it is, with or without the last newline.
+-- Proofs that a text parses exactly as the lines whose canonical text it is, with or without the newline after the last line.
 use Rattle.std.proofs.Common.{◌≡◌, ◌⊎◌, inl, inr, ⊎_elim, ℕ, ◌+◌, ◌<◌, true, not, ◌==◌, nat_lt, List, [], ◌∷◌, ◌++◌, length, map, Result, Ok, Err, Option, Some, None, refl, sym, ap, ap₂, subst, ◌∙◌, arith}
 use Rattle.std.specs.List.{list_all, join_with_byte}
 use Rattle.std.proofs.lemmas.Bool.{and_parts, and_from}
@@ -16,7 +16,7 @@ use Rattle.line_words.proofs.LastNewline.{last_newline, cut_off, stays, lines_of
 use Rattle.line_words.proofs.Splits.{has_no, cut_at, cut_joined, joined_before, flat_map-map, is_piece, joined_ends}
 use Rattle.event_lines.proofs.WrittenLines.{read_line_is_text, text_reads_as_line, has_plain_name, line_on_one_line}
 
--- ---- the lines in sequence
+-- ---- the lines in order
 then_ok : {A B F : Type 0} (r : Result A F) (f : A → Result B F) (y : B) → (r >>= f) ≡ Ok y → (x : A) × (r ≡ Ok x) × (f x ≡ Ok y)
 then_ok (Ok x) f y e = (x, refl, e)
 then_ok (Err fault) f y e = absurd cc
@@ -25,7 +25,7 @@ some_of_ok : {A F : Type 0} (o : Option A) (fault : F) (x : A) → ok_or o fault
 some_of_ok (Some y) fault x e = let same : y ≡ x = cc in ap (λ (z : _). Some z) same
 some_of_ok None fault x e = absurd cc
 
--- the texts are those of valid lines
+-- the texts are those of these lines, which are valid
 abbrev AreLines : Plan → List (List ℕ) → List Line → Type 0
 AreLines plan texts lines = (list_all (is_valid_line plan) lines ≡ true) × (texts ≡ map (line_text plan) lines)
 
@@ -60,8 +60,8 @@ whole_pieces (piece ∷ pieces) good =
     let parts = and_parts (is_piece 10 piece) (list_all (is_piece 10) pieces) good in
     and_from _ _ (and_parts (nat_lt 0 (length piece)) (has_no 10 piece) parts.0).1 (whole_pieces pieces parts.1)
 
--- ---- the last newline
--- the text of the lines, without the last newline
+-- ---- the newline after the last line
+-- the text of the lines, without the newline after the last line
 abbrev joined : Plan → List Line → List ℕ
 joined plan lines = join_with_byte 10 (map (line_text plan) lines)
 
@@ -78,7 +78,7 @@ same_fronts (x ∷ xs) (y ∷ ys) c e =
     ap₂ (λ (z : ℕ) (zs : List ℕ). z ∷ zs) head (same_fronts xs ys c tail)
 
 -- ---- whole texts
--- lines that are parsed from a text that is not empty
+-- a text that is not empty and parses as these lines is their canonical text, and the lines are valid
 read_lines_are_text : (plan : Plan) (text : List ℕ) (lines : List Line) → 0 < length text → read_each (line_at plan) 0 (lines_of text) ≡ Ok lines
     → (list_all (is_valid_line plan) lines ≡ true) × ((text ≡ lines_text plan lines) ⊎ (text ++ 10 ∷ [] ≡ lines_text plan lines))
 read_lines_are_text plan text lines some read = by_lines lines (read_texts_are_lines plan 0 (lines_of text) lines read)
@@ -100,7 +100,7 @@ texts_read plan [] [] read = (refl, inl refl)
 texts_read plan [] (line ∷ lines) read = absurd cc
 texts_read plan (b ∷ text) lines read = read_lines_are_text plan (b ∷ text) lines (omega arith) read
 
--- a text that is, without its last newline, the joined text of lines
+-- a text that is not empty parses as these valid lines if, without its last newline, it is their joined text
 read_back : (plan : Plan) (text : List ℕ) (line : Line) (lines : List Line) → are_distinct (pool_names plan) ≡ true → list_all has_plain_name plan.pools ≡ true → list_all (is_valid_line plan) (line ∷ lines) ≡ true
     → 0 < length text → without_last_newline text ≡ joined plan (line ∷ lines) → event_lines plan text ≡ Ok (line ∷ lines)
 unfolding event_lines
@@ -124,7 +124,7 @@ texts_written plan text (line ∷ lines) distinct names valid (inr same) =
     let ends = joined_ends 10 (line_text plan line) (map (line_text plan) lines) (pieces_of_lines plan (line ∷ lines) names valid) in
     read_back plan text line lines distinct names valid (omega (arith, ends.0, ap (λ (l : List ℕ). length l) whole)) (ap without_last_newline whole ∙ stays (joined plan (line ∷ lines)) ends.1)
 
--- ---- the names of a plan
+-- ---- the names of pools have no newline
 name_byte : (b : ℕ) → is_name_byte b ≡ true → not (b == 10) ≡ true
 name_byte b h = grind (arith, nat_tests)
 

@@ -16,16 +16,16 @@ pub data Line : Type 0 where
   Perform : Event → Line
   Stuck : List ℕ → Line
 
--- the abstract view of a parsed line
+-- a parsed line of the code as the specifications see it
 abbrev pub line_seen : EventLine → Line
 line_seen (code.Perform e) = Perform e
 line_seen (code.Stuck members) = Stuck members
 
--- the number of the pool with this name
+-- the index of the pool with this name; None if no pool has it
 unfoldable pub pool_named : Plan → List ℕ → Option ℕ
 pool_named plan name = position (λ pool. bytes_eq pool.name name) plan.pools
 
--- the event of a verb, given the text after the space that follows it
+-- the event of a line with this verb, given the text after the verb and its space; None if they are not those of an event
 unfoldable pub event_of : Plan → List ℕ → List ℕ → Option Event
 event_of plan verb rest =
     if bytes_eq verb (codes "client") then option_map (λ n. event.Client n) (number_of rest)
@@ -34,42 +34,42 @@ event_of plan verb rest =
     else (if bytes_eq verb (codes "retire") then option_map (λ p. event.Retire p) (pool_named plan rest)
     else None)))
 
--- the question about jobs, which are given by their numbers
+-- the question about the jobs with these numbers, which single spaces separate; None if a word is not a number
 unfoldable pub stuck_of : List ℕ → Option Line
 stuck_of rest = option_map Stuck (members_in rest)
 
--- the line of a verb, given the text after the space that follows it
+-- the content of a line with this verb, given the text after the verb and its space; None if the line is malformed
 unfoldable pub line_of_verb : Plan → List ℕ → List ℕ → Option Line
 line_of_verb plan verb rest =
     if bytes_eq verb (codes "stuck") then stuck_of rest else option_map Perform (event_of plan verb rest)
 
--- the content of a line, for this plan
+-- the content of a line, for this plan; None if the line is malformed
 unfoldable pub line_of : Plan → List ℕ → Option Line
 line_of plan text = option_and_then (λ words. line_of_verb plan words.0 words.1) (split_space text)
 
--- the content of the first line, and the text after it
+-- the content of the first line of a text, and the text after it; None if the line is malformed
 abbrev pub split_event_line : Plan → List ℕ → Option (Line × List ℕ)
 split_event_line plan text = option_map (λ line. (line, after_line text)) (line_of plan (first_line text))
 
--- the content of the line at an index of a text, or its number, counted from 1
+-- the content of the line at this index; its number, counted from 1, if it is malformed
 abbrev pub line_at : Plan → ℕ → List ℕ → Result Line ℕ
 line_at plan place text = ok_or (line_of plan text) (place + 1)
 
--- the lines of a text, or the number of the first malformed line, counted from 1
+-- the contents of all lines of a text, or the number of the first malformed line, counted from 1
 unfoldable pub event_lines : Plan → List ℕ → Result (List Line) ℕ
 event_lines plan text = read_each (line_at plan) 0 (lines_of text)
 
 -- ---- the lines one at a time
 
--- the content of a line, or None for an error
+-- what the parser returned for a line: its content, or None for an error
 abbrev pub line_read : Result EventLine BadEventLine → Option Line
 line_read (Ok line) = Some (line_seen line)
 line_read (Err bad) = None
 
--- the content of each line of a text, None for a malformed line
+-- the content of each line of a text; None for a malformed line
 abbrev pub lines_read : Plan → List ℕ → List (Option Line)
 lines_read plan text = map (line_of plan) (lines_of text)
 
--- the lines, or the number of the first malformed one, counted from 1, if the first line has index i
+-- the contents of all lines, or the number of the first malformed line, counted from 1, if the first of these lines has index i
 abbrev pub all_from : ℕ → List (Option Line) → Result (List Line) ℕ
 all_from i lines = read_each (λ place line. ok_or line (place + 1)) i lines

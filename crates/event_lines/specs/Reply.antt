@@ -1,4 +1,4 @@
--- The lines that reply to event lines, and the last line of a replay.
+-- The replies to event lines, and the last line of a replay.
 use Rattle.std.specs.Prelude.{ℕ, true, false, List, [], ◌∷◌, ◌++◌, codes}
 use Rattle.std.specs.Fmt.{decimal}
 use Rattle.job_bodies.specs.Plan.{Plan, pool_at}
@@ -7,7 +7,7 @@ use Rattle.written_machine.specs.declared.event.Outcome.TheVariants.{Started, Qu
 use Rattle.event_lines.specs.declared.reply.Reply.{Reply}
 use Rattle.event_lines.specs.declared.reply.Reply.TheVariants.{Performed, NotPossible, Stuck}
 
--- the text of an outcome
+-- the text of the reply to an event that had this outcome
 abbrev pub outcome_text : Plan → Outcome → List ℕ
 outcome_text plan (Started j) = codes "started job " ++ decimal j
 outcome_text plan (Queued j) = codes "queued job " ++ decimal j
@@ -19,17 +19,17 @@ outcome_text plan (Finished j) = codes "finished job " ++ decimal j
 outcome_text plan (Took j) = codes "took job " ++ decimal j
 outcome_text plan Retired = codes "retired"
 
--- the text of a reply
+-- the text of a reply, without the number and the newline
 abbrev pub reply_text : Plan → Reply → List ℕ
 reply_text plan (Performed outcome) = outcome_text plan outcome
 reply_text plan NotPossible = codes "not possible"
 reply_text plan (Stuck true) = codes "stuck yes"
 reply_text plan (Stuck false) = codes "stuck no"
 
--- a line with its number
+-- a line of the output: the number of the input line, a colon, the text and a newline
 abbrev pub numbered : ℕ → List ℕ → List ℕ
 numbered number text = decimal number ++ codes ": " ++ text ++ 10 ∷ []
 
--- the last line
+-- the last line of a replay, with the number of refused submits and the number of unfinished jobs
 abbrev pub summary : ℕ → ℕ → List ℕ
 summary refusals unfinished = codes "refusals " ++ decimal refusals ++ codes ", unfinished " ++ decimal unfinished ++ 10 ∷ []

@@ -1,18 +1,18 @@
--- The numbers that the words of a text denote.
+-- The numbers in a text of words.
 use Rattle.std.specs.Prelude.{ℕ, List, [], ◌∷◌, Option, Some, None, option_map, option_and_then}
 use Rattle.line_words.specs.Pieces.{words_of}
 use Rattle.line_words.specs.Number.{number_of}
 
--- the value of f for each element, or None if it is None for one of them
+-- the values of f for all elements; None if f is None for one of them
 abbrev pub all_of : {X Y : Type 0} → (X → Option Y) → List X → Option (List Y)
 all_of f [] = Some []
 all_of f (x ∷ xs) = option_and_then (λ y. option_map (λ ys. y ∷ ys) (all_of f xs)) (f x)
 
--- the list, or the empty list
+-- the list of the option; the empty list for None
 abbrev pub unwrap_or_empty : {X : Type 0} → Option (List X) → List X
 unwrap_or_empty (Some xs) = xs
 unwrap_or_empty None = []
 
--- the numbers that the words of a text denote, or None if a word is not a number
+-- the numbers that the words of the text are, in order; None if a word is not a number
 abbrev pub members_in : List ℕ → Option (List ℕ)
 members_in text = all_of number_of (words_of text)

@@ -10,20 +10,21 @@ use job_bodies::Plan;
 use line_words::{leading_number, split_line};
 use written_machine::Event;
 
-/// The content of an event line.
+/// The content of an event line: an event, or a question about jobs.
 #[derive(Drop)]
 pub enum EventLine<'a> {
     /// The event to perform.
     Perform(Event),
-    /// The question whether these jobs wait only for each other.
+    /// The question whether these jobs are a waiting set: a set of jobs that wait only for each
+    /// other.
     Stuck(NamedJobs<'a>),
 }
 
-/// Parses the first line of a text, and returns its content and the text after it. Returns `None`
-/// if the line is not well-formed.
+/// Parses the first line of a text. Returns its content and the text after the line, or `None` if
+/// the line is malformed.
 ///
-/// Most lines name a job or a client. Such a line is parsed up to the end of its number, without a
-/// search for the newline.
+/// Most lines name a job or a client. Such a line is parsed only up to the end of its number,
+/// without a search for the newline.
 #[inline(always)]
 pub(crate) fn split_event_line<'a>(plan: &Plan, text: &'a [u8]) -> Option<(EventLine<'a>, &'a [u8])>
     ensures { option_map (λ read. (line_seen read.0, read.1.now)) result
@@ -41,8 +42,9 @@ pub(crate) fn split_event_line<'a>(plan: &Plan, text: &'a [u8]) -> Option<(Event
     Some((parse_other_line(plan, line)?, behind))
 }
 
-/// Returns the text after `client `. Compares the prefix in two parts: a comparison of seven bytes
-/// compiles to vector instructions, at twice the cost.
+/// Returns the text after the prefix `client `, or `None` if the text does not have it. Compares
+/// the prefix in two parts, because a comparison of seven bytes compiles to vector instructions, at
+/// twice the cost.
 #[inline(always)]
 fn strip_client(text: &[u8]) -> Option<&[u8]>
     ensures { MatchOption result ((rest : List ℕ) → text.now ≢ codes "client " ++ rest)
@@ -51,7 +53,8 @@ fn strip_client(text: &[u8]) -> Option<&[u8]>
     text.strip_prefix(b"clie")?.strip_prefix(b"nt ")
 }
 
-/// Parses the number on the first line of a text, and returns it and the text after that line.
+/// Parses the first line of a text as a number. Returns the number and the text after the line, or
+/// `None` if the line is not a number.
 fn split_number_line(text: &[u8]) -> Option<(usize, &[u8])>
     ensures { option_map (λ read. (read.0, read.1.now)) result ≡ split_number_line text.now }
 {
@@ -62,7 +65,8 @@ fn split_number_line(text: &[u8]) -> Option<(usize, &[u8])>
     Some((number, behind.strip_prefix(b"\n")?))
 }
 
-/// Parses a line that does not begin with `client ` or `job `.
+/// Parses a line that does not begin with `client ` or `job `. Returns `None` if the line is
+/// malformed.
 fn parse_other_line<'a>(plan: &Plan, line: &'a [u8]) -> Option<EventLine<'a>>
     requires no_client { (number : List ℕ) → line.now ≢ codes "client " ++ number }
     requires no_job { (number : List ℕ) → line.now ≢ codes "job " ++ number }

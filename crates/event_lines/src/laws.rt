@@ -1,9 +1,10 @@
-//! A law of event lines, which is the contract of a function with an empty body.
+//! A law of event lines. The law is the contract of a function with an empty body.
 
 ghost use Rattle.event_lines.specs.Laws.{EventLinesAreCanonical};
 
-/// Proves that, for a well-formed plan, a text parses as some lines exactly when it is their
-/// canonical text. Each line has one form. The newline at the end may be missing.
+/// Proves that each event line has exactly one spelling: for a well-formed plan, a text parses as a
+/// list of lines exactly when it is the canonical text of these lines. The newline after the last
+/// line may be missing.
 pub fn event_lines_are_canonical()
     ensures { EventLinesAreCanonical }
 {}

@@ -1,8 +1,8 @@
 //! The lines of a replay: its input, with events and questions (`client 0`, `take p`, `stuck 0 1`),
-//! and its output, with their outcomes (`1: started job 0`).
+//! and its output, with their results (`1: started job 0`).
 //!
 //! [`EventLines`] parses the input line by line. The functions for the output append one line at a
-//! time, each with the number of the input line that it answers.
+//! time. Each output line begins with the number of the input line to which it replies.
 #![tactic(auto)]
 
 mod event_line;

@@ -1,4 +1,4 @@
-//! The lines of an input text.
+//! A parser of the event lines of a text.
 
 ghost use Rattle.std.specs.Prelude.{◌≡◌, ◌≤◌, ◌∷◌, [], length, MatchOption};
 ghost use Rattle.event_lines.specs.EventLine.{line_read, lines_read};
@@ -8,15 +8,15 @@ use job_bodies::Plan;
 use line_words::split_line;
 use std::marker::Model;
 
-/// A parser of the lines of an input text. [`next`](EventLines::next) parses each line once, on
-/// demand, so that the parser allocates no memory.
+/// A parser of the event lines of a text. Each call of [`next`](EventLines::next) parses one line,
+/// so the parser allocates no memory.
 #[derive(Drop)]
 pub struct EventLines<'a> {
     plan: &'a Plan,
     rest: &'a [u8],
 }
 
-/// The error for a line that is not well-formed.
+/// The error for a malformed line.
 #[derive(Clone, Copy, PartialEq, Eq)]
 pub struct BadEventLine;
 
@@ -30,10 +30,10 @@ impl<'a> Model for EventLines<'a> {
 }
 
 impl<'a> EventLines<'a> {
-    /// Creates a parser of the lines of a text. Each line must have the form `client N`, `job N`,
-    /// `take POOL`, `retire POOL` or `stuck N N ..`. A number is at most
+    /// Creates a parser of the lines of a text. A well-formed line has the form `client N`, `job
+    /// N`, `take POOL`, `retire POOL` or `stuck N N ..`. A number is at most
     /// [`MAX_LINE_NUMBER`](job_bodies::MAX_LINE_NUMBER) and has no leading zero. `POOL` is the name
-    /// of a pool of the plan. The last newline may be missing.
+    /// of a pool of the plan. The newline after the last line may be missing.
     pub fn new(plan: &'a Plan, text: &'a [u8]) -> EventLines<'a>
         ensures lines { result ≡ lines_read plan.now text.now }
         ensures few { length result ≤ length text.now }
@@ -41,11 +41,11 @@ impl<'a> EventLines<'a> {
         EventLines { plan, rest: text }
     }
 
-    /// Returns the next line, or `None` after the last one.
+    /// Returns the content of the next line, or `None` after the last line.
     ///
     /// # Errors
     ///
-    /// Returns [`BadEventLine`] for a line that is not well-formed. The next call returns the line
+    /// Returns [`BadEventLine`] if the line is malformed. The next call continues with the line
     /// after it.
     #[inline(always)]
     pub fn next(&mut self) -> Option<Result<EventLine<'a>, BadEventLine>>

@@ -7,10 +7,10 @@ use line_words::{number_of, split_space};
 use std::alloc::{AllocError, Global};
 use std::marker::Model;
 
-/// A list of job numbers.
+/// The job numbers of a `stuck` line, stored as text.
 #[derive(Drop)]
 pub struct NamedJobs<'a> {
-    // The numbers as text, separated by single spaces.
+    // The numbers, separated by single spaces.
     words: &'a [u8],
 }
 
@@ -26,8 +26,8 @@ impl<'a> Model for NamedJobs<'a> {
 }
 
 impl<'a> NamedJobs<'a> {
-    /// Parses job numbers that are separated by single spaces. Returns `None` if a word is not a
-    /// number.
+    /// Parses a text of job numbers that are separated by single spaces. Returns `None` if a word
+    /// is not a number.
     pub(crate) fn read(words: &'a [u8]) -> Option<NamedJobs<'a>>
         ensures { result ≡ members_in words.now }
     {

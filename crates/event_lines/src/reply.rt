@@ -16,12 +16,12 @@ pub enum Reply {
     Performed(Outcome),
     /// The event was not possible.
     NotPossible,
-    /// Whether the jobs wait only for each other.
+    /// The answer to a `stuck` question: whether the jobs wait only for each other.
     Stuck(bool),
 }
 
-/// Appends the reply to the line with this number, counted from 1, such as `7: queued job 2`,
-/// `7: not possible` or `7: stuck yes`. The names of the pools come from the plan.
+/// Appends the reply to the input line with this number, which is counted from 1, such as `7:
+/// queued job 2`, `7: not possible` or `7: stuck yes`. The plan gives the names of the pools.
 ///
 /// # Errors
 ///
@@ -39,8 +39,8 @@ pub fn push_reply(
     text.push('\n')
 }
 
-/// Appends the reply after the line number, beginning with the colon. Appends one piece for each
-/// number and name, to keep the number of calls low.
+/// Appends the part of a reply after the line number, which begins with a colon. Appends the words
+/// up to a number or name in one piece, to keep the number of calls low.
 fn push_reply_text(text: &mut String, plan: &Plan, reply: Reply) -> Result<(), AllocError>
     ensures { Pushes result text.old text.new (codes ": " ++ reply_text plan.now reply) }
 {
@@ -68,7 +68,7 @@ fn push_outcome(text: &mut String, plan: &Plan, outcome: Outcome) -> Result<(), 
     }
 }
 
-/// Appends words and a number.
+/// Appends words followed by a number.
 fn push_counted(text: &mut String, words: &str, number: u64) -> Result<(), AllocError>
     ensures { Pushes result text.old text.new (words.now ++ decimal number) }
 {
@@ -76,7 +76,7 @@ fn push_counted(text: &mut String, words: &str, number: u64) -> Result<(), Alloc
     push_number(text, number)
 }
 
-/// Appends words and a name.
+/// Appends words followed by a name.
 fn push_named(text: &mut String, words: &str, name: &str) -> Result<(), AllocError>
     ensures { Pushes result text.old text.new (words.now ++ name.now) }
 {
@@ -84,8 +84,8 @@ fn push_named(text: &mut String, words: &str, name: &str) -> Result<(), AllocErr
     text.push_str(name)
 }
 
-/// Appends the last line of a replay, with the numbers of rejected and unfinished jobs, such as
-/// `refusals 0, unfinished 2`.
+/// Appends the last line of a replay, with the number of refused submits and the number of
+/// unfinished jobs, such as `refusals 0, unfinished 2`.
 ///
 /// # Errors
 ///
