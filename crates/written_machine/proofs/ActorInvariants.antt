@@ -1,4 +1,4 @@
--- Each event keeps the invariant of each actor: every get that is still to come finds its job.
+-- Proofs that each event preserves the invariant of each actor: the job of every get that is still to come exists.
 use Rattle.std.proofs.Common.{◌≡◌, ◌≢◌, ℕ, ◌+◌, ◌<◌, ◌≤◌, ◌⊎◌, false, inl, inr, List, [], ◌∷◌, ◌++◌, length, slice_get, Some, refl, sym, ap, subst, ◌∙◌, arith}
 use Rattle.std.proofs.lemmas.Bool.{false≢true, cases_lt}
 use Rattle.std.proofs.lemmas.Option.{slice_get_within}
@@ -24,15 +24,15 @@ is_after plan s (parent.Job j) body i i' stands =
     let inside = standing_made plan s j body i stands in
     omega (arith, length-moved s (parent.Job j) i')
 
--- no get names a position that is not a submit
+-- a get does not name a position whose action is not a submit
 pub no_get : (plan : Plan) (body : List Action) (i g : ℕ) (there : Action) → IsValidBody plan body → slice_get body i ≡ Some there → submits (Some there) ≡ false → slice_get body g ≡ Some (action.Get i) → ⊥
 no_get plan body i g there valid is_there no_submit is_get = false≢true (sym no_submit ∙ ap submits (sym is_there) ∙ valid.of_submit g i is_get)
 
--- at the start of a body no submit is before the actor
+-- an actor at the start of its body satisfies the invariant, because no submit is before it
 pub actor_begins : (jobs : List CreatedJob) (a : Parent) (body : List Action) → ActorInvariant jobs a body 0
 actor_begins jobs a body = record { inside = omega arith; ready = λ g t low below is_get. absurd (omega arith) }
 
--- an action that is not a submit keeps the invariant of its actor
+-- an actor that performs an action other than a submit still satisfies the invariant
 pub actor_passes : (plan : Plan) (jobs : List CreatedJob) (a : Parent) (body : List Action) (i : ℕ) (there : Action) → IsValidBody plan body → ActorInvariant jobs a body i → slice_get body i ≡ Some there → submits (Some there) ≡ false → ActorInvariant jobs a body (i + 1)
 actor_passes plan jobs a body i there valid kept is_there no_submit =
     let within = slice_get_within body i there is_there in
@@ -44,7 +44,7 @@ actor_passes plan jobs a body i there valid kept is_there no_submit =
         let here : t ≡ i = omega arith in
         absurd (no_get plan body i g there valid is_there no_submit (is_get ∙ ap (λ (n : ℕ). Some (action.Get n)) here))
 
--- a change of the jobs keeps the invariant if the jobs that the actor waits for stay
+-- an actor still satisfies the invariant after the jobs changed, if it still has the jobs of its later gets
 pub actor_changed : (jobs jobs' : List CreatedJob) (a : Parent) (body : List Action) (i : ℕ) → ActorInvariant jobs a body i
     → ((g t k : ℕ) → i ≤ g → slice_get body g ≡ Some (action.Get t) → HasChild jobs a t k → HasChild jobs' a t k) → ActorInvariant jobs' a body i
 actor_changed jobs jobs' a body i kept change =
@@ -56,7 +56,7 @@ actor_moved s b i' a body i kept = actor_changed s.jobs (moved_jobs b i' s) a bo
 pub actor_staged : (jobs : List CreatedJob) (j : ℕ) (stage : Stage) (a : Parent) (body : List Action) (i : ℕ) → stage ≢ Stage.Claimed → ActorInvariant jobs a body i → ActorInvariant (staged jobs j stage) a body i
 actor_staged jobs j stage a body i unclaimed kept = actor_changed jobs (staged jobs j stage) a body i kept (λ g t k low is_get child. HasChild-staged jobs j stage a t k child (λ same. unclaimed))
 
--- after a submit the actor finds the new job
+-- an actor still satisfies the invariant after it submitted a job, which is the job of the get that names this submit
 pub actor_submits : (plan : Plan) (s : State) (a : Parent) (body : List Action) (i k : ℕ) (stage : Stage) → ActorInvariant s.jobs a body i → point plan s a ≡ Some (record { body = body; position = i }) → slice_get body i ≡ Some (action.Submit k) → stage ≢ Stage.Claimed
     → ActorInvariant (moved_jobs a (i + 1) s ++ new_job k a i stage ∷ []) a body (i + 1)
 actor_submits plan s a body i k stage kept stands is_there unclaimed =
@@ -72,19 +72,19 @@ actor_submits plan s a body i k stage kept stands is_there unclaimed =
         subst (λ (n : ℕ). HasChild (moved_jobs a (i + 1) s ++ new_job k a i stage ∷ []) a n (submitted_class body n)) here
         (HasChild_new (moved_jobs a (i + 1) s) (new_job k a i stage) a i (submitted_class body i) (made_by_maker k a i stage) (sym (ap class_of_submit is_there)) unclaimed (is_after plan s a body i (i + 1) stands))
 
--- after a submit all other actors find the jobs that they found before
+-- after an actor submitted a job, all other actors still have the jobs of their gets
 pub other_submits : (s : State) (b : Parent) (j k : ℕ) (stage : Stage) (a : Parent) (body : List Action) (i : ℕ) → a ≢ b → ActorInvariant s.jobs a body i → ActorInvariant (moved_jobs b (j + 1) s ++ new_job k b j stage ∷ []) a body i
 other_submits s b j k stage a body i other kept =
     actor_changed s.jobs (moved_jobs b (j + 1) s ++ new_job k b j stage ∷ []) a body i kept
     (λ g t l low is_get child. HasChild-pushed (moved_jobs b (j + 1) s) (new_job k b j stage) a t l (not_by_other k b j stage a t other) (HasChild-moved s b (j + 1) a t l child))
 
--- ---- a get claims the job that one actor waited for at one position
+-- ---- a get claims a job for which only one actor waits, at one submit
 
 -- job n is the latest job that the actor created at position t
 abbrev pub IsLatest : State → Parent → ℕ → ℕ → Type 0
 IsLatest s a t n = last_of (places_where (is_made_by a t) s.jobs) ≡ Some n
 
--- two gets that find the same job are the same get of the same actor
+-- if two gets find the same job, they are gets of the same actor and the same submit
 not_got : (s : State) (b : Parent) (i' : ℕ) (a : Parent) (t u j n : ℕ) → IsLatest s b u j → last_of (places_where (is_made_by a t) (moved_jobs b i' s)) ≡ Some n → n ≡ j → (a ≡ b) × (t ≡ u)
 not_got s b i' a t u j n of_b of_a same =
     one_child (moved_jobs b i' s) a b t u j (of_a ∙ ap Some same) (child-moved s b i' b u ∙ of_b)

@@ -1,4 +1,4 @@
--- The positions of actors after a change of the state.
+-- Lemmas about the positions of actors after a change of the state.
 use Rattle.std.proofs.Common.{◌≡◌, ◌≢◌, ℕ, ◌<◌, ◌⊎◌, inl, inr, List, [], ◌∷◌, ◌++◌, length, slice_get, get_or, set, Some, sym, ap, ◌∙◌, arith}
 use Rattle.std.specs.Option.{option_map}
 use Rattle.std.proofs.lemmas.Bool.{cases_lt, cases_eq}
@@ -30,7 +30,7 @@ Job≢Client j c e = cc
 pub same_position : (i i' : ℕ) → Stage.At i ≡ Stage.At i' → i ≡ i'
 same_position i i' e = cc
 
--- the actor is at position i of the body
+-- the actor is at position i of this body
 abbrev pub IsAtPosition : Plan → State → Parent → List Action → ℕ → Type 0
 IsAtPosition plan s a body i = point plan s a ≡ Some (record { body = body; position = i })
 
@@ -39,11 +39,11 @@ pub point_same : (plan : Plan) (s s' : State) (a : Parent) → s'.jobs ≡ s.job
 point_same plan s s' (parent.Client c) jobs clients = ap (λ (xs : List ClientState). option_map (point_of_client plan) (slice_get xs c)) clients
 point_same plan s s' (parent.Job j) jobs clients = ap (λ (xs : List CreatedJob). point_of_job plan (get_or xs j no_job).class (get_or xs j no_job).stage) jobs
 
--- an unchanged job has an unchanged position
+-- a job that did not change is at the same position as before
 same_standing : (plan : Plan) (job job' : CreatedJob) (body : List Action) (i : ℕ) → job' ≡ job → point_of_job plan job'.class job'.stage ≡ Some (record { body = body; position = i }) → point_of_job plan job.class job.stage ≡ Some (record { body = body; position = i })
 same_standing plan job job' body i same stands = ap (λ (x : CreatedJob). point_of_job plan x.class x.stage) (sym same) ∙ stands
 
--- the stage and the body of an unchanged job that is at position i of a body afterwards
+-- a job that did not change and is at position i afterwards has the stage for this position, and the body of its class
 stands_as : (plan : Plan) (job job' : CreatedJob) (body : List Action) (i : ℕ) → job' ≡ job → point_of_job plan job'.class job'.stage ≡ Some (record { body = body; position = i }) → (job.stage ≡ Stage.At i) × (body ≡ (class_at plan job.class).body)
 stands_as plan job job' body i same stands = stage_of_standing plan job.class job.stage body i (same_standing plan job job' body i same stands)
 
@@ -77,7 +77,7 @@ job_moved plan s j body₀ i₀ i' was n body i stands =
       | inr other ↦ inr (λ same. other (same_job n j same), same_standing plan (job_at s n) (get_or jobs n no_job) body i (get_or-staged_other s.jobs j (Stage.At i') n no_job other) stands)
     ]
 
--- the actor is at its new position, and all other actors are where they were
+-- after an actor moved, it is at its new position, and all other actors are at their old ones
 pub standing-moved : (plan : Plan) (s : State) (b : Parent) (body₀ : List Action) (i₀ i' : ℕ) → point plan s b ≡ Some (record { body = body₀; position = i₀ }) → (a : Parent) (body : List Action) (i : ℕ) → point plan (with_position b i' s) a ≡ Some (record { body = body; position = i })
     → ((a ≡ b) × (body ≡ body₀) × (i ≡ i')) ⊎ ((a ≢ b) × (point plan s a ≡ Some (record { body = body; position = i })))
 standing-moved plan s (parent.Client c) body₀ i₀ i' was (parent.Client d) body i stands = client_moved plan s c body₀ i₀ i' was d body i stands
@@ -85,7 +85,7 @@ standing-moved plan s (parent.Client c) body₀ i₀ i' was (parent.Job n) body 
 standing-moved plan s (parent.Job j) body₀ i₀ i' was (parent.Client d) body i stands = inr (Client≢Job d j, stands)
 standing-moved plan s (parent.Job j) body₀ i₀ i' was (parent.Job n) body i stands = job_moved plan s j body₀ i₀ i' was n body i stands
 
--- ---- after a job changed its stage
+-- ---- after the stage of a job changed
 
 job_staged : (plan : Plan) (s : State) (j : ℕ) (stage : Stage) (n : ℕ) (body : List Action) (i : ℕ) → IsAtPosition plan (with_stage j stage s) (parent.Job n) body i
     → ((parent.Job n ≡ parent.Job j) × (stage ≡ Stage.At i) × (body ≡ (class_at plan (job_at s j).class).body)) ⊎ ((parent.Job n ≢ parent.Job j) × IsAtPosition plan s (parent.Job n) body i)
@@ -102,7 +102,7 @@ job_staged plan s j stage n body i stands =
       | inr other ↦ inr (λ same. other (same_job n j same), same_standing plan (job_at s n) (get_or jobs n no_job) body i (get_or-staged_other s.jobs j stage n no_job other) stands)
     ]
 
--- the job is at the position of its new stage, and all other actors are where they were
+-- after the stage of a job changed, it is at the position of the new stage, and all other actors are at their old positions
 pub standing-staged : (plan : Plan) (s : State) (j : ℕ) (stage : Stage) (a : Parent) (body : List Action) (i : ℕ) → IsAtPosition plan (with_stage j stage s) a body i
     → ((a ≡ parent.Job j) × (stage ≡ Stage.At i) × (body ≡ (class_at plan (job_at s j).class).body)) ⊎ ((a ≢ parent.Job j) × IsAtPosition plan s a body i)
 standing-staged plan s j stage (parent.Client c) body i stands = inr (Client≢Job c j, stands)
@@ -123,7 +123,7 @@ job_pushed plan s job n body i stands =
           inl (ap parent.Job (sym last), now.0, now.1)
     ]
 
--- the new job is at the position of its stage, and all other actors are where they were
+-- after a job was created, it is at the position of its stage, and all other actors are at their old positions
 pub standing-pushed : (plan : Plan) (s : State) (job : CreatedJob) (a : Parent) (body : List Action) (i : ℕ) → IsAtPosition plan (with_job job s) a body i
     → ((a ≡ parent.Job (length s.jobs)) × (job.stage ≡ Stage.At i) × (body ≡ (class_at plan job.class).body)) ⊎ IsAtPosition plan s a body i
 standing-pushed plan s job (parent.Client c) body i stands = inr stands

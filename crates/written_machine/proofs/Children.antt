@@ -1,4 +1,4 @@
--- The jobs that actors wait for.
+-- Lemmas about the jobs for which actors wait.
 use Rattle.std.proofs.Common.{◌≡◌, ◌≢◌, ℕ, ◌<◌, true, false, eqb, inl, inr, List, [], ◌∷◌, ◌++◌, length, get_or, Some, refl, sym, ap, ◌∙◌, arith}
 use Rattle.std.proofs.lemmas.Bool.{false≢true, cases_eq, and_parts, and_from, and_left, and_right, eqb-true, eq-eqb, ne_eqb, false_from_ne_true}
 use Rattle.std.proofs.lemmas.List.{get_or_append_left, get_or_push}
@@ -30,24 +30,24 @@ maker_of job a t made =
     let parts = and_parts (same_parent a job.parent) (eqb t job.slot) made in
     (same_actor_true a job.parent parts.0, eqb-true t job.slot parts.1)
 
--- each job has one creator and one submit
+-- each job has one creator, and was created at one position
 pub one_maker : (job : CreatedJob) (a b : Parent) (t u : ℕ) → is_made_by a t job ≡ true → is_made_by b u job ≡ true → (a ≡ b) × (t ≡ u)
 one_maker job a b t u of_a of_b =
     let first = maker_of job a t of_a in
     let second = maker_of job b u of_b in
     (first.0 ∙ sym second.0, first.1 ∙ sym second.1)
 
--- the job that an actor waits for exists, and the actor created it
+-- the latest job that an actor created at a position exists, and the actor created it there
 pub child_is : (jobs : List CreatedJob) (a : Parent) (t n : ℕ) → last_of (places_where (is_made_by a t) jobs) ≡ Some n → (n < length jobs) × (is_made_by a t (get_or jobs n no_job) ≡ true)
 child_is jobs a t n e =
     let last = last_where_is (is_made_by a t) jobs n e in
     (last.inside, last.passes no_job)
 
--- each job is waited for by at most one actor, at one submit
+-- a job is the latest job of at most one actor, at one position
 pub one_child : (jobs : List CreatedJob) (a b : Parent) (t u n : ℕ) → last_of (places_where (is_made_by a t) jobs) ≡ Some n → last_of (places_where (is_made_by b u) jobs) ≡ Some n → (a ≡ b) × (t ≡ u)
 one_child jobs a b t u n of_a of_b = one_maker (get_or jobs n no_job) a b t u (child_is jobs a t n of_a).1 (child_is jobs b u n of_b).1
 
--- ---- the job that an actor waits for, after a change of the jobs
+-- ---- the latest job of an actor at a position, after a change of the jobs
 
 pub HasChild-staged : (jobs : List CreatedJob) (j : ℕ) (stage : Stage) (a : Parent) (t k : ℕ) (child : HasChild jobs a t k) → (child.number ≡ j → stage ≢ Stage.Claimed) → HasChild (staged jobs j stage) a t k
 HasChild-staged jobs j stage a t k child allowed = record {
@@ -83,7 +83,7 @@ HasChild-pushed jobs job a t k of_other child =
       later = child.later;
     }
 
--- a new job is the latest of its creator
+-- a new job is the latest job that its creator created at its position
 pub HasChild_new : (jobs : List CreatedJob) (job : CreatedJob) (a : Parent) (t k : ℕ) → is_made_by a t job ≡ true → job.class ≡ k → job.stage ≢ Stage.Claimed → HasGreaterNumber a (length jobs) → HasChild (jobs ++ job ∷ []) a t k
 HasChild_new jobs job a t k of_actor of_class unclaimed after =
     let is_new : get_or (jobs ++ job ∷ []) (length jobs) no_job ≡ job = get_or_push jobs job no_job (length jobs) refl in

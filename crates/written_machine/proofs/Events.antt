@@ -1,4 +1,4 @@
--- A relation with one rule for each kind of step, and the proof that every step satisfies it.
+-- A relation with one rule for each kind of step, and the proof that every step satisfies this relation.
 use Rattle.std.proofs.Common.{◌≡◌, ℕ, suc, ◌+◌, ◌<◌, ◌≤◌, ◌⊎◌, inl, inr, ⊎_elim, List, [], ◌∷◌, ◌++◌, length, true, Option, Some, None, refl, sym, subst}
 use Rattle.std.specs.List.{slice_get, slice_set}
 use Rattle.std.proofs.lemmas.Option.{none-some, same_Some, cond_some}
@@ -19,12 +19,12 @@ use Rattle.written_machine.specs.declared.event.Outcome.TheVariants as outcome
 use Rattle.written_machine.specs.State.{Stage, State, job_at, pool_part, pool_of, pool_seen, threads, child}
 use Rattle.written_machine.specs.Step.{Point, point, with_stage, with_position, with_job, new_job, finished_job, answered, got, got_child, looped, step_action, step_at_point, take_head, retire_worker, step}
 
--- the actor is at position i of the body, and this is the action there (None at the end)
+-- the actor is at position i of this body, and `there` is the action at i, or None at the end of the body
 pub record IsAtAction (plan : Plan) (s : State) (a : Parent) (body : List Action) (i : ℕ) (there : Option Action) : Type 0 where
   pub stands : point plan s a ≡ Some (record { body = body; position = i })
   pub is_there : slice_get body i ≡ there
 
--- the state in which this pool has this queue and this many idle workers
+-- the state in which pool p has this queue and this number of idle workers
 abbrev pub with_part : ℕ → List ℕ → ℕ → State → State
 with_part p queue idle s = record s { pools = slice_set s.pools p (record { queue = queue; idle = idle }) }
 
@@ -34,7 +34,7 @@ queued_state plan s a i k =
     with_part (pool_of plan k) ((pool_part s (pool_of plan k)).queue ++ length s.jobs ∷ []) (pool_part s (pool_of plan k)).idle
     (with_job (new_job k a i Stage.Queued) (with_position a (i + 1) s))
 
--- the event in which the actor acts
+-- the event in which the actor performs its next action
 abbrev pub event_of : Parent → Event
 event_of (parent.Client c) = event.Client c
 event_of (parent.Job j) = event.Job j
@@ -70,7 +70,7 @@ pub data Happens (plan : Plan) (s : State) : Event → State → Outcome → Typ
 same_outcome : (plan : Plan) (s : State) (e : Event) (x : State × Outcome) (s' : State) (o : Outcome) → Some x ≡ Some (s', o) → Happens plan s e x.0 x.1 → Happens plan s e s' o
 same_outcome plan s e x s' o same happened = subst (λ (y : State × Outcome). Happens plan s e y.0 y.1) (same_Some x (s', o) same) happened
 
--- a submit, for each answer of the pool
+-- a submit satisfies the relation, for each answer of the pool
 answered_happens : (plan : Plan) (s : State) (a : Parent) (body : List Action) (i k : ℕ) → IsAtAction plan s a body i (Some (action.Submit k)) → (given : Offer) → answer (pool_seen plan s (pool_of plan k)) ≡ given
     → Happens plan s (event_of a) (answered plan s a i k given).0 (answered plan s a i k given).1
 answered_happens plan s a body i k at offer.Started e = starts a body i k at (⊎_elim inr inl (started_below (pool_seen plan s (pool_of plan k)) e))

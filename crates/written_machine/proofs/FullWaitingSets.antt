@@ -1,4 +1,4 @@
--- Full waiting sets stay: no event moves a member, gives its pool an idle worker or starts another job in its pool.
+-- Proofs that full waiting sets are permanent: no event moves a member, gives its pool an idle worker or starts another job in its pool.
 use Rattle.std.proofs.Common.{◌≡◌, ◌≢◌, ℕ, suc, ◌+◌, ◌<◌, ◌⊎◌, true, false, eqb, List, [], ◌∷◌, ◌++◌, length, slice_get, Option, Some, None, refl, sym, ap, subst, ◌∙◌, arith}
 use Rattle.std.proofs.lemmas.Bool.{and_parts, eqb-true, ne_eqb, and_from, eq-eqb}
 use Rattle.std.proofs.lemmas.Option.{same_Some}
@@ -33,21 +33,21 @@ queued_in_own plan job queued = and_from (is_queued job.stage) (eqb (pool_of pla
 same_get : (t u : ℕ) → Some (action.Get t) ≡ Some (action.Get u) → t ≡ u
 same_get t u e = cc
 
--- ---- the members
+-- ---- the members of a waiting set
 
 module _ (plan : Plan) (s : State) (members : List ℕ) (waiting : IsWaitingSet plan s members) where
-  -- a member waits in the way that belongs to its stage
+  -- a member at this stage waits as `WaitsAtStage` says for the stage
   member_waits : (j : ℕ) (stage : Stage) → IsMember members j → (job_at s j).stage ≡ stage → WaitsAtStage plan s members j stage
   member_waits j stage member is_stage = subst (WaitsAtStage plan s members j) is_stage (waiting.each j member)
 
-  -- no member is done, and each member exists
+  -- no member is done
   not_done : (j : ℕ) → (job_at s j).stage ≡ Stage.Done → ¬ IsMember members j
   not_done j done member = member_waits j Stage.Done member done
 
   member_made : (j : ℕ) → IsMember members j → j < length s.jobs
   member_made j member = job_made s j (λ claimed. member_waits j Stage.Claimed member claimed)
 
-  -- a member at a position is at a get, and the job that the get waits for is a member
+  -- a member at a position of its body is at a get, and the job for which it waits is a member
   member_at_get : (j : ℕ) (body : List Action) (i : ℕ) (there : Option Action) → IsMember members j → IsAtAction plan s (parent.Job j) body i there
       → (t : ℕ) × (there ≡ Some (action.Get t)) × (n : ℕ) × (child s (parent.Job j) t ≡ Some n) × IsMember members n
   member_at_get j body i there member at =
@@ -61,7 +61,7 @@ module _ (plan : Plan) (s : State) (members : List ℕ) (waiting : IsWaitingSet 
       let found = member_at_get j body i there member (subst (λ (b : Parent). IsAtAction plan s b body i there) same at) in
       no_get found.0 found.1
 
-  -- an actor whose get finds a finished job is not a member
+  -- an actor whose get finds a done job is not a member
   gets_outside : (a : Parent) (body : List Action) (i t n : ℕ) → IsAtAction plan s a body i (Some (action.Get t)) → child s a t ≡ Some n → (job_at s n).stage ≡ Stage.Done → IsOutside members a
   gets_outside a body i t n at is_child done j member same =
       let found = member_at_get j body i (Some (action.Get t)) member (subst (λ (b : Parent). IsAtAction plan s b body i (Some (action.Get t))) same at) in
@@ -72,27 +72,27 @@ module _ (plan : Plan) (s : State) (members : List ℕ) (waiting : IsWaitingSet 
 
 -- ---- the pools with queued members
 
--- a member waits in the pool's queue
+-- a member of the set is queued in pool p
 abbrev QueuesMember : Plan → State → List ℕ → ℕ → Type 0
 QueuesMember plan s members p = (j : ℕ) × IsMember members j × (is_queued_in plan p (job_at s j) ≡ true)
 
--- the pool has max threads, no worker is idle, and all jobs that run in it are members
+-- pool p has its maximum of threads, none of its workers is idle, and all jobs that run in it are members
 record IsFullOfMembers (plan : Plan) (s : State) (members : List ℕ) (p : ℕ) : Type 0 where
   full : IsFull plan s p
   none_idle : (pool_part s p).idle ≡ 0
   all_at_work : (n : ℕ) → is_busy_in plan p (job_at s n) ≡ true → IsMember members n
 
--- the change leaves the members, and the pools with queued members, as they were
+-- the change from s to s' preserves the members and the pools in which members are queued
 abbrev PreservesSet : Plan → List ℕ → State → State → Type 0
 PreservesSet plan members s s' = Preserves plan members (QueuesMember plan s members) s s'
 
--- ---- every event leaves the set
+-- ---- every event preserves the full waiting set
 
 module _ (plan : Plan) (s : State) (members : List ℕ) (ordered : HasValidBodies plan) (kept : StateInvariant plan s) (set : IsFullWaitingSet plan s members) where
   abbrev among : ℕ → Type 0
   among = QueuesMember plan s members
 
-  -- a pool with a queued member is closed in this sense
+  -- a pool with a queued member has its maximum of threads, no idle worker, and only members that run in it
   closed : (p : ℕ) → among p → IsFullOfMembers plan s members p
   closed p queuing =
       let job = job_at s queuing.0 in
@@ -107,18 +107,18 @@ module _ (plan : Plan) (s : State) (members : List ℕ) (ordered : HasValidBodie
       let none : (pool_part s q).idle ≡ 0 = subst (λ (x : ℕ). (pool_part s x).idle ≡ 0) same (closed p queuing).none_idle in
       omega arith
 
-  -- a pool that has room for another thread has no queued member
+  -- a pool that can start another thread has no queued member
   started_elsewhere : (q p : ℕ) → q < length plan.pools → (threads plan s q < (pool_at plan q).max) ⊎ (threads plan s q < (pool_at plan q).core) → among p → q ≢ p
   started_elsewhere q p inside below queuing same =
       let room = room_for_thread plan s q ordered inside below in
       let full = subst (IsFull plan s) (sym same) (closed p queuing).full in
       omega arith
 
-  -- a move by an action that is not a get leaves the set
+  -- an actor that moves by an action other than a get preserves the full waiting set
   leaves_acts : (a : Parent) (body : List Action) (i i' : ℕ) (there : Option Action) → IsAtAction plan s a body i there → ((t : ℕ) → there ≢ Some (action.Get t)) → PreservesSet plan members s (with_position a i' s)
   leaves_acts a body i i' there at no_get = leaves-moved plan members among s a body i i' at.stands (acts_outside plan s members set.waits a body i there at no_get)
 
-  -- a new job leaves the set if it does not run in a pool with queued members
+  -- a new job that does not run in a pool with queued members preserves the full waiting set
   leaves_submit : (a : Parent) (body : List Action) (i k : ℕ) (stage : Stage) → IsAtAction plan s a body i (Some (action.Submit k)) → ((p : ℕ) → among p → is_busy_in plan p (new_job k a i stage) ≡ false)
       → PreservesSet plan members s (with_job (new_job k a i stage) (with_position a (i + 1) s))
   leaves_submit a body i k stage at elsewhere =
@@ -129,7 +129,7 @@ module _ (plan : Plan) (s : State) (members : List ℕ) (ordered : HasValidBodie
       (λ j member. let made = member_made plan s members set.waits j member in omega (arith, length-moved s a (i + 1)))
       (λ j t member. not_by_other k a i stage (parent.Job j) t (λ same. acts_outside plan s members set.waits a body i (Some (action.Submit k)) at (λ t same. cc) j member (sym same))) elsewhere)
 
-  -- a get that claims a finished job leaves the set
+  -- a get that claims a done job preserves the full waiting set
   leaves_gets : (a : Parent) (body : List Action) (i t n : ℕ) → IsAtAction plan s a body i (Some (action.Get t)) → child s a t ≡ Some n → (job_at s n).stage ≡ Stage.Done → PreservesSet plan members s (with_stage n Stage.Claimed (with_position a (i + 1) s))
   leaves_gets a body i t n at is_child done =
       let moved : State = with_position a (i + 1) s in
@@ -139,7 +139,8 @@ module _ (plan : Plan) (s : State) (members : List ℕ) (ordered : HasValidBodie
       (leaves-staged plan members among moved n Stage.Claimed (job_made moved n (λ claimed. cc)) (not_done plan s members set.waits n done)
       (λ p is_among. busy_in-as plan p (job_at moved n) Stage.Claimed (sym (ap is_at still))))
 
-  -- a job outside the set changes its stage, and its pool, which has no queued member, gets this queue and idle count
+  -- a new stage of a job that is not a member, with a new queue and new idle workers of its pool, preserves the full waiting set if the
+  -- pool has no queued member
   leaves_worker : (j : ℕ) (stage : Stage) (q : ℕ) (queue : List ℕ) (idle : ℕ) → j < length s.jobs → pool_of plan (job_at s j).class ≡ q → ¬ IsMember members j → ((p : ℕ) → among p → p ≢ q) → PreservesSet plan members s (with_part q queue idle (with_stage j stage s))
   leaves_worker j stage q queue idle inside of_pool outside elsewhere =
       let changed : State = with_stage j stage s in
@@ -150,7 +151,7 @@ module _ (plan : Plan) (s : State) (members : List ℕ) (ordered : HasValidBodie
       not_own : (p : ℕ) → among p → pool_of plan (job_at s j).class ≢ p
       not_own p is_among same = elsewhere p is_among (sym same ∙ of_pool)
 
-  -- the end of a running job leaves the set
+  -- the end of a running job preserves the full waiting set
   leaves_finishes : (j : ℕ) (body : List Action) (i : ℕ) → IsAtAction plan s (parent.Job j) body i None → PreservesSet plan members s (finished_job plan s j (pool_of plan (job_at s j).class))
   leaves_finishes j body i at =
       let q = pool_of plan (job_at s j).class in
@@ -159,14 +160,14 @@ module _ (plan : Plan) (s : State) (members : List ℕ) (ordered : HasValidBodie
       leaves_worker j Stage.Done q (pool_part s q).queue ((pool_part s q).idle + 1) (standing_made plan s j body i at.stands) refl outside
       (λ p is_among same. outside ((closed p is_among).all_at_work j (busy_in_own plan p (job_at s j) (sym same) ∙ ap is_at was.0)))
 
-  -- a take of the head of a queue by an idle worker leaves the set
+  -- an idle worker that takes the head of a queue preserves the full waiting set
   leaves_takes : (p j : ℕ) (queue : List ℕ) (idle : ℕ) → (pool_part s p).queue ≡ j ∷ queue → (pool_part s p).idle ≡ suc idle → PreservesSet plan members s (with_part p queue idle (with_stage j (Stage.At 0) s))
   leaves_takes p j queue idle is_queue is_idle =
       let head = head_of_queue plan s p j queue kept is_queue in
       let queued : is_queued_in plan p (job_at s j) ≡ true = subst (λ (q : ℕ). is_queued_in plan q (job_at s j) ≡ true) head.of_pool (queued_in_own plan (job_at s j) (ap is_queued head.queued)) in
       leaves_worker j (Stage.At 0) p queue idle head.inside head.of_pool (λ member. idle_not_among p p idle is_idle (j, member, queued) refl) (λ q is_among. idle_not_among q p idle is_idle is_among)
 
-  -- every event leaves the set
+  -- every event preserves the full waiting set
   leaves : (s' : State) (o : Outcome) {e : Event} → Happens plan s e s' o → PreservesSet plan members s s'
   leaves s' o (works a body i u at) = leaves_acts a body i (i + 1) (Some (action.Work u)) at (λ t same. cc)
   leaves s' o (starts a body i k at below) =
@@ -185,10 +186,10 @@ module _ (plan : Plan) (s : State) (members : List ℕ) (ordered : HasValidBodie
   leaves s' o (retires p idle is_idle above_core) =
       leaves-part plan members among s p (pool_part s p).queue idle (λ q is_among. idle_elsewhere s p (pool_part s p).queue idle q (idle_not_among q p idle is_idle is_among))
 
--- ---- the set stays
+-- ---- the set is permanent
 
 module _ (plan : Plan) (s s' : State) (members : List ℕ) (left : PreservesSet plan members s s') where
-  -- a member waits after the change as it did before
+  -- a member that waited before a change that preserves the full waiting set waits after it
   still_waits : (j : ℕ) (stage : Stage) → IsMember members j → (job_at s j).stage ≡ stage → WaitsAtStage plan s members j stage → WaitsAtStage plan s' members j stage
   still_waits j Stage.Queued member is_stage waits =
       let q = pool_of plan (job_at s j).class in
@@ -208,7 +209,7 @@ module _ (plan : Plan) (s s' : State) (members : List ℕ) (left : PreservesSet 
   still_waits j Stage.Done member is_stage waits = waits
   still_waits j Stage.Claimed member is_stage waits = waits
 
-  -- the set is still a full waiting set
+  -- after a change that preserves the full waiting set, the set is still a full waiting set
   still_set : IsFullWaitingSet plan s members → IsFullWaitingSet plan s' members
   still_set set = record {
     waits = record {
@@ -223,12 +224,12 @@ module _ (plan : Plan) (s s' : State) (members : List ℕ) (left : PreservesSet 
         omega (arith, same.idle, same.busy_as_many);
   }
 
--- the induction hypothesis for a list of events
+-- the induction hypothesis for a list of events: the state satisfies the invariant, and the set is still a full waiting set
 pub record Stayed (plan : Plan) (members : List ℕ) (first s : State) : Type 0 where
   pub is_kept : StateInvariant plan s
   pub has_stayed : StaysFull plan first s members
 
--- one event keeps it
+-- one event preserves the induction hypothesis
 pub stays_through : (plan : Plan) (members : List ℕ) (first s s' : State) (o : Outcome) {e : Event} → HasValidBodies plan → Stayed plan members first s → Happens plan s e s' o → Stayed plan members first s'
 stays_through plan members first s s' o ordered stayed happened =
     let set = stayed.has_stayed.still in
@@ -238,9 +239,9 @@ stays_through plan members first s s' o ordered stayed happened =
       has_stayed = record { still = still_set plan s s' members left set; unmoved = λ j member. left.jobs j member ∙ stayed.has_stayed.unmoved j member };
     }
 
--- ---- pools of fixed size
+-- ---- pools in which core equals the maximum
 
--- a pool of fixed size with a queued job has core threads, and therefore all its threads
+-- a pool in which core equals the maximum has its maximum of threads if a job is queued in it, because it has at least core threads then
 pub fixed_are_full : (plan : Plan) (s : State) (members : List ℕ) → HasValidBodies plan → StateInvariant plan s → IsWaitingSet plan s members → WhereMembersQueue plan s members (IsFixed plan) → IsFullWaitingSet plan s members
 fixed_are_full plan s members ordered kept waiting fixed = record {
   waits = waiting;

@@ -1,4 +1,4 @@
--- The initial state satisfies the invariant.
+-- Proofs that the initial state satisfies the invariant.
 use Rattle.std.proofs.Common.{◌≡◌, ℕ, zero, suc, Bool, true, false, cond, ◌<◌, ◌≤◌, ⊎_elim, List, [], length, replicate, slice_get, Some, refl, sym, ap, subst, ◌∙◌, arith}
 use Rattle.std.specs.List.{enumerate_from}
 use Rattle.std.proofs.lemmas.List.{length-map, get_or-map}
@@ -35,11 +35,11 @@ start_actor plan (parent.Job j) body i stands =
     let made : j < 0 = standing_made plan (start plan) j body i stands in
     absurd (omega arith)
 
--- the state of each pool at the start
+-- the queue and the idle workers of each pool in the initial state are those of a new pool
 pub pool_part_at_start : (plan : Plan) (p : ℕ) → p < length plan.pools → pool_part (start plan) p ≡ part_of (new_pool (pool_at plan p))
 pool_part_at_start plan p inside = get_or-map (λ (pool : Pool). part_of (new_pool pool)) plan.pools p no_pool no_pool_part inside
 
--- a pool begins with at most core workers
+-- a pool has at most core threads at first
 few_first_workers : (core : ℕ) (prestart : Bool) → cond prestart core 0 ≤ core
 few_first_workers core true = omega arith
 few_first_workers core false = omega arith

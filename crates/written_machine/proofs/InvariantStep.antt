@@ -1,4 +1,4 @@
--- Each event keeps the invariant.
+-- Proofs that each event preserves the invariant.
 use Rattle.std.proofs.Common.{◌≡◌, ◌≢◌, ℕ, suc, ◌+◌, ◌<◌, inl, inr, List, ◌∷◌, length, Some, None, refl, sym, ap, subst, ◌∙◌, arith}
 use Rattle.std.proofs.lemmas.List.{length-set}
 use Rattle.job_bodies.specs.declared.action.Action.{Action}
@@ -22,7 +22,7 @@ use Rattle.written_machine.proofs.Actors.{IsAtPosition, point_same, same_positio
 use Rattle.written_machine.proofs.ActorInvariants.{actor_begins, actor_passes, actor_staged, actor_gets, other_gets}
 use Rattle.written_machine.proofs.InvariantSubmits.{kept_moved, kept_starts, kept_queues}
 
--- a claimed or finished job is at no position
+-- a claimed job is not at a position
 claimed_nowhere : (n : ℕ) → Stage.Claimed ≢ Stage.At n
 claimed_nowhere n e = cc
 
@@ -39,7 +39,7 @@ kept_works plan s a body i u ordered kept at =
     kept_moved plan s a body i (i + 1) kept at.stands
     (actor_passes plan s.jobs a body i (action.Work u) (valid_point plan s a body i ordered at.stands) (kept.actors a body i at.stands) at.is_there refl)
 
--- a refusal only increases the count of refusals
+-- a refusal increases only the number of refusals
 kept_refuses : (plan : Plan) (s : State) → StateInvariant plan s → StateInvariant plan (record s { refusals = s.refusals + 1 })
 kept_refuses plan s kept = record {
   classes = kept.classes;
@@ -49,7 +49,7 @@ kept_refuses plan s kept = record {
   actors = λ a body i now. kept.actors a body i (sym (point_same plan s (record s { refusals = s.refusals + 1 }) a refl refl) ∙ now);
 }
 
--- a finished job is still finished after an actor moved
+-- a done job is still done after an actor moved
 pub done_still : (plan : Plan) (s : State) (a : Parent) (body : List Action) (i i' j : ℕ) → IsAtPosition plan s a body i → (job_at s j).stage ≡ Stage.Done → (job_at (with_position a i' s) j).stage ≡ Stage.Done
 done_still plan s a body i i' j stands done =
     ap (λ (job : CreatedJob). job.stage) (job_at-with_position plan s a body i i' j stands (done_nowhere done)) ∙ done
@@ -82,7 +82,7 @@ kept_gets plan s a body i t j ordered kept at is_child done = record {
 
 -- ---- a worker of a pool starts or finishes a job
 
--- a job at position i of its body is at the stage of this position
+-- a job at position i of its body has the stage of this position
 at_work : (plan : Plan) (s : State) (j : ℕ) (body : List Action) (i : ℕ) → IsAtPosition plan s (parent.Job j) body i → (job_at s j).stage ≡ Stage.At i
 at_work plan s j body i stands = (stage_of_standing plan (job_at s j).class (job_at s j).stage body i stands).0
 

@@ -1,4 +1,4 @@
--- Moves and submits keep the invariant.
+-- Proofs that moves and submits preserve the invariant.
 use Rattle.std.proofs.Common.{◌≡◌, ◌≢◌, ℕ, ◌+◌, ◌<◌, ◌≤◌, ◌⊎◌, Bool, true, cond, eqb, inl, inr, List, [], ◌∷◌, ◌++◌, length, Some, refl, sym, ap, ap₂, subst, ◌∙◌, arith}
 use Rattle.std.proofs.lemmas.Bool.{eqb-true, eq-eqb, ne_eqb}
 use Rattle.std.proofs.lemmas.List.{length-set}
@@ -71,7 +71,7 @@ started_pools plan s a body i k ordered kept at below p inside =
     (busy_push plan jobs job p ∙ ap (λ (n : ℕ). n + cond here 1 0) (busy-moved plan s a body i (i + 1) p at.stands))
     (started_pool (pool_at plan p) (pool_part s p) (places plan s.jobs p) (busy_jobs plan s.jobs p) here (kept.pools p inside) room)
 
--- a queued job is at no position
+-- a queued job is not at a position
 queued_nowhere : (n : ℕ) → Stage.Queued ≡ Stage.At n → n ≡ 0
 queued_nowhere n e = absurd cc
 
@@ -86,7 +86,7 @@ kept_starts plan s a body i k ordered kept at below = record {
   actors = made_actors plan s a body i k (Stage.At 0) kept at (At≢Claimed refl) (λ n e. sym (same_position 0 n e));
 }
 
--- the pool whose queue the new job joined; then all other pools
+-- the pool to whose queue the new job was appended satisfies the invariant
 queued_here : (plan : Plan) (s : State) (a : Parent) (body : List Action) (i k : ℕ) → StateInvariant plan s → IsAtAction plan s a body i (Some (action.Submit k)) → pool_of plan k < length plan.pools
     → (pool_at plan (pool_of plan k)).core ≤ threads plan s (pool_of plan k) → length (pool_part s (pool_of plan k)).queue < (pool_at plan (pool_of plan k)).queue
     → HasPoolInvariant plan (moved_jobs a (i + 1) s ++ new_job k a i Stage.Queued ∷ []) (pool_of plan k) (record { queue = (pool_part s (pool_of plan k)).queue ++ length s.jobs ∷ []; idle = (pool_part s (pool_of plan k)).idle })

@@ -1,4 +1,4 @@
--- The threads and queued jobs of a pool are at most the jobs created for it, plus the workers with which it began.
+-- Proofs that a pool has at most as many threads and queued jobs in total as jobs were created for it, plus its prestarted threads.
 use Rattle.std.proofs.Common.{◌≡◌, ℕ, suc, ◌+◌, ◌<◌, ◌≤◌, eqb, List, [], ◌∷◌, ◌++◌, length, Some, None, sym, ap, subst, refl, ◌∙◌, Bool, true, false, ◌&&◌, arith}
 use Rattle.std.specs.List.{count_by}
 use Rattle.std.proofs.lemmas.Bool.{eq-eqb, and_left}
@@ -27,13 +27,13 @@ use Rattle.written_machine.proofs.InvariantStep.{done_still}
 use Rattle.written_machine.proofs.InvariantAtStart.{pool_part_at_start}
 use Rattle.written_machine.proofs.InvariantSubmits.{class_exists}
 
--- ---- the jobs of a pool after a change of the jobs
+-- ---- the jobs that were created for a pool, after a change of the jobs
 
--- the number of these jobs whose class belongs to the pool
+-- the number of jobs in the list whose class belongs to pool p
 abbrev pub made_jobs : Plan → List CreatedJob → ℕ → ℕ
 made_jobs plan jobs p = count_by (is_of_pool plan p) jobs
 
--- neither a change of a stage nor a move of an actor changes the number
+-- a new stage of a job does not change the number of jobs that were created for a pool
 pub made_jobs-staged : (plan : Plan) (jobs : List CreatedJob) (j : ℕ) (stage : Stage) (p : ℕ) → made_jobs plan (staged jobs j stage) p ≡ made_jobs plan jobs p
 made_jobs-staged plan jobs j stage p = count-staged (is_of_pool plan p) jobs j stage refl
 
@@ -41,42 +41,42 @@ pub made_jobs-moved : (plan : Plan) (s : State) (a : Parent) (i p : ℕ) → mad
 made_jobs-moved plan s (parent.Client c) i p = refl
 made_jobs-moved plan s (parent.Job j) i p = made_jobs-staged plan s.jobs j (Stage.At i) p
 
--- a new job of the pool adds one
+-- a new job of the pool increases the number of jobs that were created for it by one
 pub made_jobs_push : (plan : Plan) (jobs : List CreatedJob) (job : CreatedJob) (p : ℕ) → made_jobs plan (jobs ++ job ∷ []) p ≡ made_jobs plan jobs p + one_if (is_of_pool plan p job)
 made_jobs_push plan jobs job p = sum_by_push (λ (x : CreatedJob). one_if (is_of_pool plan p x)) jobs job
 
 -- ---- the bound
 
--- the bound for a pool with this queue and idle count, given the list of jobs
+-- the bound on threads and queued jobs holds for pool p, given the list of jobs and the pool's queue and idle workers
 abbrev PartHasJobs : Plan → List CreatedJob → ℕ → PoolPart → Type 0
 PartHasJobs plan jobs p part = part.idle + busy_jobs plan jobs p + length part.queue ≤ made_jobs plan jobs p + first_workers (pool_at plan p)
 
--- the bound for each pool of the plan
+-- the bound on threads and queued jobs holds for each pool of the plan
 abbrev pub HaveJobs : Plan → State → Type 0
 HaveJobs plan s = (p : ℕ) → p < length plan.pools → HasJobs plan s p
 
--- ---- the start
+-- ---- the initial state
 
--- a pool begins with its first workers and an empty queue
+-- the bound on threads and queued jobs holds in the initial state, in which each pool has its prestarted threads and an empty queue
 pub have_jobs_start : (plan : Plan) → HaveJobs plan (start plan)
 have_jobs_start plan p inside = subst (PartHasJobs plan [] p) (sym (pool_part_at_start plan p inside)) (omega arith)
 
 -- ---- each event
 
--- a move of an actor keeps the bound
+-- a move of an actor preserves the bound on threads and queued jobs
 have_jobs_moved : (plan : Plan) (s : State) (a : Parent) (body : List Action) (i i' : ℕ) → HaveJobs plan s → point plan s a ≡ Some (record { body = body; position = i }) → HaveJobs plan (with_position a i' s)
 have_jobs_moved plan s a body i i' have stands p inside =
     let had = have p inside in
     omega (arith, made_jobs-moved plan s a i' p, busy-moved plan s a body i i' p stands)
 
--- a new job that starts to run at once keeps the bound
+-- a new job that runs at once preserves the bound on threads and queued jobs
 have_jobs_starts : (plan : Plan) (s : State) (job : CreatedJob) → is_at job.stage ≡ true → HaveJobs plan s → HaveJobs plan (with_job job s)
 have_jobs_starts plan s job begins have p inside =
     let had = have p inside in
     let both : one_if (is_at job.stage && eqb (pool_of plan job.class) p) ≡ one_if (is_of_pool plan p job) = ap (λ (b : Bool). one_if (b && eqb (pool_of plan job.class) p)) begins in
     omega (arith, busy_push plan s.jobs job p, made_jobs_push plan s.jobs job p, both)
 
--- a new job that waits in its pool's queue keeps the bound
+-- a new job that is appended to the queue of its pool preserves the bound on threads and queued jobs
 have_jobs_queues : (plan : Plan) (s : State) (job : CreatedJob) (n : ℕ) → length s.pools ≡ length plan.pools → is_at job.stage ≡ false → HaveJobs plan s
     → HaveJobs plan (with_part (pool_of plan job.class) ((pool_part s (pool_of plan job.class)).queue ++ n ∷ []) (pool_part s (pool_of plan job.class)).idle (with_job job s))
 have_jobs_queues plan s job n as_many waits have =
@@ -95,7 +95,8 @@ have_jobs_queues plan s job n as_many waits have =
     not_busy : (p : ℕ) → is_busy_in plan p job ≡ false
     not_busy p = and_left (is_at job.stage) (eqb (pool_of plan job.class) p) waits
 
--- job j of pool q changes its stage, and the pool gets this queue and idle count
+-- a new stage of job j of pool q, with a new queue and new idle workers of q, preserves the bound on threads and queued jobs if the bound
+-- holds for q afterwards
 have_jobs_worker : (plan : Plan) (s : State) (j : ℕ) (stage : Stage) (q : ℕ) (queue : List ℕ) (idle : ℕ) → length s.pools ≡ length plan.pools → j < length s.jobs → pool_of plan (job_at s j).class ≡ q
     → idle + busy_jobs plan (staged s.jobs j stage) q + length queue ≤ threads plan s q + length (pool_part s q).queue → HaveJobs plan s → HaveJobs plan (with_part q queue idle (with_stage j stage s))
 have_jobs_worker plan s j stage q queue idle as_many made of_pool no_more have =
@@ -106,7 +107,7 @@ have_jobs_worker plan s j stage q queue idle as_many made of_pool no_more have =
     let had = have p inside in
     omega (arith, made_jobs-staged plan s.jobs j stage p, busy-staged_elsewhere plan s.jobs j stage p (λ same. other (sym same ∙ of_pool))))
 
--- the end of a running job keeps the bound
+-- the end of a running job preserves the bound on threads and queued jobs
 have_jobs_finishes : (plan : Plan) (s : State) (j : ℕ) (body : List Action) (i : ℕ) → StateInvariant plan s → HaveJobs plan s → IsAtAction plan s (parent.Job j) body i None → HaveJobs plan (finished_job plan s j (pool_of plan (job_at s j).class))
 have_jobs_finishes plan s j body i kept have at =
     let q = pool_of plan (job_at s j).class in
@@ -115,7 +116,7 @@ have_jobs_finishes plan s j body i kept have at =
     have_jobs_worker plan s j Stage.Done q (pool_part s q).queue ((pool_part s q).idle + 1) kept.as_many made refl
     (omega (arith, busy-staged_here plan s.jobs j Stage.Done q refl made, ap (λ (stage : Stage). one_if (is_at stage)) was.0)) have
 
--- a take of the head of a queue keeps the bound
+-- an idle worker that takes the head of a queue preserves the bound on threads and queued jobs
 have_jobs_takes : (plan : Plan) (s : State) (p j : ℕ) (queue : List ℕ) (idle : ℕ) → StateInvariant plan s → HaveJobs plan s → (pool_part s p).queue ≡ j ∷ queue → (pool_part s p).idle ≡ suc idle → HaveJobs plan (with_part p queue idle (with_stage j (Stage.At 0) s))
 have_jobs_takes plan s p j queue idle kept have is_queue is_idle =
     let head = head_of_queue plan s p j queue kept is_queue in
@@ -123,7 +124,7 @@ have_jobs_takes plan s p j queue idle kept have is_queue is_idle =
     have_jobs_worker plan s j (Stage.At 0) p queue idle kept.as_many head.inside head.of_pool
     (omega (arith, busy-staged_here plan s.jobs j (Stage.At 0) p head.of_pool head.inside, ap (λ (stage : Stage). one_if (is_at stage)) head.queued)) have
 
--- a get that claims a finished job keeps the bound
+-- a get that claims a done job preserves the bound on threads and queued jobs
 have_jobs_gets : (plan : Plan) (s : State) (a : Parent) (body : List Action) (i j : ℕ) → HaveJobs plan s → point plan s a ≡ Some (record { body = body; position = i }) → (job_at s j).stage ≡ Stage.Done → HaveJobs plan (with_stage j Stage.Claimed (with_position a (i + 1) s))
 have_jobs_gets plan s a body i j have stands done p inside =
     let moved : State = with_position a (i + 1) s in
@@ -131,7 +132,7 @@ have_jobs_gets plan s a body i j have stands done p inside =
     let had = have_jobs_moved plan s a body i (i + 1) have stands p inside in
     omega (arith, made_jobs-staged plan moved.jobs j Stage.Claimed p, busy-staged_same plan moved.jobs j Stage.Claimed p (busy_in-as plan p (job_at moved j) Stage.Claimed (sym (ap is_at still))))
 
--- every event keeps the bound
+-- every event preserves the bound on threads and queued jobs
 pub have_jobs_step : (plan : Plan) (s s' : State) (o : Outcome) {e : Event} → StateInvariant plan s → HaveJobs plan s → Happens plan s e s' o → HaveJobs plan s'
 have_jobs_step plan s s' o kept have (works a body i u at) = have_jobs_moved plan s a body i (i + 1) have at.stands
 have_jobs_step plan s s' o kept have (starts a body i k at below) =
@@ -148,7 +149,7 @@ have_jobs_step plan s s' o kept have (retires p idle is_idle above_core) =
 
 -- ---- refusals
 
--- a pool that rejects a job has a full queue and all its threads
+-- a pool that refuses a job has a full queue and its maximum of threads
 pub refused_when : (plan : Plan) (s s' : State) (p : ℕ) {e : Event} → HasValidBodies plan → Happens plan s e s' (outcome.Refused p)
     → (p < length plan.pools) × ((pool_at plan p).queue ≤ length (pool_part s p).queue) × ((pool_at plan p).max ≤ threads plan s p)
 refused_when plan s s' p ordered (is_refused a body i k at no_room all_started) = (ordered.pools k (class_exists plan s a body i k ordered at), no_room, all_started)

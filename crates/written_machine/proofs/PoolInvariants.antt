@@ -1,4 +1,4 @@
--- Each event keeps the invariant of each pool.
+-- Proofs that each event preserves the invariant of each pool.
 use Rattle.std.proofs.Common.{◌≡◌, ◌≢◌, ℕ, suc, ◌+◌, ◌<◌, ◌≤◌, Bool, true, false, cond, inl, inr, List, [], ◌∷◌, ◌++◌, length, refl, sym, ap, subst, arith}
 use Rattle.std.proofs.lemmas.Bool.{cases_eq}
 use Rattle.std.proofs.lemmas.List.{length_push, get_or-set_same, get_or-set_other}
@@ -10,7 +10,7 @@ use Rattle.written_machine.proofs.StateInvariant.{PoolInvariant, places, busy_jo
 pub same_pool : (pool : Pool) (part part' : PoolPart) (ns ns' : List ℕ) (busy busy' : ℕ) → part' ≡ part → ns' ≡ ns → busy' ≡ busy → PoolInvariant pool part ns busy → PoolInvariant pool part' ns' busy'
 same_pool pool part part' ns ns' busy busy' same_part same_places same_busy kept = rw (same_part, same_places, same_busy) kept
 
--- the number of running jobs may grow by one if there is room for a thread
+-- a pool still satisfies the invariant if one more job runs in it and it had room for a thread
 pub started_pool : (pool : Pool) (part : PoolPart) (ns : List ℕ) (busy : ℕ) (here : Bool) → PoolInvariant pool part ns busy → (here ≡ true → part.idle + busy < pool.max) → PoolInvariant pool part ns (busy + cond here 1 0)
 started_pool pool part ns busy true kept room =
     let below = room refl in
@@ -46,7 +46,7 @@ retired_pool pool part ns busy idle kept is_idle above_core =
 abbrev pub HasPoolInvariant : Plan → List CreatedJob → ℕ → PoolPart → Type 0
 HasPoolInvariant plan jobs p part = PoolInvariant (pool_at plan p) part (places plan jobs p) (busy_jobs plan jobs p)
 
--- a property holds for all pools after a change of pool q if it holds for the new pool q and for the others before
+-- a property holds for all pools after a change of pool q, if it holds for the changed pool q and held for the others before
 pub pools_with_part : (plan : Plan) (s : State) (q : ℕ) (queue : List ℕ) (idle : ℕ) (holds : ℕ → PoolPart → Type 0) → length s.pools ≡ length plan.pools
     → (q < length plan.pools → holds q (record { queue = queue; idle = idle }))
     → ((p : ℕ) → p < length plan.pools → p ≢ q → holds p (pool_part s p))

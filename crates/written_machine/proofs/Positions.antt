@@ -1,4 +1,4 @@
--- The positions of actors.
+-- Lemmas about the positions of actors.
 use Rattle.std.proofs.Common.{◌≡◌, ◌≢◌, ℕ, ◌<◌, inl, inr, List, length, slice_get, Option, Some, None, refl, sym, ap, subst, ◌∙◌}
 use Rattle.std.specs.Option.{option_map}
 use Rattle.std.proofs.lemmas.Bool.{cases_lt}
@@ -16,7 +16,7 @@ use Rattle.written_machine.specs.Step.{Point, point, point_of_client, point_of_j
 
 -- ---- jobs
 
--- a job at a position has the corresponding stage and the body of its class
+-- a job at position i has the stage of this position, and its body is that of its class
 pub stage_of_standing : (plan : Plan) (k : ℕ) (stage : Stage) (body : List Action) (i : ℕ) → point_of_job plan k stage ≡ Some (record { body = body; position = i }) → (stage ≡ Stage.At i) × (body ≡ (class_at plan k).body)
 stage_of_standing plan k Stage.Queued body i e = absurd (none-some _ e)
 stage_of_standing plan k (Stage.At n) body i e =
@@ -28,7 +28,7 @@ stage_of_standing plan k Stage.Claimed body i e = absurd (none-some _ e)
 pub At≢Claimed : {stage : Stage} {i : ℕ} → stage ≡ Stage.At i → stage ≢ Stage.Claimed
 At≢Claimed at claimed = cc
 
--- an unclaimed job exists
+-- a job that is not claimed exists
 pub job_made : (s : State) (j : ℕ) → (job_at s j).stage ≢ Stage.Claimed → j < length s.jobs
 job_made s j unclaimed = elim (cases_lt j (length s.jobs)) [
   | inl inside ↦ inside
@@ -41,7 +41,7 @@ standing_made plan s j body i stands = job_made s j (At≢Claimed (stage_of_stan
 
 -- ---- clients
 
--- the client that is at a position
+-- if a client is at a position, it exists, and its body is that of its kind
 pub client_standing : (plan : Plan) (found : Option ClientState) (body : List Action) (i : ℕ) → option_map (point_of_client plan) found ≡ Some (record { body = body; position = i })
     → (client : ClientState) × (found ≡ Some client) × (body ≡ (client_at plan client.kind).body) × (client.position ≡ i)
 client_standing plan None body i e = absurd (none-some _ e)
@@ -51,7 +51,7 @@ client_standing plan (Some client) body i e =
 
 -- ---- clients and jobs
 
--- a job that is at no position is unchanged after an actor moved
+-- a job that is not at a position is unchanged after an actor moved
 pub job_at-with_position : (plan : Plan) (s : State) (a : Parent) (body : List Action) (i i' j : ℕ) → point plan s a ≡ Some (record { body = body; position = i }) → ((n : ℕ) → (job_at s j).stage ≢ Stage.At n)
     → job_at (with_position a i' s) j ≡ job_at s j
 job_at-with_position plan s (parent.Client c) body i i' j stands elsewhere = refl

@@ -1,4 +1,4 @@
--- Changes of a state that leave a set of jobs, and the pools in whose queues they wait, as they were.
+-- Changes of a state that preserve a set of jobs, and the pools in whose queues they wait.
 use Rattle.std.proofs.Common.{◌≡◌, ◌≢◌, ℕ, zero, suc, ◌<◌, true, false, inl, inr, List, [], ◌∷◌, ◌++◌, length, get_or, set, refl, sym, ap, ◌∙◌, arith}
 use Rattle.std.proofs.lemmas.Bool.{false≢true, cases_lt, cases_eq}
 use Rattle.std.proofs.lemmas.List.{length_push, get_or-set_other, get_or_append_left, get_or_push, get_or_past}
@@ -17,13 +17,13 @@ use Rattle.written_machine.proofs.Stages.{staged, get_or-staged_same, get_or-sta
 use Rattle.written_machine.proofs.Busy.{busy_in-as, busy-staged_same, busy_push_same}
 use Rattle.written_machine.proofs.Actors.{IsAtPosition}
 
--- the pool has as many idle workers and running jobs as before, and only jobs run in it that ran in it before
+-- pool p has in s' as many idle workers and running jobs as in s, and each job that runs in it in s' ran in it in s
 pub record SamePool (plan : Plan) (s s' : State) (p : ℕ) : Type 0 where
   pub idle : (pool_part s' p).idle ≡ (pool_part s p).idle
   pub busy_as_many : busy plan s' p ≡ busy plan s p
   pub were_busy : (n : ℕ) → is_busy_in plan p (job_at s' n) ≡ true → is_busy_in plan p (job_at s n) ≡ true
 
--- the members are unchanged, and so are the numbers of their children and these pools
+-- the members, their latest jobs and the pools in `among` are the same in s' as in s
 pub record Preserves (plan : Plan) (members : List ℕ) (among : ℕ → Type 0) (s s' : State) : Type 0 where
   pub jobs : (j : ℕ) → IsMember members j → job_at s' j ≡ job_at s j
   pub children : (j t : ℕ) → IsMember members j → child s' (parent.Job j) t ≡ child s (parent.Job j) t
@@ -42,7 +42,7 @@ same_pool_twice plan s s₁ s₂ p one two = record {
   were_busy = λ n at_work. one.were_busy n (two.were_busy n at_work);
 }
 
--- a change of a stage leaves each pool in which the job runs afterwards exactly if it ran before
+-- a new stage of a job preserves each pool in which the job runs afterwards exactly when it ran before
 same_pool-staged : (plan : Plan) (s : State) (m : ℕ) (stage : Stage) (p : ℕ) → m < length s.jobs → is_busy_in plan p (record (job_at s m) { stage = stage }) ≡ is_busy_in plan p (job_at s m) → SamePool plan s (with_stage m stage s) p
 same_pool-staged plan s m stage p inside same =
     let job : CreatedJob = record (job_at s m) { stage = stage } in
@@ -57,7 +57,7 @@ same_pool-staged plan s m stage p inside same =
       ];
     }
 
--- a new job leaves each pool in which it does not run
+-- a new job preserves each pool in which it does not run
 same_pool-pushed : (plan : Plan) (s : State) (job : CreatedJob) (p : ℕ) → is_busy_in plan p job ≡ false → SamePool plan s (with_job job s) p
 same_pool-pushed plan s job p elsewhere =
     record {
@@ -72,11 +72,11 @@ same_pool-pushed plan s job p elsewhere =
       ];
     }
 
--- a change of another pool leaves the idle workers of this one
+-- a change of pool q does not change the idle workers of another pool
 pub idle_elsewhere : (s : State) (q : ℕ) (queue : List ℕ) (idle p : ℕ) → p ≢ q → (pool_part (with_part q queue idle s) p).idle ≡ (pool_part s p).idle
 idle_elsewhere s q queue idle p other = ap (λ (part : PoolPart). part.idle) (get_or-set_other s.pools q p (record { queue = queue; idle = idle }) no_pool_part other)
 
--- a change of a queue leaves the idle workers of every pool
+-- a new queue of a pool does not change the idle workers of any pool
 pub idle_as_before : (parts : List PoolPart) (q : ℕ) (queue : List ℕ) (p : ℕ) → (get_or (set parts q (record { queue = queue; idle = (get_or parts q no_pool_part).idle })) p no_pool_part).idle ≡ (get_or parts p no_pool_part).idle
 idle_as_before [] q queue p = refl
 idle_as_before (x ∷ xs) zero queue zero = refl
@@ -87,7 +87,7 @@ idle_as_before (x ∷ xs) (suc q) queue (suc p) = idle_as_before xs q queue p
 -- ---- the changes that make up an event
 
 module _ (plan : Plan) (members : List ℕ) (among : ℕ → Type 0) where
-  -- two changes in sequence
+  -- two changes that preserve the members and pools, in order, preserve them
   pub leaves_twice : (s s₁ s₂ : State) → Preserves plan members among s s₁ → Preserves plan members among s₁ s₂ → Preserves plan members among s s₂
   leaves_twice s s₁ s₂ first second = record {
     jobs = λ j member. second.jobs j member ∙ first.jobs j member;
@@ -95,7 +95,7 @@ module _ (plan : Plan) (members : List ℕ) (among : ℕ → Type 0) where
     pools = λ p is_among. same_pool_twice plan s s₁ s₂ p (first.pools p is_among) (second.pools p is_among);
   }
 
-  -- a change of a pool's queue and idle workers
+  -- a new queue and new idle workers of pool q preserve the members and pools if no pool in `among` has other idle workers afterwards
   pub leaves-part : (s : State) (q : ℕ) (queue : List ℕ) (idle : ℕ) → ((p : ℕ) → among p → (pool_part (with_part q queue idle s) p).idle ≡ (pool_part s p).idle) → Preserves plan members among s (with_part q queue idle s)
   leaves-part s q queue idle same = record {
     jobs = λ j member. refl;
@@ -103,12 +103,12 @@ module _ (plan : Plan) (members : List ℕ) (among : ℕ → Type 0) where
     pools = λ p is_among. record { idle = same p is_among; busy_as_many = refl; were_busy = λ n at_work. at_work };
   }
 
-  -- a change of the clients and of the refusals
+  -- new clients and a new number of refusals preserve the members and pools
   pub leaves-clients : (s : State) (clients : List ClientState) (refusals : ℕ) → Preserves plan members among s (record s { clients = clients; refusals = refusals })
   leaves-clients s clients refusals =
       record { jobs = λ j member. refl; children = λ j t member. refl; pools = λ p is_among. record { idle = refl; busy_as_many = refl; were_busy = λ n at_work. at_work } }
 
-  -- a change of a job's stage
+  -- a new stage of a job that is no member preserves the members and pools if the job runs in pools in `among` exactly when it did before
   pub leaves-staged : (s : State) (m : ℕ) (stage : Stage) → m < length s.jobs → ¬ IsMember members m → ((p : ℕ) → among p → is_busy_in plan p (record (job_at s m) { stage = stage }) ≡ is_busy_in plan p (job_at s m)) → Preserves plan members among s (with_stage m stage s)
   leaves-staged s m stage inside outside same = record {
     jobs = λ j member. get_or-staged_other s.jobs m stage j no_job (λ (itself : j ≡ m). outside (rw itself at member));
@@ -116,7 +116,7 @@ module _ (plan : Plan) (members : List ℕ) (among : ℕ → Type 0) where
     pools = λ p is_among. same_pool-staged plan s m stage p inside (same p is_among);
   }
 
-  -- a move of an actor
+  -- a move of an actor that is not a member preserves the members and pools
   pub leaves-moved : (s : State) (a : Parent) (body : List Action) (i i' : ℕ) → IsAtPosition plan s a body i → IsOutside members a → Preserves plan members among s (with_position a i' s)
   leaves-moved s (parent.Client c) body i i' stands outside = leaves-clients s (set s.clients c (record (client_state s c) { position = i' })) s.refusals
   leaves-moved s (parent.Job m) body i i' stands outside =
@@ -124,7 +124,7 @@ module _ (plan : Plan) (members : List ℕ) (among : ℕ → Type 0) where
       leaves-staged s m (Stage.At i') (standing_made plan s m body i stands) (λ member. outside m member refl)
       (λ p is_among. busy_in-as plan p (job_at s m) (Stage.At i') (sym (ap is_at was.0)))
 
-  -- a new job
+  -- a new job preserves the members and pools if no member created it and it does not run in a pool in `among`
   pub leaves-pushed : (s : State) (job : CreatedJob) → ((j : ℕ) → IsMember members j → j < length s.jobs) → ((j t : ℕ) → IsMember members j → is_made_by (parent.Job j) t job ≡ false) → ((p : ℕ) → among p → is_busy_in plan p job ≡ false)
       → Preserves plan members among s (with_job job s)
   leaves-pushed s job made of_others elsewhere = record {

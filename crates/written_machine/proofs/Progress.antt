@@ -1,4 +1,4 @@
--- While a job is unfinished, and no set of jobs waits only for its own members, an event of a job or a take is possible.
+-- Proofs that an event of a job or a take is possible while a job is unfinished and no set of jobs waits only for its own members.
 use Rattle.std.proofs.Common.{◌≡◌, ◌≢◌, ℕ, zero, suc, ◌≤◌, ⊎_elim, Bool, true, false, not, eqb, List, [], ◌∷◌, length, slice_get, Option, Some, None, is_some, refl, sym, ap, ap₂, ◌∙◌, arith}
 use Rattle.std.specs.List.{list_all}
 use Rattle.std.proofs.lemmas.Bool.{and_parts, and_cases, eqb-false, false_from_ne_true}
@@ -24,7 +24,7 @@ use Rattle.written_machine.proofs.ReachedLaws.{child_at_get}
 
 -- ---- an element of a list that fails a test
 
--- if not all elements pass, one of them fails
+-- if not all elements of a list pass a test, one of them fails
 fails_somewhere : {X : Type 0} (test : X → Bool) (xs : List X) → list_all test xs ≡ false → (x : X) × In x xs × (test x ≡ false)
 fails_somewhere test [] none = absurd cc
 fails_somewhere test (x ∷ xs) none =
@@ -36,11 +36,11 @@ fails_somewhere test (x ∷ xs) none =
 abbrev unfinished : State → List ℕ
 unfinished s = places_where (λ (job : CreatedJob). is_unfinished job.stage) s.jobs
 
--- no unfinished job is claimed
+-- an unfinished job is not claimed
 unfinished_unclaimed : (stage : Stage) → is_unfinished stage ≡ true → stage ≢ Stage.Claimed
 unfinished_unclaimed stage still claimed = let over : is_unfinished stage ≡ false = ap is_unfinished claimed in cc
 
--- the list contains each unfinished job
+-- the list `unfinished` contains each unfinished job
 In-unfinished : (s : State) (j : ℕ) → is_unfinished (job_at s j).stage ≡ true → In j (unfinished s)
 In-unfinished s j still = In-places_where (λ (job : CreatedJob). is_unfinished job.stage) s.jobs j no_job (job_made s j (unfinished_unclaimed (job_at s j).stage still)) still
 
@@ -51,7 +51,7 @@ at_unfinished Stage.Queued at = absurd cc
 at_unfinished Stage.Done at = absurd cc
 at_unfinished Stage.Claimed at = absurd cc
 
--- the list contains all jobs that run in a pool
+-- the list `unfinished` contains all jobs that run in a pool
 busy_unfinished : (plan : Plan) (s : State) (p : ℕ) → list_all (is_member (unfinished s)) (places_where (is_busy_in plan p) s.jobs) ≡ true
 busy_unfinished plan s p =
     list_all_from_where (is_member (unfinished s)) (is_busy_in plan p) s.jobs no_job
@@ -59,7 +59,7 @@ busy_unfinished plan s p =
 
 -- ---- possible events
 
--- an idle worker can take the head of a queue
+-- if a pool has an idle worker and a queued job, a take is possible
 can_take : (plan : Plan) (s : State) (p idle : ℕ) (queue : List ℕ) → (pool_part s p).idle ≡ idle → (pool_part s p).queue ≡ queue → idle ≢ 0 → 1 ≤ length queue → CanProgress plan s
 can_take plan s p zero queue is_idle is_queue some_idle some_queued = absurd (some_idle refl)
 can_take plan s p (suc idle) [] is_idle is_queue some_idle some_queued = absurd (omega arith)
@@ -69,7 +69,7 @@ can_take plan s p (suc idle) (j ∷ queue) is_idle is_queue some_idle some_queue
   possible = ap₂ (λ (n : ℕ) (jobs : List ℕ). is_some (take_head s p (taken_from (pool_seen plan s p) n jobs))) is_idle is_queue;
 }
 
--- a job can act if its step is defined
+-- the event of a job at a position is possible if the step of its next action is
 can_act : (plan : Plan) (s : State) (n i : ℕ) (next : Option Action) → (job_at s n).stage ≡ Stage.At i → slice_get (class_at plan (job_at s n).class).body i ≡ next → is_some (step_action plan s (parent.Job n) i next) ≡ true → CanProgress plan s
 can_act plan s n i next at is_there acts = record {
   event = event.Job n;
@@ -77,14 +77,14 @@ can_act plan s n i next at is_there acts = record {
   possible = ap (λ (stage : Stage). is_some (step_at_point plan s (parent.Job n) (point_of_job plan (job_at s n).class stage))) at ∙ ap (λ (x : Option Action). is_some (step_action plan s (parent.Job n) i x)) is_there ∙ acts;
 }
 
--- a job that is neither unfinished nor claimed is done
+-- a job that is not unfinished and not claimed is done
 done_of : (stage : Stage) → is_unfinished stage ≡ false → stage ≢ Stage.Claimed → stage ≡ Stage.Done
 done_of Stage.Queued over unclaimed = absurd cc
 done_of (Stage.At i) over unclaimed = absurd cc
 done_of Stage.Done over unclaimed = refl
 done_of Stage.Claimed over unclaimed = absurd (unclaimed refl)
 
--- a job can pass its get if the child that it waits for is finished
+-- a job at a get can continue if the job for which it waits is not unfinished
 can_get : (plan : Plan) (s : State) (n i t : ℕ) → HasValidBodies plan → StateInvariant plan s → (job_at s n).stage ≡ Stage.At i → slice_get (class_at plan (job_at s n).class).body i ≡ Some (action.Get t)
     → is_some_member (unfinished s) (child s (parent.Job n) t) ≡ false → CanProgress plan s
 can_get plan s n i t ordered kept at is_there free =
@@ -97,14 +97,14 @@ can_get plan s n i t ordered kept at is_there free =
     can_act plan s n i (Some (action.Get t)) at is_there
     (ap (λ (found : Option ℕ). is_some (got_child s (parent.Job n) i found)) latest.is_child ∙ ap (λ (stage : Stage). is_some (got s (parent.Job n) i latest.number stage)) done)
 
--- a job at any action can act if it does not wait for an unfinished job
+-- a job at any action can continue if it does not wait for an unfinished job
 can_go_at : (plan : Plan) (s : State) (n i : ℕ) (next : Option Action) → HasValidBodies plan → StateInvariant plan s → (job_at s n).stage ≡ Stage.At i → slice_get (class_at plan (job_at s n).class).body i ≡ next → waits_at s (unfinished s) (parent.Job n) next ≡ false → CanProgress plan s
 can_go_at plan s n i None ordered kept at is_there free = can_act plan s n i None at is_there refl
 can_go_at plan s n i (Some (action.Work u)) ordered kept at is_there free = can_act plan s n i (Some (action.Work u)) at is_there refl
 can_go_at plan s n i (Some (action.Submit k)) ordered kept at is_there free = can_act plan s n i (Some (action.Submit k)) at is_there refl
 can_go_at plan s n i (Some (action.Get t)) ordered kept at is_there free = can_get plan s n i t ordered kept at is_there free
 
--- a queued job that does not wait has an idle worker in its pool, which can take the head of the queue
+-- the pool of a queued job that does not wait has an idle worker, which can take the head of the queue
 can_go_queued : (plan : Plan) (s : State) (n : ℕ) → HasValidBodies plan → StateInvariant plan s → (job_at s n).stage ≡ Stage.Queued → waits_at_stage plan s (unfinished s) n (job_at s n).class Stage.Queued ≡ false → CanProgress plan s
 can_go_queued plan s n ordered kept queued free =
     let p = pool_of plan (job_at s n).class in
@@ -114,7 +114,7 @@ can_go_queued plan s n ordered kept queued free =
     (λ some_other. absurd cc)
     (and_cases (eqb (pool_part s p).idle 0) (list_all (is_member (unfinished s)) (places_where (is_busy_in plan p) s.jobs)) free)
 
--- an unfinished job that does not wait only for unfinished jobs leads to a possible event
+-- if an unfinished job does not wait only for unfinished jobs, an event is possible
 can_go : (plan : Plan) (s : State) (n : ℕ) (stage : Stage) → HasValidBodies plan → StateInvariant plan s → (job_at s n).stage ≡ stage → is_unfinished stage ≡ true → waits_at_stage plan s (unfinished s) n (job_at s n).class stage ≡ false → CanProgress plan s
 can_go plan s n Stage.Queued ordered kept is_stage still free = can_go_queued plan s n ordered kept is_stage free
 can_go plan s n (Stage.At i) ordered kept is_stage still free = can_go_at plan s n i (slice_get (class_at plan (job_at s n).class).body i) ordered kept is_stage refl free
@@ -126,7 +126,7 @@ not_none : (ns : List ℕ) (n : ℕ) → In n ns → not (is_none ns) ≡ true
 not_none (m ∷ ns) n i = refl
 not_none [] n i = absurd (elim i [ ])
 
--- the unfinished jobs are not a waiting set, so one of them does not wait only for the others
+-- an event is possible, because the unfinished jobs are not a waiting set and so one of them does not wait only for the others
 pub makes_progress : (plan : Plan) (s : State) (j : ℕ) → HasValidBodies plan → StateInvariant plan s → ((members : List ℕ) → ¬ IsWaitingSet plan s members) → is_unfinished (job_at s j).stage ≡ true → CanProgress plan s
 makes_progress plan s j ordered kept none still =
     let members = unfinished s in

@@ -1,4 +1,4 @@
--- The queues of the pools, as the list of jobs determines them.
+-- Lemmas about the queues of the pools, which the list of jobs determines.
 use Rattle.std.proofs.Common.{◌≡◌, ◌≢◌, ℕ, ◌<◌, ◌≤◌, Bool, true, false, ◌&&◌, eqb, inl, inr, List, [], ◌∷◌, ◌++◌, length, get_or, Some, refl, sym, ap, subst, ◌∙◌, arith, append-nil}
 use Rattle.std.proofs.lemmas.Bool.{false≢true, cases_lt, and_parts, and_from, and_left, and_right, eqb-true, eq-eqb, ne_eqb}
 use Rattle.std.proofs.lemmas.List.{get_or_past}
@@ -16,7 +16,7 @@ use Rattle.written_machine.proofs.Positions.{stage_of_standing, job_made}
 use Rattle.written_machine.proofs.StateInvariant.{StateInvariant, places}
 use Rattle.written_machine.proofs.Stages.{staged}
 
--- ---- the members of a queue
+-- ---- the jobs in a queue
 
 pub queued_stage : (stage : Stage) → is_queued stage ≡ true → stage ≡ Stage.Queued
 queued_stage Stage.Queued e = refl
@@ -27,7 +27,7 @@ queued_stage Stage.Claimed e = absurd (false≢true e)
 pub Queued≢Claimed : {stage : Stage} → stage ≡ Stage.Queued → stage ≢ Stage.Claimed
 Queued≢Claimed queued claimed = cc
 
--- the head of a queue is a job that is queued in that pool, and the rest are the other queued jobs
+-- job j, the head of the queue of pool p, is queued in p, and `rest` has the other jobs that are queued in p
 pub record IsHead (plan : Plan) (s : State) (p j : ℕ) (rest : List ℕ) : Type 0 where
   pub exists : p < length plan.pools
   pub inside : j < length s.jobs
@@ -76,9 +76,9 @@ length-In (m ∷ ns) n i = omega arith
 pub queued_in_queue : (plan : Plan) (s : State) (j : ℕ) → HasValidBodies plan → StateInvariant plan s → (job_at s j).stage ≡ Stage.Queued → 1 ≤ length (pool_part s (pool_of plan (job_at s j).class)).queue
 queued_in_queue plan s j ordered kept queued = length-In (pool_part s (pool_of plan (job_at s j).class)).queue j (In-queue plan s j ordered kept queued)
 
--- ---- queues after a change of the jobs
+-- ---- the queues after a change of the jobs
 
--- a change between stages that are both queued, or both not queued, leaves each queue
+-- a new stage of a job does not change any queue if both its old and its new stage are queued, or both are not
 pub places-staged : (plan : Plan) (jobs : List CreatedJob) (j : ℕ) (stage : Stage) (p : ℕ) → is_queued stage ≡ is_queued (get_or jobs j no_job).stage → places plan (staged jobs j stage) p ≡ places plan jobs p
 places-staged plan jobs j stage p same =
     places_where-set_same (is_queued_in plan p) jobs j (record (get_or jobs j no_job) { stage = stage }) no_job (ap (λ (b : Bool). b && eqb (pool_of plan (get_or jobs j no_job).class) p) same)
@@ -95,7 +95,7 @@ pub places_push_same : (plan : Plan) (jobs : List CreatedJob) (job : CreatedJob)
 places_push_same plan jobs job p elsewhere =
     places_push plan jobs job p ∙ ap (λ (b : Bool). places plan jobs p ++ cons_if b (length jobs) []) elsewhere ∙ append-nil (places plan jobs p)
 
--- a change of a job's stage leaves the queues of all other pools
+-- a new stage of a job does not change the queues of other pools
 pub places-staged_elsewhere : (plan : Plan) (jobs : List CreatedJob) (j : ℕ) (stage : Stage) (p : ℕ) → pool_of plan (get_or jobs j no_job).class ≢ p → places plan (staged jobs j stage) p ≡ places plan jobs p
 places-staged_elsewhere plan jobs j stage p other =
     let elsewhere = ne_eqb (pool_of plan (get_or jobs j no_job).class) p other in

@@ -1,4 +1,4 @@
--- A property of the initial state that every event keeps holds in every reachable state.
+-- Proofs that a property holds in every reachable state if it holds in the initial state and every event preserves it.
 use Rattle.std.proofs.Common.{◌≡◌, List, [], ◌∷◌, Option, Some, None, refl, subst}
 use Rattle.std.proofs.lemmas.Option.{same_Some}
 use Rattle.job_bodies.specs.Plan.{Plan}
@@ -14,11 +14,11 @@ use Rattle.written_machine.proofs.StateInvariant.{StateInvariant}
 use Rattle.written_machine.proofs.InvariantAtStart.{kept_start}
 use Rattle.written_machine.proofs.InvariantStep.{kept_step}
 
--- every event keeps the property
+-- every event preserves the property
 abbrev pub StaysThrough : Plan → (State → Type 0) → Type 0
 StaysThrough plan holds = (s : State) (e : Event) (s' : State) (o : Outcome) → holds s → Happens plan s e s' o → holds s'
 
--- after an impossible event there is no state
+-- the replay of events after an impossible event has no state
 pub replay_none : (plan : Plan) (events : List Event) → replay plan None events ≡ None
 replay_none plan [] = refl
 replay_none plan (e ∷ events) = refl

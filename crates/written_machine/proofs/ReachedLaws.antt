@@ -1,4 +1,4 @@
--- The laws of the machine, for the crates that depend on this one.
+-- The laws of the machine as lemmas, for the crates that depend on this one.
 use Rattle.std.proofs.Common.{ℕ, List, Some, refl, arith}
 use Rattle.job_bodies.specs.declared.action.Action.{Action}
 use Rattle.job_bodies.specs.declared.action.Action.TheVariants as action
@@ -31,7 +31,7 @@ sizes_kept plan s well_formed reached p inside =
 pub queued_at_core : QueuesOnlyAtCore
 queued_at_core plan s well_formed reached p inside some = ((kept plan s well_formed reached).pools p inside).core some
 
--- an actor at a get finds its job
+-- an actor at a get has the job for which the get waits
 pub child_at_get : (plan : Plan) (s : State) (a : Parent) (body : List Action) (i t : ℕ) → HasValidBodies plan → StateInvariant plan s → IsAtAction plan s a body i (Some (action.Get t)) → HasChild s.jobs a t (submitted_class body t)
 child_at_get plan s a body i t ordered kept at =
     let valid : IsValidBody plan body = valid_point plan s a body i ordered at.stands in
@@ -53,7 +53,7 @@ full_sets_stay plan s s' events members well_formed reached set replayed =
 pub fixed_pools_full : FixedPoolsAreFull
 fixed_pools_full plan s members well_formed reached waiting fixed = fixed_are_full plan s members (ordered plan well_formed) (kept plan s well_formed reached) waiting fixed
 
--- the invariant and the bound on the number of threads and queued jobs hold together
+-- the bound on threads and queued jobs holds in every reachable state; the proof needs the invariant too
 have_jobs : (plan : Plan) (s : State) → IsWellFormed plan → IsReached plan s → HaveJobs plan s
 have_jobs plan s well_formed reached =
     let both = reached_keeps plan (λ s₁. StateInvariant plan s₁ × HaveJobs plan s₁) (kept_start plan (ordered plan well_formed), have_jobs_start plan)

@@ -1,4 +1,4 @@
--- The list of jobs after one of them changed its stage, and after a new job was created.
+-- Lemmas about the list of jobs after the stage of one job changed, and after a job was created.
 use Rattle.std.proofs.Common.{◌≡◌, ◌≢◌, ℕ, zero, suc, ◌<◌, inl, inr, List, [], ◌∷◌, ◌++◌, length, get_or, set, All, refl, sym, ap, subst, ◌∙◌, Bool, arith}
 use Rattle.std.specs.List.{count_by}
 use Rattle.std.proofs.lemmas.Bool.{cases_lt}
@@ -12,25 +12,25 @@ use Rattle.written_machine.specs.State.{Stage, State, CreatedJob, no_job, is_mad
 use Rattle.written_machine.specs.Step.{moved_jobs}
 use Rattle.written_machine.specs.Laws.{HasGreaterNumber}
 
--- the list in which job j has this stage
+-- the list of jobs with this stage for job j
 abbrev pub staged : List CreatedJob → ℕ → Stage → List CreatedJob
 staged jobs j stage = set jobs j (record (get_or jobs j no_job) { stage = stage })
 
 pub length-staged : (jobs : List CreatedJob) (j : ℕ) (stage : Stage) → length (staged jobs j stage) ≡ length jobs
 length-staged jobs j stage = length-set jobs j (record (get_or jobs j no_job) { stage = stage })
 
--- the job itself keeps everything except its stage
+-- job j is unchanged except for its stage
 pub get_or-staged_same : (jobs : List CreatedJob) (j : ℕ) (stage : Stage) → j < length jobs → get_or (staged jobs j stage) j no_job ≡ record (get_or jobs j no_job) { stage = stage }
 get_or-staged_same jobs j stage inside = get_or-set_same jobs j (record (get_or jobs j no_job) { stage = stage }) no_job inside
 
 pub stage-staged : (jobs : List CreatedJob) (j : ℕ) (stage : Stage) → j < length jobs → (get_or (staged jobs j stage) j no_job).stage ≡ stage
 stage-staged jobs j stage inside = ap (λ (job : CreatedJob). job.stage) (get_or-staged_same jobs j stage inside)
 
--- the other jobs are unchanged
+-- the jobs other than j are unchanged
 pub get_or-staged_other : (jobs : List CreatedJob) (j : ℕ) (stage : Stage) (n : ℕ) (d : CreatedJob) → n ≢ j → get_or (staged jobs j stage) n d ≡ get_or jobs n d
 get_or-staged_other jobs j stage n d other = get_or-set_other jobs j n (record (get_or jobs j no_job) { stage = stage }) d other
 
--- only the stage changes
+-- each job is unchanged except for its stage
 job-staged : (jobs : List CreatedJob) (j : ℕ) (stage : Stage) (n : ℕ) (d : CreatedJob) → get_or (staged jobs j stage) n d ≡ record (get_or jobs n d) { stage = (get_or (staged jobs j stage) n d).stage }
 job-staged [] j stage n d = refl
 job-staged (x ∷ xs) zero stage zero d = refl
@@ -44,11 +44,11 @@ class-staged jobs j stage n d = ap (λ (job : CreatedJob). job.class) (job-stage
 pub parent-staged : (jobs : List CreatedJob) (j : ℕ) (stage : Stage) (n : ℕ) (d : CreatedJob) → (get_or (staged jobs j stage) n d).parent ≡ (get_or jobs n d).parent
 parent-staged jobs j stage n d = ap (λ (job : CreatedJob). job.parent) (job-staged jobs j stage n d)
 
--- the latest job of an actor at a position stays the same
+-- the latest job that an actor created at a position is unchanged
 pub child-stage : (jobs : List CreatedJob) (a : Parent) (t j : ℕ) (stage : Stage) → last_of (places_where (is_made_by a t) (staged jobs j stage)) ≡ last_of (places_where (is_made_by a t) jobs)
 child-stage jobs a t j stage = ap last_of (places_where-set_same (is_made_by a t) jobs j (record (get_or jobs j no_job) { stage = stage }) no_job refl)
 
--- the number of jobs that satisfy a test stays if the change does not affect the test
+-- the number of jobs that pass a test is unchanged if job j passes it after the change exactly when it did before
 pub count-staged : (test : CreatedJob → Bool) (jobs : List CreatedJob) (j : ℕ) (stage : Stage) → test (record (get_or jobs j no_job) { stage = stage }) ≡ test (get_or jobs j no_job) → count_by test (staged jobs j stage) ≡ count_by test jobs
 count-staged test jobs j stage same =
     sym (length-places test (staged jobs j stage)) ∙ ap length (places_where-set_same test jobs j (record (get_or jobs j no_job) { stage = stage }) no_job same) ∙ length-places test jobs

@@ -10,7 +10,8 @@ use Rattle.written_machine.specs.State.{Stage, State, CreatedJob, PoolPart, no_j
 use Rattle.written_machine.specs.Step.{point}
 use Rattle.written_machine.specs.Laws.{HasGreaterNumber}
 
--- the latest job that the actor created at position t is of class k, unclaimed, and later than the actor
+-- actor a has a latest job that it created at position t; the job has class k, is not claimed, and has a greater number than a if a is a
+-- job
 pub record HasChild (jobs : List CreatedJob) (a : Parent) (t k : ℕ) : Type 0 where
   pub number : ℕ
   pub is_child : last_of (places_where (is_made_by a t) jobs) ≡ Some number
@@ -18,12 +19,13 @@ pub record HasChild (jobs : List CreatedJob) (a : Parent) (t k : ℕ) : Type 0 w
   pub unclaimed : (get_or jobs number no_job).stage ≢ Stage.Claimed
   pub later : HasGreaterNumber a number
 
--- the invariant of an actor at position i: each later get whose submit is before i finds its job
+-- the invariant of an actor at position i: for each later get of a submit before i, the job exists for which the get waits
 pub record ActorInvariant (jobs : List CreatedJob) (a : Parent) (body : List Action) (i : ℕ) : Type 0 where
   pub inside : i ≤ length body
   pub ready : (g t : ℕ) → i ≤ g → t < i → slice_get body g ≡ Some (action.Get t) → HasChild jobs a t (submitted_class body t)
 
--- the invariant of a pool, given its state, the numbers of its queued jobs, and the number of its running jobs
+-- the invariant of a pool, given its queue and idle workers, the numbers of the jobs that are queued in it, and the number of jobs that run
+-- in it
 pub record PoolInvariant (pool : Pool) (part : PoolPart) (places : List ℕ) (busy : ℕ) : Type 0 where
   pub queue : part.queue ≡ places
   pub within_max : part.idle + busy ≤ pool.max

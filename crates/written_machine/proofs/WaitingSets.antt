@@ -1,4 +1,4 @@
--- The test for a waiting set agrees with the definition.
+-- Proofs that the test for a waiting set holds exactly for the waiting sets.
 use Rattle.std.proofs.Common.{◌≡◌, ℕ, ◌<◌, ◌↔◌, true, not, eqb, inl, inr, List, [], ◌∷◌, length, slice_get, Option, Some, None, IsTrue, refl, sym, ap, subst, ◌∙◌}
 use Rattle.std.specs.List.{list_all}
 use Rattle.std.proofs.lemmas.Bool.{false≢true, cases_lt, and_parts, and_from, eqb-true, eq-eqb}
@@ -30,7 +30,7 @@ some_member (j ∷ js) first member = refl
 
 -- ---- at a get
 
--- the child that the get finds is a member
+-- the job that the get finds exists, and is a member
 record MemberChild (members : List ℕ) (found : Option ℕ) : Type 0 where
   number : ℕ
   is_child : found ≡ Some number

@@ -18,18 +18,18 @@ use Rattle.written_machine.specs.Waiting.{is_waiting_set}
 abbrev pool_of_sizes : ℕ → ℕ → ℕ → ℕ → Pool
 pool_of_sizes letter core max queue = record { name = letter ∷ []; core = core; max = max; queue = queue; prestart = false }
 
--- the plan with every pool prestarted
+-- the plan with all pools prestarted
 abbrev prestarted : Plan → Plan
 prestarted plan = record plan { pools = map (λ (pool : Pool). record pool { prestart = true }) plan.pools }
 
 abbrev class_in : ℕ → List Action → Class
 class_in pool body = record { name = 97 ∷ []; pool = pool; body = body }
 
--- a kind of `count` clients, each of which submits a job of this class, gets it, and starts again
+-- a client kind of `count` clients, each of which submits a job of this class, gets it, and begins again
 abbrev repeating_client : ℕ → ℕ → Client
 repeating_client count class = record { name = 99 ∷ []; count = count; repeat = true; body = Submit class ∷ Get 0 ∷ [] }
 
--- one pool, with clients that each submit one job and wait for it
+-- a plan of one pool with these sizes, and of this number of clients that each submit a job and wait for it
 abbrev one_pool : ℕ → ℕ → ℕ → ℕ → Plan
 one_pool core max queue clients = record {
   pools = pool_of_sizes 112 core max queue ∷ [];
@@ -37,13 +37,13 @@ one_pool core max queue clients = record {
   clients = repeating_client clients 0 ∷ [];
 }
 
--- the same, except that each client does not repeat
+-- the plan `one_pool` with clients that do not repeat
 abbrev one_pool_once : ℕ → ℕ → ℕ → ℕ → Plan
 one_pool_once core max queue clients =
     let plan = one_pool core max queue clients in
     record plan { clients = map (λ (client : Client). record client { repeat = false }) plan.clients }
 
--- one pool, in which an outer job submits an inner one and waits for it
+-- a plan of one pool with these sizes, in which an outer job submits an inner job and waits for it
 abbrev nested : ℕ → ℕ → ℕ → Plan
 nested core max queue = record {
   pools = pool_of_sizes 112 core max queue ∷ [];
@@ -51,11 +51,11 @@ nested core max queue = record {
   clients = repeating_client 1 0 ∷ [];
 }
 
--- the same with room for a second thread, and a client that submits one inner job
+-- the plan `nested` with a pool that can have a second thread, and one more client that submits an inner job
 abbrev nested_with_spare_thread : Plan
 nested_with_spare_thread = record (nested 1 2 1) { clients = repeating_client 1 0 ∷ record { name = 104 ∷ []; count = 1; repeat = false; body = Submit 1 ∷ [] } ∷ [] }
 
--- two pools whose jobs wait for jobs of the other pool, and a third independent pool
+-- a plan of two pools whose jobs wait for jobs of the other pool, and of a third, independent pool
 abbrev crossed : ℕ → Plan
 crossed threads = record {
   pools = pool_of_sizes 112 1 1 2 ∷ pool_of_sizes 113 threads threads 2 ∷ pool_of_sizes 114 1 1 1 ∷ [];
@@ -63,7 +63,7 @@ crossed threads = record {
   clients = repeating_client 1 0 ∷ repeating_client 1 2 ∷ repeating_client 1 4 ∷ [];
 }
 
--- the outcome of each event, from the start
+-- the outcome of each event, from the initial state of the plan
 abbrev outcomes_from_start : Plan → List Event → List (Option Outcome)
 outcomes_from_start plan events = outcomes plan (Some (start plan)) events
 
@@ -71,11 +71,11 @@ outcomes_from_start plan events = outcomes plan (Some (start plan)) events
 abbrev after : {X : Type 0} → Plan → List Event → (State → X) → Option X
 after plan events ask = option_map ask (replay plan (Some (start plan)) events)
 
--- the number of rejected submits, and the number of unfinished jobs
+-- the number of refused submits, and the number of unfinished jobs
 abbrev ends : State → ℕ × ℕ
 ends s = (s.refusals, count_by (λ job. is_unfinished job.stage) s.jobs)
 
--- the possible events of each replay
+-- the events of each replay that are possible
 abbrev two_clients_refused-events : List Event
 two_clients_refused-events = event.Client 0 ∷ event.Job 0 ∷ event.Job 0 ∷ event.Client 0 ∷ event.Client 0 ∷ event.Client 0 ∷ event.Client 1 ∷ []
 
@@ -108,31 +108,31 @@ stuck_for_now-events = nested_one_worker-events ++ event.Client 1 ∷ event.Job 
 
 -- ---- the outcomes of the events
 
--- with one worker and a queue of one, the seventh event is rejected, although a worker is idle and only two jobs are open
+-- with one worker and a queue of one, the submit in the seventh event is refused, although a worker is idle and only one job is unfinished
 pub two_clients_refused : outcomes_from_start (one_pool 1 1 1 2) two_clients_refused-events
     ≡ Some (Started 0) ∷ Some (Worked 1) ∷ Some (Finished 0) ∷ Some (Got 0) ∷ Some Looped ∷ Some (Queued 1) ∷ Some (Refused 0) ∷ []
 two_clients_refused = refl
 
--- the only worker waits for a job that waits for the worker
+-- the only worker runs a job that waits for a queued job
 pub nested_one_worker : outcomes_from_start (nested 1 1 5) (nested_one_worker-events ++ event.Take 0 ∷ []) ≡ Some (Started 0) ∷ Some (Queued 1) ∷ None ∷ []
 nested_one_worker = refl
 
--- two pools wait for each other, while a third pool works
+-- jobs of two pools wait for each other, while a job of a third pool works
 pub cross_pools_stuck : outcomes_from_start (crossed 1) cross_pools_stuck-events
     ≡ Some (Started 0) ∷ Some (Started 1) ∷ Some (Queued 2) ∷ Some (Queued 3) ∷ Some (Started 4) ∷ Some (Worked 1) ∷ []
 cross_pools_stuck = refl
 
--- a worker above core may end, a core worker may not
+-- a worker above core may end, and a core worker may not
 pub retire : outcomes_from_start (one_pool 1 2 1 3) (retire-events ++ event.Retire 0 ∷ [])
     ≡ Some (Started 0) ∷ Some (Queued 1) ∷ Some (Started 2) ∷ Some (Worked 1) ∷ Some (Finished 2) ∷ Some Retired ∷ Some (Worked 1) ∷ Some (Finished 0) ∷ None ∷ []
 retire = refl
 
--- below core a new thread starts the job, although a worker is idle
+-- below core, a new thread starts the job, although a worker is idle
 pub start_before_queue : outcomes_from_start (one_pool 2 2 2 2) start_before_queue-events
     ≡ Some (Started 0) ∷ Some (Worked 1) ∷ Some (Finished 0) ∷ Some (Started 1) ∷ Some (Got 0) ∷ Some Looped ∷ Some (Queued 2) ∷ Some (Took 2) ∷ Some (Worked 1) ∷ []
 start_before_queue = refl
 
--- the queue is full, so a second thread starts, and then takes the inner job for which the outer one waits
+-- the queue is full, so a second thread starts a job, and later takes the inner job for which the outer job waits
 pub stuck_for_now : outcomes_from_start nested_with_spare_thread stuck_for_now-events
     ≡ Some (Started 0) ∷ Some (Queued 1) ∷ Some (Started 2) ∷ Some (Worked 1) ∷ Some (Finished 2) ∷ Some (Took 1) ∷ Some (Worked 1) ∷ Some (Finished 1) ∷ Some (Got 1) ∷ Some (Finished 0) ∷ []
 stuck_for_now = refl
@@ -141,16 +141,16 @@ stuck_for_now = refl
 pub prestarted_queues : outcomes_from_start (prestarted (one_pool 2 2 2 2)) prestarted_queues-events ≡ Some (Queued 0) ∷ Some (Took 0) ∷ Some (Worked 1) ∷ []
 prestarted_queues = refl
 
--- a prestarted pool can reject a job although its workers are idle
+-- a prestarted pool can refuse a job although its workers are idle
 pub lifetime_first : outcomes_from_start (prestarted (one_pool_once 2 2 1 3)) lifetime_first-events ≡ Some (Queued 0) ∷ Some (Refused 0) ∷ []
 lifetime_first = refl
 
--- five steps drain the pool of an outer job and its inner job
+-- an outer job and its inner job are finished after five steps
 pub drain_met_exactly : outcomes_from_start (nested 2 2 5) (drain_met_exactly-events ++ event.Take 0 ∷ [])
     ≡ Some (Started 0) ∷ Some (Started 1) ∷ Some (Worked 1) ∷ Some (Finished 1) ∷ Some (Got 1) ∷ Some (Finished 0) ∷ None ∷ []
 drain_met_exactly = refl
 
--- in a prestarted pool both jobs are taken from the queue, and seven steps drain the pool
+-- in a prestarted pool both jobs are taken from the queue, so they are finished after seven steps
 pub drain_met_exactly_prestarted : outcomes_from_start (prestarted (nested 2 2 5)) drain_met_exactly_prestarted-events
     ≡ Some (Queued 0) ∷ Some (Took 0) ∷ Some (Queued 1) ∷ Some (Took 1) ∷ Some (Worked 1) ∷ Some (Finished 1) ∷ Some (Got 1) ∷ Some (Finished 0) ∷ []
 drain_met_exactly_prestarted = refl
@@ -189,18 +189,18 @@ drain_met_exactly_prestarted-ends = refl
 
 -- ---- waiting sets after some of the events
 
--- the outer job and the inner job wait only for each other
+-- the outer job and the inner job are a waiting set
 pub nested_one_worker-stuck : after (nested 1 1 5) nested_one_worker-events (λ s. is_waiting_set (nested 1 1 5) s (0 ∷ 1 ∷ [])) ≡ Some true
 nested_one_worker-stuck = refl
 
--- the four jobs of the two pools wait only for each other
+-- the four jobs of the two pools are a waiting set
 pub cross_pools_stuck-all : after (crossed 1) cross_pools_stuck-events (λ s. is_waiting_set (crossed 1) s (0 ∷ 1 ∷ 2 ∷ 3 ∷ [])) ≡ Some true
 cross_pools_stuck-all = refl
 
--- two of them also wait for jobs outside the list
+-- the two jobs of the list are no waiting set, because they also wait for jobs outside the list
 pub cross_pools_stuck-two : after (crossed 1) cross_pools_stuck-events (λ s. is_waiting_set (crossed 1) s (0 ∷ 1 ∷ [])) ≡ Some false
 cross_pools_stuck-two = refl
 
--- a waiting set can end if its pool does not have all its threads
+-- the outer job and the inner job are a waiting set that is not permanent, because their pool can start another thread
 pub stuck_for_now-two : after nested_with_spare_thread nested_one_worker-events (λ s. is_waiting_set nested_with_spare_thread s (0 ∷ 1 ∷ [])) ≡ Some true
 stuck_for_now-two = refl

@@ -11,11 +11,11 @@ use Rattle.written_machine.specs.Step.{point}
 use Rattle.written_machine.specs.Reach.{IsReached}
 use Rattle.written_machine.specs.Waiting.{IsWaitingSet, is_waiting_set}
 
--- the property holds for every well-formed plan and every reachable state of it
+-- the property holds in every reachable state of every well-formed plan
 abbrev pub HoldsWhereReached : (Plan → State → Type 0) → Type 0
 HoldsWhereReached holds = (plan : Plan) (s : State) → IsWellFormed plan → IsReached plan s → holds plan s
 
--- the pool has at most max threads, and at most as many queued jobs as its capacity
+-- pool p has at most its maximum of threads, and at most as many queued jobs as its capacity
 pub record KeepsSizes (plan : Plan) (s : State) (p : ℕ) : Type 0 where
   pub within_max : threads plan s p ≤ (pool_at plan p).max
   pub within_queue : length (pool_part s p).queue ≤ (pool_at plan p).queue
@@ -23,16 +23,17 @@ pub record KeepsSizes (plan : Plan) (s : State) (p : ℕ) : Type 0 where
 abbrev pub PoolsKeepTheirSizes : Type 0
 PoolsKeepTheirSizes = HoldsWhereReached (λ plan s. (p : ℕ) → p < length plan.pools → KeepsSizes plan s p)
 
--- a pool with a queued job has at least core threads
+-- in every reachable state, a pool with a queued job has at least core threads
 abbrev pub QueuesOnlyAtCore : Type 0
 QueuesOnlyAtCore = HoldsWhereReached (λ plan s. (p : ℕ) → p < length plan.pools → 1 ≤ length (pool_part s p).queue → (pool_at plan p).core ≤ threads plan s p)
 
--- the job's number is greater than the number of its creator, if the creator is a job
+-- if the actor is a job, its number is less than n
 abbrev pub HasGreaterNumber : Parent → ℕ → Type 0
 HasGreaterNumber (Client c) n = ⊤
 HasGreaterNumber (Job j) n = j < n
 
--- the latest job that the actor created at position t is of class k, unclaimed, and later than the actor
+-- actor a has a latest job that it created at position t; the job has class k, is not claimed, and has a greater number than a if a is a
+-- job
 pub record HasLatest (s : State) (a : Parent) (t k : ℕ) : Type 0 where
   pub number : ℕ
   pub is_child : child s a t ≡ Some number
@@ -40,10 +41,10 @@ pub record HasLatest (s : State) (a : Parent) (t k : ℕ) : Type 0 where
   pub unclaimed : (job_at s number).stage ≢ Stage.Claimed
   pub later : HasGreaterNumber a number
 
--- an actor at a get has such a latest job, of the class that the submit names
+-- each actor at a get of a submit has a latest job that it created at that submit, of the class that the submit names
 abbrev pub GetsHaveChildren : Type 0
 GetsHaveChildren = HoldsWhereReached (λ plan s. (a : Parent) (body : List Action) (i t : ℕ) → point plan s a ≡ Some (record { body = body; position = i }) → slice_get body i ≡ Some (Get t) → HasLatest s a t (submitted_class body t))
 
--- the test for a waiting set agrees with the definition
+-- the test `is_waiting_set` holds exactly for the waiting sets
 abbrev pub WaitingSetsAreTested : Type 0
 WaitingSetsAreTested = (plan : Plan) (s : State) (members : List ℕ) → IsTrue (is_waiting_set plan s members) ↔ IsWaitingSet plan s members

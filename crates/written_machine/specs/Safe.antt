@@ -1,4 +1,4 @@
--- The safety property of a plan: in every reachable state no submit was rejected, each pool is within its sizes, and no set
+-- The safety of a plan: in every reachable state no submit has been refused, each pool is within its maximum and its capacity, and no set
 -- of unfinished jobs waits only for its own members.
 use Rattle.std.specs.Prelude.{◌≡◌, ◌≤◌, ◌<◌, ℕ, Bool, true, false, IsTrue, is_some, List, length}
 use Rattle.job_bodies.specs.Plan.{Plan, pool_at}
@@ -15,7 +15,7 @@ pub record IsSafe (plan : Plan) (s : State) : Type 0 where
   pub within_queue : (p : ℕ) → p < length plan.pools → length (pool_part s p).queue ≤ (pool_at plan p).queue
   pub none_waits : (members : List ℕ) → ¬ IsWaitingSet plan s members
 
--- every reachable state is safe
+-- every reachable state of the plan is safe
 abbrev pub Safe : Plan → Type 0
 Safe plan = (events : List Event) (s : State) → Reaches plan events s → IsSafe plan s
 
@@ -24,12 +24,12 @@ is_of_job_or_pool (Job j) = true
 is_of_job_or_pool (Take p) = true
 is_of_job_or_pool _ = false
 
--- an event of a job, or a take event of a pool, is possible
+-- some event of a job, or some take of a pool, is possible in state s
 pub record CanProgress (plan : Plan) (s : State) : Type 0 where
   pub event : Event
   pub of_job_or_pool : IsTrue (is_of_job_or_pool event)
   pub possible : IsTrue (is_some (step plan s event))
 
--- in every reachable state with an unfinished job, such an event is possible
+-- in every reachable state with an unfinished job, an event of a job or a take of a pool is possible
 abbrev pub MakesProgress : Plan → Type 0
 MakesProgress plan = (events : List Event) (s : State) → Reaches plan events s → (j : ℕ) → IsTrue (is_unfinished (job_at s j).stage) → CanProgress plan s

@@ -1,4 +1,4 @@
--- States of a plan: every job ever created, the queues and idle workers of the pools, and the positions of the clients.
+-- The states of a plan: every job that was ever created, the queue and idle workers of each pool, and the position of each client.
 use Rattle.std.specs.Prelude.{ℕ, ◌+◌, ◌==◌, ◌&&◌, Bool, true, false, List, [], Option, slice_index_or, count_by}
 use Rattle.support.specs.Places.{places_where, last_of}
 use Rattle.job_bodies.specs.Plan.{Pool, Plan, pool_at, class_at}
@@ -12,21 +12,21 @@ same_parent (Client a) (Client b) = a == b
 same_parent (Job a) (Job b) = a == b
 same_parent _ _ = false
 
--- the progress of a job: in its pool's queue, at a position of its body, finished, or finished with its result returned
+-- the progress of a job: in the queue of its pool, at a position of its body, done, or done and claimed by a get
 pub data Stage : Type 0 where
   Queued : Stage
   At : ℕ → Stage
   Done : Stage
   Claimed : Stage
 
--- a job that was created: its class, its creator, the position of the submit, and its stage
+-- a job that was created: its class, its creator, the position of the submit in the creator's body, and its stage
 pub record CreatedJob : Type 0 where
   pub class : ℕ
   pub parent : Parent
   pub slot : ℕ
   pub stage : Stage
 
--- a pool's queue of job numbers, and its number of idle workers
+-- the queue of a pool, as job numbers with the head first, and the number of its idle workers
 pub record PoolPart : Type 0 where
   pub queue : List ℕ
   pub idle : ℕ
@@ -37,7 +37,8 @@ pub record State : Type 0 where
   pub clients : List ClientState
   pub refusals : ℕ
 
--- the values returned past the end of a list of the state; the default job is claimed, so an unclaimed job exists
+-- the defaults for an index past the end of a list of the state; the default job is claimed, so that an unclaimed job is never the default
+-- one
 abbrev pub no_pool_part : PoolPart
 no_pool_part = record { queue = []; idle = 0 }
 
@@ -64,13 +65,13 @@ abbrev pub is_queued : Stage → Bool
 is_queued Queued = true
 is_queued _ = false
 
--- queued, or at a position
+-- whether the job is queued or at a position of its body
 abbrev pub is_unfinished : Stage → Bool
 is_unfinished Queued = true
 is_unfinished (At i) = true
 is_unfinished _ = false
 
--- the pool of a job class
+-- the pool of class k
 abbrev pub pool_of : Plan → ℕ → ℕ
 pool_of plan k = (class_at plan k).pool
 
@@ -80,27 +81,30 @@ is_busy_in plan p job = is_at job.stage && pool_of plan job.class == p
 abbrev pub is_queued_in : Plan → ℕ → CreatedJob → Bool
 is_queued_in plan p job = is_queued job.stage && pool_of plan job.class == p
 
--- the number of jobs that run in the pool
+-- the number of jobs that run in pool p
 abbrev pub busy : Plan → State → ℕ → ℕ
 busy plan s p = count_by (is_busy_in plan p) s.jobs
 
+-- the number of threads of pool p: its idle workers and the jobs that run in it
 abbrev pub threads : Plan → State → ℕ → ℕ
 threads plan s p = (pool_part s p).idle + busy plan s p
 
--- the queue and the idle workers of a pool view
+-- the queue and the idle workers of a pool
 abbrev pub part_of : PoolView → PoolPart
 part_of pool = record { queue = pool.queue; idle = pool.idle }
 
--- the pool view with the sizes of the pool, this queue, these idle workers and this many threads
+-- the pool with these sizes, with this queue and these idle workers, and with this number of threads
 abbrev pub pool_view : Pool → PoolPart → ℕ → PoolView
 pool_view pool part threads = record { core = pool.core; max = pool.max; capacity = pool.queue; threads = threads; idle = part.idle; queue = part.queue }
 
+-- pool p in state s, as `pool_machine` sees a pool
 abbrev pub pool_seen : Plan → State → ℕ → PoolView
 pool_seen plan s p = pool_view (pool_at plan p) (pool_part s p) (threads plan s p)
 
+-- whether actor a created the job by the submit at position t of its body
 abbrev pub is_made_by : Parent → ℕ → CreatedJob → Bool
 is_made_by a t job = same_parent a job.parent && t == job.slot
 
--- the latest job that the actor created at position t, or None if there is no such job
+-- the latest job that actor a created by the submit at position t of its body; None if there is none
 abbrev pub child : State → Parent → ℕ → Option ℕ
 child s a t = last_of (places_where (is_made_by a t) s.jobs)

@@ -1,4 +1,4 @@
--- The transition function: the outcome of an event, and the state after it.
+-- The step function: the state after an event, and the outcome of the event.
 use Rattle.std.specs.Prelude.{ℕ, ◌+◌, List, [], ◌∷◌, ◌++◌, length, Option, Some, None, slice_get, slice_set, if◌then◌else◌}
 use Rattle.std.specs.Option.{option_map}
 use Rattle.job_bodies.specs.declared.action.Action.{Action}
@@ -31,7 +31,7 @@ abbrev pub point_of_job : Plan → ℕ → Stage → Option Point
 point_of_job plan k (state.Stage.At i) = Some (record { body = (class_at plan k).body; position = i })
 point_of_job plan k _ = None
 
--- None if the actor does not exist, and for a job that is queued or finished
+-- the body of an actor and its position in it; None if the actor does not exist, or is a job that is queued or done
 abbrev pub point : Plan → State → Parent → Option Point
 point plan s (parent.Client c) = option_map (point_of_client plan) (slice_get s.clients c)
 point plan s (parent.Job j) = point_of_job plan (job_at s j).class (job_at s j).stage
@@ -41,7 +41,7 @@ point plan s (parent.Job j) = point_of_job plan (job_at s j).class (job_at s j).
 abbrev pub with_stage : ℕ → Stage → State → State
 with_stage j stage s = record s { jobs = slice_set s.jobs j (record (job_at s j) { stage = stage }) }
 
--- the jobs and the clients after the actor moved to position i
+-- the jobs after the actor moved to position i
 abbrev pub moved_jobs : Parent → ℕ → State → List CreatedJob
 moved_jobs (parent.Client c) i s = s.jobs
 moved_jobs (parent.Job j) i s = slice_set s.jobs j (record (job_at s j) { stage = state.Stage.At i })
@@ -56,7 +56,7 @@ with_position a i s = record s { jobs = moved_jobs a i s; clients = moved_client
 abbrev pub with_job : CreatedJob → State → State
 with_job job s = record s { jobs = s.jobs ++ job ∷ [] }
 
--- the state with the queue and idle workers of this pool view; the number of threads follows from the running jobs
+-- the state with the queue and the idle workers of this pool; the number of its threads follows from the running jobs
 abbrev pub with_pool : ℕ → PoolView → State → State
 with_pool p pool s = record s { pools = slice_set s.pools p (part_of pool) }
 
@@ -65,7 +65,7 @@ with_pool p pool s = record s { pools = slice_set s.pools p (part_of pool) }
 abbrev pub new_job : ℕ → Parent → ℕ → Stage → CreatedJob
 new_job k a i stage = record { class = k; parent = a; slot = i; stage = stage }
 
--- the state and outcome after an actor at position i submitted a job of class k and the pool gave this answer
+-- the state and the outcome after actor a submitted a job of class k at position i, and the pool gave this answer
 abbrev pub answered : Plan → State → Parent → ℕ → ℕ → Offer → State × Outcome
 answered plan s a i k offer.Started =
     (with_job (new_job k a i (state.Stage.At 0)) (with_position a (i + 1) s), Started (length s.jobs))
@@ -79,7 +79,7 @@ answered plan s a i k offer.Refused = (record s { refusals = s.refusals + 1 }, R
 abbrev pub submitted : Plan → State → Parent → ℕ → ℕ → State × Outcome
 submitted plan s a i k = answered plan s a i k (answer (pool_seen plan s (pool_of plan k)))
 
--- the state and outcome after an actor at position i gets job j, which is at this stage; None if the job is not done
+-- the state and the outcome after actor a at position i got job j, which is at this stage; None if the job is not done
 abbrev pub got : State → Parent → ℕ → ℕ → Stage → Option (State × Outcome)
 got s a i j state.Stage.Done = Some (with_stage j state.Stage.Claimed (with_position a (i + 1) s), Got j)
 got s a i j _ = None
@@ -88,7 +88,7 @@ abbrev pub got_child : State → Parent → ℕ → Option ℕ → Option (State
 got_child s a i None = None
 got_child s a i (Some j) = got s a i j (job_at s j).stage
 
--- the state after job j finished and its worker became idle
+-- the state after job j finished and its worker in pool p became idle
 abbrev pub finished_job : Plan → State → ℕ → ℕ → State
 finished_job plan s j p = with_pool p (finished (pool_seen plan s p)) (with_stage j state.Stage.Done s)
 
@@ -96,12 +96,12 @@ abbrev pub looped : Plan → State → ℕ → Option ClientState → Option (St
 looped plan s c None = None
 looped plan s c (Some client) = if (client_at plan client.kind).repeat then Some (with_position (parent.Client c) 0 s, Looped) else None
 
--- at the end of its body a job finishes, and a client starts again if its kind repeats
+-- the step of an actor at the end of its body: a job finishes, and a client begins again if its kind repeats
 abbrev pub step_at_end : Plan → State → Parent → Option (State × Outcome)
 step_at_end plan s (parent.Client c) = looped plan s c (slice_get s.clients c)
 step_at_end plan s (parent.Job j) = Some (finished_job plan s j (pool_of plan (job_at s j).class), Finished j)
 
--- the step of an actor at position i with this next action; None stands for the end of the body
+-- the step of an actor at position i, given the action there; None stands for the end of the body
 abbrev pub step_action : Plan → State → Parent → ℕ → Option Action → Option (State × Outcome)
 step_action plan s a i None = step_at_end plan s a
 step_action plan s a i (Some (Work u)) = Some (with_position a (i + 1) s, Worked u)
@@ -114,7 +114,7 @@ step_at_point plan s a (Some at) = step_action plan s a at.position (slice_get a
 
 -- ---- the events of a pool
 
--- the head of the queue starts to run
+-- the state and the outcome after an idle worker took the head of the queue of pool p, given the head and the pool afterwards
 abbrev pub take_head : State → ℕ → Option (ℕ × PoolView) → Option (State × Outcome)
 take_head s p None = None
 take_head s p (Some x) = Some (with_pool p x.1 (with_stage x.0 (state.Stage.At 0) s), Took x.0)
@@ -123,7 +123,7 @@ abbrev pub retire_worker : State → ℕ → Option PoolView → Option (State �
 retire_worker s p None = None
 retire_worker s p (Some pool) = Some (with_pool p pool s, Retired)
 
--- the state and the outcome after the event, or None if the event is not possible
+-- the state and the outcome after the event; None if the event is not possible
 abbrev pub step : Plan → State → Event → Option (State × Outcome)
 step plan s (Client c) = step_at_point plan s (parent.Client c) (point plan s (parent.Client c))
 step plan s (Job j) = step_at_point plan s (parent.Job j) (point plan s (parent.Job j))

@@ -1,4 +1,4 @@
--- Sets of jobs that wait only for their own members (Java Concurrency in Practice, 8.1.1, for any number of pools).
+-- Waiting sets: sets of jobs that wait only for their own members (Java Concurrency in Practice, 8.1.1, for any number of pools).
 use Rattle.std.specs.Prelude.{◌≡◌, ℕ, ◌==◌, ◌&&◌, not, Bool, true, false, IsTrue, List, [], ◌∷◌, Option, Some, None, slice_get}
 use Rattle.std.specs.List.{list_all, list_any}
 use Rattle.support.specs.Places.{places_where}
@@ -10,7 +10,7 @@ use Rattle.written_machine.specs.declared.parent.Parent.TheVariants as parent
 use Rattle.written_machine.specs.State.{Stage, State, job_at, pool_part, pool_of, is_busy_in, child}
 use Rattle.written_machine.specs.State.Stage.{Queued, At}
 
--- ---- as a definition
+-- ---- the definition of a waiting set
 
 abbrev pub is_member : List ℕ → ℕ → Bool
 is_member members j = list_any (λ member. member == j) members
@@ -18,7 +18,7 @@ is_member members j = list_any (λ member. member == j) members
 abbrev pub IsMember : List ℕ → ℕ → Type 0
 IsMember members j = IsTrue (is_member members j)
 
--- the job is at position i, which is a get, and the job that the get waits for is a member
+-- job j at position i is at a get, and the job for which the get waits is a member
 pub record WaitsAtGet (plan : Plan) (s : State) (members : List ℕ) (j i : ℕ) : Type 0 where
   pub submit : ℕ
   pub stands : slice_get (class_at plan (job_at s j).class).body i ≡ Some (Get submit)
@@ -26,30 +26,30 @@ pub record WaitsAtGet (plan : Plan) (s : State) (members : List ℕ) (j i : ℕ)
   pub is_child : child s (parent.Job j) submit ≡ Some child_number
   pub member : IsMember members child_number
 
--- no worker of the queued job's pool is idle, and every job that runs in that pool is a member
+-- job j waits in the queue of a pool that has no idle worker, and every job that runs in that pool is a member
 pub record WaitsInQueue (plan : Plan) (s : State) (members : List ℕ) (j : ℕ) : Type 0 where
   pub none_idle : (pool_part s (pool_of plan (job_at s j).class)).idle ≡ 0
   pub all_at_work : (n : ℕ) → IsTrue (is_busy_in plan (pool_of plan (job_at s j).class) (job_at s n)) → IsMember members n
 
--- an unfinished job that waits only for members; a finished job waits for nothing
+-- job j, which is at this stage, is unfinished and waits only for members
 abbrev pub WaitsAtStage : Plan → State → List ℕ → ℕ → Stage → Type 0
 WaitsAtStage plan s members j Queued = WaitsInQueue plan s members j
 WaitsAtStage plan s members j (At i) = WaitsAtGet plan s members j i
 WaitsAtStage plan s members j _ = ⊥
 
--- there is at least one member, all members are unfinished, and each waits only for members
+-- a waiting set: it has at least one member, all its members are unfinished, and each waits only for members
 pub record IsWaitingSet (plan : Plan) (s : State) (members : List ℕ) : Type 0 where
   pub first : ℕ
   pub not_empty : IsMember members first
   pub each : (j : ℕ) → IsMember members j → WaitsAtStage plan s members j (job_at s j).stage
 
--- ---- as a test
+-- ---- the test for a waiting set
 
 abbrev pub is_some_member : List ℕ → Option ℕ → Bool
 is_some_member members None = false
 is_some_member members (Some j) = is_member members j
 
--- the next action of the actor is a get whose job is a member
+-- whether the next action of the actor is a get, and the job for which it waits is a member
 abbrev pub waits_at : State → List ℕ → Parent → Option Action → Bool
 waits_at s members a (Some (Get t)) = is_some_member members (child s a t)
 waits_at s members a _ = false
@@ -67,6 +67,6 @@ abbrev pub is_none : List ℕ → Bool
 is_none [] = true
 is_none (j ∷ js) = false
 
--- the numbers, taken as a set, are a waiting set
+-- whether the numbers, taken as a set, are a waiting set
 abbrev pub is_waiting_set : Plan → State → List ℕ → Bool
 is_waiting_set plan s members = not (is_none members) && list_all (waits plan s members) members

@@ -1,6 +1,6 @@
 //! The state of a client.
 
-/// A client: its kind, and its current position in the body of the kind.
+/// The state of a client: its kind, and its position in the body of the kind.
 #[derive(Clone, Copy, PartialEq, Eq)]
 pub struct ClientState {
     pub kind: usize,

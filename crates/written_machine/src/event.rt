@@ -1,39 +1,40 @@
 //! The events of the machine, and their outcomes.
 
-/// An event of a plan's machine.
+/// An event of the machine of a plan.
 #[derive(Clone, Copy, Debug, PartialEq, Eq)]
 pub enum Event {
-    /// The client with this number performs its next action. Clients are numbered from 0, kind by
-    /// kind in plan order; a kind with count `n` has `n` clients.
+    /// The client with this number performs its next action. Clients are numbered from 0, by client
+    /// kind in plan order: a client kind with count `n` has `n` consecutive numbers.
     Client(usize),
     /// The job with this number performs its next action. Jobs are numbered from 0 in the order in
     /// which they were created.
     Job(usize),
-    /// An idle worker of the pool with this number takes the head of the pool's queue.
+    /// An idle worker of the pool with this index takes the head of the pool's queue.
     Take(usize),
-    /// An idle worker of the pool with this number ends.
+    /// An idle worker of the pool with this index ends.
     Retire(usize),
 }
 
-/// The outcome of a possible event.
+/// The outcome of an event that is possible.
 #[derive(Clone, Copy, PartialEq, Eq)]
 pub enum Outcome {
     /// A submit created the job with this number, and a new thread runs it.
     Started(usize),
-    /// A submit created the job with this number, and the job waits in its pool's queue.
+    /// A submit created the job with this number, and the job was appended to its pool's queue.
     Queued(usize),
-    /// The pool with this number rejected a submit. No job was created.
+    /// The pool with this index refused the job of a submit. No job was created.
     Refused(usize),
-    /// This many units of work were done.
+    /// The actor performed this number of units of work.
     Worked(u32),
     /// A get returned the result of the job with this number.
     Got(usize),
-    /// The client starts its body again.
+    /// The client begins its body again.
     Looped,
     /// The job with this number finished.
     Finished(usize),
-    /// The job with this number left its pool's queue and starts to run.
+    /// An idle worker took the job with this number from the queue of its pool, and the job begins
+    /// to run.
     Took(usize),
-    /// The pool has one thread fewer.
+    /// An idle worker of the pool ended.
     Retired,
 }

@@ -1,6 +1,5 @@
-//! The reference machine: the specification of the states of a plan, of the effect of each event,
-//! and of the states that a list of events reaches. The definitions are in `specs/`; no code of
-//! this crate runs.
+//! The reference machine of a plan: its states, the effect of each event, and the states that lists
+//! of events reach. The definitions are in `specs/`. This crate has no code that runs.
 #![tactic(auto)]
 
 mod client_state;

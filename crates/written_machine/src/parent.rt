@@ -1,4 +1,4 @@
-//! The actors of a plan, which create jobs.
+//! Actors, which create jobs.
 
 /// An actor, such as the creator of a job: the client or the job with this number.
 #[derive(Clone, Copy, PartialEq, Eq)]
