@@ -22,7 +22,7 @@ use Rattle.interleaving.proofs.View.{seen, phase_with, job_seen-with, length-vie
 abbrev pub as_seen : CreatedJob → Phase → JobView
 as_seen job phase = record { class = job.class; parent = job.parent; slot = job.slot; phase = phase }
 
--- the view of a job stays if the job, the latest job of its submit, and whether its parent may still get it stay the same
+-- the live view of job n is unchanged if the job, the latest job of its submit, and whether its parent may still get it are unchanged
 pub seen_same : (s s' : State) (n : ℕ) → job_at s' n ≡ job_at s n → may_get s' (job_at s n).parent ≡ may_get s (job_at s n).parent
     → child s' (job_at s n).parent (job_at s n).slot ≡ child s (job_at s n).parent (job_at s n).slot → seen s' n ≡ seen s n
 seen_same s s' n same asks latest =
@@ -45,7 +45,7 @@ may_get-staged s j stage (parent.Job m) inside same =
     (λ (other : m ≢ j). ap (λ (job : CreatedJob). is_unfinished job.stage) (get_or-staged_other s.jobs j stage m no_job other))
     (cases_eq m j)
 
--- if an unfinished job stays unfinished, or a done job is claimed, only that job changes in the view
+-- if job j changes its stage, but not whether it is unfinished, then only job j changes in the view
 pub jobs-staged : (plan : Plan) (s : State) (j : ℕ) (stage : Stage) (there : Option JobView) → j < length s.jobs → is_unfinished stage ≡ is_unfinished (job_at s j).stage → seen (with_stage j stage s) j ≡ there
     → (live_view plan (with_stage j stage s)).jobs ≡ set (live_view plan s).jobs j there
 jobs-staged plan s j stage there inside same here =

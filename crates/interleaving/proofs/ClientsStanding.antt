@@ -19,7 +19,7 @@ pub rising_ends : (n : ℕ) (kinds : List Client) → IsRising n (ends_from n ki
 rising_ends n [] = tt
 rising_ends n (kind ∷ kinds) = (omega arith, rising_ends (n + kind.count) kinds)
 
--- the clients of the kinds, at the start
+-- `starting`, for the ends of the client kinds, is the list of the clients of these kinds at their start
 pub starting_ends : (k n : ℕ) (kinds : List Client) → starting k n (ends_from n kinds) ≡ flat_map new_clients (enumerate_from k kinds)
 starting_ends k n [] = refl
 starting_ends k n (kind ∷ kinds) =
@@ -93,7 +93,7 @@ replicate_position kind zero i clients others = others i
 replicate_position kind (suc m) zero clients others = refl
 replicate_position kind (suc m) (suc i) clients others = replicate_position kind m i clients others
 
--- each client is at position 0
+-- each client in the list `starting` is at position 0
 pub start_position : (kind n : ℕ) (ends : List ℕ) (c : ℕ) → (get_or (starting kind n ends) c (record { kind = 0; position = 0 })).position ≡ 0
 start_position kind n [] c = refl
 start_position kind n (end ∷ ends) c = replicate_position kind (end - n) c (starting (kind + 1) end ends) (start_position (kind + 1) end ends)
@@ -111,17 +111,17 @@ get_or-standing at n (client ∷ clients) (suc k) d inside =
     let same : n + 1 + k ≡ n + suc k = omega arith in
     get_or-standing at (n + 1) clients k d (omega arith) ∙ ap (λ m. moved_or (at m) (get_or clients k d)) same
 
--- no client moved
+-- if no client has moved, the states of the clients are those at the start
 pub standing-none : (at : ℕ → Option ClientState) (n : ℕ) (clients : List ClientState) → ((q : ℕ) → at q ≡ None) → standing at n clients ≡ clients
 standing-none at n [] none = refl
 standing-none at n (client ∷ clients) none = ap (λ o. moved_or o client ∷ standing at (n + 1) clients) (none n) ∙ ap (λ xs. client ∷ xs) (standing-none at (n + 1) clients none)
 
--- no client moves
+-- if no stored state changes, the states of the clients are unchanged
 pub standing-same : (at after : ℕ → Option ClientState) (n : ℕ) (clients : List ClientState) → ((q : ℕ) → after q ≡ at q) → standing after n clients ≡ standing at n clients
 standing-same at after n [] same = refl
 standing-same at after n (client ∷ clients) same = ap (λ o. moved_or o client ∷ standing after (n + 1) clients) (same n) ∙ ap (λ xs. moved_or (at n) client ∷ xs) (standing-same at after (n + 1) clients same)
 
--- one client moves
+-- if the stored state of one client changes, only the state of that client changes
 pub standing-moved : (at after : ℕ → Option ClientState) (clients : List ClientState) (k : ℕ) (x : ClientState) → ((q : ℕ) → after q ≡ cond (k == q) (Some x) (at q)) → standing after 0 clients ≡ set (standing at 0 clients) k x
 standing-moved at after clients k x e =
     let d : ClientState = record { kind = 0; position = 0 } in
@@ -164,9 +164,9 @@ none_there [] k none = omega arith
 none_there (client ∷ clients) zero none = absurd cc
 none_there (client ∷ clients) (suc k) none = let past = none_there clients k none in omega (arith, past)
 
--- the clients, of which those that the function `at` finds have moved
+-- the list `clients`, of which the clients that have a state in `at` have moved
 module _ (at : ℕ → Option ClientState) (clients : List ClientState) (k : ℕ) where
-  -- the client at a number, if it is stored and if it is not
+  -- the state of client k is its stored state, if it has one
   pub moved_found : (client : ClientState) → at k ≡ Some client → k < length clients → slice_get (standing at 0 clients) k ≡ Some client
   moved_found client moved inside =
       let zero_more : 0 + k ≡ k = omega arith in
@@ -183,12 +183,12 @@ module _ (at : ℕ → Option ClientState) (clients : List ClientState) (k : ℕ
       let d : ClientState = record { kind = 0; position = 0 } in
       sym (unwrap_or-slice_get (standing at 0 clients) k d) ∙ ap (λ o. unwrap_or o d) same ∙ unwrap_or-slice_get clients k d
 
-  -- a client that is not stored is where it started
+  -- a client without a stored state is at its start
   pub client_at_start : is_some (at k) ≡ false → client_of (standing at 0 clients) k ≡ client_of clients k
   client_at_start none = client_as (start_seen (none_found (at k) none))
 
   module _ (after : ℕ → Option ClientState) (i : ℕ) (e : (q : ℕ) → after q ≡ (if k == q then option_map (at_position i) (at k) else at q)) where
-    -- a stored client moves
+    -- the move of a client with a stored state changes only that client
     goes : (client : ClientState) → at k ≡ Some client → k < length clients → standing after 0 clients ≡ set (standing at 0 clients) k (at_position i (client_of (standing at 0 clients) k))
     goes client moved inside =
         let d : ClientState = record { kind = 0; position = 0 } in
@@ -202,7 +202,7 @@ module _ (at : ℕ → Option ClientState) (clients : List ClientState) (k : ℕ
     pub goes_on : is_some (at k) ≡ true → ((client : ClientState) → at k ≡ Some client → k < length clients) → standing after 0 clients ≡ set (standing at 0 clients) k (at_position i (client_of (standing at 0 clients) k))
     goes_on some inside = goes_as (at k) refl some inside
 
-    -- all clients stay if this one is not stored
+    -- if client k has no stored state, no stored state changes
     pub all_stay : is_some (at k) ≡ false → (q : ℕ) → after q ≡ at q
     all_stay none q =
         let nothing = none_found (at k) none in
@@ -211,7 +211,7 @@ module _ (at : ℕ → Option ClientState) (clients : List ClientState) (k : ℕ
         (λ (other : (k == q) ≡ false). ap (λ b. cond b None (at q)) other)
         (cases_Bool (k == q))
 
-    -- a client that is not stored is stored from its first move
+    -- a client without a stored state gets one at its first move
     pub goes_out : (later : ℕ → Option ClientState) (client : ClientState) → is_some (at k) ≡ false → slice_get clients k ≡ Some client → ((q : ℕ) → later q ≡ (if k == q then Some (at_position i client) else after q))
         → standing later 0 clients ≡ set (standing at 0 clients) k (at_position i (client_of (standing at 0 clients) k))
     goes_out later client none found out =
@@ -219,7 +219,7 @@ module _ (at : ℕ → Option ClientState) (clients : List ClientState) (k : ℕ
         let was : client_of (standing at 0 clients) k ≡ client = client_at_start none ∙ get_or_from_slice_get clients k client d found in
         standing-moved at later clients k (at_position i client) (λ q. out q ∙ ap (cond (k == q) (Some (at_position i client))) (all_stay none q)) ∙ ap (λ x. set (standing at 0 clients) k (at_position i x)) (sym was)
 
-    -- that client exists
+    -- every client with a stored state exists, also after the first move of client k
     pub out_inside : (later : ℕ → Option ClientState) (client : ClientState) → is_some (at k) ≡ false → slice_get clients k ≡ Some client → ((q : ℕ) → later q ≡ (if k == q then Some (at_position i client) else after q))
         → ((n : ℕ) (x : ClientState) → at n ≡ Some x → n < length clients) → (n : ℕ) (x : ClientState) → later n ≡ Some x → n < length clients
     out_inside later client none found out inside n x moved = ⊎_elim
@@ -227,7 +227,7 @@ module _ (at : ℕ → Option ClientState) (clients : List ClientState) (k : ℕ
         (λ (other : (k == n) ≡ false). inside n x (sym (all_stay none n) ∙ sym (out n ∙ ap (λ b. cond b (Some (at_position i client)) (after n)) other) ∙ moved))
         (cases_Bool (k == n))
 
-    -- the number belongs to no client
+    -- if no client has number k, its move changes nothing
     pub none_goes : (x : ClientState) → is_some (at k) ≡ false → length clients ≤ k → standing after 0 clients ≡ set (standing at 0 clients) k x
     none_goes x none past =
         let long = length-standing at 0 clients in

@@ -1,4 +1,4 @@
--- A job finishes.
+-- The live view after a job finished.
 use Rattle.std.proofs.Common.{◌≡◌, ◌≢◌, ℕ, ◌+◌, ◌<◌, Bool, true, false, ◌&&◌, if◌then◌else◌, List, length, map, set, Option, Some, None, ⊎_elim, refl, sym, ap, ap₂, ◌∙◌, arith, length-set}
 use Rattle.std.proofs.lemmas.Bool.{cases_eq, cases_Bool, and_right, ne_eqb, both_ways}
 use Rattle.std.proofs.lemmas.List.{length-map, get_or-map, get_or-set_same, get_or-set_other}
@@ -28,7 +28,7 @@ use Rattle.interleaving.proofs.Changes.{as_seen, seen_same, seen_at, may_get-sta
 use Rattle.interleaving.proofs.Children.{made_by_itself, child_seen}
 use Rattle.interleaving.proofs.OlderAreClaimed.{AllOlderAreClaimed, latest_unclaimed}
 
--- ---- no actor can request the result of a done job whose parent has finished
+-- ---- no actor can get a done job whose parent has finished
 
 drop_if_orphan-kept : (j : ℕ) (job : CreatedJob) (phase : Phase) → is_done phase ≡ false → drop_if_orphan j (Some (as_seen job phase)) ≡ Some (as_seen job phase)
 drop_if_orphan-kept j job phase going = ap (λ b. if b then None else Some (as_seen job phase)) (and_right (same_parent (parent.Job j) job.parent) (is_done phase) going)

@@ -30,7 +30,7 @@ not_orphan j (Some job) none =
     let other : same_parent (parent.Job j) job.parent ≡ false = ⊎_elim (λ own. absurd (both_ways _ at (and_from _ _ own (eq-eqb job.slot job.slot refl)))) (λ e. e) (cases_Bool (same_parent (parent.Job j) job.parent)) in
     ap (λ b. if b && is_done job.phase then None else Some job) other
 
--- if an actor has a job at a position, it has a latest one
+-- if an actor has a live job of a submit, it has a latest live job of that submit
 latest_of : (jobs : List (Option JobView)) (a : Parent) (t k : ℕ) (o : Option ℕ) → live_child jobs a t ≡ o → is_live_child a t (live_job jobs k) ≡ true → (m : ℕ) × (live_child jobs a t ≡ Some m)
 latest_of jobs a t k None e child =
     let inside = made_if_child jobs a t k child in
@@ -52,7 +52,7 @@ module _ (jobs : List (Option JobView)) (n : ℕ) (job : JobView) (live : live_j
   fin_if true = ap (λ b. if b && true then None else Some (record job { phase = phase.Done })) (false_from_ne_true (same_parent (parent.Job n) job.parent) (λ e. other (sym (same_actor_true (parent.Job n) job.parent e))))
   fin_if false = refl
 
-  -- the state in which the job finishes first and its children are removed then
+  -- the jobs after job n finished and then its done children were removed
   pub after_is : after ≡ map (drop_if_orphan n) (set jobs n fin)
   after_is = ap (set left n) (sym (fin_if (may_get_in jobs job.parent && is_number (live_child jobs job.parent job.slot) n))) ∙ sym (map-set (drop_if_orphan n) jobs n fin)
 

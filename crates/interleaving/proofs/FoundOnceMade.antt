@@ -18,7 +18,7 @@ stale_child_if : (a b : Parent) (t u : ℕ) (v : JobView) (stale : Bool) → (st
 stale_child_if a b t u v true of_call other = sym (false_from_ne_true (is_live_child b u (Some v)) (λ e. both_ways (is_call a t b u) other (is_call_of a b t u (Some v) (of_call refl) e)))
 stale_child_if a b t u v false of_call other = refl
 
--- the stale job of one call is not a job of another call
+-- a job that becomes stale by one call is not a job of another call
 stale_child : (a b : Parent) (t u : ℕ) (x : Option JobView) → is_call a t b u ≡ false → is_live_child b u (drop_if_stale a t x) ≡ is_live_child b u x
 stale_child a b t u None other = refl
 stale_child a b t u (Some v) other = stale_child_if a b t u v (is_live_child a t (Some v) && is_done v.phase) (λ e. (and_parts (is_live_child a t (Some v)) (is_done v.phase) e).0) other
@@ -32,7 +32,7 @@ unfinished_drop_if_stale a t None e = e
 unfinished_drop_if_stale a t (Some v) e = unfinished_if v (is_live_child a t (Some v) && is_done v.phase) e
 
 module _ (jobs : List (Option JobView)) (job : JobView) where
-  -- the job at each number
+  -- each older job is unchanged, or it is stale and removed
   old_job : (k : ℕ) → k < length jobs → live_job (with_new jobs job) k ≡ drop_if_stale job.parent job.slot (live_job jobs k)
   old_job k inside =
       let f = drop_if_stale job.parent job.slot in
@@ -47,7 +47,7 @@ module _ (jobs : List (Option JobView)) (job : JobView) where
   none_past : (k : ℕ) → length jobs < k → live_job (with_new jobs job) k ≡ None
   none_past k past = get_or_past (with_new jobs job) k None (omega (arith, length-with_new))
 
-  -- the jobs of another call are unchanged
+  -- the live jobs of every other call are unchanged
   pub other_child : (a : Parent) (t k : ℕ) → is_call job.parent job.slot a t ≡ false → is_live_child a t (live_job (with_new jobs job) k) ≡ is_live_child a t (live_job jobs k)
   other_child a t k other = ⊎_elim
       (λ (inside : k < length jobs). ap (is_live_child a t) (old_job k inside) ∙ stale_child job.parent a job.slot t (live_job jobs k) other)
@@ -67,7 +67,7 @@ module _ (jobs : List (Option JobView)) (job : JobView) where
       subst (λ b. is_live_child b t (live_job (with_new jobs job) (length jobs)) ≡ true) (sym same.0)
       (subst (λ u. is_live_child job.parent u (live_job (with_new jobs job) (length jobs)) ≡ true) (sym same.1) (ap (is_live_child job.parent job.slot) new_job ∙ child_itself job))
 
-  -- an actor that may get its jobs could do so before, unless it is the new job
+  -- an actor other than the new job may get its jobs afterwards only if it could before
   has_get : (a : Parent) → may_get_in (with_new jobs job) a ≡ true → a ≢ parent.Job (length jobs) → may_get_in jobs a ≡ true
   has_get (parent.Client c) e other = refl
   has_get (parent.Job j) e other = ⊎_elim

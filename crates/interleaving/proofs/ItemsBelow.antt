@@ -24,7 +24,7 @@ updated_same at after k w e = e k ∙ ap (λ b. cond b w (at k)) (eq-eqb k k ref
 updated_other : (at after : ℕ → Option JobEntry) (k : ℕ) (w : Option JobEntry) → ((q : ℕ) → after q ≡ cond (k == q) w (at q)) → (q : ℕ) → q ≢ k → after q ≡ at q
 updated_other at after k w e q other = e q ∙ ap (λ b. cond b w (at q)) (false_from_ne_true (k == q) (λ same. other (sym (eqb-true k q same))))
 
--- one of the entries changes
+-- if the entry at one number changes, only that element of the list changes
 pub items-updated : (at after : ℕ → Option JobEntry) (n k : ℕ) (w : Option JobEntry) → ((q : ℕ) → after q ≡ cond (k == q) w (at q)) → items_below after n ≡ set (items_below at n) k w
 items-updated at after n k w e =
     let old = items_below at n in
@@ -36,7 +36,7 @@ items-updated at after n k w e =
     (λ (other : q ≢ k). updated_other at after k w e q other ∙ sym (get_or-set_other old k q w None other ∙ item_inside at n q within))
     (cases_eq q k))
 
--- one entry is added
+-- the list below n + 1 is the list below n, followed by the entry at n
 pub items-pushed : (at after : ℕ → Option JobEntry) (n : ℕ) (w : Option JobEntry) → ((q : ℕ) → after q ≡ cond (n == q) w (at q)) → items_below after (suc n) ≡ items_below at n ++ w ∷ []
 items-pushed at after n w e =
     let old = items_below at n in

@@ -1,4 +1,4 @@
--- A sequence of entries, of which the lower numbers are in a map.
+-- A sequence of entries: those at the lower numbers are in a map, all others are in a ring.
 use Rattle.std.proofs.Common.{◌≡◌, ℕ, zero, suc, ◌+◌, ◌-◌, ◌<◌, ◌≤◌, ◌==◌, cond, List, [], ◌∷◌, ◌++◌, length, drop, get_or, set, Option, None, refl, sym, ap, ◌∙◌, arith}
 use Rattle.std.proofs.lemmas.List.{append_assoc, length-append, get_or_append_left, get_or-append_right, set-append_left, set-append_right}
 use Rattle.interleaving.specs.declared.job_table.JobEntry.{JobEntry}
@@ -23,11 +23,11 @@ module _ (at : ℕ → Option JobEntry) (base : ℕ) (recent : List (Option JobE
   pub recent_set : (k : ℕ) (w : Option JobEntry) → base ≤ k → items_below at base ++ set recent (k - base) w ≡ set (items_below at base ++ recent) k w
   recent_set k w past = sym (set-append_right (items_below at base) recent base k w (length-items at base) past)
 
-  -- the first entry of the ring moves into the map
+  -- the sequence is unchanged if the first entry of the ring moves into the map
   pub first_lowered : (after : ℕ → Option JobEntry) (w : Option JobEntry) → ((q : ℕ) → after q ≡ cond (base == q) w (at q)) → items_below after (base + 1) ++ recent ≡ items_below at base ++ (w ∷ recent)
   first_lowered after w e = ap (λ xs. xs ++ recent) (items-pushed_one at after base w e) ∙ append_assoc (items_below at base) (w ∷ []) recent
 
--- gaps at the start of the ring become gaps of the map
+-- the sequence is unchanged if gaps at the start of the ring are removed, because the map has no entry at their numbers
 pub gaps_lowered : (at : ℕ → Option JobEntry) (base n : ℕ) (rest : List (Option JobEntry)) → ((k : ℕ) → base ≤ k → at k ≡ None) → items_below at (base + n) ++ rest ≡ items_below at base ++ (gaps n ++ rest)
 gaps_lowered at base zero rest none = let e : base + 0 ≡ base = omega arith in ap (λ m. items_below at m ++ rest) e
 gaps_lowered at base (suc n) rest none =

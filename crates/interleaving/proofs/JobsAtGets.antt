@@ -1,4 +1,4 @@
--- The live jobs of an actor, from a submit whose jobs a get requests: none at the submit, and one at the get.
+-- The live jobs of a submit that has a get: none when the actor is at the submit, and at most one when it is at the get.
 use Rattle.std.proofs.Common.{◌≡◌, ◌≢◌, ℕ, suc, ◌&&◌, Bool, true, false, if◌then◌else◌, List, [], ◌∷◌, slice_get, Some, None, ⊎_elim, sym, ap, subst, ◌∙◌, arith}
 use Rattle.std.specs.Option.{option_map}
 use Rattle.std.proofs.lemmas.Bool.{and_parts, eqb-true, false_from_ne_true, or_cases}
@@ -36,7 +36,7 @@ live_unclaimed s a t k made (At i) live = (live, λ f. absurd cc)
 live_unclaimed s a t k made Done live = (made_if a t made (may_get s made.parent && is_number (child s made.parent made.slot) k) live, λ f. absurd cc)
 live_unclaimed s a t k made Claimed live = absurd cc
 
--- if a get requests them, none is live when the actor reaches the submit again
+-- no job of a submit that has a get is live when the actor reaches the submit again
 none_left_at : (plan : Plan) (s : State) (a : Parent) (body : List Action) (i g : ℕ) → IsWellFormed plan → IsReached plan s → point plan s a ≡ Some (record { body = body; position = i }) → slice_get body g ≡ Some (Get i)
     → (k : ℕ) → is_live_child a i (live_job (live_view plan s).jobs k) ≡ false
 none_left_at plan s a body i g w reached stands asks k = false_from_ne_true (is_live_child a i (live_job (live_view plan s).jobs k)) (λ live.
@@ -60,7 +60,7 @@ none_left_in_state plan s a x w reached stands has_get =
     let test = is_live_child a x.position in
     last_where_none test jobs (λ i d inside. ap test (get_or_default jobs i d None inside) ∙ none_left_at plan s a x.body x.position get.0 w reached (sym (point_seen plan s a) ∙ stands) get.1 i)
 
--- an actor at a submit whose job a get requests has no live job from that submit
+-- an actor at a submit that has a get has no live job of that submit
 pub none_left : (plan : Plan) (view : View) (a : Parent) (next : NextAction) → IsReachableView plan view → IsWellFormed plan → option_map next_action_at (point_in plan view a) ≡ Some next → next.has_get ≡ true → live_child view.jobs a next.position ≡ None
 none_left plan view a next of w e has_get =
     let found = point_of_next (point_in plan view a) next e in

@@ -20,14 +20,14 @@ moved_child (parent.Job j) i view b t k = phased_child view.jobs j (phase.At i) 
 pub alone_moved : (a : Parent) (i : ℕ) (view : View) (b : Parent) (t : ℕ) → IsOnlyLiveJob view.jobs b t → IsOnlyLiveJob (moved_live_jobs a i view) b t
 alone_moved a i view b t alone m k one two = alone m k (sym (moved_child a i view b t m) ∙ one) (sym (moved_child a i view b t k) ∙ two)
 
--- a done job stays, since it is not the actor that moves
+-- a move does not change a done job, since the actor that moves is not done
 pub done_moved : (a : Parent) (i : ℕ) (view : View) (k : ℕ) (job : JobView) → may_get_in view.jobs a ≡ true → live_job view.jobs k ≡ Some job → is_done job.phase ≡ true → live_job (moved_live_jobs a i view) k ≡ Some job
 done_moved (parent.Client c) i view k job asks live done = live
 done_moved (parent.Job j) i view k job asks live done =
     let other : k ≢ j = λ same. both_ways (is_unfinished_job (live_job view.jobs k)) (ap is_unfinished_job live ∙ ap not done) (ap (λ m. is_unfinished_job (live_job view.jobs m)) same ∙ asks) in
     get_or-set_other view.jobs j k (in_phase (phase.At i) (live_job view.jobs j)) None other ∙ live
 
--- if a submit has at most one live job, the latest job is the only live one of its own creator and position
+-- if the latest job of a submit is the only live one, it is the only live job of its parent and slot
 pub alone_as_child : (jobs : List (Option JobView)) (a : Parent) (t k : ℕ) (job : JobView) → live_child jobs a t ≡ Some k → live_job jobs k ≡ Some job → IsOnlyLiveJob jobs a t → IsOnlyLiveJob jobs job.parent job.slot
 alone_as_child jobs a t k job e live alone =
     let child = child_of a t (Some job) (ap (is_live_child a t) (sym live) ∙ (latest_is jobs a t k e).passes) in
@@ -40,7 +40,7 @@ was_made (parent.Job j) clients jobs after among long = omega (arith, among, lon
 
 -- ---- stale jobs
 
--- a job at a position is not stale
+-- a running job is not stale
 stays_at : (a : Parent) (t i : ℕ) (job : Option JobView) → drop_if_stale a t (in_phase (phase.At i) job) ≡ in_phase (phase.At i) job
 stays_at a t i None = refl
 stays_at a t i (Some job) = ap (λ b. if b then None else Some (record job { phase = phase.At i })) (and_right (is_live_child a t (Some job)) false refl)
@@ -61,7 +61,7 @@ stale_moved a (parent.Job j) t i latest view none = λ k other. ⊎_elim
     (λ (apart : k ≢ j). let e = get_or-set_other view.jobs j k (in_phase (phase.At i) (live_job view.jobs j)) None apart in ap (drop_if_stale a t) e ∙ none k other ∙ sym e)
     (cases_eq k j)
 
--- a move keeps the number of jobs
+-- a move does not change the number of jobs
 pub length-moved : (a : Parent) (i : ℕ) (view : View) → length (moved_live_jobs a i view) ≡ length view.jobs
 length-moved (parent.Client c) i view = refl
 length-moved (parent.Job j) i view = length-set view.jobs j (in_phase (phase.At i) (live_job view.jobs j))

@@ -47,14 +47,14 @@ same_answer None None f g = refl
 same_answer None (Some k) f g = g k refl
 same_answer (Some k) c f g = sym (f k refl)
 
--- an actor that may still get its jobs finds its latest job
+-- for an actor that may still get its jobs, the index has its latest live job
 pub found_is_child : (jobs : List (Option JobView)) (latest : LatestJobsView) (a : Parent) (t : ℕ) → AreFound jobs latest → may_get_in jobs a ≡ true → found latest a t ≡ live_child jobs a t
 found_is_child jobs latest a t f asks =
     same_answer (found latest a t) (live_child jobs a t) (λ k e. is_latest jobs a t k (f.sound a t k e)) (λ k e. f.complete a t k asks (latest_is jobs a t k e))
 
 -- ---- the creator of a live job
 
--- the actor and the position are those of the live job
+-- the job is live, and actor a created it at position t
 pub record IsChild (a : Parent) (t : ℕ) (job : Option JobView) : Type 0 where
   pub view : JobView
   pub is_live : job ≡ Some view
@@ -67,7 +67,7 @@ child_of a t (Some view) e =
     let parts = and_parts (same_parent a view.parent) (t == view.slot) e in
     record { view = view; is_live = refl; actor = same_actor_true a view.parent parts.0; slot = eqb-true t view.slot parts.1 }
 
--- a live job determines the call that created it
+-- two calls that created the same live job are equal
 pub is_call_of : (a b : Parent) (t u : ℕ) (job : Option JobView) → is_live_child a t job ≡ true → is_live_child b u job ≡ true → is_call a t b u ≡ true
 is_call_of a b t u None e f = absurd cc
 is_call_of a b t u (Some view) e f =
@@ -99,7 +99,7 @@ still_child jobs after f a t k e = ⊎_elim (λ was. was)
     (λ none. absurd (both_ways (is_live_child a t (live_job after k)) (fades_child a t (live_job jobs k) (live_job after k) (f.each k) none) e))
     (cases_Bool (is_live_child a t (live_job jobs k)))
 
--- a job in the index is still the latest if it is still live
+-- a job in the index that is still live, after jobs changed their phases or were removed, is still the latest of its submit
 pub sound_fading : (jobs after : List (Option JobView)) (latest : LatestJobsView) (a : Parent) (t k : ℕ) → AreFound jobs latest → AreFading jobs after → found latest a t ≡ Some k → is_live_child a t (live_job after k) ≡ true → IsLatest after a t k
 sound_fading jobs after latest a t k found fading e still =
     let was = found.sound a t k e in
@@ -131,12 +131,12 @@ phased_child jobs n to a t k = ⊎_elim
     (λ (other : k ≢ n). ap (is_live_child a t) (get_or-set_other jobs n k (in_phase to (live_job jobs n)) None other))
     (cases_eq k n)
 
--- an actor that may get its jobs could do so before if no job became unfinished
+-- if no job became unfinished, an actor that may get its jobs afterwards could do so before
 pub asks_before : (jobs after : List (Option JobView)) (a : Parent) → ((k : ℕ) → is_unfinished_job (live_job after k) ≡ true → is_unfinished_job (live_job jobs k) ≡ true) → may_get_in after a ≡ true → may_get_in jobs a ≡ true
 asks_before jobs after (parent.Client c) each e = refl
 asks_before jobs after (parent.Job j) each e = each j e
 
--- only job n changes, and if it is unfinished now, it was before
+-- if only job n changes and does not become unfinished, then no job becomes unfinished
 pub unfinished_before : (jobs : List (Option JobView)) (n : ℕ) (new : Option JobView) → (is_unfinished_job new ≡ true → is_unfinished_job (live_job jobs n) ≡ true)
     → (k : ℕ) → is_unfinished_job (live_job (set jobs n new) k) ≡ true → is_unfinished_job (live_job jobs k) ≡ true
 unfinished_before jobs n new here k e = ⊎_elim

@@ -13,11 +13,11 @@ all_mapped f jobs now none long each = ext_get_or None now (map f jobs) (long �
     at : (k : ℕ) → get_or (map f jobs) k None ≡ f (live_job jobs k)
     at k = ap (get_or (map f jobs) k) (sym none) ∙ get_or-map f jobs k None
 
--- the function changes no job
+-- if the function changes no job, the mapped list is the same list
 pub none_mapped : (f : Option JobView → Option JobView) (jobs : List (Option JobView)) → f None ≡ None → ((k : ℕ) → f (live_job jobs k) ≡ live_job jobs k) → jobs ≡ map f jobs
 none_mapped f jobs none same = all_mapped f jobs jobs none refl (λ k. sym (same k))
 
--- the function changes only one job
+-- if the function changes only job n, the mapped list is the list with that job replaced
 pub one_mapped : (f : Option JobView → Option JobView) (jobs : List (Option JobView)) (n : ℕ) → f None ≡ None → ((k : ℕ) → k ≢ n → f (live_job jobs k) ≡ live_job jobs k) → set jobs n (f (live_job jobs n)) ≡ map f jobs
 one_mapped f jobs n none same =
     let new = f (live_job jobs n) in

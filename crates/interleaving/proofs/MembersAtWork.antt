@@ -43,7 +43,7 @@ all_or_fewer true n long rest e low = e ∙ one_up
     ]
 all_or_fewer false n long rest e low = sym (false_from_ne_true (0 + n == 1 + long) (λ same. let is = eqb-true (0 + n) (1 + long) same in omega (arith, is, low)))
 
--- all elements pass exactly if the number of those that pass is the length
+-- all elements pass the test exactly when the number of those that pass is the length
 all_by_count : {X : Type 0} (test : X → Bool) (xs : List X) → list_all test xs ≡ (count_by test xs == length xs)
 all_by_count test [] = refl
 all_by_count test (x ∷ xs) =
@@ -64,7 +64,7 @@ module _ (busy : Option JobView → Bool) (members : List ℕ) where
   head test true n ns = count-cons test n ns
   head test false n ns = omega arith
 
-  -- the elements after the new member stay
+  -- a new member does not change the count of the elements after it
   others_stay : (m n : ℕ) (jobs : List (Option JobView)) → m < n → among_more m n jobs ≡ among n jobs
   others_stay m n [] below = refl
   others_stay m n (job ∷ jobs) below =
@@ -136,11 +136,11 @@ module _ (plan : Plan) (view : View) (members : List ℕ) (m : ℕ) where
   and_false true c e = e
   and_false false c e = refl
 
-  -- a number without a live job leaves the share
+  -- a number without a live job does not change the activity of a pool
   pub activity_without : (p : ℕ) → live_job view.jobs m ≡ None → activity_of plan view (members ++ m ∷ []) p ≡ activity_of plan view members p
   activity_without p none = activity_pushed p ∙ ap (with_job p) none ∙ activity_stays p None refl refl
 
-  -- a job of another pool leaves the share
+  -- a job of another pool does not change the activity of pool p
   pub activity_elsewhere : (p : ℕ) (job : JobView) → live_job view.jobs m ≡ Some job → pool_of plan job.class ≢ p → activity_of plan view (members ++ m ∷ []) p ≡ activity_of plan view members p
   activity_elsewhere p job live other =
       let no : (pool_of plan job.class == p) ≡ false = false_from_ne_true (pool_of plan job.class == p) (λ same. other (eqb-true (pool_of plan job.class) p same)) in
@@ -152,7 +152,7 @@ module _ (plan : Plan) (view : View) (members : List ℕ) (m : ℕ) where
   by_phase queued n (phase.At i) false = ap₂ (λ (b : Bool) (k : ℕ). record { queued = b; at_work = k }) (or_false queued) (no_more n)
   by_phase queued n phase.Done new = ap₂ (λ (b : Bool) (k : ℕ). record { queued = b; at_work = k }) (or_false queued) (no_more n)
 
-  -- a job of this pool changes the share by its phase
+  -- a job changes the activity of its own pool as its phase says
   pub activity_here : (job : JobView) → live_job view.jobs m ≡ Some job → activity_of plan view (members ++ m ∷ []) (pool_of plan job.class) ≡ activity_with (activity_of plan view members (pool_of plan job.class)) job.phase (not (is_member members m))
   activity_here job live =
       let p = pool_of plan job.class in
@@ -162,7 +162,7 @@ module _ (plan : Plan) (view : View) (members : List ℕ) (m : ℕ) where
       ∙ ap (λ b. record { queued = queued || (is_in_queue job.phase && b || false); at_work = n + one_if (is_at_work job.phase && b && not (is_member members m)) }) (eq-eqb p p refl)
       ∙ by_phase queued n job.phase (not (is_member members m))
 
--- the empty set has an empty share
+-- the empty set has no activity in a pool
 pub no_members_no_activity : (plan : Plan) (view : View) (p : ℕ) → activity_of plan view [] p ≡ no_activity
 no_members_no_activity plan view p = ap (λ (n : ℕ). record { queued = false; at_work = n }) (none (places_where (is_busy_job plan p) view.jobs))
   where
@@ -170,7 +170,7 @@ no_members_no_activity plan view p = ap (λ (n : ℕ). record { queued = false; 
     none [] = refl
     none (n ∷ ns) = let counts = count-cons (is_member []) n ns in let rest = none ns in omega (arith, counts, rest)
 
--- the shares of all pools after a live job was added to the members
+-- the activities of all pools after a live job was added to the members
 module _ (plan : Plan) (view : View) (members : List ℕ) (m : ℕ) (job : JobView) (live : live_job view.jobs m ≡ Some job) (activities : List PoolActivity) (inside : pool_of plan job.class < length activities) where
   abbrev activities_after : List PoolActivity
   activities_after = set activities (pool_of plan job.class) (activity_with (activity_at activities (pool_of plan job.class)) job.phase (not (is_member members m)))

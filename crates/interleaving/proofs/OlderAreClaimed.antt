@@ -20,19 +20,19 @@ use Rattle.written_machine.proofs.Stages.{staged, length-staged, stage-staged, g
 use Rattle.written_machine.proofs.Children.{maker_of, one_maker, child_is, not_at_slot}
 use Rattle.interleaving.specs.LiveView.{may_get}
 
--- the jobs that an actor at position i of its body created
+-- the property that of the jobs that actor a, at position i of its body, created by a submit with a get, only the latest can be unclaimed
 pub record OlderAreClaimed (jobs : List CreatedJob) (a : Parent) (body : List Action) (i : ℕ) : Type 0 where
-  -- if a get names their submit, they are claimed, except the latest one while the actor is between the submit and the get
+  -- a job whose submit has a get is claimed, or it is the latest of its submit and the actor is between the submit and the get
   pub settled : (g t j : ℕ) → slice_get body g ≡ Some (Get t) → j < length jobs → is_made_by a t (get_or jobs j no_job) ≡ true
       → ((get_or jobs j no_job).stage ≡ Claimed) ⊎ ((t < i) × (i ≤ g) × (last_of (places_where (is_made_by a t) jobs) ≡ Some j))
-  -- if a job is claimed, a get names its submit
+  -- a claimed job has a get of its submit in the body
   pub has_get : (t j : ℕ) → j < length jobs → is_made_by a t (get_or jobs j no_job) ≡ true → (get_or jobs j no_job).stage ≡ Claimed → (g : ℕ) × (slice_get body g ≡ Some (Get t))
 
 -- a queued job has created no jobs
 abbrev pub QueuedAreChildless : List CreatedJob → Type 0
 QueuedAreChildless jobs = (j n : ℕ) → j < length jobs → (get_or jobs j no_job).parent ≡ parent.Job n → (get_or jobs n no_job).stage ≢ Queued
 
--- the client that created a job exists
+-- each client that created a job exists
 abbrev pub HaveMakers : List CreatedJob → ℕ → Type 0
 HaveMakers jobs clients = (j c : ℕ) → j < length jobs → (get_or jobs j no_job).parent ≡ parent.Client c → c < clients
 
@@ -43,7 +43,7 @@ pub record AllOlderAreClaimed (plan : Plan) (s : State) : Type 0 where
 
 -- ---- consequences
 
--- while one of the jobs is unclaimed, the latest one is unclaimed too
+-- while a job of a submit is unclaimed, the latest job of that submit is unclaimed too
 older_latest : (jobs : List CreatedJob) (a : Parent) (body : List Action) (i t j m : ℕ) → OlderAreClaimed jobs a body i → j < length jobs → is_made_by a t (get_or jobs j no_job) ≡ true → (get_or jobs j no_job).stage ≢ Claimed
     → last_of (places_where (is_made_by a t) jobs) ≡ Some m → (get_or jobs m no_job).stage ≢ Claimed
 older_latest jobs a body i t j m older inside made unclaimed e claimed =
@@ -51,7 +51,7 @@ older_latest jobs a body i t j m older inside made unclaimed e claimed =
     let get = older.has_get t m last.0 last.1 claimed in
     ⊎_elim unclaimed (λ latest. unclaimed (ap (λ k. (get_or jobs k no_job).stage) (same_Some j m (sym latest.2 ∙ e)) ∙ claimed)) (older.settled get.0 t j get.1 inside made)
 
--- a job that may still get its jobs is at a position, or is queued and has created no jobs
+-- if an unfinished job has an unclaimed job of a submit, its latest job of that submit is unclaimed too
 unfinished_latest : (plan : Plan) (s : State) (n t j m : ℕ) → AllOlderAreClaimed plan s → (stage : Stage) → (job_at s n).stage ≡ stage → is_unfinished stage ≡ true → j < length s.jobs → is_made_by (parent.Job n) t (job_at s j) ≡ true → (job_at s j).stage ≢ Claimed
     → child s (parent.Job n) t ≡ Some m → (job_at s m).stage ≢ Claimed
 unfinished_latest plan s n t j m settled Queued e asks inside made unclaimed is_child =
@@ -63,7 +63,7 @@ unfinished_latest plan s n t j m settled (At i) e asks inside made unclaimed is_
 unfinished_latest plan s n t j m settled Done e asks inside made unclaimed is_child = absurd cc
 unfinished_latest plan s n t j m settled Claimed e asks inside made unclaimed is_child = absurd cc
 
--- the same for any actor that may still get its jobs: while one of them is unclaimed, the latest one is unclaimed too
+-- if an actor that may still get its jobs has an unclaimed job of a submit, its latest job of that submit is unclaimed too
 pub latest_unclaimed : (plan : Plan) (s : State) (a : Parent) (t j m : ℕ) → AllOlderAreClaimed plan s → may_get s a ≡ true → j < length s.jobs → is_made_by a t (job_at s j) ≡ true → (job_at s j).stage ≢ Claimed
     → child s a t ≡ Some m → (job_at s m).stage ≢ Claimed
 latest_unclaimed plan s (parent.Client c) t j m settled asks inside made unclaimed e =
@@ -76,7 +76,7 @@ latest_unclaimed plan s (parent.Job n) t j m settled asks inside made unclaimed 
 
 -- ---- changes that leave an actor's jobs
 
--- the job existed before, with the same creator, and was claimed exactly if it is claimed now
+-- job j existed before, with the same parent and slot, and was claimed exactly when it is claimed afterwards
 pub record WasMade (jobs jobs' : List CreatedJob) (a : Parent) (t j : ℕ) : Type 0 where
   pub inside : j < length jobs
   pub made : is_made_by a t (get_or jobs j no_job) ≡ true
@@ -106,7 +106,8 @@ was_staged jobs j stage a t unclaimed inside made =
       was = λ claimed. absurd ((unclaimed before).1 (sym (stage-staged jobs j stage inside) ∙ claimed));
     }
 
--- a job changes its stage; if the actor created it, it is claimed neither before nor after
+-- a change of a job's stage changes nothing for the actor, if the actor did not create the job or the job is claimed neither before nor
+-- after
 pub same_made-staged : (jobs : List CreatedJob) (j : ℕ) (stage : Stage) (a : Parent) → ((t : ℕ) → is_made_by a t (get_or jobs j no_job) ≡ true → ((get_or jobs j no_job).stage ≢ Claimed) × (stage ≢ Claimed)) → SameMade jobs (staged jobs j stage) a
 same_made-staged jobs j stage a unclaimed =
     let long = length-staged jobs j stage in
@@ -126,7 +127,7 @@ same_made-moved plan s (parent.Job j) body i i' stands a =
     let at = (stage_of_standing plan (job_at s j).class (job_at s j).stage body i stands).0 in
     same_made-staged s.jobs j (At i') a (λ t made. (At≢Claimed at, At≢Claimed refl))
 
--- another actor creates a job
+-- a job that another actor creates changes nothing for the actor
 pub same_made-pushed : (jobs : List CreatedJob) (job : CreatedJob) (a : Parent) → job.parent ≢ a → SameMade jobs (jobs ++ job ∷ []) a
 same_made-pushed jobs job a other =
     let long = length_push jobs job in
@@ -158,12 +159,12 @@ older_none jobs a body i none = record {
   has_get = λ t j inside made claimed. absurd (none t j inside made);
 }
 
--- a get at or after an action that is not this get is after that action
+-- a get at or after a position whose action is not this get is after that position
 pub passes_get : (body : List Action) (i g t : ℕ) (there : Action) → slice_get body i ≡ Some there → there ≢ Get t → slice_get body g ≡ Some (Get t) → i ≤ g → i + 1 ≤ g
 passes_get body i g t there is_there other e above =
     ⊎_elim (λ (same : i ≡ g). absurd (other (same_Some there (Get t) (sym is_there ∙ ap (slice_get body) same ∙ e)))) (λ (apart : i ≢ g). omega arith) (cases_eq i g)
 
--- the actor submits a job at position i
+-- the property holds after the actor submits a job at position i
 pub older_submits : (plan : Plan) (jobs : List CreatedJob) (a : Parent) (body : List Action) (i k : ℕ) (stage : Stage) → IsValidBody plan body → slice_get body i ≡ Some (Submit k) → stage ≢ Claimed → OlderAreClaimed jobs a body i
     → OlderAreClaimed (jobs ++ new_job k a i stage ∷ []) a body (i + 1)
 older_submits plan jobs a body i k stage valid there unclaimed older =
@@ -195,7 +196,7 @@ older_submits plan jobs a body i k stage valid there unclaimed older =
           (cases_lt j (length jobs));
     }
 
--- the actor gets, at position i, its latest job of position t
+-- the property holds after the actor gets, at position i, its latest job of position t
 pub older_gets : (jobs : List CreatedJob) (a : Parent) (body : List Action) (i t j : ℕ) → slice_get body i ≡ Some (Get t) → last_of (places_where (is_made_by a t) jobs) ≡ Some j → OlderAreClaimed jobs a body i → OlderAreClaimed (staged jobs j Claimed) a body (i + 1)
 older_gets jobs a body i t j there latest older =
     let jobs' = staged jobs j Claimed in

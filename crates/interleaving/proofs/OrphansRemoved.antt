@@ -1,4 +1,4 @@
--- The loop that removes the done jobs of a job that finishes, one position after the other.
+-- The loop that removes the done jobs of a job that finishes, for the positions in order.
 use Rattle.std.proofs.Common.{◌≡◌, ◌≢◌, ◌⊎◌, ℕ, ◌+◌, ◌<◌, ◌≤◌, ◌==◌, ◌&&◌, Bool, true, false, if◌then◌else◌, List, map, set, Option, Some, None, inl, inr, ⊎_elim, refl, sym, ap, ◌∙◌, arith, length-set, subst}
 use Rattle.std.proofs.lemmas.Bool.{cases_lt, cases_eq, both_ways, false_from_ne_true, and_parts, and_from, eq-eqb}
 use Rattle.std.proofs.lemmas.List.{get_or-set_same, get_or-set_other}
@@ -31,7 +31,7 @@ orphans_none j jobs latest = record {
 }
 
 module _ (j n : ℕ) (jobs now : List (Option JobView)) (latest later : LatestJobsView) (f : AreFound jobs latest) (o : AreOrphaned j n jobs now latest later) (orphans : OrphansAreFound jobs latest j) where
-  -- there is no job to remove at position n
+  -- nothing changes if there is no job to remove at position n
   pub orphans_skip : ((k : ℕ) → found later (parent.Job j) n ≡ Some k → is_done_job (live_job now k) ≡ false) → AreOrphaned j (n + 1) jobs now latest later
   orphans_skip none = record {
     long = o.long;
@@ -51,7 +51,7 @@ module _ (j n : ℕ) (jobs now : List (Option JobView)) (latest later : LatestJo
           no_job : (k : ℕ) (job : JobView) → live_job now k ≡ Some job → live_job now k ≡ None → ⊥
           no_job k job e none = let both : ◌≡◌ {A = Option JobView} None (Some job) = sym none ∙ e in absurd cc
 
-  -- job m, which is done and in the index at position n, is removed
+  -- job m, which is done and which the index has at position n, is removed
   module _ (m : ℕ) (m_found : found later (parent.Job j) n ≡ Some m) (done : is_done_job (live_job now m) ≡ true) (next : LatestJobsView)
       (e : (b : Parent) (u : ℕ) → found next b u ≡ (if is_call (parent.Job j) n b u then None else found later b u)) where
     was_found : found latest (parent.Job j) n ≡ Some m
@@ -120,7 +120,7 @@ module _ (j n : ℕ) (jobs now : List (Option JobView)) (latest later : LatestJo
       behind = λ t high. uncalled (parent.Job j) t (λ call. let same = (same_call (parent.Job j) (parent.Job j) n t call).1 in absurd (omega arith)) ∙ o.behind t (omega arith);
     }
 
--- the state after one more position
+-- the jobs and the index after the loop handled position n
 pub record IsOneOn (j n : ℕ) (jobs : List (Option JobView)) (kept kept' : JobTableView) (latest later' : LatestJobsView) : Type 0 where
   pub orphaned : AreOrphaned j (n + 1) jobs (jobs_in kept'.items) latest later'
   pub reaches : SubmitBoundsStay kept.items kept'.items

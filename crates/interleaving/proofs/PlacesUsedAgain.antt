@@ -18,7 +18,7 @@ phased_is_some : (phase : Phase) (job : Option JobView) → is_some (in_phase ph
 phased_is_some phase None = refl
 phased_is_some phase (Some job) = refl
 
--- a change of a phase keeps the number of live jobs
+-- a change of a phase does not change the number of live jobs
 count-phased : (jobs : List (Option JobView)) (j : ℕ) (phase : Phase) → count_by is_some (with_phase j phase jobs) ≡ count_by is_some jobs
 count-phased jobs j phase =
     let new = in_phase phase (live_job jobs j) in
@@ -42,7 +42,7 @@ count-drop_if_stale a t jobs =
     let mapped = count_by-map is_some (drop_if_stale a t) jobs in
     omega (arith, fewer, mapped)
 
--- the number of places after a job was created, if each live job had a place before
+-- the creation of a job adds a place only if no place is free, provided that each live job had a place before
 pub used_again : (a b : Parent) (t i : ℕ) (job : JobView) (old new : WorldValue) (moved : JobList) → moved.jobs ≡ moved_live_jobs b i old.view → moved.places ≡ old.places → live_jobs old.view ≤ old.places
     → new.view.jobs ≡ map (drop_if_stale a t) moved.jobs ++ Some job ∷ [] → new.places ≡ places_made moved (map (drop_if_stale a t) moved.jobs) → ReusesPlaces old new
 used_again a b t i job old new moved jobs places enough made after =

@@ -38,7 +38,7 @@ replay_append plan first [] more = refl
 replay_append plan None (e ∷ events) more = sym (replay_none plan more)
 replay_append plan (Some s) (e ∷ events) more = replay_append plan (state_after (step plan s e)) events more
 
--- the state after a further event is reachable too
+-- the state after an event of a reachable state is reachable
 pub reached_after : (plan : Plan) (s s' : State) (event : Event) (outcome : Outcome) → IsReached plan s → step plan s event ≡ Some (s', outcome) → IsReached plan s'
 reached_after plan s s' event outcome reached happened =
     (reached.0 ++ event ∷ [], replay_append plan (Some (start plan)) reached.0 (event ∷ []) ∙ ap (λ first. replay plan first (event ∷ [])) reached.1 ∙ ap state_after happened)
@@ -66,7 +66,7 @@ stays_dead plan s s' event outcome j well_formed reached happened inside dead =
 
 -- ---- the answers of a world
 
--- the outcome in the view is the answer to the event of the state
+-- the outcome of an event in the view is the answer that the state requires
 answered_as : (plan : Plan) (s : State) (event : Event) (outcome : Outcome) (after : View) (o : Option (State × Outcome)) → step plan s event ≡ o → option_map (seen_after plan) o ≡ Some (after, outcome) → AnswersAs plan s event (Some outcome) after
 answered_as plan s event outcome after None is_step e = absurd cc
 answered_as plan s event outcome after (Some (s', o')) is_step e =

@@ -1,4 +1,4 @@
--- Changes after which no new job is live and no reach is lower.
+-- Changes after which no new job is live and no submit bound is lower.
 use Rattle.std.proofs.Common.{◌≡◌, ◌≢◌, ℕ, ◌≤◌, List, length, set, Option, Some, None, ⊎_elim, refl, sym, ap, ◌∙◌, arith, length-set, IsSome, subst}
 use Rattle.std.proofs.lemmas.Bool.{cases_lt, cases_eq}
 use Rattle.std.proofs.lemmas.List.{get_or_past, get_or-set_same, get_or-set_other}
@@ -23,7 +23,7 @@ stays_then items middle after one two = record {
       (o.0, o.1, omega (arith, o.2, m.2));
 }
 
--- one entry is cleared
+-- the removal of one entry is such a change
 pub stays_freed : (items : List (Option JobEntry)) (n : ℕ) → SubmitBoundsStay items (set items n None)
 stays_freed items n = record {
   long = length-set items n None;
@@ -39,7 +39,7 @@ stays_freed items n = record {
         cleared : (xs : List (Option JobEntry)) (i : ℕ) → place_at (set xs i None) i ≡ None
         cleared xs i = ⊎_elim (λ inside. get_or-set_same xs i None None inside) (λ past. get_or_past (set xs i None) i None (omega (arith, length-set xs i None))) (cases_lt i (length xs))
 
--- one entry changes, and its reach does not get lower
+-- the replacement of one entry, with a submit bound that is not lower, is such a change
 pub stays_set : (items : List (Option JobEntry)) (n : ℕ) (was place : JobEntry) → place_at items n ≡ Some was → was.submit_bound ≤ place.submit_bound → SubmitBoundsStay items (set items n (Some place))
 stays_set items n was place there further = record {
   long = length-set items n (Some place);

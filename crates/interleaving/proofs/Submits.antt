@@ -1,4 +1,4 @@
--- An actor submits a job.
+-- The live view after an actor submitted a job.
 use Rattle.std.proofs.Common.{◌≡◌, ◌≢◌, ℕ, ◌+◌, ◌<◌, ◌≤◌, Bool, true, false, ◌&&◌, if◌then◌else◌, List, [], ◌∷◌, ◌++◌, length, map, set, Option, Some, None, ⊎_elim, refl, sym, ap, ap₂, ◌∙◌, arith}
 use Rattle.std.proofs.lemmas.Bool.{cases_lt, cases_Bool, and_right, ne_eqb, both_ways, false_from_ne_true}
 use Rattle.std.proofs.lemmas.List.{length-map, length_push, get_or-map, get_or_push, get_or_append_left}
@@ -56,7 +56,7 @@ may_get-made : (s : State) (job : CreatedJob) (a : Parent) → HasGreaterNumber 
 may_get-made s job (parent.Client c) after = refl
 may_get-made s job (parent.Job m) after = ap (λ (made : CreatedJob). is_unfinished made.stage) (get_or_append_left s.jobs (job ∷ []) no_job m after)
 
--- two jobs created by the same submit of the same actor; the relation is symmetric
+-- the relation that one submit of an actor created both jobs is symmetric
 same_maker : (job old : CreatedJob) → is_made_by job.parent job.slot old ≡ true → is_made_by old.parent old.slot job ≡ true
 same_maker job old e =
     let made = maker_of old job.parent job.slot e in

@@ -75,7 +75,7 @@ pools_are plan s pools long each =
     let seen_long = length-pools plan s in
     ext_get_or no_pool_view (live_view plan s).pools pools (omega arith) (λ p inside. let within : p < length plan.pools = omega arith in pool_at_view plan s p within ∙ each p within)
 
--- the pools of the view stay if no pool changed
+-- the pools of the view are unchanged if no pool changed
 pub same_pools : (plan : Plan) (s s' : State) → ((p : ℕ) → p < length plan.pools → pool_seen plan s' p ≡ pool_seen plan s p) → (live_view plan s').pools ≡ (live_view plan s).pools
 same_pools plan s s' each = pools_are plan s' (live_view plan s).pools (length-pools plan s) (λ p inside. each p inside ∙ sym (pool_at_view plan s p inside))
 
@@ -89,7 +89,7 @@ one_pool plan s s' p pool inside here other =
     (λ (apart : q ≢ p). other q apart ∙ sym (pool_at_view plan s q within) ∙ sym (get_or-set_other (live_view plan s).pools p q pool no_pool_view apart))
     (cases_eq q p))
 
--- the view of a pool stays if the number of its running jobs stays
+-- the view of a pool is unchanged if the number of its running jobs is unchanged
 pub pool_seen-busy : (plan : Plan) (s : State) (p count : ℕ) → count ≡ busy plan s p → pool_view (pool_at plan p) (pool_part s p) ((pool_part s p).idle + count) ≡ pool_seen plan s p
 pool_seen-busy plan s p count e = ap (λ n. pool_view (pool_at plan p) (pool_part s p) ((pool_part s p).idle + n)) e
 

@@ -1,4 +1,4 @@
--- An idle worker takes the head of the queue, or ends.
+-- The live view after an idle worker took the head of the queue, or ended.
 use Rattle.std.proofs.Common.{◌≡◌, ℕ, zero, suc, ◌+◌, ◌-◌, ◌<◌, ◌≤◌, Bool, true, false, nat_lt, if◌then◌else◌, List, [], ◌∷◌, length, set, Some, None, ⊎_elim, refl, sym, ap, ◌∙◌, arith}
 use Rattle.std.specs.Option.{option_map}
 use Rattle.std.proofs.lemmas.Bool.{cases_lt}
@@ -46,7 +46,7 @@ taken_commutes plan s p kept inside (suc idle) [] is_idle is_queue = refl
 taken_commutes plan s p kept inside (suc idle) (j ∷ queue) is_idle is_queue =
     ap (λ v. Some (v, outcome.Took j)) (take_seen plan s p j idle queue kept inside is_idle (head_of_queue plan s p j queue kept is_queue))
 
--- a number past the plan's pools has an empty part
+-- a pool number that is not below the number of pools has an empty part
 no_pool_there : (plan : Plan) (s : State) (p : ℕ) → StateInvariant plan s → length plan.pools ≤ p → pool_part s p ≡ no_pool_part
 no_pool_there plan s p kept past = get_or_past s.pools p no_pool_part (omega (arith, kept.as_many))
 

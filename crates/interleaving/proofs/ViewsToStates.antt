@@ -1,4 +1,4 @@
--- The steps of the code on views agree with the reference machine.
+-- The steps of the code on views agree with the steps of the machine on states.
 use Rattle.std.proofs.Common.{◌≡◌, ℕ, Bool, List, [], count_by, Option, Some, None, Result, Ok, Err, IfOk, OnErr, IsTrue, ◌↔◌, refl, sym, ap, subst, ◌∙◌}
 use Rattle.job_bodies.specs.Plan.{Plan}
 use Rattle.job_bodies.specs.WellFormed.{IsWellFormed}
@@ -36,13 +36,13 @@ of_plan_after : (plan : Plan) (event : Event) (answer : Option Outcome) (s : Sta
 of_plan_after plan event None s new reached a = (s, reached, sym a.1)
 of_plan_after plan event (Some outcome) s new reached a = (a.0, reached_after plan s a.0 event outcome reached a.1, sym a.2)
 
--- the world is still a world of the plan after the event
+-- the view of the world after the event is the live view of a reachable state of the plan
 pub still_of_plan : {E : Type 0} (plan : Plan) (event : Event) (old new : WorldValue) (answered : Result (Option Outcome) E) → IsWellFormed plan → IsReachableView plan old.view → IfOk answered (λ answer. AnswersIn plan old.view event answer new.view) → OnErr answered (new ≡ old)
     → IsReachableView plan new.view
 still_of_plan plan event old new (Ok answer) w of a unchanged = of_plan_after plan event answer of.0 new.view of.1 (answers_in plan of.0 event answer old.view new.view w of.1 of.2 a)
 still_of_plan plan event old new (Err e) w of a unchanged = subst (λ (world : WorldValue). IsReachableView plan world.view) (sym unchanged) of
 
--- the world at the start is a world of the plan
+-- the view of the world at the start is the live view of a reachable state of the plan
 pub start_of_plan : (plan : Plan) (view : View) → view ≡ live_view plan (start plan) → IsReachableView plan view
 start_of_plan plan view e = (start plan, ([], refl), sym e)
 
@@ -54,6 +54,6 @@ unfinished_seen plan s view n e same = e ∙ ap (λ (v : View). count_by is_unfi
 pub set_seen : (plan : Plan) (s : State) (view : View) (members : List ℕ) (answer : Bool) → IsWellFormed plan → IsReached plan s → live_view plan s ≡ view → answer ≡ is_waiting_set_in plan view members → answer ≡ is_waiting_set plan s members
 set_seen plan s view members answer w reached same e = e ∙ ap (λ v. is_waiting_set_in plan v members) (sym same) ∙ sym (sets_seen plan s members w reached)
 
--- if the answer is the value of the test, it agrees with the definition of a waiting set
+-- if the answer is the value of the test, it is true exactly when the numbers are a waiting set
 pub set_in_words : (plan : Plan) (s : State) (members : List ℕ) (answer : Bool) → answer ≡ is_waiting_set plan s members → IsTrue answer ↔ IsWaitingSet plan s members
 set_in_words plan s members answer e = subst (λ b. IsTrue b ↔ IsWaitingSet plan s members) (sym e) (waiting_set_test plan s members)

@@ -66,7 +66,7 @@ list_all_agree p q [] same = refl
 list_all_agree p q (x ∷ xs) same = ap₂ (λ a b. a && b) (same x) (list_all_agree p q xs same)
 
 module _ (plan : Plan) (s : State) (members : List ℕ) (ordered : HasValidBodies plan) (kept : StateInvariant plan s) where
-  -- a job at a get
+  -- the test of a job at a get has the same result in the view and in the state
   waits_at_seen : (j i : ℕ) (action : Option Action) → (job_at s j).stage ≡ At i → slice_get (class_at plan (job_at s j).class).body i ≡ action
       → waits_at s members (parent.Job j) action ≡ waits_at_in (live_view plan s) members (parent.Job j) action
   waits_at_seen j i None at there = refl

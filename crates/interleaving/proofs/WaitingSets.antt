@@ -39,7 +39,7 @@ queue_of_phase plan view members j k phase.Queued queued e = e
 queue_of_phase plan view members j k (phase.At i) queued e = absurd cc
 queue_of_phase plan view members j k phase.Done queued e = absurd cc
 
--- if a queued job waits only for members, the queue of its pool does
+-- if a queued job of pool p waits only for members, no worker of pool p is idle and every job that runs in it is a member
 queue_of_job : (plan : Plan) (view : View) (members : List ℕ) (p j : ℕ) (job : Option JobView) → is_queued_job plan p job ≡ true → waits_job plan view members j job ≡ true → waits_in_queue_of plan view members p ≡ true
 queue_of_job plan view members p j None queued e = absurd cc
 queue_of_job plan view members p j (Some job) queued e =
@@ -74,7 +74,7 @@ others_of_all : (plan : Plan) (view : View) (members : List ℕ) → list_all (w
 others_of_all plan view members e =
     list_all_from_In (λ j. job_waits_unless_queued plan view members j (live_job view.jobs j)) members (λ j i. unless_queued_from_waits plan view members j (live_job view.jobs j) (list_all_at_In (waits_in plan view members) e i))
 
--- if a queue does not wait, the members are not a waiting set
+-- if the queues that contain members do not all wait, the members are not a waiting set
 pub none_without_queues : (plan : Plan) (view : View) (members : List ℕ) (queues : Bool) → (IsTrue queues ↔ QueuesWait plan view members) → queues ≡ false → is_waiting_set_in plan view members ≡ false
 none_without_queues plan view members queues iff e =
     false_from_ne_true _ (λ set. both_ways queues e (iff.1 (queues_of_all plan view members (and_parts (not (is_none members)) _ set).1)))
@@ -83,11 +83,11 @@ waits_at_stage_others : (plan : Plan) (view : View) (members : List ℕ) (others
 waits_at_stage_others plan view members true of w queues e = all_wait plan view members of w queues e
 waits_at_stage_others plan view members false of w queues e = false_from_ne_true _ (λ all. both_ways _ e (others_of_all plan view members all))
 
--- if the queues wait, the members are a waiting set exactly if the other members wait
+-- if the queues that contain members wait, the members are a waiting set exactly when each member that is not queued waits
 pub set_as_others : (plan : Plan) (view : View) (members : List ℕ) (others : Bool) → IsReachableView plan view → IsWellFormed plan → is_none members ≡ false → QueuesWait plan view members → others ≡ unqueued_wait plan view members → others ≡ is_waiting_set_in plan view members
 set_as_others plan view members others of w some queues e = sym (ap (λ b. not b && list_all (waits_in plan view members) members) some ∙ waits_at_stage_others plan view members others of w queues (sym e))
 
--- the empty list is not a waiting set
+-- a list whose length is not 0 is not empty
 pub some_members : (members : List ℕ) → (length members == 0) ≡ false → is_none members ≡ false
 some_members [] e = e
 some_members (j ∷ js) e = refl

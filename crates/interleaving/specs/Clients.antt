@@ -1,16 +1,16 @@
--- The abstract view of the clients of a world, and its representation: the clients that moved, and the sizes of the kinds.
+-- The abstract view of the clients of a world, and its representation: the clients that moved, and the numbers of clients of the kinds.
 use Rattle.std.specs.Prelude.{◌≡◌, ℕ, ◌+◌, ◌-◌, ◌<◌, ◌≤◌, List, [], ◌∷◌, ◌++◌, length, replicate, slice_index_or, Option, Some, None}
 use Rattle.job_bodies.specs.Plan.{Client}
 use Rattle.written_machine.specs.declared.client_state.ClientState.{ClientState}
 use Rattle.written_machine.specs.declared.parent.Parent.{Parent}
 use Rattle.written_machine.specs.declared.parent.Parent.TheVariants as parent
 
--- every client, and the number of first moves for which there is room
+-- the states of all clients, and the number of first moves for which memory is reserved
 pub record ClientList : Type 0 where
   pub items : List ClientState
   pub room : ℕ
 
--- the client with this number
+-- the state of the client with this number
 abbrev pub client_of : List ClientState → ℕ → ClientState
 client_of clients c = slice_index_or clients c (record { kind = 0; position = 0 })
 
@@ -19,7 +19,7 @@ abbrev pub IsClientAt : List ClientState → Parent → ℕ → Type 0
 IsClientAt clients (parent.Client c) i = (client_of clients c).position ≡ i
 IsClientAt clients (parent.Job j) i = Unit {0}
 
--- if the actor is a client at the start of its body, there is room for its move
+-- if the actor is a client at the start of its body, memory is reserved for its first move
 abbrev pub CanMove : ClientList → Parent → Type 0
 CanMove list (parent.Client c) = (client_of list.items c).position ≡ 0 → 0 < list.room
 CanMove list (parent.Job j) = Unit {0}
@@ -31,33 +31,33 @@ IsFirst (parent.Job j) i = ⊥
 
 -- ---- the representation
 
--- for each kind, the number of clients of it and of all kinds before it, of which n belong to kinds that are not in the list
+-- for each client kind, the number of clients up to and including that kind; n clients belong to kinds before the list
 abbrev pub ends_from : ℕ → List Client → List ℕ
 ends_from n [] = []
 ends_from n (kind ∷ kinds) = (n + kind.count) ∷ ends_from (n + kind.count) kinds
 
--- the list is ascending and starts at n or above
+-- the list is in ascending order, and each of its numbers is at least n
 abbrev pub IsRising : ℕ → List ℕ → Type 0
 IsRising n [] = Unit {0}
 IsRising n (end ∷ ends) = (n ≤ end) × IsRising end ends
 
--- the clients of the kinds with these ends, each at the start of its body; the first kind has number `kind`, and n clients
+-- the clients of the kinds with these ends (`ends_from`), each at the start of its body; the first kind has number `kind`, and n clients
 -- belong to kinds before it
 abbrev pub starting : ℕ → ℕ → List ℕ → List ClientState
 starting kind n [] = []
 starting kind n (end ∷ ends) = replicate (end - n) (record { kind = kind; position = 0 }) ++ starting (kind + 1) end ends
 
--- the client at its moved state if it has one, otherwise at the start
+-- the moved state of a client if it has one, otherwise its state at the start
 abbrev pub moved_or : Option ClientState → ClientState → ClientState
 moved_or None client = client
 moved_or (Some moved) client = moved
 
--- the states of the clients, of which the first has number n
+-- the states of the clients, numbered from n: for each client its state in `at` if it has moved, otherwise its state in the list
 abbrev pub standing : (ℕ → Option ClientState) → ℕ → List ClientState → List ClientState
 standing at n [] = []
 standing at n (client ∷ clients) = moved_or (at n) client ∷ standing at (n + 1) clients
 
--- the ends are ascending, and every client that moved exists
+-- the ends are in ascending order, and every client that moved exists
 pub record AreClients (ends : List ℕ) (at : ℕ → Option ClientState) : Type 0 where
   pub rising : IsRising 0 ends
   pub inside : (n : ℕ) (client : ClientState) → at n ≡ Some client → n < length (starting 0 0 ends)

@@ -3,14 +3,14 @@ use Rattle.std.specs.Prelude.{◌≡◌, ℕ, zero, suc, ◌+◌, ◌*◌, ◌<�
 use Rattle.std.specs.HashMap.{HashMap, get}
 use Rattle.interleaving.specs.declared.job_table.JobEntry.{JobEntry}
 
--- for each job number the stored data or None; the number of latest entries in the ring, gaps included; and the number of
--- further jobs for which there is room
+-- for each job number the stored data, or None if the job is not live; the number of entries in the ring, gaps included; and the number of
+-- further jobs for which memory is reserved
 pub record Row : Type 0 where
   pub items : List (Option JobEntry)
   pub span : ℕ
   pub room : ℕ
 
--- the limit of the number of entries in the ring, gaps included, for this many live jobs
+-- the limit of the number of entries in the ring, gaps included, if there are this many live jobs
 abbrev pub longest : ℕ → ℕ
 longest live = 2 * live + 34
 
@@ -19,7 +19,7 @@ abbrev pub items_below : (ℕ → Option JobEntry) → ℕ → List (Option JobE
 items_below at zero = []
 items_below at (suc n) = items_below at n ++ at n ∷ []
 
--- the sequence: the numbers below base are in the map, all others are in the ring
+-- the sequence: the entries at numbers below `base` are in the map, all others are in the ring
 abbrev pub row_items : {S : Type 0} → HashMap ℕ JobEntry S → ℕ → List (Option JobEntry) → List (Option JobEntry)
 row_items older base recent = items_below (get nat_eq older) base ++ recent
 
@@ -28,13 +28,13 @@ abbrev pub HasNoGapAtFront : List (Option JobEntry) → Type 0
 HasNoGapAtFront [] = Unit
 HasNoGapAtFront (first ∷ rest) = IsSome first
 
--- the map has only numbers below base, and the ring does not begin with a gap
+-- the map has only numbers below `base`, the ring does not begin with a gap, and every number fits in 64 bits
 pub record IsRow {S : Type 0} (older : HashMap ℕ JobEntry S) (base : ℕ) (recent : List (Option JobEntry)) : Type 0 where
   pub are_lower : (n : ℕ) (place : JobEntry) → get nat_eq older n ≡ Some place → n < base
   pub front : HasNoGapAtFront recent
   pub fits : base + length recent < 2 ^ 64
 
--- n gaps
+-- a list of n gaps
 abbrev pub gaps : ℕ → List (Option JobEntry)
 gaps zero = []
 gaps (suc n) = None ∷ gaps n

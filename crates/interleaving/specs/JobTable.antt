@@ -3,18 +3,18 @@ use Rattle.std.specs.Prelude.{◌≡◌, ℕ, ◌+◌, ◌≤◌, List, Option, 
 use Rattle.interleaving.specs.declared.job_table.JobEntry.{JobEntry}
 use Rattle.interleaving.specs.JobRing.{Row, longest}
 
--- for each job number the stored data, or None if the job is not live; the number of places, free ones included; and the
--- number of further jobs for which there is room
+-- for each job number the stored data, or None if the job is not live; the number of places, free ones included; and the number of further
+-- jobs for which memory is reserved
 pub record JobTableView : Type 0 where
   pub items : List (Option JobEntry)
   pub places : ℕ
   pub room : ℕ
 
--- the number of places after a new job: one more if every place holds a live job
+-- the number of places after a new job was added: one more than before if every place held a live job
 abbrev pub places_after : JobTableView → ℕ
 places_after list = if count_by is_some list.items == list.places then list.places + 1 else list.places
 
--- the counts are right, each live job has a place, and the ring is not longer than its limit for this number of places
+-- `live` is the number of live jobs and at most the number of places, and the ring is not longer than its limit for this number of places
 pub record AreCounted (row : Row) (live count : ℕ) : Type 0 where
   pub each : live ≡ count_by is_some row.items
   pub within : live ≤ count

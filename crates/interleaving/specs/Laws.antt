@@ -29,20 +29,20 @@ new_view plan = record {
 abbrev pub StartIsSeen : Type 0
 StartIsSeen = (plan : Plan) → live_view plan (start plan) ≡ new_view plan
 
--- the live view of the state after an event, with the outcome
+-- the live view of a state after an event, and the outcome of the event
 abbrev pub seen_after : Plan → State × Outcome → View × Outcome
 seen_after plan x = (live_view plan x.0, x.1)
 
--- in every reachable state, an event is possible in the live view exactly if it is possible in the state; both give the same
--- outcome, and the view after the event is the live view of the state after it
+-- in every reachable state, an event is possible in the live view exactly when it is possible in the state; both give the same outcome, and
+-- the view after the event is the live view of the state after it
 abbrev pub StepsCommute : Type 0
 StepsCommute = (plan : Plan) (s : State) (event : Event) → IsWellFormed plan → IsReached plan s → option_map (seen_after plan) (step plan s event) ≡ view_step plan (live_view plan s) event
 
--- the view has as many unfinished jobs as the state
+-- the live view of a state has as many unfinished jobs as the state
 abbrev pub UnfinishedJobsAreLive : Type 0
 UnfinishedJobsAreLive = (plan : Plan) (s : State) → count_by is_unfinished_job (live_view plan s).jobs ≡ count_by (λ job. is_unfinished job.stage) s.jobs
 
--- in every reachable state, a set of numbers is a waiting set exactly if it is one in the live view
+-- in every reachable state, a set of numbers is a waiting set exactly when it is one in the live view
 abbrev pub WaitingSetsAreSeen : Type 0
 WaitingSetsAreSeen = (plan : Plan) (s : State) (members : List ℕ) → IsWellFormed plan → IsReached plan s → is_waiting_set plan s members ≡ is_waiting_set_in plan (live_view plan s) members
 

@@ -1,4 +1,4 @@
--- The abstract view of the live jobs of a world, and of the index from creators to their latest jobs.
+-- The abstract view of a world's live jobs, and of the index from submits to the latest jobs that they created.
 use Rattle.std.specs.Prelude.{◌≡◌, ◌≢◌, ℕ, ◌+◌, ◌<◌, ◌≤◌, ◌⊎◌, ◌==◌, Bool, true, false, List, length, slice_set, map, count_by, is_some, Option, Some, None, if◌then◌else◌}
 use Rattle.std.specs.Option.{option_map}
 use Rattle.written_machine.specs.declared.parent.Parent.{Parent}
@@ -10,24 +10,24 @@ use Rattle.interleaving.specs.JobTable.{JobTableView}
 use Rattle.interleaving.specs.JobEntry.{place_at}
 use Rattle.interleaving.specs.LatestJobs.{LatestJobsView, found, is_call}
 
--- the number of further jobs for which there is room, of clients and of jobs
+-- the numbers of further jobs for which memory is reserved: for jobs that clients create, and for jobs that jobs create
 pub record Room : Type 0 where
   pub of_clients : ℕ
   pub of_jobs : ℕ
 
--- for each job number the live job, or None if the job is not live; the number of places, free ones included; and the room
--- for further jobs
+-- for each job number the live job, or None if that job is not live; the number of places, free ones included; and the numbers of further
+-- jobs for which memory is reserved
 pub record JobList : Type 0 where
   pub jobs : List (Option JobView)
   pub places : ℕ
   pub room : Room
 
--- the number of further jobs of such an actor for which there is room
+-- the number of further jobs for which memory is reserved, if this actor creates them
 abbrev pub room_for : Room → Parent → ℕ
 room_for room (parent.Client c) = room.of_clients
 room_for room (parent.Job j) = room.of_jobs
 
--- the number of places after a new job was added, given the jobs without the stale one
+-- the number of places after a new job was added: one more than before if `jobs`, which has no stale job, has a live job for every place
 abbrev pub places_made : JobList → List (Option JobView) → ℕ
 places_made list jobs = if count_by is_some jobs == list.places then list.places + 1 else list.places
 
@@ -38,21 +38,21 @@ abbrev pub WasMade : List (Option JobView) → Parent → Type 0
 WasMade jobs (parent.Client c) = Unit {0}
 WasMade jobs (parent.Job j) = j < length jobs
 
--- each done job is the latest live job that its creator created at its position
+-- each done job is the latest live job of its submit
 abbrev pub DoneAreLatest : List (Option JobView) → Type 0
 DoneAreLatest jobs = (a : Parent) (t k : ℕ) (job : JobView) → live_job jobs k ≡ Some job → is_live_child a t (Some job) ≡ true → is_done job.phase ≡ true → live_child jobs a t ≡ Some k
 
--- of the jobs that the actor created at position t, only the latest can be stale
+-- of the live jobs that the actor created at position t, only the job `latest` can be done
 abbrev pub NoOtherIsStale : List (Option JobView) → Option ℕ → Parent → ℕ → Type 0
 NoOtherIsStale jobs latest a t = (k : ℕ) → latest ≢ Some k → drop_if_stale a t (live_job jobs k) ≡ live_job jobs k
 
--- the actor has at most one live job from position t
+-- at most one job that the actor created at position t is live
 abbrev pub IsOnlyLiveJob : List (Option JobView) → Parent → ℕ → Type 0
 IsOnlyLiveJob jobs a t = (i k : ℕ) → is_live_child a t (live_job jobs i) ≡ true → is_live_child a t (live_job jobs k) ≡ true → i ≡ k
 
 -- ---- the places
 
--- the jobs of the stored data
+-- the jobs in the stored data, without their submit bounds
 abbrev pub jobs_in : List (Option JobEntry) → List (Option JobView)
 jobs_in items = map (option_map (λ place. place.job)) items
 
@@ -61,12 +61,13 @@ pub record IsLatest (jobs : List (Option JobView)) (a : Parent) (t k : ℕ) : Ty
   pub passes : is_live_child a t (live_job jobs k) ≡ true
   pub none_later : (i : ℕ) → k < i → is_live_child a t (live_job jobs i) ≡ false
 
--- the index has the latest job of every actor that may request one; every job in the index is live and the latest
+-- every job in the index is the latest live job of its submit, and the index has the latest live job of each submit of an actor that may
+-- still get its jobs
 pub record AreFound (jobs : List (Option JobView)) (latest : LatestJobsView) : Type 0 where
   pub sound : (a : Parent) (t k : ℕ) → found latest a t ≡ Some k → IsLatest jobs a t k
   pub complete : (a : Parent) (t k : ℕ) → may_get_in jobs a ≡ true → IsLatest jobs a t k → found latest a t ≡ Some k
 
--- the live jobs that a job created come from positions below its reach
+-- if job j created a live job at position t, its number exists and t is below its submit bound
 abbrev pub AreSubmitBounds : List (Option JobEntry) → Type 0
 AreSubmitBounds items = (j t k : ℕ) → is_live_child (parent.Job j) t (live_job (jobs_in items) k) ≡ true → (j < length items) × ((place : JobEntry) → place_at items j ≡ Some place → t < place.submit_bound)
 
@@ -75,12 +76,12 @@ pub record AreIndexed (items : List (Option JobEntry)) (latest : LatestJobsView)
   pub reached : AreSubmitBounds items
   pub counted : unfinished ≡ count_by is_unfinished_job (jobs_in items)
 
--- no job became live, and no reach got lower
+-- no job became live, and no submit bound decreased
 pub record SubmitBoundsStay (items after : List (Option JobEntry)) : Type 0 where
   pub long : length after ≡ length items
   pub each : (k : ℕ) (place : JobEntry) → place_at after k ≡ Some place → (was : JobEntry) × (place_at items k ≡ Some was) × (was.submit_bound ≤ place.submit_bound)
 
--- if the actor is a live job, its reach is at least n
+-- if the actor is a live job, its submit bound is at least n
 abbrev pub HasSubmitBound : List (Option JobEntry) → Parent → ℕ → Type 0
 HasSubmitBound items (parent.Client c) n = Unit {0}
 HasSubmitBound items (parent.Job j) n = (place : JobEntry) → place_at items j ≡ Some place → n ≤ place.submit_bound
@@ -100,23 +101,23 @@ pub record AreOrphaned (j n : ℕ) (jobs after : List (Option JobView)) (latest 
   pub others : (a : Parent) (t : ℕ) → a ≢ parent.Job j → found later a t ≡ found latest a t
   pub behind : (t : ℕ) → n ≤ t → found later (parent.Job j) t ≡ found latest (parent.Job j) t
 
--- if the finished job is gone, this submit no longer finds it; all other entries of the index stay
+-- if `finished` is None, the index no longer has this job number for this submit; all other entries of the index are unchanged
 pub record IsGone (finished : Option JobView) (latest later : LatestJobsView) (a : Parent) (t number : ℕ) : Type 0 where
   pub sub : (b : Parent) (u k : ℕ) → found later b u ≡ Some k → (found latest b u ≡ Some k) × (finished ≡ None → is_call a t b u ≡ true → k ≢ number)
   pub stay : (b : Parent) (u k : ℕ) → found latest b u ≡ Some k → (finished ≡ None → k ≢ number) → found later b u ≡ Some k
 
--- a live job that is done
+-- the job is live and done
 abbrev pub is_done_job : Option JobView → Bool
 is_done_job None = false
 is_done_job (Some job) = is_done job.phase
 
--- if the flag is set, the entry of job k and the index entry of its call are cleared; otherwise nothing changes
+-- if the flag is set, the entry of job k and the index entry of job j for position t are cleared; otherwise nothing changes
 abbrev pub RemovesNumber : ℕ → ℕ → ℕ → Bool → JobTableView → JobTableView → LatestJobsView → LatestJobsView → Type 0
 RemovesNumber j t k false kept kept' latest latest' = (kept' ≡ kept) × (latest' ≡ latest)
 RemovesNumber j t k true kept kept' latest latest' = (kept'.items ≡ slice_set kept.items k None) × (kept'.places ≡ kept.places)
     × ((b : Parent) (u : ℕ) → found latest' b u ≡ (if is_call (parent.Job j) t b u then None else found latest b u))
 
--- the effect on the job that job j created at position t: it is removed if it is done
+-- the job that the index has for job j and position t, if any, is removed if it is done
 abbrev pub RemovesFound : ℕ → ℕ → Option ℕ → JobTableView → JobTableView → LatestJobsView → LatestJobsView → Type 0
 RemovesFound j t None kept kept' latest latest' = (kept' ≡ kept) × (latest' ≡ latest)
 RemovesFound j t (Some k) kept kept' latest latest' = RemovesNumber j t k (is_done_job (live_job (jobs_in kept.items) k)) kept kept' latest latest'

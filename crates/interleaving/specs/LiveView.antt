@@ -1,4 +1,5 @@
--- The live view of a state: the part that a running world stores. Of the jobs, it has only the live ones.
+-- The live view of a state: the live jobs, the pools, the clients and the number of refusals. A running world stores this part of the
+-- state.
 use Rattle.std.specs.Prelude.{ℕ, ◌==◌, ◌&&◌, Bool, true, false, List, map, Option, Some, None, if◌then◌else◌}
 use Rattle.std.specs.List.{enumerate_from}
 use Rattle.job_bodies.specs.Plan.{Plan}
@@ -21,7 +22,8 @@ abbrev pub is_number : Option ℕ → ℕ → Bool
 is_number None j = false
 is_number (Some i) j = i == j
 
--- the phase of job j in the view; a done job is live only if it is the latest of its submit and its parent may still get it
+-- the phase of job j in the live view, or None if the job is not live; a done job is live only if it is the latest of its submit and its
+-- parent may still get it
 abbrev pub phase_seen : State → ℕ → CreatedJob → Stage → Option Phase
 phase_seen s j job Queued = Some phase.Queued
 phase_seen s j job (At i) = Some (phase.At i)
@@ -35,7 +37,8 @@ job_with job (Some phase) = Some (record { class = job.class; parent = job.paren
 abbrev pub job_seen : State → ℕ → CreatedJob → Option JobView
 job_seen s j job = job_with job (phase_seen s j job job.stage)
 
--- for each job number the live job, or None if the job is not live; the pools with their sizes; clients and refusals
+-- a live view: for each job number the live job, or None if that job is not live; the pools with their sizes; the clients; and the number
+-- of refusals
 pub record View : Type 0 where
   pub jobs : List (Option JobView)
   pub pools : List PoolView

@@ -3,7 +3,8 @@ use Rattle.std.specs.Prelude.{ℕ, List, Option, Some, None, slice_get, nat_eq}
 use Rattle.std.specs.Map.{lookup}
 use Rattle.written_machine.specs.declared.client_state.ClientState.{ClientState}
 
--- the clients that moved, in a list from number 0 and in a map for other numbers, and the room for further ones
+-- the clients that moved: those with the lowest numbers in a list, others in a map; and the number of further clients for which memory is
+-- reserved
 pub record Moved : Type 0 where
   pub front : List ClientState
   pub others : List (ℕ × ClientState)
@@ -13,10 +14,10 @@ abbrev pub first_of : Option ClientState → Option ClientState → Option Clien
 first_of None other = other
 first_of (Some client) other = Some client
 
--- the client with this number, if it moved
+-- the state of the client with this number, or None if it has not moved
 abbrev pub moved_at : Moved → ℕ → Option ClientState
 moved_at moved q = first_of (slice_get moved.front q) (lookup (nat_eq q) moved.others)
 
--- the client at this position
+-- the state of the client after its move to position i
 abbrev pub at_position : ℕ → ClientState → ClientState
 at_position i client = record client { position = i }

@@ -13,12 +13,12 @@ use Rattle.interleaving.specs.ViewStep.{point_in}
 use Rattle.interleaving.specs.declared.next_action.NextAction.{NextAction}
 use Rattle.interleaving.specs.Clients.{IsFirst}
 
--- the actor's number is below the number of clients, or of jobs
+-- the actor exists: its number is below the number of clients, or of jobs
 abbrev pub IsAmong : ℕ → ℕ → Parent → Type 0
 IsAmong clients jobs (parent.Client c) = c < clients
 IsAmong clients jobs (parent.Job j) = j < jobs
 
--- the position in the body, the action there, and whether it is a submit whose job a get of the body requests
+-- the next action at position i of the body: the position, the action there, and whether it is a submit and the body has a get of its job
 abbrev pub next_action_in : List Action → ℕ → NextAction
 next_action_in body i = record { position = i; action = slice_get body i; has_get = submits (slice_get body i) && has_get_of body i }
 
@@ -39,7 +39,7 @@ pub record IsAtFirst (plan : Plan) (view : View) (actor : Parent) : Type 0 where
   pub first : IsFirst actor at.position
   pub acts : IsSome (slice_get at.body at.position)
 
--- the actor's next action is a submit, or a client's first action
+-- the actor's next action is a submit, or the actor is a client and its next action is the first of its body
 abbrev pub ActorMayGrow : Plan → View → Parent → Type 0
 ActorMayGrow plan view actor = IsAtSubmit plan view actor ⊎ IsAtFirst plan view actor
 

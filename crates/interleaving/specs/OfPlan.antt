@@ -14,11 +14,11 @@ use Rattle.interleaving.specs.ViewStep.{live_job, may_get_in, pool_in}
 abbrev pub IsReachableView : Plan → View → Type 0
 IsReachableView plan view = (s : State) × IsReached plan s × (live_view plan s ≡ view)
 
--- the job that an idle worker would take from the pool's queue is not done
+-- the job that an idle worker would take from the queue of pool p is unfinished
 abbrev pub WaitsAtHead : View → ℕ → Type 0
 WaitsAtHead view p = (j : ℕ) (pool : PoolView) → taken (pool_in view p) ≡ Some (j, pool) → may_get_in view.jobs (parent.Job j) ≡ true
 
--- a worker of the job's pool is busy
+-- the pool of the job exists, and one of its workers is busy
 pub record HasWorker (plan : Plan) (view : View) (job : JobView) : Type 0 where
   pub pool : pool_of plan job.class < length view.pools
   pub busy : (pool_in view (pool_of plan job.class)).idle < (pool_in view (pool_of plan job.class)).threads

@@ -12,7 +12,7 @@ use Rattle.interleaving.specs.Waiting.{is_busy_job}
 use Rattle.interleaving.specs.declared.activities.PoolActivity.{PoolActivity}
 use Rattle.interleaving.specs.Stuck.{has_queued}
 
--- the number of members that run in the pool
+-- the number of members that run in pool p
 abbrev pub members_at_work : Plan → List (Option JobView) → List ℕ → ℕ → ℕ
 members_at_work plan jobs members p = count_by (is_member members) (places_where (is_busy_job plan p) jobs)
 
@@ -25,7 +25,7 @@ no_activity = record { queued = false; at_work = 0 }
 abbrev pub activity_at : List PoolActivity → ℕ → PoolActivity
 activity_at activities p = slice_index_or activities p no_activity
 
--- the share with one more member of this phase in the pool
+-- the activity with one more member in this phase; a member that is not new does not increase `at_work`
 abbrev pub activity_with : PoolActivity → Phase → Bool → PoolActivity
 activity_with activity phase.Queued new = record activity { queued = true }
 activity_with activity (phase.At i) true = record activity { at_work = activity.at_work + 1 }

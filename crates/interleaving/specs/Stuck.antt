@@ -15,16 +15,16 @@ abbrev pub is_in_queue : Phase → Bool
 is_in_queue phase.Queued = true
 is_in_queue _ = false
 
--- a live job in the pool's queue
+-- the job is live and waits in the queue of pool p
 abbrev pub is_queued_job : Plan → ℕ → Option JobView → Bool
 is_queued_job plan p None = false
 is_queued_job plan p (Some job) = is_in_queue job.phase && pool_of plan job.class == p
 
--- some member waits in the pool's queue
+-- some member waits in the queue of pool p
 abbrev pub has_queued : Plan → View → List ℕ → ℕ → Bool
 has_queued plan view members p = list_any (λ j. is_queued_job plan p (live_job view.jobs j)) members
 
--- job j of class k is queued, or it waits at a get for a member
+-- job j of class k is queued, or is at a get of a member
 abbrev pub waits_unless_queued : Plan → View → List ℕ → ℕ → ℕ → Phase → Bool
 waits_unless_queued plan view members j k phase.Queued = true
 waits_unless_queued plan view members j k (phase.At i) = waits_at_in view members (parent.Job j) (slice_get (class_at plan k).body i)
@@ -34,7 +34,7 @@ abbrev pub job_waits_unless_queued : Plan → View → List ℕ → ℕ → Opti
 job_waits_unless_queued plan view members j None = false
 job_waits_unless_queued plan view members j (Some job) = waits_unless_queued plan view members j job.class job.phase
 
--- every member is queued, or it waits at a get for a member
+-- every member is queued, or is at a get of a member
 abbrev pub unqueued_wait : Plan → View → List ℕ → Bool
 unqueued_wait plan view members = list_all (λ j. job_waits_unless_queued plan view members j (live_job view.jobs j)) members
 

@@ -3,8 +3,8 @@ use Rattle.std.specs.Prelude.{ℕ, ◌==◌, ◌&&◌, ◌%◌, Bool, true, List
 use Rattle.std.specs.Map.{lookup}
 use Rattle.interleaving.specs.declared.submit_map.TheConstants.{TABLE_LEN}
 
--- a table with one entry for each index, the calls whose entry another call occupied, and the number of calls for which
--- there is room in the second list
+-- the entries of the table, the calls whose table entry another call occupied, and the number of further calls for which memory is reserved
+-- in `others`
 pub record SubmitMapView : Type 0 where
   pub table : List (Option ((ℕ × ℕ) × ℕ))
   pub others : List ((ℕ × ℕ) × ℕ)
@@ -16,7 +16,7 @@ same_pair x y = x.0 == y.0 && x.1 == y.1
 abbrev pub place_of : ℕ × ℕ → ℕ
 place_of call = call.0 % TABLE_LEN
 
--- the entry at index p of the table
+-- the entry at index p of the table, or None if it is free
 abbrev pub entry_at : List (Option ((ℕ × ℕ) × ℕ)) → ℕ → Option ((ℕ × ℕ) × ℕ)
 entry_at table p = slice_index_or table p None
 
@@ -25,11 +25,11 @@ abbrev pub is_for : ℕ × ℕ → Option ((ℕ × ℕ) × ℕ) → Bool
 is_for call None = true
 is_for call (Some entry) = same_pair entry.0 call
 
--- the number in the entry if it belongs to the call, otherwise the other value
+-- the job number in the entry if the entry belongs to the call, otherwise the number `other`
 abbrev pub number_or : ℕ × ℕ → Option ((ℕ × ℕ) × ℕ) → Option ℕ → Option ℕ
 number_or call None other = other
 number_or call (Some entry) other = if same_pair entry.0 call then Some entry.1 else other
 
--- the number of the job that the call created
+-- the number of the job that the call created, or None if the map does not contain the call
 abbrev pub number_at : SubmitMapView → ℕ × ℕ → Option ℕ
 number_at list call = number_or call (entry_at list.table (place_of call)) (lookup (same_pair call) list.others)

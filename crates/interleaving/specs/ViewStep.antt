@@ -25,7 +25,7 @@ use Rattle.interleaving.specs.LiveView.{View, is_number}
 
 -- ---- the jobs of a view
 
--- the live job with this number, or None
+-- the live job with this number, or None if that job is not live
 abbrev pub live_job : List (Option JobView) → ℕ → Option JobView
 live_job jobs j = slice_index_or jobs j None
 
@@ -33,7 +33,7 @@ abbrev pub is_live_child : Parent → ℕ → Option JobView → Bool
 is_live_child a t None = false
 is_live_child a t (Some job) = same_parent a job.parent && t == job.slot
 
--- the latest live job that the actor created at position t
+-- the number of the latest live job that the actor created by the submit at position t
 abbrev pub live_child : List (Option JobView) → Parent → ℕ → Option ℕ
 live_child jobs a t = last_of (places_where (is_live_child a t) jobs)
 
@@ -41,12 +41,12 @@ abbrev pub is_done : Phase → Bool
 is_done phase.Done = true
 is_done _ = false
 
--- queued, or at a position
+-- the job is live, and it is queued or running
 abbrev pub is_unfinished_job : Option JobView → Bool
 is_unfinished_job None = false
 is_unfinished_job (Some job) = not (is_done job.phase)
 
--- the actor may still get jobs that it created
+-- the actor may still get jobs that it created: it is a client or an unfinished job
 abbrev pub may_get_in : List (Option JobView) → Parent → Bool
 may_get_in jobs (parent.Client c) = true
 may_get_in jobs (parent.Job j) = is_unfinished_job (live_job jobs j)
@@ -59,17 +59,17 @@ in_phase phase (Some job) = Some (record job { phase = phase })
 abbrev pub with_phase : ℕ → Phase → List (Option JobView) → List (Option JobView)
 with_phase j phase jobs = slice_set jobs j (in_phase phase (live_job jobs j))
 
--- a new job of the actor at position t makes its done job of that position stale
+-- the job after the actor created another job by the submit at position t: None if the same submit created this job and it is done
 abbrev pub drop_if_stale : Parent → ℕ → Option JobView → Option JobView
 drop_if_stale a t None = None
 drop_if_stale a t (Some job) = if is_live_child a t (Some job) && is_done job.phase then None else Some job
 
--- no actor can request the result of a done job whose parent has finished
+-- the job after job j finished: None if job j created this job and it is done, because no actor can get it then
 abbrev pub drop_if_orphan : ℕ → Option JobView → Option JobView
 drop_if_orphan j None = None
 drop_if_orphan j (Some job) = if same_parent (parent.Job j) job.parent && is_done job.phase then None else Some job
 
--- a job that finishes stays live exactly if it is the latest of its submit and its parent may still get it
+-- the job after it finished: done if it is the latest of its submit and its parent may still get it, otherwise None
 abbrev pub finished_if_gettable : List (Option JobView) → ℕ → JobView → Option JobView
 finished_if_gettable jobs j job =
     if may_get_in jobs job.parent && is_number (live_child jobs job.parent job.slot) j then Some (record job { phase = phase.Done }) else None

@@ -19,17 +19,17 @@ abbrev pub is_at_work : Phase → Bool
 is_at_work (phase.At i) = true
 is_at_work _ = false
 
--- the job runs in this pool
+-- the job runs in pool p
 abbrev pub is_busy_job : Plan → ℕ → Option JobView → Bool
 is_busy_job plan p None = false
 is_busy_job plan p (Some job) = is_at_work job.phase && pool_of plan job.class == p
 
--- the next action of the actor is a get whose job is a member
+-- the action of the actor is a get, and the latest job of its submit is a member
 abbrev pub waits_at_in : View → List ℕ → Parent → Option Action → Bool
 waits_at_in view members a (Some (Get t)) = is_some_member members (live_child view.jobs a t)
 waits_at_in view members a _ = false
 
--- no worker of the pool is idle, and every job that runs in it is a member
+-- no worker of pool p is idle, and every job that runs in it is a member
 abbrev pub waits_in_queue_of : Plan → View → List ℕ → ℕ → Bool
 waits_in_queue_of plan view members p = (pool_in view p).idle == 0 && list_all (is_member members) (places_where (is_busy_job plan p) view.jobs)
 
@@ -46,6 +46,6 @@ waits_job plan view members j (Some job) = waits_in_phase plan view members j jo
 abbrev pub waits_in : Plan → View → List ℕ → ℕ → Bool
 waits_in plan view members j = waits_job plan view members j (live_job view.jobs j)
 
--- the numbers, taken as a set, are a waiting set
+-- the numbers, taken as a set, are a waiting set: the set is not empty, and each of its members is a live job that waits only for members
 abbrev pub is_waiting_set_in : Plan → View → List ℕ → Bool
 is_waiting_set_in plan view members = not (is_none members) && list_all (waits_in plan view members) members

@@ -10,12 +10,12 @@ pub record WorldValue : Type 0 where
 abbrev pub live_jobs : View → ℕ
 live_jobs view = count_by is_some view.jobs
 
--- one more place, for a job that was created while each place held a live job
+-- the number of places grew by one, for a job that was created while each place held a live job
 pub record IsOnePlaceMore (old new : WorldValue) : Type 0 where
   pub more : new.places ≡ old.places + 1
   pub made : length new.view.jobs ≡ length old.view.jobs + 1
   pub full : live_jobs old.view ≡ old.places
 
--- the number of places stays, or it grows by one for a job that finds none free
+-- the number of places is unchanged, or grows by one because no place was free for a new job
 abbrev pub ReusesPlaces : WorldValue → WorldValue → Type 0
 ReusesPlaces old new = (new.places ≡ old.places) ⊎ IsOnePlaceMore old new

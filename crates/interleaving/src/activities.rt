@@ -1,4 +1,5 @@
-//! The activity of the members of a set in each pool.
+//! The activity of the members of a set in each pool: how many of them run, and whether one is
+//! queued.
 
 ghost use Rattle.std.specs.Prelude.{◌≡◌, ◌+◌, ◌<◌, ◌^◌, ℕ};
 ghost use Rattle.job_bodies.specs.WellFormed.{IsWellFormed};
@@ -19,8 +20,8 @@ pub(crate) struct PoolActivity {
 }
 
 impl PoolActivity {
-    /// Returns the share with one more member in this phase. A number that is a member already
-    /// (`is_new` is `false`) does not increase `at_work`.
+    /// Returns the activity with one more member in this phase. A duplicate of a member (`is_new`
+    /// is `false`) does not increase `at_work`.
     fn with(self, phase: Phase, is_new: bool) -> PoolActivity
         requires { self.at_work + 1 < 2 ^ 64 }
         ensures { result ≡ activity_with self phase is_new }
@@ -42,7 +43,7 @@ impl PoolActivity {
 impl World {
     ghost use Rattle.interleaving.specs.OfPlan.{IsReachableView};
 
-    /// Returns the share of the members in each pool. Looks up each member once.
+    /// Returns the activity of the members in each pool. Looks up each member once.
     pub(crate) fn activities(&self, plan: &Plan, members: &Members<'_>) -> [PoolActivity; MAX_POOLS]
         requires of_plan { IsReachableView plan.now self.now.view }
         requires well_formed { IsWellFormed plan.now }

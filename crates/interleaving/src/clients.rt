@@ -17,11 +17,11 @@ use written_machine::{ClientState, Parent};
 
 /// The states of all clients of a world.
 ///
-/// Stores only clients that have moved. All others are at the start of their body, so that the
-/// number of clients of each kind describes them.
+/// Stores only the clients that have moved. Each other client is at the start of its body, so that
+/// its number determines its state.
 #[derive(Drop)]
 pub struct Clients {
-    // For each kind, the number of clients of it and of all kinds before it.
+    // For each client kind, the number of clients of this kind and of all kinds before it.
     ends: Vec<usize>,
     moved: MovedClients,
 }
@@ -66,8 +66,8 @@ impl Clients {
         }
     }
 
-    /// Reserves room for the actor, which is at this position of its body, if it is a client at the
-    /// start of its body.
+    /// Reserves memory for the first move of the actor, if the actor is a client at the start of
+    /// its body. `position` is the actor's current position.
     ///
     /// # Errors
     ///
@@ -85,7 +85,7 @@ impl Clients {
     }
 
     /// Moves the client with this number to this position of its body. If the client is at the
-    /// start of its body, room must have been reserved.
+    /// start of its body, memory must have been reserved.
     pub fn go_to(&mut self, number: usize, position: usize)
         requires { (client_of self.old.items number).position ≡ 0 → 0 < self.old.room }
         ensures { self.new.items
@@ -110,7 +110,7 @@ impl Clients {
     }
 }
 
-// Returns, for each kind, the number of clients of it and of all kinds before it.
+// Returns, for each client kind, the number of clients of this kind and of all kinds before it.
 fn ends_of(alloc: Global, kinds: &[Client]) -> Result<Vec<usize>, AllocError>
     requires few { length kinds.now ≤ MAX_CLIENT_KINDS }
     requires small { All (λ kind. kind.count ≤ MAX_SIZE) kinds.now }
@@ -125,8 +125,7 @@ fn ends_of(alloc: Global, kinds: &[Client]) -> Result<Vec<usize>, AllocError>
     Ok(ends)
 }
 
-// Returns the client with this number at the start of its body, or `None` if there is no such
-// client.
+// Returns the initial state of the client with this number, or `None` if there is no such client.
 fn start_of(ends: &[usize], number: usize) -> Option<ClientState>
     requires { IsRising 0 ends.now }
     ensures { result ≡ slice_get (starting 0 0 ends.now) number }

@@ -12,9 +12,9 @@ use written_machine::{Outcome, Parent};
 impl World {
     ghost use Rattle.interleaving.specs.Answers.{MatchesResult};
 
-    /// Gets the latest job that the actor created by the submit, if that job is done, and moves the
-    /// actor to its next position. Returns `None` if the job is not done. `position`, the actor's
-    /// current position, must not be 0.
+    /// Gets the latest job that the actor created by the submit at position `submit`, and moves the
+    /// actor to its next position. Returns `None` if that job is not done. `position` is the
+    /// actor's current position, which must not be 0.
     pub(crate) fn get(&mut self, actor: Parent, position: usize, submit: usize) -> Option<Outcome>
         requires stands { IsClientAt self.old.view.clients actor position }
         requires begun { 0 < position }

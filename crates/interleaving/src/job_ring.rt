@@ -1,4 +1,4 @@
-//! The stored data of jobs, by job number.
+//! A sequence of the stored data of jobs, by job number.
 
 ghost use Rattle.std.specs.Prelude.{◌≡◌, ◌+◌, ◌<◌, ◌^◌, [], ◌∷◌, ◌++◌, length, is_some, IsSome, slice_set, ◌≤◌, ◌⊎◌, nat_eq, None, Some, OnOk};
 ghost use Rattle.std.specs.HashMap.{get, spare, Updates};
@@ -12,21 +12,22 @@ use std::alloc::{AllocError, Global};
 use std::collections::{HashMap, VecDeque};
 use std::marker::Model;
 
-// The ring may have two numbers for each live job and two for each of these.
+// The ring is too long if half its length exceeds the number of live jobs by more than this number.
 const SPARE_NUMBERS: usize = 16;
 
 /// A sequence with an entry for each job ever created, by number. The entry of a job that is no
 /// longer live is a gap.
 ///
-/// The end of the sequence is a ring buffer, in which a look-up is an index operation. Gaps at the
-/// start of the ring are removed. If the ring has more than about two numbers for each live job,
-/// its first job moves into a map. A long-lived job therefore occupies only its own entry.
+/// The entries from number `base` are in a ring buffer, in which a look-up is an index operation.
+/// Gaps at the start of the ring are removed. If the ring is too long for the number of live jobs,
+/// its first job moves into a map. A long-lived job therefore does not keep the gaps after it in
+/// memory.
 #[derive(Drop)]
 pub(crate) struct JobRing {
-    // The first number of the ring.
+    // The number of the first entry of `recent`.
     base: usize,
     recent: VecDeque<Option<JobEntry>>,
-    // The live jobs with lower numbers.
+    // The live jobs with numbers below `base`.
     older: HashMap<usize, JobEntry>,
 }
 
@@ -73,7 +74,7 @@ impl JobRing {
         *self.recent.get(number - self.base)?
     }
 
-    /// Replaces the data of the job with this number.
+    /// Replaces the data of the live job with this number.
     pub(crate) fn set(&mut self, number: usize, place: JobEntry)
         requires { IsSome (place_at self.old.items number) }
         ensures items { self.new.items ≡ slice_set self.old.items number (Some place) }
@@ -87,7 +88,7 @@ impl JobRing {
         }
     }
 
-    /// Replaces the phase of the job with this number.
+    /// Replaces the phase of the live job with this number.
     pub(crate) fn set_phase(&mut self, number: usize, phase: Phase)
         requires { IsSome (place_at self.old.items number) }
         ensures items { self.new.items
@@ -118,8 +119,8 @@ impl JobRing {
         was_kept
     }
 
-    /// Reserves room for one job. If the ring is too long for `live` live jobs, its first job moves
-    /// into the map.
+    /// Reserves memory for one more job. If the ring is too long for `live` live jobs, moves its
+    /// first job into the map.
     ///
     /// # Errors
     ///
@@ -139,7 +140,7 @@ impl JobRing {
         self.recent.reserve(1)
     }
 
-    // Moves the first job of the ring into the map if the ring is too long.
+    // Moves the first job of the ring into the map if the ring is too long for `live` live jobs.
     fn shorten(&mut self, live: usize) -> Result<(), AllocError>
         ensures items { self.new.items ≡ self.old.items }
         ensures span { self.new.span ≤ self.old.span }
@@ -160,7 +161,7 @@ impl JobRing {
         Ok(())
     }
 
-    /// Appends an entry for a new job. Room must have been reserved.
+    /// Appends an entry for a new job. Memory must have been reserved.
     pub(crate) fn push(&mut self, place: JobEntry)
         requires { 0 < self.old.room }
         ensures items { self.new.items ≡ self.old.items ++ Some place ∷ [] }
@@ -186,7 +187,7 @@ fn skip_gaps(recent: &mut VecDeque<Option<JobEntry>>) -> usize
     skipped
 }
 
-// Clears the entry at an index, and returns whether it was occupied.
+// Clears the entry at this index of the ring, and returns whether it was occupied.
 fn clear(recent: &mut VecDeque<Option<JobEntry>>, index: usize) -> bool
     ensures value { result ≡ is_some (place_at recent.old.items index) }
     ensures items { recent.new.items ≡ slice_set recent.old.items index None }
@@ -199,7 +200,7 @@ fn clear(recent: &mut VecDeque<Option<JobEntry>>, index: usize) -> bool
     }
 }
 
-// Replaces the phase of the job at an index.
+// Replaces the phase of the job at this index of the ring, if the entry is occupied.
 fn set_phase_at(recent: &mut VecDeque<Option<JobEntry>>, index: usize, phase: Phase)
     ensures items { recent.new.items
         ≡ slice_set recent.old.items index
@@ -212,7 +213,7 @@ fn set_phase_at(recent: &mut VecDeque<Option<JobEntry>>, index: usize, phase: Ph
     }
 }
 
-// Replaces the phase of the job in this entry.
+// Replaces the phase of the job in this entry, if the entry is occupied.
 fn set_phase_in(place: &mut Option<JobEntry>, phase: Phase)
     ensures { place.new ≡ place_in_phase phase place.old }
 {
@@ -221,7 +222,8 @@ fn set_phase_in(place: &mut Option<JobEntry>, phase: Phase)
     }
 }
 
-// Returns the data of the job with this number. Not inlined, since few look-ups get here.
+// Returns the data of the job with this number from the map. Not inlined, since few look-ups need
+// the map.
 #[inline(never)]
 fn get_older(older: &HashMap<usize, JobEntry>, number: usize) -> Option<JobEntry>
     ensures { result ≡ get nat_eq older.now number }
@@ -229,7 +231,7 @@ fn get_older(older: &HashMap<usize, JobEntry>, number: usize) -> Option<JobEntry
     older.get(&number).copied()
 }
 
-// Replaces the value at a number that has one.
+// Replaces the data of the job with this number, which must be in the map.
 fn put(older: &mut HashMap<usize, JobEntry>, number: usize, place: JobEntry)
     requires { IsSome (get nat_eq older.old number) }
     ensures { Updates nat_eq older.old older.new number (Some place) }
@@ -239,7 +241,7 @@ fn put(older: &mut HashMap<usize, JobEntry>, number: usize, place: JobEntry)
     }
 }
 
-// Replaces the phase of the job at a number that has one.
+// Replaces the phase of the job with this number, which must be in the map.
 fn put_phase(older: &mut HashMap<usize, JobEntry>, number: usize, phase: Phase)
     requires { IsSome (get nat_eq older.old number) }
     ensures { Updates nat_eq older.old older.new number

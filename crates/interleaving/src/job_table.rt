@@ -1,4 +1,4 @@
-//! Live jobs by number, in reusable places.
+//! A table of the live jobs, whose places are reused.
 
 ghost use Rattle.std.specs.Prelude.{◌≡◌, ◌+◌, ◌<◌, ◌^◌, [], ◌∷◌, ◌++◌, length, count_by, is_some, IsSome, slice_set, ◌≤◌, None, Some, OnOk};
 
@@ -11,14 +11,13 @@ use std::marker::Model;
 #[derive(Clone, Copy)]
 pub(crate) struct JobEntry {
     pub(crate) job: JobView,
-    // An exclusive upper bound of the positions of the submits that created the live jobs of this
-    // job.
+    // An exclusive upper bound of the positions of this job's submits whose jobs are live.
     pub(crate) submit_bound: usize,
 }
 
-/// The live jobs, by number.
+/// A map from job numbers to the data of the live jobs.
 ///
-/// A job that is no longer live leaves its place to a new job. The number of places is therefore
+/// A new job reuses the place of a job that is no longer live. The number of places is therefore
 /// the greatest number of jobs that were live at the same time.
 #[derive(Drop)]
 pub(crate) struct JobTable {
@@ -45,7 +44,7 @@ impl JobTable {
     ghost use Rattle.interleaving.specs.JobEntry.{place_at, place_in_phase};
     ghost use Rattle.interleaving.specs.JobTable.{places_after};
 
-    /// Creates an empty set of jobs.
+    /// Creates a table without jobs.
     pub(crate) fn new(alloc: Global) -> JobTable
         ensures items { result.items ≡ [] }
         ensures places { result.places ≡ 0 }
@@ -102,7 +101,7 @@ impl JobTable {
         self.kept.set_phase(number, phase);
     }
 
-    /// Removes the job with this number and frees its place.
+    /// Removes the job with this number, if it is live, and frees its place.
     pub(crate) fn free(&mut self, number: usize)
         ensures items { self.new.items ≡ slice_set self.old.items number None }
         ensures places { self.new.places ≡ self.old.places }
@@ -113,7 +112,7 @@ impl JobTable {
         }
     }
 
-    /// Reserves room for one job.
+    /// Reserves memory for one more job.
     pub(crate) fn reserve(&mut self) -> Result<(), AllocError>
         ensures items { self.new.items ≡ self.old.items }
         ensures places { self.new.places ≡ self.old.places }
@@ -123,7 +122,7 @@ impl JobTable {
         self.kept.reserve(self.live)
     }
 
-    /// Adds a new job. Room must have been reserved. The job takes a free place if there is one.
+    /// Adds a new job, in a free place if there is one. Memory must have been reserved.
     pub(crate) fn push(&mut self, place: JobEntry)
         requires { 0 < self.old.room }
         ensures items { self.new.items ≡ self.old.items ++ Some place ∷ [] }

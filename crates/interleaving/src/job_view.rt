@@ -1,5 +1,4 @@
-//! Live jobs: jobs that are queued or running, and finished jobs whose result can still be
-//! requested.
+//! Live jobs: jobs that are queued or running, and done jobs that their parents may still get.
 
 ghost use Rattle.std.specs.Prelude.{◌≡◌, Some};
 ghost use Rattle.interleaving.specs.ViewStep.{is_done, is_live_child, drop_if_stale, drop_if_orphan};
@@ -11,10 +10,10 @@ use written_machine::Parent;
 pub enum Phase {
     /// The job waits in its pool's queue.
     Queued,
-    /// A worker runs the job, which is at this position of its body. The length of the body is its
-    /// end position.
+    /// A worker runs the job, which is at this position of its body. At its end, the position is
+    /// the length of the body.
     At(usize),
-    /// The job finished, and its result can still be requested.
+    /// The job is done, and its parent may still get it.
     Done,
 }
 
@@ -30,7 +29,7 @@ pub struct JobView {
 }
 
 impl JobView {
-    /// Returns `true` if the job finished.
+    /// Returns `true` if the job is done.
     pub fn is_done(self) -> bool
         ensures { result ≡ is_done self.phase }
     {
@@ -44,9 +43,9 @@ impl JobView {
         actor == self.parent && submit == self.slot
     }
 
-    /// Returns the job as it is after the actor creates another job by the submit at this position,
-    /// or `None` if this job is then no longer live. That is so if the same submit created this job
-    /// and it is done.
+    /// Returns the job after the actor created another job by the submit at this position, or
+    /// `None` if this job is then no longer live, because the same submit created it and it is
+    /// done.
     pub fn drop_if_stale(self, actor: Parent, submit: usize) -> Option<JobView>
         ensures { result ≡ drop_if_stale actor submit (Some self) }
     {
@@ -57,8 +56,8 @@ impl JobView {
         }
     }
 
-    /// Returns the job as it is after the job with this number finishes, or `None` if this job is
-    /// then no longer live. That is so if the finished job created this job and this job is done.
+    /// Returns the job after the job with number `parent` finished, or `None` if this job is then
+    /// no longer live, because the finished job created it and it is done.
     pub fn drop_if_orphan(self, parent: usize) -> Option<JobView>
         ensures { result ≡ drop_if_orphan parent (Some self) }
     {

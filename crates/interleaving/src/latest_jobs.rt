@@ -1,4 +1,4 @@
-//! The latest jobs that actors created.
+//! A map from submit calls to the latest jobs that they created.
 
 ghost use Rattle.std.specs.Prelude.{◌≡◌, ◌≤◌, ◌<◌, None, Some, OnOk, if◌then◌else◌, ℕ};
 ghost use Rattle.written_machine.specs.declared.parent.Parent.{Parent};
@@ -9,8 +9,8 @@ use std::alloc::{AllocError, Global};
 use std::marker::Model;
 use written_machine::Parent;
 
-/// A map from actors and the positions of submits in their bodies to the number of the latest job
-/// that the actor created there.
+/// A map from an actor and the position of a submit in its body to the number of the latest job
+/// that the actor created by this submit.
 #[derive(Drop)]
 pub(crate) struct LatestJobs {
     of_clients: SubmitMap,
@@ -36,7 +36,8 @@ impl LatestJobs {
         }
     }
 
-    /// Returns the number of the latest job that the actor created by the submit at this position.
+    /// Returns the number of the latest job that the actor created by the submit at this position,
+    /// if the map has one.
     #[inline(always)]
     pub(crate) fn get(&self, actor: Parent, submit: usize) -> Option<usize>
         ensures { result ≡ found self.now actor submit }
@@ -47,7 +48,7 @@ impl LatestJobs {
         }
     }
 
-    /// Reserves room for one job of the actor.
+    /// Reserves memory for one more job of the actor.
     #[inline(always)]
     pub(crate) fn reserve_for(&mut self, actor: Parent) -> Result<(), AllocError>
         ensures found { (a : Parent) (t : ℕ) → found self.new a t ≡ found self.old a t }
@@ -60,7 +61,7 @@ impl LatestJobs {
     }
 
     /// Records the job with this number as the latest one that the actor created by the submit at
-    /// this position. Room must have been reserved.
+    /// this position. Memory must have been reserved.
     #[inline(always)]
     pub(crate) fn set(&mut self, actor: Parent, submit: usize, number: usize)
         requires { 0 < latest_room self.old actor }
@@ -74,8 +75,7 @@ impl LatestJobs {
         }
     }
 
-    /// Removes the latest job that the actor created by the submit at this position, since the
-    /// actor cannot request it any more.
+    /// Removes the job that the map has for the actor and the submit at this position.
     #[inline(always)]
     pub(crate) fn remove(&mut self, actor: Parent, submit: usize)
         ensures found { (a : Parent) (t : ℕ)

@@ -9,10 +9,10 @@ pub fn start_is_seen()
     ensures { StartIsSeen }
 {}
 
-/// Proves that a world that stores only live jobs loses nothing. In every reachable state of a
-/// well-formed plan, an event is possible in the live view exactly when it is possible in the
-/// reference machine. If it is possible, both give the same outcome, and the view after it is the
-/// live view of the state after it.
+/// Proves that a live view determines all later events. In every reachable state of a well-formed
+/// plan, an event is possible in the live view exactly when it is possible in the state. If it is
+/// possible, both give the same outcome, and the view after it is the live view of the state after
+/// it.
 pub fn steps_commute()
     ensures { StepsCommute }
 {}
@@ -29,7 +29,7 @@ pub fn waiting_sets_are_seen()
 {}
 
 /// Proves that, in every reachable state of a well-formed plan, a job that exists and is not live
-/// stays so after any further event.
+/// does not become live by any event.
 pub fn dead_jobs_stay_dead()
     ensures { DeadJobsStayDead }
 {}

@@ -1,7 +1,8 @@
-//! The running machine of a plan: bounded thread pools, and the steps of the clients and jobs that use them.
+//! An executable machine of a plan: bounded thread pools, and the steps of the clients and jobs
+//! that use them.
 //!
-//! A [`World`] keeps the live jobs and the positions of the clients. Its contracts relate it to the states of the machine's
-//! definition in `written_machine`.
+//! A [`World`] stores the live jobs, the pools and the clients. Its contracts relate it to the
+//! states of the machine that `written_machine` defines.
 #![tactic(auto)]
 
 mod activities;

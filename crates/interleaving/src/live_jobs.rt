@@ -13,13 +13,13 @@ use std::alloc::{AllocError, Global};
 use std::marker::Model;
 use written_machine::Parent;
 
-/// The live jobs of a world. For each actor that may request a job of its own, and for each
-/// position of a submit, it also stores the latest job that the actor created there.
+/// The live jobs of a world, with an index of the latest jobs. For each submit of an actor that may
+/// still get its jobs, the index has the latest job that this submit created.
 #[derive(Drop)]
 pub struct LiveJobs {
     kept: JobTable,
     latest: LatestJobs,
-    // The number of jobs that are queued or at a position.
+    // The number of jobs that are queued or running.
     unfinished: usize,
 }
 
@@ -70,7 +70,7 @@ impl LiveJobs {
         Some(self.kept.get(number)?.job)
     }
 
-    /// Returns the number of jobs that are queued or at a position.
+    /// Returns the number of jobs that are queued or running.
     pub fn unfinished(&self) -> usize
         ensures { result ≡ count_by is_unfinished_job self.now.jobs }
     {
@@ -96,8 +96,8 @@ impl LiveJobs {
         self.kept.set_phase(number, Phase::At(position));
     }
 
-    /// Removes the done job with this number, since its creator gets it. It must be the only live
-    /// job that its creator created at its position.
+    /// Removes the done job with this number when its parent gets it. No other job of the same
+    /// submit may be live.
     pub fn remove(&mut self, number: usize, job: JobView)
         requires live { live_job self.old.jobs number ≡ Some job }
         requires done { is_done job.phase ≡ true }
@@ -109,7 +109,7 @@ impl LiveJobs {
         self.kept.free(number);
     }
 
-    /// Reserves room for one job of the actor.
+    /// Reserves memory for one more job of the actor.
     ///
     /// # Errors
     ///
@@ -125,8 +125,8 @@ impl LiveJobs {
         self.kept.reserve()
     }
 
-    /// Adds a new job of its parent. Room must have been reserved. Removes the parent's done job of
-    /// the same submit, which can only be the job `latest`.
+    /// Adds a new job. Removes the earlier job of the same submit if that job is done; only the job
+    /// `latest` can be done. Memory must have been reserved.
     pub fn create(&mut self, latest: Option<usize>, job: JobView)
         requires room { 0 < room_for self.old.room job.parent }
         requires parent { WasMade self.old.jobs job.parent }
@@ -149,9 +149,9 @@ impl LiveJobs {
         self.unfinished += 1;
     }
 
-    /// Finishes the job with this number. The job stays live only if its parent may request it and
-    /// it is the latest of its submit. Removes the done jobs that it created, since no actor can
-    /// request them any more.
+    /// Finishes the job with this number. The job is then live only if its parent may still get it
+    /// and it is the latest of its submit. Removes the done jobs that it created, since no actor
+    /// can get them any more.
     pub fn finish(&mut self, number: usize, job: JobView)
         requires live { live_job self.old.jobs number ≡ Some job }
         requires going { is_done job.phase ≡ false }
@@ -182,7 +182,8 @@ impl LiveJobs {
         }
     }
 
-    // Returns `true` if the actor may still request a job that it created.
+    // Returns `true` if the actor may still get jobs that it created: if it is a client or an
+    // unfinished job.
     fn may_get(&self, actor: Parent) -> bool
         ensures { result ≡ may_get_in self.now.jobs actor }
     {
@@ -193,7 +194,8 @@ impl LiveJobs {
     }
 }
 
-// Removes the actor's done job of this submit, which can only be the job `latest`.
+// Removes the done job that the actor created by this submit, if there is one. Only the job
+// `latest` can be done.
 fn free_stale(kept: &mut JobTable, latest: Option<usize>, actor: Parent, submit: usize)
     requires { NoOtherIsStale (jobs_in kept.old.items) latest actor submit }
     ensures jobs { jobs_in kept.new.items
@@ -207,7 +209,7 @@ fn free_stale(kept: &mut JobTable, latest: Option<usize>, actor: Parent, submit:
     }
 }
 
-// Removes the job with this number if it is a done job of this submit.
+// Removes the job with this number if this submit of the actor created it and it is done.
 fn free_if_stale(kept: &mut JobTable, number: usize, actor: Parent, submit: usize)
     ensures jobs { jobs_in kept.new.items
         ≡ slice_set (jobs_in kept.old.items) number
@@ -223,7 +225,7 @@ fn free_if_stale(kept: &mut JobTable, number: usize, actor: Parent, submit: usiz
     }
 }
 
-// Raises the reach of the actor, if it is a live job, to at least this position.
+// Raises the submit bound of the actor to at least `submit_bound`, if the actor is a live job.
 fn raise_submit_bound(kept: &mut JobTable, actor: Parent, submit_bound: usize)
     ensures jobs { jobs_in kept.new.items ≡ jobs_in kept.old.items }
     ensures reaches { SubmitBoundsStay kept.old.items kept.new.items }
@@ -245,7 +247,8 @@ fn raise_submit_bound(kept: &mut JobTable, actor: Parent, submit_bound: usize)
     }
 }
 
-// Replaces the phase of the live job with this number, or removes the job.
+// Stores the phase of the finished job with this number, or removes the job if `finished` is
+// `None`.
 fn finish_in(kept: &mut JobTable, number: usize, finished: Option<JobView>)
     requires live { IsSome (live_job (jobs_in kept.old.items) number) }
     requires phased { IfSome finished
@@ -260,7 +263,8 @@ fn finish_in(kept: &mut JobTable, number: usize, finished: Option<JobView>)
     }
 }
 
-// Removes the index entry of this submit if it has the job with this number and the job is gone.
+// Removes the index entry of this submit if it has the job with this number and `finished` is
+// `None`.
 fn remove_if_gone(
     latest: &mut LatestJobs,
     finished: Option<JobView>,
@@ -276,7 +280,7 @@ fn remove_if_gone(
 }
 
 // Removes the done jobs that this job created. The index has all of them, at positions below the
-// reach of the job.
+// submit bound of this job.
 fn remove_orphans(kept: &mut JobTable, latest: &mut LatestJobs, parent: usize)
     requires live { IsSome (live_job (jobs_in kept.old.items) parent) }
     requires reached { AreSubmitBounds kept.old.items }
@@ -295,7 +299,7 @@ fn remove_orphans(kept: &mut JobTable, latest: &mut LatestJobs, parent: usize)
     }
 }
 
-// Removes the job that this job created by this submit, if it is done.
+// Removes the job that the index has for this submit of the parent, if that job is done.
 fn remove_orphan(kept: &mut JobTable, latest: &mut LatestJobs, parent: usize, submit: usize)
     ensures { RemovesOrphan parent submit kept.old kept.new latest.old latest.new }
 {

@@ -12,8 +12,8 @@ use written_machine::ClientState;
 
 /// A map from client numbers to the states of the clients that have moved.
 ///
-/// Most clients move for the first time in the order of their numbers. Those are in a vector; all
-/// others are in a map.
+/// Most clients move for the first time in the order of their numbers. Those are in the vector
+/// `front`; all others are in the map.
 #[derive(Drop)]
 pub(crate) struct MovedClients {
     front: Vec<ClientState>,
@@ -51,7 +51,7 @@ impl MovedClients {
         }
     }
 
-    /// Reserves room for one more client.
+    /// Reserves memory for one more client.
     pub(crate) fn reserve(&mut self) -> Result<(), AllocError>
         ensures stay { (q : ℕ) → moved_at self.new q ≡ moved_at self.old q }
         ensures room { OnOk result (0 < self.new.room) }
@@ -61,7 +61,7 @@ impl MovedClients {
     }
 
     /// Moves the client with this number to this position of its body if it has moved before.
-    /// Returns `true` if it has.
+    /// Returns whether it has.
     pub(crate) fn move_again(&mut self, number: usize, position: usize) -> bool
         ensures is_among { result ≡ is_some (moved_at self.old number) }
         ensures moves { (q : ℕ)
@@ -77,7 +77,7 @@ impl MovedClients {
         move_again(&mut self.others, number, position)
     }
 
-    /// Records the first move of the client with this number. Room must have been reserved.
+    /// Records the first move of the client with this number. Memory must have been reserved.
     pub(crate) fn move_first(&mut self, number: usize, client: ClientState)
         requires room { 0 < self.old.room }
         requires stood { is_some (moved_at self.old number) ≡ false }

@@ -13,12 +13,13 @@ use crate::{Phase, World};
 use job_bodies::{Action, Plan, has_get_of};
 use written_machine::Parent;
 
-/// The position of an actor, and its action there, which is `None` at the end of the body.
+/// The position of an actor in its body, and the action there. At the end of the body there is no
+/// action.
 #[derive(Clone, Copy)]
 pub(crate) struct NextAction {
     pub(crate) position: usize,
     pub(crate) action: Option<Action>,
-    // Whether the action is a submit whose job a get of the body requests.
+    // Whether the action is a submit and the body has a get of its job.
     pub(crate) has_get: bool,
 }
 
@@ -39,8 +40,8 @@ impl NextAction {
 impl World {
     ghost use Rattle.interleaving.specs.NextAction.{next_action_at};
 
-    /// Returns the position and the next action of the actor, or `None` if there is no such actor
-    /// or if it is a job that does not run.
+    /// Returns the position and the next action of the actor, or `None` if the actor does not exist
+    /// or is a job that does not run.
     pub(crate) fn next_action(&self, plan: &Plan, actor: Parent) -> Option<NextAction>
         ensures value { result ≡ option_map next_action_at (point_in plan.now self.now.view actor) }
         ensures can_advance { IfSome result

@@ -11,7 +11,8 @@ use pool_machine::PoolState;
 use std::alloc::{AllocError, Global};
 use written_machine::Outcome;
 
-/// Creates the pools. Each has an empty queue; a prestarted pool has `core` idle workers.
+/// Creates the pools in their initial state: with an empty queue, and with `core` idle workers if
+/// the pool is prestarted.
 pub(crate) fn new_pools(alloc: Global, pools: &[Pool]) -> Result<Vec<PoolState>, AllocError>
     requires { All (λ pool. IsTrue (has_valid_sizes pool)) pools.now }
     ensures { IfOk result (λ new. new.items ≡ map new_pool pools.now) }
@@ -27,7 +28,7 @@ impl World {
     ghost use Rattle.interleaving.specs.Answers.{MatchesResult};
     ghost use Rattle.interleaving.specs.OfPlan.{IsReachableView};
 
-    /// Lets an idle worker of the pool take the head of its queue. Returns `None` if there is no
+    /// Lets an idle worker of the pool take the head of the queue. Returns `None` if there is no
     /// such pool, no idle worker or no queued job.
     pub(crate) fn take(&mut self, plan: &Plan, pool: usize) -> Option<Outcome>
         requires pools { length self.old.view.pools ≡ length plan.now.pools }
@@ -45,7 +46,8 @@ impl World {
         Some(Outcome::Took(number))
     }
 
-    /// Ends an idle worker of the pool. Returns `None` if that is not possible.
+    /// Ends an idle worker of the pool. Returns `None` if there is no such pool or no idle worker,
+    /// or if the pool has no more than `core` threads.
     pub(crate) fn retire(&mut self, plan: &Plan, pool: usize) -> Option<Outcome>
         requires { length self.old.view.pools ≡ length plan.now.pools }
         ensures value { MatchesResult (retire_worker_in self.old.view pool (retired (pool_in self.old.view pool)))

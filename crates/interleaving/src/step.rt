@@ -21,21 +21,22 @@ impl World {
     ghost use Rattle.interleaving.specs.OfPlan.{IsReachableView};
     ghost use Rattle.interleaving.specs.World.{ReusesPlaces};
 
-    /// Performs the event if it is possible, and returns its outcome, or `None` if it is not
-    /// possible.
+    /// Performs the event and returns its outcome. If the event is not possible, changes nothing
+    /// and returns `None`.
     ///
     /// An event belongs to one actor or one pool: an actor performs its next action, an idle worker
-    /// takes the head of its pool's queue, or an idle worker ends. An event that is not possible
-    /// changes nothing.
+    /// takes the head of its pool's queue, or an idle worker ends.
     ///
     /// # Errors
     ///
-    /// Returns `AllocError` if a submit or a client's first action finds not enough memory, or if
-    /// the number of jobs or of refusals is at its maximum. The world is then unchanged.
+    /// Returns `AllocError` if there is not enough memory for a submit or for a client's first
+    /// action, or if the number of jobs or of refusals is at its maximum. The world is then
+    /// unchanged.
     pub fn step(&mut self, plan: &Plan, event: Event) -> Result<Option<Outcome>, AllocError>
         requires { IsReachableView plan.now self.old.view }
 
-        // The outcome is that of the reference machine, in each state with this live view.
+        // The result is that of the machine in `written_machine`, in every reachable state that has
+        // this live view.
         ensures answered { IfOk result (λ answer.
             (s : State)
             → IsReached plan.now s
@@ -44,11 +45,11 @@ impl World {
         ensures in_view { IfOk result
             (λ answer. AnswersIn plan.now self.old.view event answer self.new.view) }
 
-        // With every result, the world is still a world of this plan.
+        // Also after an error, the world's view is the live view of a reachable state of this plan.
         ensures of_plan { IsReachableView plan.now self.new.view }
         ensures well_formed { IsWellFormed plan.now }
 
-        // A new place is added only for a job that is created while each place holds a live job.
+        // The number of places grows only if a job is created while each place holds a live job.
         ensures places { ReusesPlaces self.old self.new }
         ensures error_unchanged { OnErr result (self.new ≡ self.old) }
         ensures error_only_where_it_grows { OnErr result (MayGrow plan.now self.old.view event) }
@@ -56,7 +57,8 @@ impl World {
         self.act(plan, event)
     }
 
-    // Performs the event, as defined on views.
+    // Performs the event. Its contract is in terms of live views alone; `step` states what follows
+    // for states.
     fn act(&mut self, plan: &Plan, event: Event) -> Result<Option<Outcome>, AllocError>
         requires { IsReachableView plan.now self.old.view }
         ensures answered { IfOk result

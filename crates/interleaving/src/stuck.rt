@@ -22,9 +22,9 @@ use written_machine::Parent;
 impl World {
     ghost use Rattle.interleaving.specs.OfPlan.{IsReachableView};
 
-    /// Returns `true` if the jobs with these numbers, taken as a set, wait only for one another.
-    /// Each of them must be at a get whose job is a member, or be queued in a pool that has no idle
-    /// worker and runs only members.
+    /// Returns `true` if the jobs with these numbers, taken as a set, wait only for one another:
+    /// each is at a get of a member, or is queued in a pool that has no idle worker and runs only
+    /// members.
     ///
     /// Returns `false` for an empty list, and if a number does not belong to an unfinished job.
     /// Allocates no memory. If the list is sorted, each member is looked up a few times by binary
@@ -56,7 +56,7 @@ impl World {
         self.queues_wait(plan, members) && self.unqueued_wait(plan, members)
     }
 
-    // Returns `true` if each member that is not queued waits at a get for a member.
+    // Returns `true` if each member that is not queued is at a get of a member.
     fn unqueued_wait(&self, plan: &Plan, members: &Members<'_>) -> bool
         ensures { result ≡ unqueued_wait plan.now self.now.view members.now }
     {
@@ -96,8 +96,8 @@ impl World {
         }
     }
 
-    // Returns `true` if the queued members wait only for members. Checks each pool once, however
-    // many of its queued jobs are members.
+    // Returns `true` if each pool whose queue contains a member has no idle worker and runs only
+    // members. Checks each pool once, however many members its queue contains.
     fn queues_wait(&self, plan: &Plan, members: &Members<'_>) -> bool
         requires { IsReachableView plan.now self.now.view }
         ensures value { IsTrue result ↔ QueuesWait plan.now self.now.view members.now }

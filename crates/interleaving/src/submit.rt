@@ -19,9 +19,9 @@ use written_machine::{Outcome, Parent};
 impl World {
     ghost use Rattle.interleaving.specs.World.{ReusesPlaces};
 
-    /// Offers a job of the class to the class's pool, for an actor at a submit. If a get of the
-    /// body requests the job, the earlier jobs of this submit must all be claimed. All allocations
-    /// come first, so that an error leaves the world unchanged.
+    /// Performs a submit of the actor: offers a job of the class to the class's pool. If the body
+    /// has a get of this submit, no earlier job of this submit may be live. Allocates before it
+    /// changes anything, so that an error leaves the world unchanged.
     pub(crate) fn submit(
         &mut self,
         plan: &Plan,
@@ -69,8 +69,8 @@ impl World {
         Ok(outcome)
     }
 
-    // Returns the latest live job that the actor created by this submit, or `None` if a get of the
-    // body requested the earlier ones.
+    // Returns the number of the latest live job that the actor created by this submit. If the body
+    // has a get of this submit, no such job is live.
     fn latest_before(&self, actor: Parent, next: NextAction) -> Option<usize>
         requires asks { may_get_in self.now.view.jobs actor ≡ true }
         requires has_get { next.has_get ≡ true

@@ -12,13 +12,13 @@ use std::marker::Model;
 /// A submit call: the number of an actor, and the position of the submit in its body.
 pub(crate) type SubmitKey = (usize, usize);
 
-// A power of two, so that the index of a call needs no division.
+// The length of the table. It is a power of two, so that the index of a call needs no division.
 const TABLE_LEN: usize = 4096;
 
 /// A map from submit calls to job numbers.
 ///
-/// An actor's number modulo the length of `table` is the index of its calls in `table`. If another
-/// call occupies that entry, the call is in the map `others`. A look-up reads `table` first.
+/// A call is in `table`, at the actor's number modulo the length of `table`, or in `others` if
+/// another call occupies that entry. A look-up reads `table` first.
 #[derive(Drop)]
 pub(crate) struct SubmitMap {
     // Empty until `reserve` is first called.
@@ -64,7 +64,7 @@ impl SubmitMap {
         get_other(&self.others, call)
     }
 
-    /// Reserves room for one more call.
+    /// Reserves memory for one more call.
     #[inline(always)]
     pub(crate) fn reserve(&mut self) -> Result<(), AllocError>
         ensures numbers { (q : ℕ × ℕ) → number_at self.new q ≡ number_at self.old q }
@@ -76,7 +76,7 @@ impl SubmitMap {
         self.others.reserve(1)
     }
 
-    /// Records the number of the job that the call created. Room must have been reserved.
+    /// Records the number of the job that the call created. Memory must have been reserved.
     #[inline(always)]
     pub(crate) fn set(&mut self, call: SubmitKey, number: usize)
         requires { 0 < self.old.room }
@@ -92,7 +92,7 @@ impl SubmitMap {
         }
     }
 
-    /// Removes the call, whose job cannot be requested any more.
+    /// Removes the call, if the map contains it.
     #[inline(always)]
     pub(crate) fn remove(&mut self, call: SubmitKey)
         ensures numbers { (q : ℕ × ℕ)
@@ -117,7 +117,7 @@ fn is_for(entry: &Option<(SubmitKey, usize)>, call: SubmitKey) -> bool
     }
 }
 
-// Frees the entry of the call, unless it belongs to another call.
+// Frees the entry of the table at the call's index, unless it belongs to another call.
 #[inline(always)]
 fn remove_from_table(table: &mut Vec<Option<(SubmitKey, usize)>>, call: SubmitKey)
     ensures { (q : ℕ × ℕ) (other : Option ℕ)
@@ -141,9 +141,9 @@ fn allocate_table(table: &mut Vec<Option<(SubmitKey, usize)>>, len: usize) -> Re
     table.resize(len, None)
 }
 
-// Returns the number of the job that the call created, if the map has it. Not inlined, since
-// look-ups in the map are rare. The caller checks first whether the map is empty, since a look-up
-// in an empty map would compute the hash as well.
+// Returns the number of the job that the call created, if `others` contains the call. Not inlined,
+// since such look-ups are rare. The caller checks that `others` is not empty, since a look-up in an
+// empty map also computes a hash.
 #[inline(never)]
 fn get_other(others: &HashMap<SubmitKey, usize>, call: SubmitKey) -> Option<usize>
     ensures { result ≡ lookup (same_pair call) others.now.entries }
@@ -151,7 +151,7 @@ fn get_other(others: &HashMap<SubmitKey, usize>, call: SubmitKey) -> Option<usiz
     others.get(&call).copied()
 }
 
-// Records the number of the job that the call created, in the map. Room must have been reserved.
+// Records the number of the job that the call created, in `others`. Memory must have been reserved.
 #[inline(never)]
 fn set_other(others: &mut HashMap<SubmitKey, usize>, call: SubmitKey, number: usize)
     requires { 0 < spare others.old }

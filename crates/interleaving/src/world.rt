@@ -15,12 +15,12 @@ use pool_machine::PoolState;
 use std::alloc::{AllocError, Global};
 use std::marker::Model;
 
-/// A plan's pools, clients and live jobs, and the number of rejected submits.
+/// The pools, the clients and the live jobs of a plan, and the number of refused submits.
 ///
 /// A job is live while it is queued or running, and while it is done and its parent may still get
 /// it. Other jobs occupy no memory: a new job reuses the place of a job that is no longer live. A
 /// client occupies no memory before its first step. The memory therefore depends on the number of
-/// pools, kinds, live jobs and clients that moved, and not on the sizes in the plan.
+/// pools, client kinds, live jobs and clients that moved, and not on the sizes in the plan.
 #[derive(Drop)]
 pub struct World {
     pub(crate) jobs: LiveJobs,
@@ -63,7 +63,7 @@ impl World {
         })
     }
 
-    /// Returns the number of rejected submits.
+    /// Returns the number of refused submits.
     pub fn refusals(&self) -> u64
         ensures { result ≡ self.now.view.refusals }
     {
@@ -106,7 +106,7 @@ impl World {
         &self.pools[pool]
     }
 
-    /// Returns the position of the client with this number in its body, or `None` if there is no
+    /// Returns the position, in its body, of the client with this number, or `None` if there is no
     /// such client.
     pub fn client(&self, client: usize) -> Option<usize>
         ensures { result
