@@ -1,4 +1,4 @@
--- The notes written so far.
+-- The failing conditions that the loop over the pools has collected.
 use Rattle.std.proofs.Common.{◌≡◌, ℕ, Bool, zero, suc, ◌+◌, ◌<◌, true, false, cond, ltb, IsTrue, List, [], ◌∷◌, ◌++◌, length, take, filter, flat_map, get_or, refl, sym, ap, ap₂, ◌∙◌, append_assoc, add-one, zero-add, arith}
 use Rattle.std.specs.List.{enumerate_from}
 use Rattle.std.proofs.lemmas.List.{append-nil, get_or_default}
@@ -16,7 +16,7 @@ use Rattle.soundness.specs.declared.note.Section.TheVariants as section
 use Rattle.soundness.specs.declared.note.Note.{Note}
 use Rattle.soundness.specs.Conditions.{note, in_section, bound_section, pool_conditions}
 
--- left is greater than right
+-- the note fails: its left side is greater than its right side
 abbrev pub note_fails : Note → Bool
 note_fails x = ltb x.right x.left
 
@@ -30,7 +30,7 @@ failing_of_section part (x ∷ rows) =
       | false ↦ failing_of_section part rows
     ]
 
--- the same for two sections
+-- the failing notes of two sections are the failing rows of both
 failing_of_two : (one other : Section) (xs ys : List Row)
     → filter note_fails (in_section one xs ++ in_section other ys) ≡ in_section one (filter fails xs) ++ in_section other (filter fails ys)
 failing_of_two one other xs ys =
@@ -43,7 +43,7 @@ conditions_to plan cert i =
     in_section section.Ranks (rank_rows plan cert.ranks)
     ++ flat_map (λ entry. pool_conditions plan cert entry.0) (enumerate_from 0 (take i plan.pools))
 
--- the notes are the failing ones of these conditions
+-- the notes are the failing ones of the conditions of the ranks and of the first i pools
 pub record NotesTo (plan : Plan) (cert : Cert) (notes : List Note) (i : ℕ) : Type 0 where
   pub collected : notes ≡ filter note_fails (conditions_to plan cert i)
 
@@ -52,7 +52,7 @@ notes_begin plan cert notes ranks =
     let rows = rank_rows plan cert.ranks in
     record { collected = ranks ∙ sym (ap (filter note_fails) (append-nil (in_section section.Ranks rows)) ∙ failing_of_section section.Ranks rows) }
 
--- the notes of one more element, which depend only on its index
+-- the notes of the first i + 1 elements are those of the first i elements, followed by those at index i
 one_more : {X : Type 0} (notes_at : ℕ → List Note) (n : ℕ) (xs : List X) (i : ℕ) → i < length xs
     → flat_map (λ (entry : ℕ × X). notes_at entry.0) (enumerate_from n (take (suc i) xs)) ≡ flat_map (λ (entry : ℕ × X). notes_at entry.0) (enumerate_from n (take i xs)) ++ notes_at (n + i)
 one_more notes_at n [] i inside = absurd (omega (arith, inside))
@@ -63,13 +63,13 @@ one_more notes_at n (x ∷ xs) (suc i) inside =
     let place : n + suc i ≡ n + 1 + i = omega arith in
     ap (λ (ns : List Note). notes_at n ++ ns) (one_more notes_at (n + 1) xs i (omega arith)) ∙ rw place (sym (append_assoc (notes_at n) _ _))
 
--- the same after other notes
+-- the notes of the first i + 1 elements, after some other notes, are those of the first i elements, followed by those at index i
 one_more_after : {X : Type 0} (prefix : List Note) (notes_at : ℕ → List Note) (xs : List X) (i : ℕ) → i < length xs
     → prefix ++ flat_map (λ (entry : ℕ × X). notes_at entry.0) (enumerate_from 0 (take (i + 1) xs)) ≡ prefix ++ flat_map (λ (entry : ℕ × X). notes_at entry.0) (enumerate_from 0 (take i xs)) ++ notes_at i
 one_more_after prefix notes_at xs i inside =
     rw add-one (ap (λ (ns : List Note). prefix ++ ns) (one_more notes_at 0 xs i inside) ∙ rw zero-add (sym (append_assoc prefix _ _)))
 
--- the parts of a certificate that fits also fit, and each belongs to a pool of the plan
+-- each part of a certificate that fits the plan also fits, and belongs to a pool of the plan
 pub part_fits : (plan : Plan) (cert : Cert) (i : ℕ) (pool : PoolCert) → IsTrue (cert_fits plan cert) → i < length cert.pools → pool ≡ get_or cert.pools i pool
     → IsTrue (pool_cert_fits plan pool) × (i < length plan.pools)
 part_fits plan cert i pool fits inside here =

@@ -1,4 +1,4 @@
--- The lines written so far.
+-- The lines that the loop over the pools has appended.
 use Rattle.std.proofs.Common.{◌≡◌, ◌≤◌, ◌<◌, ◌+◌, ℕ, IsTrue, List, [], ◌∷◌, ◌++◌, length, filter, flat_map, get_or, refl, sym, ap, ◌∙◌, append_assoc, length-append}
 use Rattle.std.specs.List.{enumerate_from}
 use Rattle.std.proofs.lemmas.List.{take_all}
@@ -15,13 +15,13 @@ use Rattle.refusal_notes.specs.Line.{line}
 use Rattle.refusal_notes.specs.Explanation.{lines}
 use Rattle.refusal_notes.proofs.CollectedNotes.{note_fails, NotesTo, notes_begin, notes_continue}
 
--- the lines of a concatenation
+-- the lines of the concatenation of two lists of notes are the lines of the first list, followed by those of the second
 lines-append : (plan : Plan) (xs ys : List Note) → lines plan (xs ++ ys) ≡ lines plan xs ++ lines plan ys
 lines-append plan [] ys = refl
 lines-append plan (x ∷ xs) ys =
     ap (λ (t : List ℕ). (line plan x ++ 10 ∷ []) ++ t) (lines-append plan xs ys) ∙ sym (append_assoc (line plan x ++ 10 ∷ []) (lines plan xs) (lines plan ys))
 
--- the old text, followed by the `count` lines of the ranks and of the first i pools
+-- the text is the old text, followed by the `count` lines of the ranks and of the first i pools
 pub record LinesTo (plan : Plan) (cert : Cert) (first text : List ℕ) (count i : ℕ) : Type 0 where
   pub notes : List Note
   pub collected : NotesTo plan cert notes i
@@ -49,7 +49,7 @@ lines_continue plan cert first text text' count count' i pool more fits inside h
       count_is = many ∙ (ap (λ (n : ℕ). n + length more) prior.count_is ∙ sym (length-append prior.notes more));
     }
 
--- after all pools
+-- the text is the old text, followed by the lines of all failing conditions, and `count` is their number
 pub record AllLines (plan : Plan) (cert : Cert) (first text : List ℕ) (count : ℕ) : Type 0 where
   pub text_is : text ≡ first ++ lines plan (failing plan cert)
   pub count_is : count ≡ length (failing plan cert)

@@ -14,7 +14,7 @@ use Rattle.refusal_notes.specs.Line.{line}
 abbrev named_pool : List ℕ → Pool
 named_pool name = record { name = name; core = 1; max = 1; queue = 5; prestart = false }
 
--- pools p and q, a class a that submits a class b, and a kind of client c
+-- a plan with the pools p and q, a class a that submits a class b, and a client kind c
 abbrev two_pools : Plan
 two_pools = record {
   pools = named_pool (codes "p") ∷ named_pool (codes "q") ∷ [];
@@ -41,7 +41,7 @@ pub of_a_blocked_vector : line two_pools (note (section.Blocked 0) (row B2 place
 unfolding digits
 of_a_blocked_vector = refl
 
--- a pool and a class that the plan does not have
+-- a pool and a class that the plan does not have are printed as empty names
 pub of_no_names : line two_pools (note (section.Blocked 2) (row V4 (place.Class 2) 3 2)) ≡ codes "pool  blocked, class : V4 3 above 2"
 unfolding digits
 of_no_names = refl

@@ -9,14 +9,14 @@ use Rattle.soundness.specs.declared.note.Section.{Section}
 use Rattle.soundness.specs.declared.note.Section.TheVariants.{Ranks, Standing, Lifetime, Blocked}
 use Rattle.soundness.specs.declared.note.Note.{Note}
 
--- the part of the certificate
+-- the text of a section, which is a part of the certificate
 abbrev pub section_text : Plan → Section → List ℕ
 section_text plan Ranks = codes "ranks"
 section_text plan (Standing p) = codes "pool " ++ (pool_at plan p).name ++ codes " standing"
 section_text plan (Lifetime p) = codes "pool " ++ (pool_at plan p).name ++ codes " lifetime"
 section_text plan (Blocked p) = codes "pool " ++ (pool_at plan p).name ++ codes " blocked"
 
--- the place of the rule
+-- the text of the place of a row
 abbrev pub place_text : Plan → Place → List ℕ
 place_text plan (Class k) = codes "class " ++ (class_at plan k).name
 place_text plan (ClassAction k i) = codes "class " ++ (class_at plan k).name ++ codes " action " ++ decimal i

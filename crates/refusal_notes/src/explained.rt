@@ -1,4 +1,4 @@
-//! The text that explains a rejection.
+//! The text that explains why a certificate does not accept a plan.
 
 ghost use Rattle.std.specs.Prelude.{◌≡◌, ◌+◌, ◌++◌, ◌∷◌, [], IsTrue, IfOk, length};
 ghost use Rattle.support.specs.Pushed.{Pushes};
@@ -15,8 +15,8 @@ use job_bodies::Plan;
 use std::alloc::{AllocError, Global};
 
 /// Appends a line for each failing condition, and then their number, such as `failing 1`. Returns
-/// that number. Processes the conditions pool by pool, so that they need little memory besides the
-/// text.
+/// that number. Stores the failing conditions of only one pool at a time, so that they need little
+/// memory besides the text.
 ///
 /// # Errors
 ///
@@ -37,7 +37,8 @@ pub fn push_explanation(
     Ok(count)
 }
 
-/// Appends a line for each failing condition of the ranks, and then of each pool.
+/// Appends a line for each failing condition, first those of the ranks and then those of each pool,
+/// and returns their number.
 fn push_all_lines(
     alloc: Global,
     text: &mut String,
@@ -62,7 +63,7 @@ fn push_all_lines(
     Ok(count)
 }
 
-/// Returns the sum, or an error as if memory had run out if the sum overflows.
+/// Returns the sum, or `AllocError` if it overflows.
 fn sum(count: usize, more: usize) -> Result<usize, AllocError>
     ensures { IfOk result (λ sum. sum ≡ count + more) }
 {
@@ -91,7 +92,7 @@ fn push_lines(
     Ok(())
 }
 
-/// Appends the line of the note, with this head of its section.
+/// Appends the line of the note, whose section has this head.
 fn push_line_with_head(
     text: &mut String,
     head: &str,

@@ -11,12 +11,12 @@ use std::alloc::{AllocError, Global};
 use weights::{Row, RowVisitor};
 
 /// A visitor that collects the failing rows. A visitor cannot return an error, so this one stores
-/// it.
+/// the error.
 #[derive(Drop)]
 pub struct FailingRows {
     /// The failing rows, in order.
     rows: Vec<Row>,
-    /// An error if memory ran out. Rows are then missing.
+    /// `Err` if memory ran out. Some failing rows are then missing.
     outcome: Result<(), AllocError>,
 }
 
@@ -32,7 +32,8 @@ impl FailingRows {
         }
     }
 
-    /// Appends the failing rows to the notes, as notes of this section.
+    /// Appends the failing rows to the notes, as notes of this section. Returns `AllocError` if
+    /// memory ran out now or during a visit.
     pub fn push_notes(self, notes: &mut Vec<Note>, section: Section) -> Result<(), AllocError>
         ensures { (seen : List Seen)
             → Keeps self seen
@@ -68,7 +69,7 @@ fn push_section_notes(
     Ok(())
 }
 
-/// Returns a note for the row in this section.
+/// Returns the row as a note of this section.
 fn note(section: Section, row: Row) -> Note
     ensures { result ≡ spec.note section row }
 {

@@ -1,5 +1,5 @@
-//! The reasons why a certificate is rejected: each failing condition, with its left and right side,
-//! and its text.
+//! The reasons why a certificate does not accept a plan: each failing condition, with its left and
+//! right side, and its text.
 #![tactic(auto)]
 
 mod collect;

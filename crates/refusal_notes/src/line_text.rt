@@ -36,7 +36,6 @@ fn rule_name(rule: Rule) -> &'static str
     }
 }
 
-/// Appends `word` and then a name.
 fn push_named(text: &mut String, word: &str, name: &str) -> Result<(), AllocError>
     ensures { Pushes result text.old text.new (word.now ++ name.now) }
 {
@@ -55,7 +54,7 @@ fn push_section(text: &mut String, plan: &Plan, section: Section) -> Result<(), 
     }
 }
 
-/// Appends a pool's name and the kind of one of its vectors.
+/// Appends the text of the section of a pool's vector, such as `pool p standing`.
 fn push_vector(text: &mut String, plan: &Plan, pool: usize, vector: &str) -> Result<(), AllocError>
     ensures { Pushes result text.old text.new
         (codes "pool " ++ (pool_at plan.now pool).name ++ vector.now) }
@@ -90,7 +89,7 @@ fn push_place(text: &mut String, plan: &Plan, place: Place) -> Result<(), AllocE
     }
 }
 
-/// Appends the rule of the note and its two sides.
+/// Appends the rule of the note and its two sides, such as `B2 1 above 0`.
 fn push_sides(text: &mut String, note: &Note) -> Result<(), AllocError>
     ensures { Pushes result text.old text.new
         (spec.rule_text note.now.rule
@@ -113,7 +112,7 @@ fn push_head(text: &mut String, plan: &Plan, section: Section) -> Result<(), All
     text.push_str(", ")
 }
 
-/// Returns the head of the lines of a section.
+/// Returns the head of the lines of a section, such as `pool p blocked, `.
 pub(crate) fn head_of(alloc: Global, plan: &Plan, section: Section) -> Result<String, AllocError>
     ensures { IfOk result (λ head. string_bytes head ≡ spec.head plan.now section) }
 {
@@ -122,7 +121,7 @@ pub(crate) fn head_of(alloc: Global, plan: &Plan, section: Section) -> Result<St
     Ok(head)
 }
 
-/// Appends the part of the note's line after its head.
+/// Appends the part of the note's line after the head, such as `total: B2 1 above 0`.
 pub(crate) fn push_condition(text: &mut String, plan: &Plan, note: &Note) -> Result<(), AllocError>
     ensures { Pushes result text.old text.new (spec.condition plan.now note.now) }
 {
@@ -139,8 +138,8 @@ fn push_note(text: &mut String, plan: &Plan, note: &Note) -> Result<(), AllocErr
     push_condition(text, plan, note)
 }
 
-/// Appends the line of the note, such as `pool p blocked, total: B2 1 above 0`. An index that the
-/// plan does not have prints as an empty name.
+/// Appends the line of the note, such as `pool p blocked, total: B2 1 above 0`. A pool, class or
+/// client kind that the plan does not have is printed as an empty name.
 ///
 /// # Errors
 ///

@@ -1,4 +1,4 @@
--- The pools before this one were written.
+-- The failing conditions of the ranks and of the pools before this one were collected.
 use Rattle.refusal_notes.proofs.CollectedNotes.{NotesTo}
 use Rattle.refusal_notes.proofs.collect.notes.Given as goal
 

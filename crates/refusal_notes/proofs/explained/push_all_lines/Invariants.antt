@@ -1,4 +1,4 @@
--- The lines of the pools before this one were written.
+-- The lines of the ranks and of the pools before this one were appended.
 use Rattle.std.specs.Prelude.{string_bytes}
 use Rattle.refusal_notes.proofs.Explaining.{LinesTo}
 use Rattle.refusal_notes.proofs.explained.push_all_lines.Given as goal

@@ -1,4 +1,4 @@
--- The text is the old text followed by the lines of the notes before this one, and the head is that of its section.
+-- The text is the old text followed by the lines of the notes before this one, and `head` is the head of `section`.
 use Rattle.std.proofs.Common.{◌≡◌, ◌++◌, take}
 use Rattle.std.specs.Prelude.{string_bytes}
 use Rattle.refusal_notes.specs.Line.{head}

@@ -1,4 +1,4 @@
--- The rows before this one were written.
+-- The notes of the rows before this one were appended.
 use Rattle.std.proofs.Common.{◌≡◌, ◌++◌, take}
 use Rattle.soundness.specs.Conditions.{in_section}
 use Rattle.refusal_notes.proofs.failing_rows.push_section_notes.Given as goal
