@@ -15,7 +15,7 @@ use Rattle.soundness.specs.Conditions.{note, in_section, bound_section, pool_con
 use Rattle.soundness.specs.Accepted.{is_nil}
 use Rattle.cert_check.specs.PoolConditions.{pool_holds}
 
--- a note whose left is greater than its right
+-- the note fails: its left side is greater than its right side
 abbrev is_failing : Note → Bool
 is_failing x = ltb x.right x.left
 
@@ -30,7 +30,7 @@ none_failing-cons x notes =
       | false ↦ refl
     ]
 
--- no note of a concatenation fails if and only if no note of either list fails
+-- no note of a concatenation fails exactly when no note of either list fails
 none_failing-append : (xs ys : List Note) → none_failing (xs ++ ys) ≡ (none_failing xs && none_failing ys)
 none_failing-append [] ys = refl
 none_failing-append (x ∷ xs) ys =
@@ -43,7 +43,7 @@ none_failing-append (x ∷ xs) ys =
     and-assoc true b c = refl
     and-assoc false b c = refl
 
--- no note of a section fails if and only if it has no first failing row
+-- no note of a section fails exactly when no row of it is the first to fail
 none_failing-section : (part : Section) (rows : List Row) → none_failing (in_section part rows) ≡ not (is_some (first_failing rows))
 none_failing-section part [] = refl
 none_failing-section part (x ∷ rows) =
@@ -54,7 +54,7 @@ none_failing-section part (x ∷ rows) =
       | false ↦ refl
     ])
 
--- no note of a flat_map fails if and only if no note of any element's list fails
+-- no note of a flat_map fails exactly when no note of any element's list fails
 none_failing-flat_map : {X : Type 0} (f : X → List Note) (xs : List X) → none_failing (flat_map f xs) ≡ list_all (λ x. none_failing (f x)) xs
 none_failing-flat_map f [] = refl
 none_failing-flat_map f (x ∷ xs) = none_failing-append (f x) (flat_map f xs) ∙ ap (λ b. none_failing (f x) && b) (none_failing-flat_map f xs)
@@ -63,7 +63,7 @@ list_all-same : {X : Type 0} (f g : X → Bool) (xs : List X) → ((x : X) → f
 list_all-same f g [] same = refl
 list_all-same f g (x ∷ xs) same = ap₂ (λ a b. a && b) (same x) (list_all-same f g xs same)
 
--- no condition of pool p fails if and only if pool_holds
+-- no condition of pool p fails exactly when `pool_holds` is true
 pool_holds-means : (plan : Plan) (cert : Cert) (p : ℕ) → none_failing (pool_conditions plan cert p) ≡ pool_holds plan cert p
 pool_holds-means plan cert p =
     let pool = pool_cert_at cert p in
@@ -72,7 +72,7 @@ pool_holds-means plan cert p =
     none_failing-append (in_section (bound_section p pool.bound) of_bound) (in_section (section.Blocked p) of_blocked)
     ∙ ap₂ (λ a b. a && b) (none_failing-section (bound_section p pool.bound) of_bound) (none_failing-section (section.Blocked p) of_blocked)
 
--- no condition of the certificate fails if and only if none of the ranks fails and each pool holds
+-- no condition of the certificate fails exactly when no condition of the ranks fails and `pool_holds` is true for each pool
 pub conditions_hold : (plan : Plan) (cert : Cert)
     → is_nil (failing plan cert) ≡ (not (is_some (first_failing (rank_rows plan cert.ranks))) && list_all (λ entry. pool_holds plan cert entry.0) (enumerate_from 0 plan.pools))
 conditions_hold plan cert =

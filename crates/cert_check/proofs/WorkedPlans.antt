@@ -20,7 +20,7 @@ a_class letter pool body = record { name = letter ∷ []; pool = pool; body = bo
 abbrev pub clients : ℕ → ℕ → Bool → List Action → Client
 clients letter count repeat body = record { name = letter ∷ []; count = count; repeat = repeat; body = body }
 
--- submits a job of this class and gets its result
+-- the body that submits a job of this class and gets it
 abbrev pub asks : ℕ → List Action
 asks class = Submit class ∷ Get 0 ∷ []
 
@@ -29,27 +29,27 @@ works = Work 1 ∷ []
 
 -- ---- plans
 
--- no pool, no class and no client
+-- a plan without pools, classes and clients
 abbrev pub no_parts : Plan
 no_parts = record { pools = []; classes = []; clients = [] }
 
--- a plan of this pool, one class whose jobs work, and this client
+-- a plan of this pool, one class whose jobs work, and this client kind
 abbrev pub one_class : Pool → Client → Plan
 one_class pool client = record { pools = pool ∷ []; classes = a_class 97 0 works ∷ []; clients = client ∷ [] }
 
--- a pool of these sizes (core, maximum, queue) and `count` clients that repeatedly submit a job and wait for it
+-- a plan of a pool of these sizes (core, maximum, queue) and `count` clients that repeatedly submit a job and wait for it
 abbrev pub one_pool : ℕ → ℕ → ℕ → ℕ → Plan
 one_pool core max queue count = one_class (a_pool 112 core max queue false) (clients 99 count true (asks 0))
 
--- the same, if each client runs only once, and with the option to prestart the core threads
+-- a plan like `one_pool`, but each client goes through its body once, and the core threads may be prestarted
 abbrev pub one_pool_once : ℕ → ℕ → ℕ → ℕ → Bool → Plan
 one_pool_once core max queue count prestart = one_class (a_pool 112 core max queue prestart) (clients 99 count false (asks 0))
 
--- one client that submits a job and never waits for it, once or repeatedly
+-- a plan of one client that submits a job and never waits for it, once or repeatedly
 abbrev pub forgetting : Bool → Plan
 forgetting repeat = one_class (a_pool 112 1 1 2 false) (clients 99 1 repeat (Submit 0 ∷ []))
 
--- a pool of this core and maximum and a queue of 5, in which an outer job submits an inner one and waits for it
+-- a plan of a pool with this core and maximum and a queue of 5, in which an outer job submits an inner one and waits for it
 abbrev pub nested : ℕ → ℕ → Bool → Plan
 nested core max prestart = record {
   pools = a_pool 112 core max 5 prestart ∷ [];
@@ -57,7 +57,7 @@ nested core max prestart = record {
   clients = clients 99 1 true (asks 0) ∷ [];
 }
 
--- two threads and this queue, in which an outer job submits three inner jobs and then waits for them
+-- a plan of a pool with two threads and this queue, in which an outer job submits three inner jobs and then waits for them
 abbrev pub fan_out : ℕ → Plan
 fan_out queue = record {
   pools = a_pool 112 2 2 queue false ∷ [];
@@ -65,7 +65,7 @@ fan_out queue = record {
   clients = clients 99 1 true (asks 0) ∷ [];
 }
 
--- jobs of a first pool wait for jobs of a second one
+-- a plan in which jobs of a first pool wait for jobs of a second one
 abbrev pub front_and_back : Plan
 front_and_back = record {
   pools = a_pool 102 4 4 1000 false ∷ a_pool 98 2 2 4 false ∷ [];
@@ -73,7 +73,7 @@ front_and_back = record {
   clients = clients 99 1000 true (asks 0) ∷ [];
 }
 
--- a pool of one thread and a pool of the given number, each with jobs that wait for jobs of the other
+-- a plan of a pool of one thread and a pool of `threads` threads, each with jobs that wait for jobs of the other
 abbrev pub two_pools : ℕ → Plan
 two_pools threads = record {
   pools = a_pool 112 1 1 2 false ∷ a_pool 113 threads threads 2 false ∷ [];
@@ -81,7 +81,7 @@ two_pools threads = record {
   clients = clients 117 1 true (asks 0) ∷ clients 119 1 true (asks 2) ∷ [];
 }
 
--- a job of pool p waits for a job of pool q, which waits for a job of pool p
+-- a plan in which a job of pool p waits for a job of pool q, which waits for another job of pool p
 abbrev pub there_and_back : Plan
 there_and_back = record {
   pools = a_pool 112 1 1 2 false ∷ a_pool 113 2 2 2 false ∷ [];
@@ -97,7 +97,7 @@ weighing workers classes clients = record { workers = workers; classes = classes
 abbrev pub pool_cert : Bound → Vector → PoolCert
 pool_cert bound blocked = record { bound = bound; blocked = blocked }
 
--- rows of weights: for a class and a client of two actions, and for a class and a client of one action
+-- the weights of a class, all 0 or all 1: `pair_of` for a body of two actions, `one_of` for a body of one action
 abbrev pub pair_of_zeros : List ℕ
 pair_of_zeros = 0 ∷ 0 ∷ 0 ∷ 0 ∷ 0 ∷ []
 
@@ -110,14 +110,14 @@ one_of_zeros = 0 ∷ 0 ∷ 0 ∷ 0 ∷ []
 abbrev pub one_of_ones : List ℕ
 one_of_ones = 1 ∷ 1 ∷ 1 ∷ 1 ∷ []
 
--- submits a job and gets it: its weight is 0 while the job holds it
+-- the weights of a client that submits a job and gets it: 1, but 0 at the get, while the job has the weight
 abbrev pub lends : List ℕ
 lends = 1 ∷ 0 ∷ 1 ∷ []
 
 abbrev pub has_nothing : List ℕ
 has_nothing = 0 ∷ 0 ∷ 0 ∷ []
 
--- a job of two actions with these weights
+-- the weights of a class that submits a job and gets it: 1, but 0 at the get, while the submitted job has the weight
 abbrev pub job_lends : List ℕ
 job_lends = 1 ∷ 1 ∷ 0 ∷ 1 ∷ 1 ∷ []
 
@@ -126,26 +126,26 @@ job_lends = 1 ∷ 1 ∷ 0 ∷ 1 ∷ 1 ∷ []
 abbrev pub no_parts_cert : Cert
 no_parts_cert = record { pools = []; ranks = record { pools = []; reach = []; levels = [] } }
 
--- one pool and one class whose jobs are never blocked
+-- a certificate for a plan of one pool, with this bound and rank, in which no job is ever blocked
 abbrev pub one_pool_cert : Bound → ℕ → Cert
 one_pool_cert bound rank = record {
   pools = pool_cert bound (weighing (0 ∷ []) (one_of_zeros ∷ []) (has_nothing ∷ [])) ∷ [];
   ranks = record { pools = rank ∷ []; reach = 0 ∷ []; levels = 0 ∷ [] };
 }
 
--- the weight is that of the client, or of its job while there is one
+-- a certificate whose standing vector gives each client this weight, and gives it to the client's job while the client waits
 abbrev pub standing_cert : ℕ → Cert
 standing_cert weight = one_pool_cert (Standing (weighing (0 ∷ []) ((weight ∷ weight ∷ weight ∷ weight ∷ []) ∷ []) ((weight ∷ 0 ∷ weight ∷ []) ∷ []))) 0
 
--- a done job weighs more than a job at its end, and the rank of the pool is above what its jobs reach
+-- a certificate with two faults: a done job weighs more than a job at its end, and the rank of the pool is above the reach of its class
 abbrev pub faulty_cert : Cert
 faulty_cert = one_pool_cert (Standing (weighing (0 ∷ []) ((1 ∷ 1 ∷ 1 ∷ 2 ∷ []) ∷ []) (lends ∷ []))) 1
 
--- each client submits one job, and a job keeps its weight after the get
+-- a certificate with a lifetime vector: a client weighs 1 until it submits its job, and the job has the weight after that
 abbrev pub lifetime_cert : Cert
 lifetime_cert = one_pool_cert (Lifetime (weighing (0 ∷ []) (one_of_ones ∷ []) ((1 ∷ 0 ∷ 0 ∷ []) ∷ []))) 0
 
--- a job weighs nothing once it is done, since no get waits for it
+-- a certificate for `forgetting`: a job weighs nothing once it is done, since no get waits for it
 abbrev pub forgetting_cert : Cert
 forgetting_cert = record {
   pools =
@@ -156,11 +156,11 @@ forgetting_cert = record {
   ranks = record { pools = 0 ∷ []; reach = 0 ∷ []; levels = 0 ∷ [] };
 }
 
--- the level of the outer class is above that of the inner one
+-- the ranks for `nested`: the level of the outer class is above that of the inner one
 abbrev pub nested_ranks : Ranks
 nested_ranks = record { pools = 0 ∷ []; reach = 0 ∷ 0 ∷ []; levels = 1 ∷ 0 ∷ [] }
 
--- at most one of the two jobs is queued, and only the outer job is ever blocked
+-- a certificate for `nested`: at most one of the two jobs is queued, and only the outer job is ever blocked
 abbrev pub nested_cert : Cert
 nested_cert = record {
   pools =
@@ -171,7 +171,7 @@ nested_cert = record {
   ranks = nested_ranks;
 }
 
--- the outer job has weight 3, of which each inner job holds 1
+-- a certificate for `fan_out`: the outer job has weight 3, and gives 1 of it to each inner job
 abbrev pub fan_out_cert : Cert
 fan_out_cert = record {
   pools =
@@ -182,8 +182,8 @@ fan_out_cert = record {
   ranks = nested_ranks;
 }
 
--- the clients pass their weight to the jobs of the first pool, and the workers of the first pool to the jobs of the second;
--- no get of a job of the first pool is counted
+-- a certificate for `front_and_back`: the clients pass their weight to the jobs of the first pool, and the workers of the first pool pass
+-- theirs to the jobs of the second; no get of a job of the first pool is counted
 abbrev pub front_and_back_cert : Cert
 front_and_back_cert = record {
   pools =
@@ -197,7 +197,8 @@ front_and_back_cert = record {
   ranks = record { pools = 1 ∷ 0 ∷ []; reach = 1 ∷ 0 ∷ []; levels = 1 ∷ 0 ∷ [] };
 }
 
--- the rank of the first pool is above what its job waits for, and that of the second is not
+-- a certificate for `two_pools`: the rank of the first pool is above the reach of the job that its jobs wait for, and the rank of the
+-- second pool is not
 abbrev pub two_pools_cert : Cert
 two_pools_cert = record {
   pools =
@@ -211,7 +212,7 @@ two_pools_cert = record {
   ranks = record { pools = 1 ∷ 0 ∷ []; reach = 1 ∷ 0 ∷ 1 ∷ 1 ∷ []; levels = 1 ∷ 0 ∷ 1 ∷ 0 ∷ [] };
 }
 
--- the first job waits for a job whose reach is the rank of its own pool
+-- a certificate for `there_and_back`: the first job waits for a job whose reach is the rank of the first job's own pool
 abbrev pub there_and_back_cert : Cert
 there_and_back_cert = record {
   pools =

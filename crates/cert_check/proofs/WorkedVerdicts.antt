@@ -21,31 +21,31 @@ yes pools = record { yes = true; pools = pools }
 abbrev no : List PoolLine → Verdict
 no pools = record { yes = false; pools = pools }
 
--- a line with a standing vector: its total and limit, and the blocked total and limit
+-- the line of a pool with a standing vector: its total and limit, and the blocked total and limit
 abbrev standing : ℕ → ℕ → ℕ → ℕ → PoolLine
 standing total queue blocked limit = record { lifetime = false; standing = total; queue = queue; blocked = blocked; limit = limit }
 
--- a line with a lifetime vector
+-- the line of a pool with a lifetime vector: its total and limit, and the blocked total and limit
 abbrev lifetime : ℕ → ℕ → ℕ → ℕ → PoolLine
 lifetime total most blocked limit = record { lifetime = true; standing = total; queue = most; blocked = blocked; limit = limit }
 
 -- ---- one pool
 
--- two clients and a queue of two
+-- a queue of two is enough for two clients
 pub exact_capacity : verdict (one_pool 1 1 2 2) (standing_cert 1) ≡ yes (standing 2 2 0 0 ∷ [])
 exact_capacity = refl
 
 pub exact_capacity_fails_nowhere : failing (one_pool 1 1 2 2) (standing_cert 1) ≡ []
 exact_capacity_fails_nowhere = refl
 
--- two clients and a queue of one: the total exceeds the queue
+-- a queue of one is not enough for two clients: the total exceeds the queue
 pub over_capacity : verdict (one_pool 1 1 1 2) (standing_cert 1) ≡ no (standing 2 1 0 0 ∷ [])
 over_capacity = refl
 
 pub over_capacity_fails : failing (one_pool 1 1 1 2) (standing_cert 1) ≡ note (section.Standing 0) (row S2 place.Total 2 1) ∷ []
 over_capacity_fails = refl
 
--- a condition of the ranks fails, and then conditions of the vector
+-- the failing condition of the ranks comes before those of the vector
 pub several_notes : failing (one_pool 1 1 1 2) faulty_cert
     ≡ note section.Ranks (row K1 (place.Class 0) 1 0)
     ∷ note (section.Standing 0) (row V6 (place.Class 0) 2 1)
@@ -53,60 +53,60 @@ pub several_notes : failing (one_pool 1 1 1 2) faulty_cert
     ∷ []
 several_notes = refl
 
--- a plan without parts
+-- the verdict on a plan without pools is yes
 pub empty_plan : verdict no_parts no_parts_cert ≡ yes []
 empty_plan = refl
 
--- a million clients, each of the largest weight
+-- a million clients, each of the largest weight, have a total that fits in 64 bits
 pub large_weights : verdict (one_pool 1 1 2 1000000) (standing_cert 1000000000) ≡ no (standing 1000000000000000 2 0 0 ∷ [])
 large_weights = refl
 
 pub large_weights_fail : failing (one_pool 1 1 2 1000000) (standing_cert 1000000000) ≡ note (section.Standing 0) (row S2 place.Total 1000000000000000 2) ∷ []
 large_weights_fail = refl
 
--- such a certificate fits the plan, and one with an extra entry does not
+-- a certificate with the largest weight fits the plan, and one with a larger weight does not
 pub large_weights_fit : cert_fits (one_pool 1 1 2 1000000) (standing_cert 1000000000) ≡ true
 large_weights_fit = refl
 
 pub larger_weights_do_not_fit : cert_fits (one_pool 1 1 2 1000000) (standing_cert 1000000001) ≡ false
 larger_weights_do_not_fit = refl
 
--- a client that repeatedly submits and never waits
+-- a client that repeatedly submits a job and never waits for it is not accepted
 pub fire_and_forget : verdict (forgetting true) forgetting_cert ≡ no (standing 1 2 0 0 ∷ [])
 fire_and_forget = refl
 
 pub fire_and_forget_fails : failing (forgetting true) forgetting_cert ≡ note (section.Standing 0) (row V7 (place.Client 0) 1 0) ∷ []
 fire_and_forget_fails = refl
 
--- a client that submits once and never waits
+-- a client that submits a job once and never waits for it is accepted
 pub fire_and_forget_once : verdict (forgetting false) forgetting_cert ≡ yes (standing 1 2 0 0 ∷ [])
 fire_and_forget_once = refl
 
 -- ---- lifetime vectors
 
--- three clients that run once, two threads and a queue of one
+-- two threads and a queue of one are enough for three clients that each submit one job
 pub lifetime_first : verdict (one_pool_once 2 2 1 3 false) lifetime_cert ≡ yes (lifetime 3 3 0 1 ∷ [])
 lifetime_first = refl
 
--- the same with prestarted threads: no submit starts a thread, so the queue must hold all jobs
+-- with prestarted threads no submit starts a thread, and a queue of one cannot hold all three jobs
 pub lifetime_first_prestarted : verdict (one_pool_once 2 2 1 3 true) lifetime_cert ≡ no (lifetime 3 1 0 1 ∷ [])
 lifetime_first_prestarted = refl
 
 pub lifetime_first_prestarted_fails : failing (one_pool_once 2 2 1 3 true) lifetime_cert ≡ note (section.Lifetime 0) (row L3 place.Total 3 1) ∷ []
 lifetime_first_prestarted_fails = refl
 
--- a queue of five holds them
+-- a queue of five holds all three jobs of the prestarted pool
 pub prestarted : verdict (one_pool_once 2 2 5 3 true) lifetime_cert ≡ yes (lifetime 3 5 0 1 ∷ [])
 prestarted = refl
 
--- one client more than the threads and the queue have room for
+-- two threads and a queue of one are not enough for four clients that each submit one job
 pub lifetime_over : verdict (one_pool_once 2 2 1 4 false) lifetime_cert ≡ no (lifetime 4 3 0 1 ∷ [])
 lifetime_over = refl
 
 pub lifetime_over_fails : failing (one_pool_once 2 2 1 4 false) lifetime_cert ≡ note (section.Lifetime 0) (row L3 place.Total 4 3) ∷ []
 lifetime_over_fails = refl
 
--- clients that repeat submit an unbounded number of jobs
+-- clients that repeat submit an unbounded number of jobs, so no lifetime vector bounds it
 pub lifetime_repeating : verdict (one_pool 1 1 1 2) lifetime_cert ≡ no (lifetime 2 2 0 0 ∷ [])
 lifetime_repeating = refl
 
@@ -115,29 +115,29 @@ lifetime_repeating_fails = refl
 
 -- ---- jobs that wait for jobs of their own pool
 
--- one worker is free for the inner job
+-- a pool of two threads has a thread free for the inner job
 pub nested_two_workers : verdict (nested 2 2 false) nested_cert ≡ yes (standing 1 5 1 1 ∷ [])
 nested_two_workers = refl
 
--- the only worker waits for the inner job: the number of blocked jobs can reach core
+-- in a pool of one thread, the number of blocked jobs can reach core, because the only worker waits for the inner job
 pub nested_one_worker : verdict (nested 1 1 false) nested_cert ≡ no (standing 1 5 1 0 ∷ [])
 nested_one_worker = refl
 
 pub nested_one_worker_fails : failing (nested 1 1 false) nested_cert ≡ note (section.Blocked 0) (row B2 place.Total 1 0) ∷ []
 nested_one_worker_fails = refl
 
--- the certificate fits the plan all the same
+-- the certificate fits the plan with one thread, although a condition fails
 pub nested_one_worker_fits : cert_fits (nested 1 1 false) nested_cert ≡ true
 nested_one_worker_fits = refl
 
--- a higher maximum does not help, since the queue never fills
+-- a higher maximum does not help, since the queue never becomes full
 pub nested_unused_max : verdict (nested 1 8 false) nested_cert ≡ no (standing 1 5 1 0 ∷ [])
 nested_unused_max = refl
 
 pub nested_unused_max_fails : failing (nested 1 8 false) nested_cert ≡ note (section.Blocked 0) (row B2 place.Total 1 0) ∷ []
 nested_unused_max_fails = refl
 
--- three inner jobs, which need a queue of three
+-- three inner jobs need a queue of three
 pub fan_out_fits_in_three : verdict (fan_out 3) fan_out_cert ≡ yes (standing 3 3 1 1 ∷ [])
 fan_out_fits_in_three = refl
 
@@ -149,11 +149,11 @@ fan_out_in_two_fails = refl
 
 -- ---- jobs that wait for jobs of other pools
 
--- no job of the first pool is counted, since the job that it waits for reaches only lower pools
+-- no get of a job of the first pool is counted, since the job that it waits for reaches only lower pools
 pub front_back : verdict front_and_back front_and_back_cert ≡ yes (standing 1000 1000 0 3 ∷ standing 4 4 0 1 ∷ [])
 front_back = refl
 
--- each of two pools waits for the other: one of them counts its gets and needs another worker
+-- if two pools wait for each other, the gets of one of them are counted, and this pool needs one more worker
 pub cross_pools_safe : verdict (two_pools 2) two_pools_cert ≡ yes (standing 2 2 0 0 ∷ standing 2 2 1 1 ∷ [])
 cross_pools_safe = refl
 
@@ -163,7 +163,7 @@ cross_pools_stuck = refl
 pub cross_pools_stuck_fails : failing (two_pools 1) two_pools_cert ≡ note (section.Blocked 1) (row B2 place.Total 1 0) ∷ []
 cross_pools_stuck_fails = refl
 
--- a get is counted by the reach of the job that it waits for, not by that job's pool
+-- whether a get is counted depends on the reach of the job that it waits for, not on that job's pool
 pub reach_counts : verdict there_and_back there_and_back_cert ≡ no (standing 1 2 0 0 ∷ standing 1 2 1 1 ∷ [])
 reach_counts = refl
 
@@ -172,27 +172,27 @@ reach_counts_fails = refl
 
 -- ---- the remaining work
 
--- the remaining work after these events, for two workers and nested jobs
+-- the remaining work after these events, in the plan of nested jobs with two threads
 abbrev todo_after : Bool → List Event → Option ℕ
 todo_after prestart events = option_map (todo (nested 2 2 prestart) nested_ranks) (replay (nested 2 2 prestart) (Some (start (nested 2 2 prestart))) events)
 
--- an outer job has its two actions, the take, its end, and the three events of an inner job
+-- an outer job that is queued has 7 events: its take, its two actions, its end, and the three events of an inner job
 pub nested_full : full (nested 2 2 false) nested_ranks 0 ≡ 7
 nested_full = refl
 
--- after the start, the take is not counted
+-- an outer job that a new thread started has 6 events, since it needs no take
 pub nested_started : todo_after false (event.Client 0 ∷ []) ≡ Some 6
 nested_started = refl
 
--- five events drain it, since the inner job needs no take either
+-- five events finish both jobs, one fewer than the bound, since the inner job needs no take either
 pub nested_drained : todo_after false (event.Client 0 ∷ event.Job 0 ∷ event.Job 1 ∷ event.Job 1 ∷ event.Job 0 ∷ event.Job 0 ∷ []) ≡ Some 0
 nested_drained = refl
 
--- with prestarted threads the first job is queued
+-- with prestarted threads the outer job is queued, and has 7 events
 pub nested_queued : todo_after true (event.Client 0 ∷ []) ≡ Some 7
 nested_queued = refl
 
--- that number of events drains it
+-- exactly 7 events finish both jobs of the prestarted pool
 pub nested_drained_exactly :
     todo_after true (event.Client 0 ∷ event.Take 0 ∷ event.Job 0 ∷ event.Take 0 ∷ event.Job 1 ∷ event.Job 1 ∷ event.Job 0 ∷ event.Job 0 ∷ []) ≡ Some 0
 nested_drained_exactly = refl

@@ -8,7 +8,7 @@ use Rattle.cert_text.specs.Cert.{Cert, pool_cert_at}
 use Rattle.soundness.specs.Accepted.{accepted}
 use Rattle.cert_check.specs.declared.answer.PoolLine.{PoolLine}
 
--- of pool p: the totals of its bound and of its blocked vector, each with its limit
+-- the totals of pool p's two vectors, each with its limit
 abbrev pub pool_line : Plan → Cert → ℕ → PoolLine
 pool_line plan cert p = record {
   lifetime = is_lifetime (pool_cert_at cert p).bound;
@@ -22,6 +22,6 @@ pub record Verdict : Type 0 where
   pub yes : Bool
   pub pools : List PoolLine
 
--- yes exactly when the certificate accepts the plan, and a line for each pool
+-- the verdict: yes exactly when the certificate accepts the plan, and a line for each pool
 abbrev pub verdict : Plan → Cert → Verdict
 verdict plan cert = record { yes = accepted plan cert; pools = map (λ entry. pool_line plan cert entry.0) (enumerate_from 0 plan.pools) }

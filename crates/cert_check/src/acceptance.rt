@@ -23,7 +23,7 @@ pub fn accepts(plan: &Plan, cert: &Cert) -> bool
     cert.fits(plan) && conditions_hold(plan, cert)
 }
 
-/// Returns whether all conditions of a certificate hold, given that it fits the plan.
+/// Returns whether all conditions of the certificate hold. The certificate must fit the plan.
 pub(crate) fn conditions_hold(plan: &Plan, cert: &Cert) -> bool
     requires { IsTrue (cert_fits plan.now cert.now) }
     ensures exact { result ≡ is_nil (failing plan.now cert.now) }
@@ -54,8 +54,8 @@ pub(crate) fn pool_holds(plan: &Plan, cert: &Cert, pool: usize) -> bool
 
 /// Returns whether the certificate fits the plan and gives each pool a standing vector whose
 /// conditions all hold. Ignores the blocked vectors and the ranks.
-///
-/// If so, no submit is ever rejected, even if each submit takes the separate steps of Java's
+/// If it returns `true`, no submit is ever refused, even if each submit takes the separate steps of
+/// Java's `execute`. Allocates nothing.
 /// `execute`. Allocates nothing.
 pub fn accepts_standing(plan: &Plan, cert: &Cert) -> bool
     ensures exact { result ≡ spec.accepted_standing plan.now cert.now }

@@ -12,9 +12,9 @@ pub struct PoolLine {
     /// The total of the vector that bounds the pool's queue.
     pub standing: u64,
     /// The limit of `standing`: the queue's capacity or, for a lifetime vector, the number of jobs
-    /// that the pool accepts before it can reject one.
+    /// that the pool accepts before it can refuse one.
     pub queue: u64,
-    /// The total of the vector that bounds the pool's blocked jobs.
+    /// The total of the blocked vector, which bounds the number of the pool's jobs at counted gets.
     pub blocked: u64,
     /// The limit of `blocked`: one less than the core size.
     pub limit: u64,

@@ -10,7 +10,7 @@ use cert_text::CertFault;
 use job_bodies::PlanFault;
 use std::alloc::{AllocError, Global};
 
-/// The reason why there is no verdict.
+/// The reason why a check returns no verdict.
 #[derive(Clone, Copy, Debug, PartialEq, Eq)]
 pub enum CheckFault {
     /// The first fault of the plan's text.
@@ -34,10 +34,10 @@ impl From<AllocError> for CheckFault {
 /// Reads a plan and a certificate for it, and returns whether the certificate accepts the plan,
 /// with the totals and limits of each pool.
 ///
-/// If the verdict is `yes`, no list of events reaches a state in which a submit was rejected, a
-/// pool has more threads or queued jobs than its limits allow, or unfinished jobs wait only for
-/// each other. In each reached state with an unfinished job, a job can take a step or a worker can
-/// take a job. Work that has begun ends.
+/// If the verdict is `yes`, no list of events reaches a state in which a submit was refused, a pool
+/// has more threads or queued jobs than its limits allow, or unfinished jobs wait only for each
+/// other. In each reached state with an unfinished job, a job can take a step or a worker can take
+/// a job. If the clients stop, all jobs finish after a bounded number of such events.
 ///
 /// # Errors
 ///

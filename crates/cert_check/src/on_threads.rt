@@ -1,4 +1,4 @@
-//! The check on several threads, which share the pools.
+//! The check on several threads, each of which checks some of the pools.
 
 ghost use Rattle.std.specs.Prelude.{◌≡◌, ◌≢◌, ◌≤◌, ◌<◌, ℕ, slice_index_or, IfOk, IfErr, IfSome, IsTrue, Ok, Err, length, vec_len};
 ghost use Rattle.job_bodies.specs.declared.limits.TheConstants.{MAX_WORKERS};
@@ -24,18 +24,18 @@ use std::thread::Threads;
 pub(crate) struct PoolCheck {
     pub(crate) pool: usize,
     pub(crate) line: PoolLine,
-    /// Whether all conditions of its bound and of its blocked vector hold.
+    /// Whether all conditions of the pool's bound and of its blocked vector hold.
     pub(crate) holds: bool,
 }
 
 /// Checks as [`check`](crate::check) does, and distributes the pools over up to `workers` threads,
-/// 1 to [`MAX_WORKERS`](job_bodies::MAX_WORKERS). Each thread asks the gate before it checks a
-/// pool, and holds no lock then. If no thread can be started, the calling thread checks the pools.
+/// 1 to [`MAX_WORKERS`](job_bodies::MAX_WORKERS). Each thread calls the gate before it checks a
+/// pool, without holding a lock. If no thread can be started, the calling thread checks the pools.
 ///
 /// # Errors
 ///
 /// Returns the errors of [`check`](crate::check), and [`CheckFault::Gate`] if the gate returned
-/// `false` for a pool. The gate is asked only after both texts were read.
+/// `false` for a pool. The gate is called only after both texts were read.
 pub fn check_on<R: Threads + Sync, G: PoolGate>(
     rt: &R,
     alloc: Global,
@@ -52,7 +52,7 @@ pub fn check_on<R: Threads + Sync, G: PoolGate>(
         fault ≢ Memory
         → fault ≢ Gate
         → check_spec.checked plan_text.now cert_text.now ≡ Err fault) }
-    // Gate is only returned if the plan has a pool.
+    // `Gate` is returned only if both texts could be read and the plan has a pool.
     ensures gate { IfErr result (λ fault. fault ≡ Gate → IsRead plan_text.now cert_text.now) }
     // The meaning of `yes`.
     ensures safe { IfOk result
@@ -84,7 +84,8 @@ fn verdict_on<R: Threads + Sync, G: PoolGate>(
     }
 }
 
-/// Checks each pool on one of the threads. The entry of a pool that the gate stopped is `None`.
+/// Returns the results of all pools, each checked on one of the threads. The result of a pool for
+/// which the gate returned `false` is `None`.
 fn check_pools<R: Threads + Sync, G: PoolGate>(
     rt: &R,
     alloc: Global,
@@ -102,7 +103,7 @@ fn check_pools<R: Threads + Sync, G: PoolGate>(
     Ok(found)
 }
 
-/// Writes the result of each pool to its index.
+/// Writes the result of each pool to the element at the pool's index.
 fn check_pools_into<R: Threads + Sync, G: PoolGate>(
     rt: &R,
     workers: usize,
@@ -131,7 +132,7 @@ fn check_pools_into<R: Threads + Sync, G: PoolGate>(
     );
 }
 
-/// Returns a list of one `None` for each pool.
+/// Returns a list with a `None` for each pool.
 fn empty_results(alloc: Global, pools: usize) -> Result<Vec<Option<PoolCheck>>, AllocError>
     ensures { IfOk result (λ found. vec_len found ≡ pools) }
 {
@@ -140,7 +141,7 @@ fn empty_results(alloc: Global, pools: usize) -> Result<Vec<Option<PoolCheck>>, 
     Ok(found)
 }
 
-/// Checks one pool if the gate allows it, and returns `None` otherwise.
+/// Checks the pool and returns the result, or returns `None` if the gate returns `false`.
 fn check_pool<G: PoolGate>(plan: &Plan, cert: &Cert, gate: &G, pool: usize) -> Option<PoolCheck>
     requires fits { IsTrue (cert_fits plan.now cert.now) }
     requires pool { pool < length plan.now.pools }

@@ -1,4 +1,4 @@
--- The remaining pools decide the result.
+-- The earlier pools passed, so the tests of the remaining pools give the result.
 use Rattle.std.proofs.Common.{◌≡◌}
 use Rattle.cert_check.specs.PoolConditions.{pool_holds}
 use Rattle.cert_check.proofs.Pools.{rest_passes}

@@ -1,4 +1,4 @@
--- The remaining pools decide the result.
+-- The earlier pools passed, so the tests of the remaining pools give the result.
 use Rattle.std.proofs.Common.{◌≡◌, ℕ, Bool}
 use Rattle.cert_text.specs.Cert.{pool_cert_at}
 use Rattle.cert_check.specs.Standing.{is_valid_standing_vector}

@@ -5,7 +5,7 @@ use Rattle.cert_check.specs.declared.on_threads.PoolCheck.{PoolCheck}
 use Rattle.cert_check.specs.OnThreads.{AreChecked}
 use Rattle.cert_check.proofs.on_threads.check_pools.Goals as goal
 
--- once all elements of a list are written, the list is what was written
+-- if a list begins with n written elements, its first n elements are the written ones
 all_written : {X : Type 0} (n : ℕ) (written rest : List X) → length written ≡ n → take n (written ++ rest) ≡ written
 all_written n written rest as_many = take-append-le n written rest (omega arith) ∙ take_all n written (omega arith)
 

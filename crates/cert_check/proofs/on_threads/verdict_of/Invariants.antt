@@ -1,5 +1,5 @@
--- The lines so far, followed by those of the remaining pools, are all lines, and the result so far and the remaining pools
--- decide together.
+-- The lines so far, followed by those of the remaining pools, are all lines. `yes` so far, together with the tests of the remaining pools,
+-- is the final `yes`.
 use Rattle.std.proofs.Common.{◌≡◌, ◌++◌, ◌&&◌}
 use Rattle.soundness.specs.Conditions.{failing}
 use Rattle.soundness.specs.Accepted.{is_nil}
