@@ -14,7 +14,7 @@ use Rattle.locked_runner.specs.Complete.{rounds_of, events_of_client}
 use Rattle.soundness.specs.Drain.{of_submit}
 use Rattle.locked_runner.specs.RunNumbers.{units_of, units_in, submitted, quantity_within, total_quantity, greatest, submitted_by, by_jobs, units_of_clients, events_of_clients, jobs, units, most_events, capped}
 
--- a factor n keeps a bound by c times the other number
+-- if a number is at most c times another, this is still so after both are multiplied by n
 scaled : (c n x y : ℕ) → x ≤ c * y → n * x ≤ c * (n * y)
 scaled c n x y most = subst (λ (z : ℕ). n * x ≤ z) (mul_left_comm n c y) (mul-le-mul_left n most)
 
@@ -36,7 +36,7 @@ submitted_within c f g body each = sums_within c (of_submit f) (of_submit g) bod
     at i (Submit k) e = each k
     at i (Get t) e = omega arith
 
--- a bound on the quantity of one job of each class holds for the quantities with the jobs that it causes
+-- a bound on the quantity of one job of each class also bounds the quantities that include the jobs that it causes
 total_in : (plan : Plan) (c : ℕ) (a b : Class → ℕ) → ((k : ℕ) → a (class_at plan k) ≤ c * b (class_at plan k)) → (n k : ℕ) → quantity_within plan a n k ≤ c * quantity_within plan b n k
 total_in plan c a b each zero k = omega arith
 total_in plan c a b each (suc n) k =
@@ -52,7 +52,7 @@ by_jobs_in plan ranks rounds c a b each = sums_within c (submitted_by rounds (to
         let once = submitted_within c (total_quantity plan ranks a) (total_quantity plan ranks b) client.body (total_in plan c a b each (greatest ranks.levels + 1)) in
         scaled c client.count _ _ (scaled c (rounds_of rounds client) _ _ once)
 
--- an action has at most 1,000,000 units of work
+-- a body has at most 1,000,000 units of work for each of its actions
 work_in : (plan : Plan) (body : List Action) → IsValidBody plan body → units_in body ≤ 1000000 * length body
 work_in plan body valid = subst (λ (n : ℕ). units_in body ≤ 1000000 * n) (ones body) (sums_within 1000000 units_of (λ _. 1) body at)
   where
@@ -80,7 +80,7 @@ clients_in plan rounds formed = sums_within 1000000 (units_of_clients rounds) (e
         let in_events : r * units_in client.body ≤ 1000000 * events_of_client rounds client = let more = rounds_are_events r (length client.body) in omega arith in
         scaled 1000000 client.count _ _ in_events
 
--- the quantities of one job: one job, its units of work, and as events its actions, its take and its end
+-- the three quantities of one job: 1 for the job, its units of work, and its events, which are its actions, its take and its end
 abbrev one_job : Class → ℕ
 one_job class = 1
 

@@ -19,11 +19,11 @@ capped_product m (suc a) b = elim (cases_lt b m) [
   | inr past ↦ (ap (λ x. min (suc a * x) m) (min-eq_right past) ∙ product_past m a m (omega arith)) ∙ sym (product_past m a b past)
 ]
 
--- a product of three factors, capped at each step
+-- a product of three factors, capped at each step, is the capped product
 pub capped_products : (m a b c : ℕ) → min (a * min (b * min c m) m) m ≡ min (a * (b * c)) m
 capped_products m a b c = ap (λ x. min (a * x) m) (capped_product m b c) ∙ capped_product m a (b * c)
 
--- sums over one list whose capped terms agree
+-- two sums over one list are equal when capped, if their terms are equal when capped
 pub capped_sums : {X : Type 0} (m : ℕ) (f g : X → ℕ) (xs : List X) → ((i : ℕ) (x : X) → slice_get xs i ≡ Some x → min (f x) m ≡ min (g x) m) → min (sum_by f xs) m ≡ min (sum_by g xs) m
 capped_sums m f g [] same = refl
 capped_sums m f g (x ∷ xs) same =
@@ -31,14 +31,14 @@ capped_sums m f g (x ∷ xs) same =
     let rest : min (sum_by f xs) m ≡ min (sum_by g xs) m = capped_sums m f g xs (λ i y e. same (suc i) y e) in
     omega (arith, sum_by-cons f x xs, sum_by-cons g x xs)
 
--- a capped sum of two capped terms
+-- the capped sum of two capped terms is the capped sum of the terms
 pub sum_of : (m a b a' b' all : ℕ) → a' ≡ min a m → b' ≡ min b m → all ≡ min (a' + b') m → all ≡ min (a + b) m
 sum_of m a b a' b' all first second is = omega arith
 
 pub product_of : (m a b c a' b' one once all : ℕ) → a' ≡ a → b' ≡ b → one ≡ min c m → once ≡ min (b' * one) m → all ≡ min (a' * once) m → all ≡ min (a * (b * c)) m
 product_of m a b c a' b' one once all first second third fourth fifth = cc (capped_products m a b c)
 
--- the mapped list of one more element
+-- the list that F gives for the first i elements, followed by the value of element i, is the list for the first i + 1 elements
 pub pushed : {X : Type 0} (F : X → ℕ) (xs : List X) (i : ℕ) (x : X) (so_far new : List ℕ) (n : ℕ) → i < length xs → x ≡ get_or xs i x → so_far ≡ map F (take i xs) → new ≡ so_far ++ n ∷ [] → n ≡ F x
     → new ≡ map F (take (i + 1) xs)
 pushed F xs i x so_far new n inside at is is-new is-n =

@@ -1,4 +1,4 @@
--- Clients that are through, one more at a time.
+-- The clients with numbers below a bound, if all of them have finished.
 use Rattle.std.proofs.Common.{◌≡◌, ◌<◌, ◌+◌, ℕ, List, length, get_or, slice_get, Some, inl, inr, sym, subst, arith}
 use Rattle.std.proofs.lemmas.Bool.{cases_lt}
 use Rattle.std.proofs.lemmas.Option.{slice_get_within, get_or_from_slice_get}
@@ -8,7 +8,7 @@ use Rattle.written_machine.specs.State.{State}
 use Rattle.interleaving.specs.LiveView.{View, live_view}
 use Rattle.locked_runner.specs.Complete.{IsCompleteClient, AreMadeIn}
 
--- all clients with numbers below n are through
+-- all clients with numbers below n have finished
 abbrev pub AreCompleteClients : Plan → List ℕ → ℕ → List ℕ → View → ℕ → Type 0
 AreCompleteClients plan kinds rounds made view n =
     (history : List Event) (s : State) → AreMadeIn history made → live_view plan s ≡ view → (c kind : ℕ) → c < n → slice_get kinds c ≡ Some kind → IsCompleteClient rounds history s c (client_at plan kind)
@@ -23,7 +23,7 @@ complete_clients_more plan kinds rounds made view n below here history s are see
       subst (λ (i : ℕ). IsCompleteClient rounds history s i (client_at plan kind)) (sym same) (subst (λ (k : ℕ). IsCompleteClient rounds history s n (client_at plan k)) kind_at (here history s are seen))
 ]
 
--- if n is the number of clients, all clients are through
+-- if n is the number of clients, all clients have finished
 pub complete_clients_all : (plan : Plan) (kinds : List ℕ) (rounds : ℕ) (made : List ℕ) (view : View) (n : ℕ) → length kinds ≡ n → AreCompleteClients plan kinds rounds made view n
     → (history : List Event) (s : State) → AreMadeIn history made → live_view plan s ≡ view → (c kind : ℕ) → slice_get kinds c ≡ Some kind → IsCompleteClient rounds history s c (client_at plan kind)
 complete_clients_all plan kinds rounds made view n all below history s are seen c kind at =

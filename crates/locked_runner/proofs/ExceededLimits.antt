@@ -12,7 +12,7 @@ more_capped n = elim (cases_lt 1000000 n) [
   | inr within ↦ le-ltb 1000000 (capped n) (omega arith) ∙ sym (le-ltb 1000000 n within)
 ]
 
--- the result of the test of the limits
+-- the test of the limits with the capped number of events has the same result as with the number itself
 pub passed : (plan : Plan) (ranks : Ranks) (rounds events : ℕ) (answer found : Bool) → events ≡ capped (most_events plan ranks rounds) → found ≡ exceeds_limits plan events → found ≡ answer → is_too_large plan ranks rounds ≡ answer
 passed plan ranks rounds events answer found is tested says =
     sym (ap (λ (b : Bool). nat_lt 64 (clients plan) || nat_lt 64 (workers plan) || b) (more_capped (most_events plan ranks rounds)))

@@ -23,6 +23,6 @@ answered plan rounds jobs units history lists reported fault is = elim (cases_eq
   | inr other ↦ answer_of plan rounds jobs units history lists reported fault (is other)
 ]
 
--- the fault of a run that exceeds a limit
+-- fault 40 before the first event is a fault of a run that exceeds a limit
 pub too_large : (large : Bool) (fault : RunFault) → large ≡ true → fault ≡ record { number = RUN_TOO_LARGE; events = 0 } → IsFaultOf large fault
 too_large large fault is same = subst (λ (x : Bool). IsFaultOf x fault) (sym is) (subst (IsFaultOf true) (sym same) (inl refl, refl))

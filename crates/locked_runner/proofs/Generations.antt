@@ -1,4 +1,4 @@
--- The numbers of the classes, with one more generation of jobs at a time.
+-- The quantities of the classes for a growing number of generations of jobs.
 use Rattle.std.proofs.Common.{◌≡◌, ◌≤◌, ◌<◌, ◌+◌, ◌-◌, ◌*◌, ◌^◌, ℕ, zero, suc, List, length, map, min, slice_get, slice_index, Some, sum_by, refl, sym, ap, subst, ◌∙◌, arith}
 use Rattle.std.proofs.lemmas.List.{get_or-map}
 use Rattle.std.proofs.lemmas.Option.{get_or_from_slice_get}
@@ -13,7 +13,7 @@ use Rattle.soundness.specs.Drain.{of_submit}
 use Rattle.locked_runner.specs.RunNumbers.{capped, AreCapped, AreQuantities, submitted, submitted_by, quantity_within}
 use Rattle.locked_runner.proofs.Capped.{capped_sums, capped_products}
 
--- a body submits only classes of the plan
+-- two sums over the submits of a valid body are equal when capped, if the two functions are equal when capped at each class of the plan
 submits_capped : (plan : Plan) (f g : ℕ → ℕ) (body : List Action) → IsValidBody plan body → ((k : ℕ) → k < length plan.classes → capped (f k) ≡ capped (g k)) → capped (submitted f body) ≡ capped (submitted g body)
 submits_capped plan f g body valid same = capped_sums (2 ^ 64 - 1) (of_submit f) (of_submit g) body each
   where
@@ -38,7 +38,7 @@ add_generation plan own_quantity n numbers next formed is are k inside =
     let sums : capped (own_quantity class + submitted (slice_index numbers) class.body) ≡ capped (own_quantity class + submitted (quantity_within plan own_quantity n) class.body) = omega arith in
     at ∙ sums
 
--- numbers that one more generation does not change stay the same for all further generations
+-- quantities that one more generation does not change are also those of all further generations
 after : (plan : Plan) (own_quantity : Class → ℕ) (n d : ℕ) (numbers : List ℕ) → AreQuantities plan own_quantity n numbers → ((m : ℕ) → AreQuantities plan own_quantity m numbers → AreQuantities plan own_quantity (suc m) numbers)
     → AreQuantities plan own_quantity (d + n) numbers
 after plan own_quantity n zero numbers are stays =
@@ -54,7 +54,7 @@ settled plan own_quantity n m numbers are stays later =
     let same : m - n + n ≡ m = omega arith in
     subst (λ (i : ℕ). AreQuantities plan own_quantity i numbers) same (after plan own_quantity n (m - n) numbers are stays)
 
--- the sum over the jobs that the clients cause in all their rounds
+-- the sum over the submits of the clients is the same, when capped, for the capped numbers and for f
 pub in_rounds : (plan : Plan) (rounds : ℕ) (f : ℕ → ℕ) (numbers : List ℕ) → IsWellFormed plan → AreCapped plan f numbers
     → capped (sum_by (submitted_by rounds (slice_index numbers)) plan.clients) ≡ capped (sum_by (submitted_by rounds f) plan.clients)
 in_rounds plan rounds f numbers formed are = capped_sums (2 ^ 64 - 1) (submitted_by rounds (slice_index numbers)) (submitted_by rounds f) plan.clients each

@@ -35,11 +35,11 @@ prefix_of plan history part view is led =
 pub all_of : (history part : List Event) → part ≡ take (length part) history → length history ≤ length part → part ≡ history
 all_of history part is all = is ∙ take_all (length part) history all
 
--- a history that ends before its last event is not a run
+-- a history with an event that is not possible is not a run
 pub cut_short : (plan : Plan) (rounds : ℕ) (history : List Event) (lists : List (List (Receipt Event))) (n : ℕ) → IsLegalPart plan history n → n < length history → ¬ IsRun plan rounds history lists
 cut_short plan rounds history lists n part more run = part.ends more (prefix_is_legal plan history run.last (n + 1) run.legal)
 
--- the view is that of the state to which the history leads
+-- the view that a history reaches is the live view of the state that the history reaches
 same_last : (plan : Plan) (history : List Event) (view : View) (s : State) → IsReachedBy plan history view → Reaches plan history s → live_view plan s ≡ view
 same_last plan history view s led reached = subst (λ (x : State). live_view plan x ≡ view) (same_Some led.0 s (sym led.1 ∙ reached)) led.2
 
@@ -49,7 +49,7 @@ made_of plan history view jobs led seen s reached = sym (length-view plan s) ∙
 pub jobs_of : (plan : Plan) (history : List Event) (view : View) (jobs : ℕ) → IsReachedBy plan history view → Makes plan history jobs → length view.jobs ≡ jobs
 jobs_of plan history view jobs led makes = ap (λ (v : View). length v.jobs) (sym led.2) ∙ (length-view plan led.0 ∙ makes led.0 led.1)
 
--- the test for completeness, which holds in each state with this view, holds in the last state
+-- if the history is a run, the completeness test, which is exact for each state with this view, is true
 pub complete_of : (plan : Plan) (rounds : ℕ) (history : List Event) (view : View) (lists : List (List (Receipt Event))) (complete : Bool) → IsReachedBy plan history view
     → ((s : State) → live_view plan s ≡ view → IsTrue complete ↔ IsComplete plan rounds history s) → IsRun plan rounds history lists → IsTrue complete
 complete_of plan rounds history view lists complete led tested run = (tested run.last (same_last plan history view run.last led run.legal)).1 run.complete
@@ -62,7 +62,7 @@ run_here plan rounds jobs units history view lists complete once led owner_lists
   λ both. counted.1 both.0.received.once,
 )
 
--- if everything else was checked, the history is a run exactly if each number is in one place of the lists
+-- if all other tests passed, the history is a run exactly when each number is in one place of the lists
 pub run_of : (plan : Plan) (rounds jobs units n : ℕ) (history shown : List Event) (view : View) (lists ls : List (List (Receipt Event))) (complete once : Bool) → IsReachedBy plan history view → shown ≡ history
     → AreListsOf plan history (lists_of plan) lists → length view.jobs ≡ jobs → Works plan history units → ((s : State) → live_view plan s ≡ view → IsTrue complete ↔ IsComplete plan rounds shown s) → IsTrue complete
     → n ≡ length history → ls ≡ lists → (IsTrue once ↔ ((k : ℕ) → k < n → places_of k ls ≡ 1)) → IsTrue once ↔ (IsRun plan rounds history lists × Makes plan history jobs × Works plan history units)

@@ -11,7 +11,7 @@ use Rattle.locked_runner.specs.Complete.{rounds_of}
 use Rattle.soundness.specs.Drain.{of_submit}
 use Rattle.locked_runner.specs.RunNumbers.{submitted, quantity_within, greatest, total_quantity, submitted_by, by_jobs, own_quantity, units_of_clients, events_of_clients, TotalsAddUp, NumbersAreOfThePlan}
 
--- two sums whose terms agree at each element
+-- two sums over a list are equal if their terms are equal for each element
 sums_agree : {X : Type 0} (f g : X → ℕ) (xs : List X) → ((i : ℕ) (x : X) → slice_get xs i ≡ Some x → f x ≡ g x) → sum_by f xs ≡ sum_by g xs
 sums_agree f g [] same = refl
 sums_agree f g (x ∷ xs) same =
@@ -19,7 +19,7 @@ sums_agree f g (x ∷ xs) same =
     let rest = sums_agree f g xs (λ i y e. same (suc i) y e) in
     omega (arith, sum_by-cons f x xs, sum_by-cons g x xs)
 
--- the sums over a body, if the two functions agree at each class that it submits
+-- two sums over the submits of a body are equal if the two functions agree at each class that it submits
 submitted_agree : (f g : ℕ → ℕ) (body : List Action) → ((i k : ℕ) → slice_get body i ≡ Some (Submit k) → f k ≡ g k) → submitted f body ≡ submitted g body
 submitted_agree f g body same = sums_agree (of_submit f) (of_submit g) body (λ i x e. one i x e)
   where
@@ -28,7 +28,7 @@ submitted_agree f g body same = sums_agree (of_submit f) (of_submit g) body (λ 
     one i (Submit k) e = same i k e
     one i (Get t) e = refl
 
--- two numbers of generations that are enough by their ranks give the same numbers
+-- two numbers of generations that are both enough, each according to its own ranks, give the same quantity
 generations_agree : (plan : Plan) (ranks ranks' : Ranks) (own_quantity : Class → ℕ) (n m k : ℕ) → RankLaws plan ranks → RankLaws plan ranks' → level ranks k < n → level ranks' k < m
     → quantity_within plan own_quantity n k ≡ quantity_within plan own_quantity m k
 generations_agree plan ranks ranks' own_quantity zero m k laws laws' low low' = absurd (omega arith)
@@ -42,7 +42,7 @@ generations_agree plan ranks ranks' own_quantity (suc n) (suc m) k laws laws' lo
     let sinks' = laws'.sinks k i k' e in
     generations_agree plan ranks ranks' own_quantity n m k' laws laws' (omega arith) (omega arith)))
 
--- no number of a list is above its maximum
+-- no number of a list is above the greatest one
 below_fold : (numbers : List ℕ) (start k : ℕ) → (start ≤ fold (λ a n. max a n) start numbers) × (slice_index numbers k ≤ fold (λ a n. max a n) start numbers)
 below_fold [] start k = (omega arith, omega arith)
 below_fold (n ∷ numbers) start zero = let rest = below_fold numbers (max start n) 0 in (omega (arith, rest.0), omega (arith, rest.0))
@@ -64,12 +64,12 @@ totals_add_up plan ranks own_quantity k hold =
     let sinks = laws.sinks k i k' e in
     generations_agree plan ranks ranks own_quantity top (top + 1) k' laws laws (omega arith) (within_greatest ranks k')))
 
--- for one class
+-- the total quantity of a class is the same for both ranks
 totals_agree : (plan : Plan) (ranks ranks' : Ranks) (own_quantity : Class → ℕ) (k : ℕ) → RankLaws plan ranks → RankLaws plan ranks' → total_quantity plan ranks own_quantity k ≡ total_quantity plan ranks' own_quantity k
 totals_agree plan ranks ranks' own_quantity k laws laws' =
     generations_agree plan ranks ranks' own_quantity (greatest ranks.levels + 1) (greatest ranks'.levels + 1) k laws laws' (within_greatest ranks k) (within_greatest ranks' k)
 
--- for all clients
+-- the quantity of all jobs of a run is the same for both ranks
 by_jobs_agree : (plan : Plan) (ranks ranks' : Ranks) (rounds : ℕ) (own_quantity : Class → ℕ) → RankLaws plan ranks → RankLaws plan ranks' → by_jobs plan ranks rounds own_quantity ≡ by_jobs plan ranks' rounds own_quantity
 by_jobs_agree plan ranks ranks' rounds own_quantity laws laws' =
     sums_agree (submitted_by rounds (total_quantity plan ranks own_quantity)) (submitted_by rounds (total_quantity plan ranks' own_quantity)) plan.clients

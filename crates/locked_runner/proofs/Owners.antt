@@ -1,4 +1,4 @@
--- The owners of the events of a history, one more event at a time.
+-- The owners of the events of a history with one more event.
 use Rattle.std.proofs.Common.{◌≡◌, ◌≢◌, ℕ, ◌+◌, ◌<◌, List, [], ◌∷◌, ◌++◌, length, take, drop, map, append_assoc, Option, Some, None, slice_get, inl, inr, sym, ap, ◌∙◌, subst, arith, length-append}
 use Rattle.std.proofs.lemmas.Bool.{cases_lt, cases_eq}
 use Rattle.std.proofs.lemmas.Option.{none-some, same_Some, slice_get_past}
@@ -51,7 +51,7 @@ class_exists plan s view j job formed reached seen at = elim (cases_lt j (length
 pub owner_of_job : (plan : Plan) (s : State) (view : View) (j : ℕ) (job : JobView) (p : ℕ) → live_view plan s ≡ view → live_job view.jobs j ≡ Some job → p ≡ pool_of plan job.class → owner_by (event.Job j) p ≡ owner_in plan s (event.Job j)
 owner_of_job plan s view j job p seen at is = ap (λ (q : ℕ). Some (owner.Pool q)) (is ∙ ap (pool_of plan) (class_seen plan s view j job seen at))
 
--- the last event has its owner at its number
+-- the owner of the last event is the one that the last pool determines
 last_owned : (plan : Plan) (history : List Event) (pools : List ℕ) (event : Event) (pool : ℕ) → length pools ≡ length history
     → ((s : State) → Reaches plan history s → owner_by event pool ≡ owner_in plan s event)
     → (n : ℕ) (s : State) (e : Event) (p : ℕ) → n ≡ length history → slice_get (history ++ event ∷ []) n ≡ Some e → slice_get (pools ++ pool ∷ []) n ≡ Some p → Reaches plan (take n (history ++ event ∷ [])) s
@@ -62,7 +62,7 @@ last_owned plan history pools event pool as_many owned n s e p at is_event is_po
     let front : take n (history ++ event ∷ []) ≡ history = take-append-le n history (event ∷ []) (omega (arith, at)) ∙ take_all n history (omega (arith, at)) in
     subst (λ x. owner_in plan s x ≡ owner_by x p) same_event (sym (owned s (subst (λ h. Reaches plan h s) front reached)) ∙ ap (owner_by event) same_pool)
 
--- one more event, and the pool that determines its owner
+-- the pools of a history, followed by the pool of one more event, are the pools of the history with this event
 pub pools_grow : (plan : Plan) (history : List Event) (pools : List ℕ) (event : Event) (pool : ℕ) → ArePoolsOf plan history pools
     → ((s : State) → Reaches plan history s → owner_by event pool ≡ owner_in plan s event) → ArePoolsOf plan (history ++ event ∷ []) (pools ++ pool ∷ [])
 pools_grow plan history pools event pool are owned = record {
@@ -78,7 +78,7 @@ pools_grow plan history pools event pool are owned = record {
   ];
 }
 
--- one more list, of a client
+-- the lists so far, followed by that of client n and those of the later clients, are all lists
 pub client_more : (kinds : List ℕ) (n : ℕ) (front all : List Owner) → n < length kinds → front ++ map client_list (enumerate_from n (drop n kinds)) ≡ all
     → (front ++ owner.Client n ∷ []) ++ map client_list (enumerate_from (n + 1) (drop (n + 1) kinds)) ≡ all
 client_more kinds n front all inside so_far =

@@ -10,7 +10,7 @@ use Rattle.locked_runner.specs.Receipts.{IsReceiptOf, AreListsOf}
 use Rattle.locked_runner.specs.Run.{IsLegal}
 use Rattle.locked_runner.proofs.Prefixes.{prefix_is_legal}
 
--- a receipt of an owner's event has the owner at its number
+-- if a receipt belongs to an owner, the pool at its number determines this owner
 owner_at : (plan : Plan) (history : List Event) (pools : List ℕ) (owner : Owner) (r : Receipt Event) (pool : ℕ) → IsLegal plan history → ArePoolsOf plan history pools → slice_get pools r.number ≡ Some pool
     → IsReceiptOf plan history owner r → owner_by r.event pool ≡ Some owner
 owner_at plan history pools owner r pool legal are at receipt =

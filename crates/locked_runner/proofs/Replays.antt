@@ -1,4 +1,4 @@
--- Replays, one more event at a time.
+-- The replay of a history with one more event.
 use Rattle.std.proofs.Common.{◌≡◌, ◌≢◌, ◌<◌, ◌+◌, ℕ, Bool, false, List, [], ◌∷◌, ◌++◌, length, take, get_or, sum_by, Option, Some, None, sym, ap, subst, ◌∙◌, arith}
 use Rattle.std.proofs.lemmas.Option.{none-some, same_Some}
 use Rattle.std.proofs.lemmas.List.{length-take-le, take_more}
@@ -18,7 +18,7 @@ use Rattle.locked_runner.specs.Replayed.{IsCounted, IsReplayedAs, ReplaysEvent}
 use Rattle.locked_runner.specs.Run.{IsLegal, worked, units_done}
 use Rattle.locked_runner.proofs.Owners.{pools_grow}
 
--- the outcomes with one more event
+-- the outcomes of a history with one more event are those of the history, followed by that of the event
 outcomes_more : (plan : Plan) (x : Option State) (history : List Event) (event : Event) (s : State) → replay plan x history ≡ Some s → outcomes plan x (history ++ event ∷ []) ≡ outcomes plan x history ++ outcome_of (step plan s event) ∷ []
 outcomes_more plan x [] event s is = ap (λ (y : Option State). outcomes plan y (event ∷ [])) is
 outcomes_more plan None (e ∷ history) event s is = absurd (none-some s is)
@@ -33,7 +33,7 @@ units_more plan history event s s' outcome reached is =
     let done : sum_by worked (outcomes plan (Some (start plan)) (history ++ event ∷ [])) ≡ sum_by worked (outcomes plan (Some (start plan)) history ++ Some outcome ∷ []) = ap (sum_by worked) last in
     omega (arith, all, done)
 
--- the event was possible
+-- if the event was possible, the history with the event is replayed
 pub goes_on : (plan : Plan) (history : List Event) (view after : View) (pools : List ℕ) (units units' : Option ℕ) (event : Event) (outcome : Outcome) (pool : ℕ) → IsReplayedAs plan history view pools units
     → ((s : State) → IsReached plan s → live_view plan s ≡ view → AnswersAs plan s event (Some outcome) after)
     → ((s : State) → IsReached plan s → live_view plan s ≡ view → step plan s event ≢ None → owner_by event pool ≡ owner_in plan s event)
@@ -52,7 +52,7 @@ goes_on plan history view after pools units units' event outcome pool replayed a
       counted = subst (λ (n : ℕ). IsCounted n units') (sym (units_more plan history event led.0 answer.0 outcome led.1 answer.1)) (added (units_done plan history) replayed.counted);
     }
 
--- the event was not possible
+-- if the event was not possible, the history with the event is not legal
 ends : (plan : Plan) (history : List Event) (view after : View) (event : Event) → IsReachedBy plan history view
     → ((s : State) → IsReached plan s → live_view plan s ≡ view → AnswersAs plan s event None after) → ¬ IsLegal plan (history ++ event ∷ [])
 ends plan history view after event led answered legal =
@@ -71,7 +71,7 @@ stays plan history view after pools pools' units event same replayed answered =
       },
     )
 
--- a replay that ended at an event has no further events
+-- if the replay ended at an event, the replayed events, followed by this event, are not legal
 pub ends_here : (plan : Plan) (history : List Event) (i : ℕ) (d : Event) (after : View) (pools : List ℕ) (units : Option ℕ) (made : Bool) → i < length history → made ≡ false → ReplaysEvent plan (take i history) (get_or history i d) made after pools units
     → ¬ IsLegal plan (take (length pools + 1) history)
 ends_here plan history i d after pools units made inside not_made goes legal =

@@ -27,7 +27,7 @@ state_with_outcome : (x : Option (State × Outcome)) → option_map state_of (wi
 state_with_outcome None = refl
 state_with_outcome (Some x) = refl
 
--- both machines have the same replays
+-- the replays of both machines reach the same states
 same_replay : (plan : Plan) (t : Option StateWithOutcome) (events : List Event) → reach.replay plan (option_map state_of t) events ≡ option_map state_of (replay (next plan) t events)
 same_replay plan t [] = refl
 same_replay plan None (e ∷ events) = refl
@@ -37,7 +37,7 @@ same_replay plan (Some t) (e ∷ events) =
 reached_of : (plan : Plan) (t : StateWithOutcome) → Reaches (next plan) (start plan) t → reach.IsReached plan t.state
 reached_of plan t led = (led.0, same_replay plan (Some (start plan)) led.0 ∙ ap (option_map state_of) led.1)
 
--- the world of a reachable content is the live view of a reachable state
+-- a world that is stored for a reachable state of the machine with outcomes is the live view of a reachable state of the plan's machine
 pub seen_of : (plan : Plan) (before : TracedWorld) → IsReached (next plan) (start plan) (stored_state plan) before → (s : State) × reach.IsReached plan s × (live_view plan s ≡ before.world)
 seen_of plan before led = (led.0.state, reached_of plan led.0 led.1, ap (λ (r : TracedWorld). r.world) led.2)
 
@@ -56,7 +56,7 @@ pub not_made : (plan : Plan) (before : TracedWorld) (event : Event) (view : View
 not_made plan before event view answered t led seen =
     ap with_outcome (answered t.state (reached_of plan t led) (ap (λ (r : TracedWorld). r.world) seen)).0
 
--- the history reaches the state to which it leads
+-- a history that leads the machine with outcomes to a state reaches this state in the plan's machine
 state_reached : (plan : Plan) (history : List Event) (t : StateWithOutcome) → Leads (next plan) (start plan) history t → reach.Reaches plan history t.state
 state_reached plan history t leads = same_replay plan (Some (start plan)) history ∙ ap (option_map state_of) leads
 
@@ -69,7 +69,7 @@ replay_more plan t [] event s is = ap (λ x. reach.replay plan x (event ∷ []))
 replay_more plan None (e ∷ history) event s is = absurd (none-some s is)
 replay_more plan (Some t) (e ∷ history) event s is = replay_more plan (state_after (step plan t e)) history event s is
 
--- the replay with one more event
+-- the replay of a history with one more event is the step of this event from the state that the history reaches
 pub reaches_more : (plan : Plan) (history : List Event) (event : Event) (s : State) → reach.Reaches plan history s → reach.replay plan (Some (reach.start plan)) (history ++ event ∷ []) ≡ state_after (step plan s event)
 reaches_more plan history event s reached = replay_more plan (Some (reach.start plan)) history event s reached
 
@@ -77,13 +77,13 @@ no_state_after : (x : Option (State × Outcome)) → false ≡ is_some (with_out
 no_state_after None stops = refl
 no_state_after (Some x) stops = absurd cc
 
--- if the machine has no next state, the event is not possible after the history
+-- if the machine with outcomes has no next state, the event is not possible after the history
 pub goes_on_nowhere : (plan : Plan) (history : List Event) (event : Event) (held : TracedWorld) → IsReplayOf (next plan) (start plan) (stored_state plan) history held
     → ((t : StateWithOutcome) → Leads (next plan) (start plan) history t → false ≡ is_some (next plan t event)) → (s : State) → ¬ (reach.Reaches plan (history ++ event ∷ []) s)
 goes_on_nowhere plan history event held led stops s reached =
     none-some s (sym (no_state_after (step plan led.0.state event) (stops led.0 led.1)) ∙ (sym (reaches_more plan history event led.0.state (state_reached plan history led.0 led.1)) ∙ reached))
 
--- if the machine has a next state, the event is possible after the history
+-- if the machine with outcomes has a next state, the event is possible after the history
 pub goes_on : (plan : Plan) (history : List Event) (event : Event) (held : TracedWorld) → IsReplayOf (next plan) (start plan) (stored_state plan) history held
     → ((t : StateWithOutcome) → Leads (next plan) (start plan) history t → true ≡ is_some (next plan t event)) → (s : State) → reach.Reaches plan history s → step plan s event ≢ None
 goes_on plan history event held led goes s reached none =

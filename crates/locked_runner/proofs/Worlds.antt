@@ -15,7 +15,7 @@ use Rattle.soundness.proofs.Theorem.{accepted_plans_are_safe}
 use Rattle.locked_runner.specs.HeldWorld.{IsReachedBy, RefusesNothing}
 use Rattle.locked_runner.proofs.Traces.{reaches_more}
 
--- in a reachable state of an accepted plan, no submit was rejected
+-- in a reachable state of an accepted plan, no submit was refused
 pub none_refused_in : (plan : Plan) (cert : Cert) (history : List Event) (s : State) → IsWellFormed plan → IsTrue (accepted plan cert) → Reaches plan history s → s.refusals ≡ 0
 none_refused_in plan cert history s well_formed accepts reached = (accepted_plans_are_safe plan cert well_formed accepts history s reached).none_refused
 
@@ -25,7 +25,7 @@ none_refused plan cert history view well_formed accepts led = subst (λ v. v.ref
 refusal_counts : (plan : Plan) (s s' : State) (p : ℕ) {e : Event} → Happens plan s e s' (outcome.Refused p) → s'.refusals ≡ s.refusals + 1
 refusal_counts plan s s' p (is_refused a body i k at within full) = refl
 
--- no further event is a rejected submit
+-- after a history of an accepted plan, no event is a refused submit
 pub refuses_nothing : (plan : Plan) (cert : Cert) (history : List Event) → IsWellFormed plan → IsTrue (accepted plan cert) → RefusesNothing plan history
 refuses_nothing plan cert history well_formed accepts s s' event p reached is_step =
     let none = none_refused_in plan cert (history ++ event ∷ []) s' well_formed accepts (reaches_more plan history event s reached ∙ ap state_after is_step) in

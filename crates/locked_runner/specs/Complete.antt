@@ -11,7 +11,7 @@ use Rattle.locked_runner.specs.Owner.{kinds_of}
 abbrev pub rounds_of : ℕ → Client → ℕ
 rounds_of rounds client = if client.repeat then rounds else 1
 
--- the number of events of its rounds, and of the loop events between them
+-- the number of events of a client: those of its rounds, and a loop event between consecutive rounds
 abbrev pub events_of_client : ℕ → Client → ℕ
 events_of_client rounds client = rounds_of rounds client * length client.body + rounds_of rounds client - 1
 
@@ -28,7 +28,7 @@ pub record IsCompleteClient (rounds : ℕ) (history : List Event) (s : State) (c
   pub events : count_by (is_of_client c) history ≡ events_of_client rounds client
   pub at_end : option_map (λ client. client.position) (slice_get s.clients c) ≡ Some (length client.body)
 
--- each client is through, and no job is unfinished
+-- each client has finished, and no job is unfinished
 pub record IsComplete (plan : Plan) (rounds : ℕ) (history : List Event) (s : State) : Type 0 where
   pub clients : (c kind : ℕ) → slice_get (kinds_of plan) c ≡ Some kind → IsCompleteClient rounds history s c (client_at plan kind)
   pub finished : count_by (λ job. is_unfinished job.stage) s.jobs ≡ 0

@@ -3,7 +3,7 @@ use Rattle.std.specs.Prelude.{◌≡◌, ◌⊎◌, Bool, true, false}
 use Rattle.support.specs.declared.number.TheConstants.{MEMORY, RUN_TOO_LARGE, STRANGE, MIXED, GATE}
 use Rattle.locked_runner.specs.declared.report.RunFault.{RunFault}
 
--- true: the run exceeds a limit, and nothing was started; false: a thread reported the fault, or its results are not a run
+-- true: the run exceeds a limit, and nothing was started; false: a thread reported the fault, or the results of the threads are not a run
 abbrev pub IsFaultOf : Bool → RunFault → Type 0
 IsFaultOf true fault = ((fault.number ≡ RUN_TOO_LARGE) ⊎ (fault.number ≡ MEMORY)) × (fault.events ≡ 0)
 IsFaultOf false fault = (fault.number ≡ STRANGE) ⊎ (fault.number ≡ MIXED) ⊎ (fault.number ≡ MEMORY) ⊎ (fault.number ≡ GATE)

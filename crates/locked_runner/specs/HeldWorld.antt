@@ -12,6 +12,6 @@ use Rattle.interleaving.specs.LiveView.{View, live_view}
 abbrev pub IsReachedBy : Plan → List Event → View → Type 0
 IsReachedBy plan history view = (s : State) × Reaches plan history s × (live_view plan s ≡ view)
 
--- in the state that the history reaches, no event is a rejected submit
+-- in the state that the history reaches, no event is a refused submit
 abbrev pub RefusesNothing : Plan → List Event → Type 0
 RefusesNothing plan history = (s s' : State) (event : Event) (p : ℕ) → Reaches plan history s → ¬ (step plan s event ≡ Some (s', Refused p))

@@ -13,7 +13,7 @@ clients plan = sum_by (λ client. client.count) plan.clients
 abbrev pub workers : Plan → ℕ
 workers plan = sum_by (λ pool. pool.max) plan.pools
 
--- a run with at most this many events exceeds a limit
+-- a run of the plan exceeds a limit, if `events` is the bound on its number of events
 abbrev pub exceeds_limits : Plan → ℕ → Bool
 exceeds_limits plan events = nat_lt MAX_RUN_CLIENTS (clients plan) || nat_lt MAX_RUN_CARRIERS (workers plan) || nat_lt MAX_RUN_EVENTS events
 

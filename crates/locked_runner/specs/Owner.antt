@@ -30,7 +30,7 @@ client_list entry = owner.Client entry.0
 abbrev pub pool_lists : ℕ × Pool → List Owner
 pool_lists entry = replicate entry.1.max (owner.Pool entry.0)
 
--- one list for each client, then max lists for each pool
+-- the owners of the lists of receipts: first each client once, then each pool `max` times
 abbrev pub lists_of : Plan → List Owner
 lists_of plan = map client_list (enumerate_from 0 (kinds_of plan)) ++ flat_map pool_lists (enumerate_from 0 plan.pools)
 
@@ -41,7 +41,7 @@ owner_by (event.Job j) pool = Some (owner.Pool pool)
 owner_by (event.Take p) pool = Some (owner.Pool p)
 owner_by (event.Retire p) pool = None
 
--- the list has a pool for each event, which determines the owner of the event at each number
+-- the list has a pool for each event of the history, and each event and its pool determine the owner of the event
 pub record ArePoolsOf (plan : Plan) (history : List Event) (pools : List ℕ) : Type 0 where
   pub as_many : length pools ≡ length history
   pub each : (n : ℕ) (s : State) (e : Event) (pool : ℕ) → slice_get history n ≡ Some e → slice_get pools n ≡ Some pool → Reaches plan (take n history) s → owner_in plan s e ≡ owner_by e pool

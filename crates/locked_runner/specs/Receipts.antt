@@ -8,23 +8,23 @@ use Rattle.held_machines.specs.declared.held.Receipt.{Receipt}
 use Rattle.locked_runner.specs.declared.owner.Owner.{Owner}
 use Rattle.locked_runner.specs.Owner.{owner_in, lists_of}
 
--- the history has the event at this number, and there the event belongs to the owner
+-- the history has the receipt's event at the receipt's number, and the event belongs to the owner there
 pub record IsReceiptOf (plan : Plan) (history : List Event) (owner : Owner) (r : Receipt Event) : Type 0 where
   pub event : slice_get history r.number ≡ Some r.event
   pub owned : (s : State) → Reaches plan (take r.number history) s → owner_in plan s r.event ≡ Some owner
 
--- each receipt belongs to the owner, and the numbers rise and are at least low
+-- each receipt belongs to the owner, and the numbers are in ascending order and at least `low`
 abbrev pub AreReceiptsOf : Plan → List Event → Owner → ℕ → List (Receipt Event) → Type 0
 AreReceiptsOf plan history owner low [] = Unit {0}
 AreReceiptsOf plan history owner low (r ∷ rs) = (low ≤ r.number) × IsReceiptOf plan history owner r × AreReceiptsOf plan history owner (r.number + 1) rs
 
--- each list has receipts of its owner
+-- there is one list for each owner, and each list has receipts of its owner
 abbrev pub AreListsOf : Plan → List Event → List Owner → List (List (Receipt Event)) → Type 0
 AreListsOf plan history [] [] = Unit {0}
 AreListsOf plan history (owner ∷ owners) (list ∷ lists) = AreReceiptsOf plan history owner 0 list × AreListsOf plan history owners lists
 AreListsOf plan history _ _ = ⊥
 
--- the number of places of the lists that have this number
+-- the number of receipts in the lists that have the number k
 abbrev pub places_of : ℕ → List (List (Receipt Event)) → ℕ
 places_of k lists = sum_by (λ list. count_by (λ r. r.number == k) list) lists
 

@@ -7,7 +7,7 @@ use Rattle.locked_runner.specs.HeldWorld.{IsReachedBy}
 use Rattle.locked_runner.specs.Owner.{ArePoolsOf}
 use Rattle.locked_runner.specs.Run.{IsLegal, units_done}
 
--- the number as a u64, or None if it does not fit
+-- the number as a u64, or None if it does not fit in 64 bits
 abbrev pub IsCounted : ℕ → Option ℕ → Type 0
 IsCounted n (Some m) = n ≡ m
 IsCounted n None = 2 ^ 64 ≤ n
@@ -18,7 +18,7 @@ pub record IsReplayedAs (plan : Plan) (history : List Event) (world : View) (poo
   pub owned : ArePoolsOf plan history pools
   pub counted : IsCounted (units_done plan history) units
 
--- true: the history with the event is replayed; false: it is not legal, and the history without it is replayed
+-- true: the history, followed by the event, is replayed; false: it is not legal, and the history without the event is replayed
 abbrev pub ReplaysEvent : Plan → List Event → Event → Bool → View → List ℕ → Option ℕ → Type 0
 ReplaysEvent plan history event true world pools units = IsReplayedAs plan (history ++ event ∷ []) world pools units
 ReplaysEvent plan history event false world pools units = (¬ IsLegal plan (history ++ event ∷ [])) × IsReplayedAs plan history world pools units

@@ -19,7 +19,7 @@ use Rattle.locked_runner.specs.Complete.{IsComplete}
 abbrev pub IsLegal : Plan → List Event → Type 0
 IsLegal plan history = (s : State) × Reaches plan history s
 
--- the number of jobs in the state to which the history leads
+-- the state that the history reaches has this number of jobs
 abbrev pub Makes : Plan → List Event → ℕ → Type 0
 Makes plan history jobs = (s : State) → Reaches plan history s → length s.jobs ≡ jobs
 
@@ -51,7 +51,7 @@ pub record IsLegalPrefix (plan : Plan) (history : List Event) (n : ℕ) : Type 0
   pub within : n ≤ length history
   pub legal : IsLegal plan (take n history)
 
--- the same, and the next event, if there is one, is not possible
+-- the first n events of the history are legal, and the event after them, if there is one, is not possible
 pub record IsLegalPart (plan : Plan) (history : List Event) (n : ℕ) : Type 0 where
   pub front : IsLegalPrefix plan history n
   pub ends : n < length history → ¬ IsLegal plan (take (n + 1) history)
@@ -60,18 +60,18 @@ abbrev pub number_of : ThreadFault → ℕ
 number_of cause.Memory = MEMORY
 number_of cause.Gate = GATE
 
--- fault 41: for the legal prefix, some list has a receipt that does not belong to its owner or is not in ascending order
+-- fault 41: a list has a receipt that is not of its owner's events of the legal part, or its receipts are not in ascending order
 pub record IsStrange (plan : Plan) (history : List Event) (lists : List (List (Receipt Event))) (fault : RunFault) : Type 0 where
   pub number : fault.number ≡ STRANGE
   pub strange : ¬ AreListsOf plan (take fault.events history) (lists_of plan) lists
 
--- fault 42: the lists are those of their owners, and yet the run is not complete or has other numbers of jobs or units
+-- fault 42: each list has receipts of its owner in ascending order, but the run is not complete or has other numbers of jobs or units
 pub record IsMixed (plan : Plan) (rounds jobs units : ℕ) (history : List Event) (lists : List (List (Receipt Event))) (fault : RunFault) : Type 0 where
   pub number : fault.number ≡ MIXED
   pub owner_lists : AreListsOf plan (take fault.events history) (lists_of plan) lists
   pub mixed : ¬ (IsRun plan rounds history lists × Makes plan history jobs × Works plan history units)
 
--- the fault if there is enough memory: the one that a thread reported, and 41 or 42 only if no thread reported one
+-- the fault of a check that has enough memory: the one that a thread reported, or 41 or 42 if no thread reported one
 abbrev pub IsAnswerTo : Plan → ℕ → ℕ → ℕ → List Event → List (List (Receipt Event)) → Option ThreadFault → RunFault → Type 0
 IsAnswerTo plan rounds jobs units history lists (Some cause) fault = fault.number ≡ number_of cause
 IsAnswerTo plan rounds jobs units history lists None fault = IsStrange plan history lists fault ⊎ IsMixed plan rounds jobs units history lists fault

@@ -36,7 +36,8 @@ quantity_within plan own_quantity (suc n) k = own_quantity (class_at plan k) + s
 abbrev pub greatest : List ℕ → ℕ
 greatest = fold (λ a n. max a n) 0
 
--- the same for all generations, since the level of a class is above the levels of the classes that it submits
+-- the quantity of one job with all jobs that it causes: the generations are all, since the level of a class is above the levels of the
+-- classes that it submits
 abbrev pub total_quantity : Plan → Ranks → (Class → ℕ) → ℕ → ℕ
 total_quantity plan ranks own_quantity k = quantity_within plan own_quantity (greatest ranks.levels + 1) k
 
@@ -55,14 +56,14 @@ units_of_clients rounds client = client.count * (rounds_of rounds client * units
 abbrev pub events_of_clients : ℕ → Client → ℕ
 events_of_clients rounds client = client.count * events_of_client rounds client
 
--- the number of jobs, and the units of work of jobs and clients
+-- the number of jobs of a run; below it, the units of work of its jobs and clients
 abbrev pub jobs : Plan → Ranks → ℕ → ℕ
 jobs plan ranks rounds = by_jobs plan ranks rounds (own_quantity Jobs)
 
 abbrev pub units : Plan → Ranks → ℕ → ℕ
 units plan ranks rounds = by_jobs plan ranks rounds (own_quantity Units) + sum_by (units_of_clients rounds) plan.clients
 
--- an upper bound of the number of events of jobs and clients
+-- an upper bound of the number of events of a run, which are those of its jobs and clients
 abbrev pub most_events : Plan → Ranks → ℕ → ℕ
 most_events plan ranks rounds = by_jobs plan ranks rounds (own_quantity Events) + sum_by (events_of_clients rounds) plan.clients
 
@@ -76,7 +77,7 @@ pub record HaveSameNumbers (plan : Plan) (rounds : ℕ) (ranks ranks' : Ranks) :
   pub units : units plan ranks rounds ≡ units plan ranks' rounds
   pub most_events : most_events plan ranks rounds ≡ most_events plan ranks' rounds
 
--- all ranks whose rows hold give the same numbers
+-- all ranks whose rows hold give a run the same numbers
 abbrev pub NumbersAreOfThePlan : Type 0
 NumbersAreOfThePlan = (plan : Plan) (rounds : ℕ) (ranks ranks' : Ranks) → AllHold (rank_rows plan ranks) → AllHold (rank_rows plan ranks') → HaveSameNumbers plan rounds ranks ranks'
 
@@ -84,10 +85,11 @@ NumbersAreOfThePlan = (plan : Plan) (rounds : ℕ) (ranks ranks' : Ranks) → Al
 abbrev pub capped : ℕ → ℕ
 capped n = min n (2 ^ 64 - 1)
 
--- the list has f of each class of the plan, capped
+-- the list has, for each class k of the plan, the number f k, capped
 abbrev pub AreCapped : Plan → (ℕ → ℕ) → List ℕ → Type 0
 AreCapped plan f numbers = (k : ℕ) → k < length plan.classes → slice_index numbers k ≡ capped (f k)
 
--- the list has the quantity of each class with n generations of jobs, its own included, capped
+-- the list has, for each class, the quantity of one job and of the jobs that it causes, in n generations including its own, capped at the
+-- greatest u64
 abbrev pub AreQuantities : Plan → (Class → ℕ) → ℕ → List ℕ → Type 0
 AreQuantities plan own_quantity n numbers = AreCapped plan (quantity_within plan own_quantity n) numbers

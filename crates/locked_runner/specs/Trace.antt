@@ -12,7 +12,7 @@ pub record StateWithOutcome : Type 0 where
   pub state : State
   pub outcome : Option Outcome
 
--- at the start there is no outcome
+-- the first state, which has no outcome
 abbrev pub start : Plan → StateWithOutcome
 start plan = record { state = reach.start plan; outcome = None }
 
@@ -20,6 +20,6 @@ abbrev pub with_outcome : Option (State × Outcome) → Option StateWithOutcome
 with_outcome None = None
 with_outcome (Some x) = Some (record { state = x.0; outcome = Some x.1 })
 
--- the step of the plan's machine, if it is possible
+-- the state after the event, or None if the event is not possible
 abbrev pub next : Plan → StateWithOutcome → Event → Option StateWithOutcome
 next plan t event = with_outcome (step plan t.state event)

@@ -1,4 +1,4 @@
-//! The completeness of a history.
+//! The test whether a history is complete.
 
 ghost use Rattle.std.specs.Prelude.{◌≡◌, ◌<◌, ◌+◌, ◌-◌, ◌^◌, ◌↔◌, ℕ, List, IsTrue, IfOk, Some, length, min, count_by, slice_get, slice_index, if◌then◌else◌};
 ghost use Rattle.job_bodies.specs.Plan.{Plan, client_at};
@@ -40,8 +40,9 @@ pub(crate) fn is_complete(
     Ok(clients_are_complete(plan, kinds, world, rounds, &made))
 }
 
-/// Returns `true` if each client is through. `kinds` has the kind of each client, and `made` its
-/// number of events.
+/// Returns `true` if each client has finished: it has performed all events of its rounds and is at
+/// the end of its body. `kinds` has the client kind of each client, and `made` its number of
+/// events.
 fn clients_are_complete(
     plan: &Plan,
     kinds: &[usize],

@@ -11,8 +11,8 @@ pub enum Actor {
 #[derive(Clone, Copy, PartialEq, Eq)]
 pub struct GateFault;
 
-/// A gate does the declared work of a run. Many threads call it concurrently. A thread that calls
-/// it does not hold the lock of the machine.
+/// The code that does the declared work of a run. Many threads call it concurrently, without
+/// holding the lock of the machine.
 pub trait Gate: Sync {
     /// Does this many units of work of the actor.
     ///

@@ -1,7 +1,7 @@
 //! Runs of a certified plan on threads that share one locked machine.
 //!
-//! Each event is made under the lock. The receipts of a run are checked afterwards: [`RunReport`] counts the events of a legal
-//! history.
+//! Each event is performed under the lock. Each thread returns receipts of its events, which are
+//! checked after the run. A [`RunReport`] describes a legal history.
 #![tactic(auto)]
 
 mod certified_world;

@@ -6,7 +6,8 @@ ghost use Rattle.locked_runner.specs.Limits as spec;
 
 use job_bodies::{MAX_RUN_CARRIERS, MAX_RUN_CLIENTS, MAX_RUN_EVENTS, Plan};
 
-/// Returns `true` if a run with at most this many events exceeds a limit.
+/// Returns `true` if a run of the plan exceeds a limit. `events` is an upper bound of its number of
+/// events.
 pub(crate) fn exceeds_limits(plan: &Plan, events: u64) -> bool
     ensures value { result ≡ spec.exceeds_limits plan.now events }
     ensures well_formed { IsWellFormed plan.now }
@@ -28,7 +29,7 @@ fn clients_of(plan: &Plan) -> u64
     total
 }
 
-/// Returns the maximum number of threads of all pools together.
+/// Returns the sum of the maximum numbers of threads of all pools.
 fn workers_of(plan: &Plan) -> u64
     ensures { result ≡ min (spec.workers plan.now) (2 ^ 64 - 1) }
 {

@@ -72,7 +72,8 @@ fn own_quantity(measure: Measure, class: &Class) -> u64
     }
 }
 
-/// Returns the quantity of all jobs that the clients cause in all their rounds.
+/// Returns the quantity of all jobs of a run: those that the clients submit in all their rounds,
+/// and those that these jobs submit in turn.
 fn by_jobs(
     alloc: Global,
     plan: &Plan,
@@ -87,7 +88,8 @@ fn by_jobs(
     Ok(submitted_by_all(plan, rounds, &numbers))
 }
 
-/// Returns the sum of the numbers of the classes that the clients submit in all their rounds.
+/// Returns the sum of `numbers[k]` over all submits of the clients in all their rounds, for the
+/// submitted class k.
 fn submitted_by_all(plan: &Plan, rounds: u64, numbers: &[u64]) -> u64
     ensures { (f : ℕ → ℕ)
         → spec.AreCapped plan.now f numbers.now
@@ -106,7 +108,7 @@ fn submitted_by(client: &Client, rounds: u64, numbers: &[u64]) -> u64
     in_all_rounds(client, rounds, submitted(&client.body, numbers))
 }
 
-/// Returns the units of work of the clients themselves.
+/// Returns the units of work of the clients in all their rounds, without those of jobs.
 fn units_of_all(plan: &Plan, rounds: u64) -> u64
     ensures { result ≡ capped (sum_by (spec.units_of_clients rounds) plan.now.clients) }
 {
@@ -123,7 +125,7 @@ fn units_of_clients(client: &Client, rounds: u64) -> u64
     in_all_rounds(client, rounds, units_in(&client.body))
 }
 
-/// Returns the number of events of the clients themselves.
+/// Returns the number of events of the clients in all their rounds, without those of jobs.
 fn events_of_all(plan: &Plan, rounds: u64) -> u64
     ensures { result ≡ capped (sum_by (spec.events_of_clients rounds) plan.now.clients) }
 {
@@ -165,7 +167,7 @@ fn units_in(body: &[Action]) -> u64
     total
 }
 
-/// Returns the sum of the numbers of the classes that the body submits.
+/// Returns the sum of `numbers[k]` over the submits of the body, for the submitted class k.
 fn submitted(body: &[Action], numbers: &[u64]) -> u64
     ensures { result ≡ capped (spec.submitted (slice_index numbers.now) body.now) }
 {
@@ -178,8 +180,8 @@ fn submitted(body: &[Action], numbers: &[u64]) -> u64
     total
 }
 
-/// Returns, for each class, the quantity of one job with all jobs that it causes, of all
-/// generations.
+/// Returns, for each class, the quantity of one job and of all jobs that it causes, directly or
+/// through other jobs.
 fn total_quantity(
     alloc: Global,
     plan: &Plan,
@@ -212,7 +214,8 @@ fn greatest(levels: &[u64]) -> u64
     greatest
 }
 
-/// Returns the numbers with one more generation of jobs, which comes before the given generations.
+/// Returns, for each class, the quantity of one job and of the jobs that it causes, with one more
+/// generation of them than `numbers` has.
 fn add_generation(
     alloc: Global,
     plan: &Plan,

@@ -22,8 +22,8 @@ pub enum Owner {
     Pool(usize),
 }
 
-/// Returns the pool of the event's job in the world before the event, if it is a possible event of
-/// a job; otherwise returns 0.
+/// Returns the pool of the job that performs the event, or 0 if no live job performs it. `world` is
+/// the world before the event.
 pub(crate) fn pool_of(plan: &Plan, world: &World, event: Event) -> u8
     ensures { (s : State)
         → IsReached plan.now s
@@ -40,7 +40,8 @@ pub(crate) fn pool_of(plan: &Plan, world: &World, event: Event) -> u8
     }
 }
 
-/// Returns the pool of the class, or 0 if there is no such class. A plan has at most 64 pools.
+/// Returns the pool of the class, or 0 if there is no such class. The number fits in 8 bits, since
+/// a plan has at most 64 pools.
 fn pool_of_class(plan: &Plan, class: usize) -> u8
     ensures exists { class < length plan.now.classes → result ≡ state.pool_of plan.now class }
     ensures well_formed { IsWellFormed plan.now }
@@ -51,8 +52,8 @@ fn pool_of_class(plan: &Plan, class: usize) -> u8
     }
 }
 
-/// Returns the owner of the event. `pool` is the pool of its job, if it is an event of a job.
-/// Returns `None` for a retirement, which no thread of a run performs.
+/// Returns the owner of the event, or `None` for a retirement, which no thread of a run performs.
+/// `pool` is the pool of the job that performs the event, and is not used if no job does.
 pub(crate) fn owner_by(event: Event, pool: u8) -> Option<Owner>
     ensures { result ≡ spec.owner_by event pool }
 {
@@ -64,7 +65,7 @@ pub(crate) fn owner_by(event: Event, pool: u8) -> Option<Owner>
     }
 }
 
-/// Returns the kind of each client, in the order of the clients.
+/// Returns the client kind of each client, in the order of the clients.
 ///
 /// # Errors
 ///
@@ -80,7 +81,7 @@ pub fn kinds_of(alloc: Global, plan: &Plan) -> Result<Vec<usize>, AllocError>
     Ok(kinds)
 }
 
-/// Returns the owner of each list of receipts: first each client, then each pool `max` times.
+/// Returns the owner of each list of receipts: first each client once, then each pool `max` times.
 ///
 /// # Errors
 ///

@@ -2,19 +2,20 @@
 
 use crate::ThreadFault;
 
-/// The progress of a run.
+/// The progress of a run: how many clients have not finished, and whether the run stops early.
 #[derive(Drop)]
 pub(crate) struct Progress {
     /// The number of clients that have an event left.
     clients_left: usize,
     /// Whether the threads must stop before the run is complete.
     is_over: bool,
-    /// The fault that a thread reported. If several did, it is the one with the lowest number.
+    /// The fault that a thread reported. If several threads did, it is the one with the lowest
+    /// number.
     fault: Option<ThreadFault>,
 }
 
 impl Progress {
-    /// Creates the progress before the first event of `clients` clients.
+    /// Creates the progress of a run with `clients` clients, before its first event.
     pub(crate) fn new(clients: usize) -> Progress {
         Progress {
             clients_left: clients,
@@ -45,7 +46,7 @@ impl Progress {
     }
 
     /// Stops the run because of a fault. If there are several, keeps the one with the lowest
-    /// number, which is that of memory.
+    /// number, which is [`ThreadFault::Memory`].
     pub(crate) fn note(&mut self, cause: ThreadFault) {
         self.end();
         if self.fault != Some(ThreadFault::Memory) {

@@ -60,7 +60,8 @@ fn list_fits(
     true
 }
 
-/// Returns `true` if the history has this event at this number, and the event belongs to the owner.
+/// Returns `true` if the history has the receipt's event at the receipt's number, and the event
+/// belongs to the owner.
 fn receipt_fits(
     _plan: &Plan,
     history: &[Event],
@@ -106,7 +107,7 @@ fn is_owned_by(found: Option<Owner>, owner: Owner) -> bool
     }
 }
 
-/// Returns `true` if each number below `length` is in exactly one place of the lists.
+/// Returns `true` if each number below `length` is the number of exactly one receipt in the lists.
 ///
 /// # Errors
 ///

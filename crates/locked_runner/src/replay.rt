@@ -17,12 +17,12 @@ use std::alloc::{AllocError, Global};
 pub(crate) struct Replay {
     /// The world after the replayed events.
     pub(crate) world: ViewedWorld,
-    /// For each replayed event the pool of its job, if it is an event of a job. The pool determines
-    /// the owner of the event.
+    /// For each replayed event, the pool of the job that performed it, or 0 if no job did. The pool
+    /// and the event determine the owner of the event.
     pub(crate) pools: Vec<u8>,
     /// The units of work of the replayed events, or `None` if they exceed `u64::MAX`.
     pub(crate) units: Option<u64>,
-    /// Whether memory ran out before the next event.
+    /// Whether the replay ended because memory ran out.
     pub(crate) ended_for_memory: bool,
 }
 

@@ -16,7 +16,7 @@ pub struct RunReport {
     pub jobs: u64,
     /// The units of work done by clients and jobs.
     pub units: u64,
-    /// The number of rejected submits, which is 0.
+    /// The number of refused submits, which is 0.
     pub refused: u64,
     /// Every event, in the order in which the events happened.
     pub history: Vec<Event>,
@@ -34,15 +34,16 @@ impl Model for RunReport {
     ghost view = { λ r. record { jobs = r.jobs; units = r.units; refused = r.refused; history = r.history.items; receipts = map (λ list. list.items) r.receipts.items } };
 }
 
-/// The reason why a run is not complete: a number of `support`, and the length of a legal prefix of
-/// the history.
+/// The reason why a run is not complete: a fault number from `support`, and the length of a legal
+/// prefix of the history.
 ///
 /// - 20: memory ran out.
 /// - 40: the run exceeds a limit, and nothing was started.
-/// - 41: a receipt is strange. The history has no such event at its number, or the event belongs to
-///   another thread, or the numbers of a list do not rise.
-/// - 42: the receipts are not the events of the history, each once, or the history is not complete,
-///   or its number of jobs or units differs from the computed one.
+/// - 41: a list has a receipt that does not belong there: the history has no such event at the
+///   receipt's number, the event belongs to another client or pool, or the numbers of the list are
+///   not in ascending order.
+/// - 42: the history is not complete, or one of its events is not in exactly one place of the
+///   lists, or its number of jobs or units differs from the computed one.
 /// - 43: the gate failed.
 #[derive(Clone, Copy, Debug, PartialEq, Eq)]
 pub struct RunFault {
@@ -51,7 +52,7 @@ pub struct RunFault {
 }
 
 impl RunFault {
-    /// Creates a fault before the first event.
+    /// Creates the fault of a run that ended before its first event.
     #[tactic(auto, using(crate::proofs::Histories::nothing_is_legal))]
     pub fn at_start(number: u8) -> RunFault
         ensures value { result ≡ record { number = number; events = 0 } }
@@ -71,7 +72,7 @@ pub enum ThreadFault {
 }
 
 impl ThreadFault {
-    /// Returns its number of `support`.
+    /// Returns the fault number from `support`.
     pub fn number(self) -> u8
         ensures { result ≡ number_of self }
     {
@@ -83,7 +84,8 @@ impl ThreadFault {
 }
 
 /// The results of the threads of a run: the history, the receipts of each thread, and the fault
-/// that a thread reported. If several did, it is the fault with the lowest number.
+/// that a thread reported. If several threads reported faults, it is the one with the lowest
+/// number.
 #[derive(Drop)]
 pub struct ThreadResults {
     pub history: Vec<Event>,

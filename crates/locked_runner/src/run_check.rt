@@ -19,14 +19,14 @@ use job_bodies::Plan;
 use std::alloc::{AllocError, Global};
 use support::number::{MEMORY, MIXED, STRANGE};
 
-/// Returns the report of a run, given what its threads returned, if it is a complete run of the
-/// plan with this number of rounds and these numbers of jobs and units of work.
+/// Checks that the results of the threads are a complete run of the plan with this number of rounds
+/// and these numbers of jobs and units of work, and returns its report.
 ///
 /// # Errors
 ///
-/// Returns the fault that a thread reported. If there is none, returns 41 if a receipt is strange,
-/// and otherwise 42, as described at [`RunFault`]. Returns 20 instead of any of these if memory
-/// runs out here. The field `events` of the fault is the number of events of the history that were
+/// Returns the fault that a thread reported. If there is none, returns fault 41, or otherwise 42,
+/// as described at [`RunFault`]. Returns 20 instead of any of these if memory runs out during the
+/// check. The field `events` of the fault is the number of events of the history that were
 /// replayed; except with 20, these are all events before the first impossible one.
 pub fn check_run(
     alloc: Global,
@@ -161,8 +161,8 @@ fn fault_of(
 }
 
 /// Returns `true` if the history was replayed to its end, has these numbers of jobs and units of
-/// work, is complete, and has each of its events in one place of the lists. Each list must have
-/// receipts of its own client or pool only.
+/// work, is complete, and has each of its events in exactly one place of the lists. Each list must
+/// have only receipts of its own client or pool.
 ///
 /// # Errors
 ///

@@ -13,8 +13,9 @@ use std::sync::{Condvar, Mutex, MutexGuard, Wait};
 /// the progress of the run. The last two are accessed only while the machine's lock is held.
 ///
 /// A thread whose actor is at a get waits on the machine's own condition variable. A worker thread
-/// without a job waits on the one of its pool's hand-off queue. Only the end of a job can unblock a
-/// get, and only a submit brings a worker thread a job, so that other events wake no thread.
+/// without a job waits on the condition variable of its pool's hand-off queue. Only the end of a
+/// job can unblock a get, and only a submit brings a worker thread a job, so that other events wake
+/// no thread.
 #[derive(Drop)]
 pub(crate) struct Shared<'a> {
     pub(crate) plan: &'a Plan,
@@ -23,15 +24,15 @@ pub(crate) struct Shared<'a> {
     progress: Mutex<Progress>,
 }
 
-/// The hand-off queue of one pool, with the jobs that a submit has started and that no worker
-/// thread has taken yet. The worker threads wait here for jobs.
+/// The hand-off queue of one pool: the jobs that a submit has started and that no worker thread has
+/// taken yet. The worker threads of the pool that have no job wait here.
 #[derive(Drop)]
 struct HandoffQueue {
     started: Mutex<VecDeque<usize>>,
     job_ready: Condvar,
 }
 
-/// The lock guard of the machine, whose holder may change it.
+/// The guard of the machine's lock.
 type MachineGuard<'a, 'b> = MutexGuard<'b, Held<CertifiedWorld<'a>>>;
 
 /// The threads to wake after an event.
@@ -152,7 +153,8 @@ impl<'a> Shared<'a> {
         None
     }
 
-    /// Returns the work of a worker thread. If its job was not found, stops the run.
+    /// Releases the lock and returns the work. If there is none, because the job was not found,
+    /// stops the run.
     fn check_work<R: Wait>(
         &self,
         rt: &R,
@@ -225,7 +227,7 @@ impl<'a> Shared<'a> {
         }
     }
 
-    /// Puts the started job into its pool's hand-off queue.
+    /// Puts the started job into its pool's hand-off queue, and returns the threads to wake.
     fn hand_off<R: Wait>(&self, rt: &R, guard: &MachineGuard<'a, '_>, job: usize) -> Wakeup {
         let Some(pool) = self.pool_of(guard, job) else {
             return self.end_without_worker(rt);
@@ -241,7 +243,8 @@ impl<'a> Shared<'a> {
         Wakeup::Worker(pool)
     }
 
-    /// Stops the run, because no worker thread for the job was found.
+    /// Stops the run because no worker thread was found for the job, and returns the threads to
+    /// wake.
     fn end_without_worker<R: Wait>(&self, rt: &R) -> Wakeup {
         self.progress.lock(rt).end();
         Wakeup::All
@@ -273,7 +276,7 @@ impl<'a> Shared<'a> {
     }
 }
 
-/// Returns the job that the last event took from a queue.
+/// Returns the job that the last event took from a queue, with the receipt of that event.
 fn work_taken(guard: &MachineGuard<'_, '_>, receipt: Receipt<Event>) -> Option<Work> {
     match guard.state().outcome {
         Some(Outcome::Took(job)) => work_on(guard, job, Some(receipt)),

@@ -14,8 +14,8 @@ use std::sync::Wait;
 use std::thread;
 use std::thread::Threads;
 
-/// Starts a thread for each list of receipts, and returns the results of the threads after all of
-/// them have ended. If a thread cannot be started, the run stops.
+/// Starts a thread for each client and `max` threads for each pool, and returns the results of the
+/// threads after all of them have ended. If a thread cannot be started, the run stops.
 ///
 /// # Errors
 ///
@@ -97,7 +97,7 @@ fn run_one<R: Wait, G: Gate>(
     }
 }
 
-/// Returns the kind of the client with this number.
+/// Returns the client kind of the client with this number.
 fn client_of<'p>(plan: &'p Plan, kinds: &[usize], number: usize) -> Option<&'p Client> {
     plan.client_at(*kinds.get(number)?)
 }

@@ -8,9 +8,9 @@ use job_bodies::{Action, Client};
 use std::alloc::{AllocError, Global};
 use std::sync::Wait;
 
-/// The initial capacity of a list of receipts: 192 KiB. The C library allocates blocks of this size
-/// with `mmap`, so that the pages are taken only as they are written. A list within this capacity
-/// is never moved and leaves no gaps in the heap.
+/// The initial capacity of a list of receipts, which is 192 KiB of memory. The C library allocates
+/// blocks of this size with `mmap`, so that a page is used only when it is written. A list within
+/// this capacity is never moved and leaves no gaps in the heap.
 const FIRST_ROOM: usize = 16_384;
 
 /// A thread of a run, with the receipts of its events.
@@ -23,7 +23,7 @@ pub(crate) struct Runner<'a, 'b, R, G> {
 }
 
 impl<'a, 'b, R: Wait, G: Gate> Runner<'a, 'b, R, G> {
-    /// Creates a thread before its first event.
+    /// Creates the state of a thread before its first event.
     ///
     /// # Errors
     ///
@@ -42,7 +42,7 @@ impl<'a, 'b, R: Wait, G: Gate> Runner<'a, 'b, R, G> {
         })
     }
 
-    /// Runs the thread of a client: performs its body `rounds` times, and leaves the run.
+    /// Runs the thread of a client: performs the client's body `rounds` times, and leaves the run.
     pub(crate) fn run_client(
         mut self,
         client: &Client,
@@ -61,8 +61,8 @@ impl<'a, 'b, R: Wait, G: Gate> Runner<'a, 'b, R, G> {
         self.receipts
     }
 
-    /// Runs a worker thread of a pool: performs one job of the pool after the other, until the run
-    /// is complete or stops.
+    /// Runs a worker thread of a pool: performs jobs of the pool in sequence, until the run is
+    /// complete or stops.
     pub(crate) fn run_worker(mut self, pool: usize) -> Vec<CompactReceipt> {
         for _ in self.rt.forever() {
             let Some(work) = self.shared.next_job(self.rt, pool) else {
@@ -128,7 +128,7 @@ impl<'a, 'b, R: Wait, G: Gate> Runner<'a, 'b, R, G> {
     }
 }
 
-/// Returns the event of the actor's next action.
+/// Returns the event in which the actor performs its next action.
 fn event_of(actor: Actor) -> Event {
     match actor {
         Actor::Client(number) => Event::Client(number),

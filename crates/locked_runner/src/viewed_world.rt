@@ -12,8 +12,8 @@ use job_bodies::Plan;
 use std::alloc::{AllocError, Global};
 use std::marker::Model;
 
-/// A world whose contracts mention only its live view. The number of its places is left out, since
-/// no state of the reference machine determines it.
+/// A world whose contracts mention only its live view. They do not mention the number of its
+/// places, since the state of the plan's machine does not determine that number.
 #[derive(Drop)]
 pub struct ViewedWorld {
     world: World,

@@ -1,4 +1,4 @@
--- The counts of the events so far.
+-- For each client, the number of its events among the events so far.
 use Rattle.std.proofs.Common.{◌≡◌, ◌<◌, ◌-◌, ◌^◌, ℕ, length, take, min, slice_index, count_by}
 use Rattle.locked_runner.specs.Complete.{is_of_client}
 use Rattle.locked_runner.proofs.completeness.events_made.Given as goal

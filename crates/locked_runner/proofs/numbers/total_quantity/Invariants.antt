@@ -1,4 +1,4 @@
--- The numbers for this many generations and one more.
+-- The numbers are the quantities for one more generation than the loop has counted.
 use Rattle.std.proofs.Common.{suc}
 use Rattle.locked_runner.specs.RunNumbers.{AreQuantities, own_quantity}
 use Rattle.locked_runner.proofs.numbers.total_quantity.Given as goal

@@ -1,4 +1,4 @@
--- The marks so far count the numbers of the lists so far.
+-- The mark at each number is the number of receipts with this number in the lists so far, up to 255.
 use Rattle.std.proofs.Common.{◌≡◌, ◌<◌, ℕ, length, map, take, min, slice_index}
 use Rattle.locked_runner.specs.Receipts.{places_of}
 use Rattle.locked_runner.proofs.receipts.each_once.Given as goal

@@ -1,4 +1,4 @@
--- All receipts fit if the remaining ones fit.
+-- All receipts of the list fit exactly when the remaining ones fit.
 use Rattle.std.proofs.Common.{◌↔◌, drop}
 use Rattle.locked_runner.specs.Receipts.{AreReceiptsOf}
 use Rattle.locked_runner.proofs.receipts.list_fits.Given as goal

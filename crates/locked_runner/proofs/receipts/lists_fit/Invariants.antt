@@ -1,4 +1,4 @@
--- All lists fit if the remaining ones fit.
+-- All lists fit exactly when the remaining ones fit.
 use Rattle.std.proofs.Common.{◌↔◌, drop, map}
 use Rattle.locked_runner.specs.Receipts.{AreListsOf}
 use Rattle.locked_runner.proofs.receipts.lists_fit.Given as goal
