@@ -18,7 +18,7 @@ first_is_free statuses p is =
     let first = position-Some is_free statuses p Free is in
     slice_get-get_or statuses p Free first.0 ∙ ap Some (free_alone _ first.1)
 
--- so its claim gets a receipt
+-- the claim of the first free pool always gets a receipt
 pub never_refused : {R : Type 0} (statuses now : List PoolStatus) (p : ℕ) (receipt : Option R) → now ≡ statuses → position is_free statuses ≡ Some p
     → is_some receipt ≡ is_some (next_statuses now (Claim p)) → receipt ≡ None → ⊥
 never_refused statuses now p receipt same is answered none =

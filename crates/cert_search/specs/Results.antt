@@ -1,9 +1,9 @@
--- The results of a round: one for each pool without a rank, and no other.
+-- The results of a complete round: one for each pool without a rank, and no other.
 use Rattle.std.specs.Prelude.{ℕ, Bool, true, false, ◌==◌, ◌&&◌, List, length, count_by, nat_lt}
 use Rattle.std.specs.List.{enumerate_from, list_all}
 use Rattle.cert_search.specs.declared.round.PoolVectors.{PoolVectors}
 
--- the number of results that a pool must have
+-- the number of results that a pool must have: none if it has a rank, otherwise one
 abbrev pub expected_count : Bool → ℕ
 expected_count true = 0
 expected_count false = 1

@@ -1,4 +1,5 @@
-//! The board of one round, from which workers claim pools.
+//! The work list of one round: the state of each pool, and the operations by which workers claim
+//! and return pools.
 
 ghost use Rattle.std.specs.Prelude.{◌≡◌, ◌++◌, ◌∷◌, [], List, true, false, Some, None, IfOk, IfSome, OnErr, IsTrue, is_some, position, slice_get};
 ghost use Rattle.std.specs.List.{list_all};
@@ -16,13 +17,13 @@ use std::marker::Model;
 pub(crate) enum PoolStatus {
     /// A pool that no worker has claimed.
     Free,
-    /// A pool that a worker is looking at.
+    /// A pool that a worker has claimed and not returned.
     Claimed,
-    /// A pool that was looked at, in this round or an earlier one.
+    /// A pool that was searched, in this round or an earlier one.
     Done,
 }
 
-/// An action of a worker at the board.
+/// An action of a worker on the board.
 #[derive(Clone, Copy, PartialEq, Eq)]
 pub(crate) enum BoardEvent {
     /// Claims a free pool.
@@ -31,7 +32,7 @@ pub(crate) enum BoardEvent {
     Return(usize),
 }
 
-/// Returns the state of a pool at the start of a round.
+/// Returns the state, at the start of a round, of a pool that has a rank or has none.
 fn initial_status(has_rank: bool) -> PoolStatus
     ensures { result ≡ spec.initial_status has_rank }
 {
@@ -52,7 +53,7 @@ fn is_free(status: PoolStatus) -> bool
     }
 }
 
-/// Returns whether a pool in this state was looked at.
+/// Returns whether a pool in this state is done.
 fn is_done(status: PoolStatus) -> bool
     ensures { result ≡ spec.is_done status }
 {
@@ -62,7 +63,7 @@ fn is_done(status: PoolStatus) -> bool
     }
 }
 
-/// The state of each pool.
+/// The state of each pool in one round.
 #[derive(Drop)]
 pub(crate) struct PoolStatuses {
     statuses: Vec<PoolStatus>,
@@ -78,21 +79,21 @@ impl Model for PoolStatuses {
 }
 
 impl PoolStatuses {
-    /// Returns the first free pool.
+    /// Returns the number of the first free pool.
     fn first_free(&self) -> Option<usize>
         ensures { result ≡ position spec.is_free self.now }
     {
         self.statuses.iter().position(|status| is_free(*status))
     }
 
-    /// Returns whether every pool was looked at.
+    /// Returns whether every pool is done.
     pub(crate) fn are_done(&self) -> bool
         ensures { result ≡ list_all spec.is_done self.now }
     {
         self.statuses.iter().all(|status| is_done(*status))
     }
 
-    /// Claims the pool if it is free.
+    /// Claims the pool if it is free, and returns whether it was.
     fn claim(&mut self, pool: usize) -> bool
         ensures taken { IsTrue result
             → spec.claimed self.old pool (slice_get self.old pool) ≡ Some self.new }
@@ -109,7 +110,7 @@ impl PoolStatuses {
         }
     }
 
-    /// Returns the pool to the board if it was claimed.
+    /// Returns the pool to the board if it was claimed, and returns whether it was.
     fn give_back(&mut self, pool: usize) -> bool
         ensures given { IsTrue result
             → spec.returned self.old pool (slice_get self.old pool) ≡ Some self.new }
@@ -127,10 +128,10 @@ impl PoolStatuses {
     }
 }
 
-/// The board of a round, in which each pool without a rank is looked at once.
+/// The board of a round, on which each pool without a rank is claimed once.
 #[derive(Drop)]
 pub(crate) struct Board {
-    /// Whether each pool has a rank from an earlier round.
+    /// For each pool, whether it has a rank from an earlier round.
     pub(crate) has_rank: Vec<bool>,
 }
 
@@ -171,7 +172,7 @@ impl Machine for Board {
 ///
 /// # Errors
 ///
-/// [`AllocError`] if memory runs out. The board is unchanged then.
+/// Returns [`AllocError`] if memory runs out. The board is then unchanged.
 pub(crate) fn claim(board: &mut Held<Board>) -> Result<Option<usize>, AllocError>
     ensures pool { IfOk result (λ taken. taken ≡ position spec.is_free board.old.state) }
     ensures taken { IfOk result (λ taken.
@@ -193,7 +194,7 @@ pub(crate) fn claim(board: &mut Held<Board>) -> Result<Option<usize>, AllocError
 ///
 /// # Errors
 ///
-/// [`AllocError`] if memory runs out. The board is unchanged then.
+/// Returns [`AllocError`] if memory runs out. The board is then unchanged.
 pub(crate) fn give_back(board: &mut Held<Board>, pool: usize) -> Result<bool, AllocError>
     ensures possible { IfOk result (λ given. (statuses : List PoolStatus) → spec.LeadsTo board.old.machine.has_rank.items board.old.history statuses
         → given ≡ is_some (spec.next_statuses statuses (event.Return pool))) }

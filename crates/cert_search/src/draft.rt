@@ -1,4 +1,4 @@
-//! A certificate that is completed round by round.
+//! A certificate whose parts become known round by round.
 
 use crate::round::PoolVectors;
 use cert_text::{Cert, PoolCert};
@@ -22,7 +22,7 @@ pub(crate) struct Draft {
 }
 
 impl Draft {
-    /// Creates a draft in which nothing is known.
+    /// Creates a draft without any known part.
     pub(crate) fn of(alloc: Global, plan: &Plan) -> Result<Draft, AllocError> {
         let mut pools = Vec::with_capacity(alloc, plan.pools().len())?;
         for _ in plan.pools() {
@@ -35,12 +35,12 @@ impl Draft {
         Ok(Draft { pools })
     }
 
-    /// Returns how many pools have no rank yet.
+    /// Returns the number of pools that have no rank yet.
     pub(crate) fn unranked(&self) -> usize {
         self.pools.iter().filter(|pool| pool.rank.is_none()).count()
     }
 
-    /// Returns whether each pool has a rank.
+    /// Returns, for each pool, whether it has a rank.
     pub(crate) fn has_rank(&self, alloc: Global) -> Result<Vec<bool>, AllocError> {
         self.pools
             .iter()
@@ -56,8 +56,9 @@ impl Draft {
             .collect(alloc)
     }
 
-    /// Records the results of a round, and gives its rank to each pool with a blocked vector.
-    /// Returns `false` if no pool gets the rank, or if the first round found no bound for a pool.
+    /// Records the results of a round, and gives the rank to each pool whose blocked vector was
+    /// found. Returns `false` if no pool gets the rank, or if the first round found no bound for
+    /// some pool.
     pub(crate) fn note(&mut self, found: Vec<PoolVectors>, rank: u64) -> bool {
         let mut moved = false;
         let mut bounded = true;
@@ -82,7 +83,7 @@ impl Draft {
         moved && bounded
     }
 
-    /// Returns the certificate, if both vectors of each pool are known.
+    /// Returns the certificate, or `None` if a vector of a pool is not known.
     pub(crate) fn into_cert(
         self,
         alloc: Global,

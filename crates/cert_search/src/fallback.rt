@@ -1,4 +1,4 @@
-//! The fallback if the rounds find nothing.
+//! The steady certificate, as the result of the search if the rounds find no certificate.
 
 ghost use Rattle.std.specs.Prelude.{◌≡◌, false, IfOk, IfSome, IfNone, IsTrue};
 ghost use Rattle.job_bodies.specs.WellFormed.{IsWellFormed};
@@ -12,8 +12,8 @@ use job_bodies::Plan;
 use size_search::{cause_of, steady};
 use std::alloc::{AllocError, Global};
 
-/// Returns the steady certificate of the plan, if it accepts the plan as it is. If a cause against
-/// all sizes holds, no certificate does.
+/// Returns the steady certificate of the plan if it accepts the plan with its own sizes. If a cause
+/// holds for which no sizes are enough, no certificate accepts the plan.
 pub(crate) fn steady_if_accepted(alloc: Global, plan: &Plan) -> Result<Option<Cert>, AllocError>
     ensures accepted { IfOk result
         (λ found. IfSome found (λ cert. IsTrue (accepted plan.now cert))) }
@@ -26,7 +26,7 @@ pub(crate) fn steady_if_accepted(alloc: Global, plan: &Plan) -> Result<Option<Ce
     }
 }
 
-/// Returns the same for a plan in which no class submits itself.
+/// Returns the steady certificate if it accepts the plan, in which no class submits itself.
 fn without_circle(alloc: Global, plan: &Plan) -> Result<Option<Cert>, AllocError>
     requires free { NoCircle plan.now }
     requires well_formed { IsWellFormed plan.now }

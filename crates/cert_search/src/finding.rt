@@ -23,11 +23,12 @@ use std::thread::Threads;
 pub enum SearchFault {
     /// Memory ran out, or a thread could not be started.
     Memory,
-    /// In a round a worker claimed a pool that the plan does not have or returned one that was not
-    /// claimed, a pool was left on the board, or the results are not one for each pool without a
-    /// rank. No proof covers what threads do under a lock, so this is checked at run time.
+    /// In some round a worker claimed a pool that the plan does not have, a worker returned a pool
+    /// that was not claimed, a pool was never returned to the board, or the results were not one
+    /// for each pool without a rank. No proof covers what threads do under a lock, so this is
+    /// checked at run time.
     Mixed,
-    /// The gate rejected a pool.
+    /// The gate returned `false` for a pool.
     Gate,
 }
 
@@ -40,22 +41,22 @@ impl From<AllocError> for SearchFault {
 }
 
 /// Searches for a certificate of the plan with `workers` workers, 1 to 64. If the rounds find none,
-/// it returns the steady certificate if that accepts the plan as it is. So `None` means that the
-/// steady certificate does not accept the plan. With sizes that are large enough for it, a plan has
-/// a certificate exactly when it has none of the causes of [`size_search`]. With smaller sizes, the
-/// result can be `None` for a safe plan. Tests, and no proof, show that the number of workers does
-/// not change the certificate.
+/// returns the plan's steady certificate, which depends only on the bodies, if it accepts the plan.
+/// So `None` means that the steady certificate does not accept the plan with its own sizes, and the
+/// plan can still be safe. For a plan whose sizes are large enough for its steady certificate, the
+/// result is a certificate exactly when no cause of [`size_search`] holds. Tests, and no proof,
+/// show that the number of workers does not change the certificate.
 ///
-/// In each round the workers look at the pools that have no rank yet. A pool whose blocked vector
-/// is found gets the round's number as its rank. In the next round, gets that wait for pools with a
-/// rank are not counted. A pool whose jobs count the same gets as in the round before has no
-/// blocked vector in this round either.
+/// In each round the workers search for the vectors of the pools without a rank. A pool whose
+/// blocked vector is found gets the round's number as its rank. In the next round, gets that wait
+/// for pools with a rank are not counted. A pool whose jobs have the same counted gets as in the
+/// previous round, which found no blocked vector for it, has none in this round either.
 ///
 /// # Errors
 ///
-/// [`SearchFault::Memory`] if memory runs out or a thread cannot be started, [`SearchFault::Gate`]
-/// if the gate rejects a pool, and [`SearchFault::Mixed`] if the results of the workers are
-/// inconsistent.
+/// Returns [`SearchFault::Memory`] if memory runs out or a thread cannot be started,
+/// [`SearchFault::Gate`] if the gate returns `false` for a pool, and [`SearchFault::Mixed`] if the
+/// results of the workers are inconsistent.
 pub fn search<R: Threads + Wait + Sync, G: PoolGate>(
     rt: &R,
     alloc: Global,
@@ -69,7 +70,7 @@ pub fn search<R: Threads + Wait + Sync, G: PoolGate>(
         (λ found. IfSome found (λ cert. IsTrue (accepted plan.now cert))) }
     ensures steady { IfOk result
         (λ found. IfNone found (accepted plan.now (steady_cert plan.now) ≡ false)) }
-    // Mixed and Gate occur only if there is a pool to look at.
+    // `Mixed` and `Gate` occur only if the plan has a pool.
     ensures fault { IfErr result (λ fault. fault ≢ Memory → 0 < length plan.now.pools) }
 {
     if let Some(cert) = search_rounds(rt, alloc, plan, workers, gate)? {
@@ -80,7 +81,7 @@ pub fn search<R: Threads + Wait + Sync, G: PoolGate>(
     Ok(steady_if_accepted(alloc, plan)?)
 }
 
-/// Returns the result of the rounds, which has not been checked.
+/// Returns the certificate that the rounds find. It has not been checked.
 fn search_rounds<R: Threads + Wait + Sync, G: PoolGate>(
     rt: &R,
     alloc: Global,

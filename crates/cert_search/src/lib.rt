@@ -1,7 +1,7 @@
 //! The search for a certificate of a plan, on several threads.
 //!
-//! The result of the heuristic search is not trusted: what [`search`] returns went through
-//! [`cert_check::accepts`].
+//! The heuristics of the search are not trusted: [`search`] returns only a certificate that
+//! [`cert_check::accepts`] the plan.
 #![tactic(auto)]
 
 mod board;

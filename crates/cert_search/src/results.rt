@@ -1,4 +1,4 @@
-//! The check of a round's results: one for each pool without a rank, and no other.
+//! The check that a round has one result for each pool without a rank, and no other results.
 
 ghost use Rattle.std.specs.Prelude.{◌≡◌, false, IfErr, IfOk, IsTrue};
 ghost use Rattle.cert_search.specs.declared.finding.SearchFault.TheVariants.{Mixed};
@@ -7,11 +7,11 @@ ghost use Rattle.cert_search.specs.Results as spec;
 use crate::SearchFault;
 use crate::round::PoolVectors;
 
-/// Returns the results, if there is one for each pool without a rank, and no other.
+/// Returns the results, if there is exactly one for each pool without a rank, and no other.
 ///
 /// # Errors
 ///
-/// [`SearchFault::Mixed`] exactly if that does not hold.
+/// Returns [`SearchFault::Mixed`] exactly when the results are not such.
 pub(crate) fn check_complete(
     has_rank: &[bool],
     found: Vec<PoolVectors>,
@@ -42,14 +42,14 @@ fn have_right_counts(has_rank: &[bool], found: &[PoolVectors]) -> bool
         == expected_count(*has_rank))
 }
 
-/// Returns how many of the results are for the pool.
+/// Returns the number of results for the pool.
 fn count_of(found: &[PoolVectors], pool: usize) -> usize
     ensures { result ≡ spec.count_of found.now pool }
 {
     found.iter().filter(|found| found.pool == pool).count()
 }
 
-/// Returns how many results a pool must have: none if it has a rank.
+/// Returns the number of results that a pool must have: none if it has a rank, otherwise one.
 fn expected_count(has_rank: bool) -> usize
     ensures { result ≡ spec.expected_count has_rank }
 {

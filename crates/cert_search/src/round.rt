@@ -1,4 +1,4 @@
-//! One round of the search, in which each worker looks at pools in turn.
+//! One round of the search, in which the workers search for the vectors of one pool after another.
 
 ghost use Rattle.std.specs.Prelude.{◌≡◌, ◌≢◌, ◌<◌, ◌≤◌, IfErr, IfOk, length};
 ghost use Rattle.cert_search.specs.declared.finding.SearchFault.TheVariants.{Memory, Mixed};
@@ -19,27 +19,27 @@ use weights::{Bound, Vector, submitted_class};
 pub(crate) struct Round<'a> {
     pub(crate) plan: &'a Plan,
     pub(crate) levels: &'a Levels,
-    /// The reach of each class if the pools without a rank get the rank of this round.
+    /// The reach of each class, computed with this round's rank for each pool that has no rank.
     pub(crate) reach: &'a [u64],
-    /// The reach of each class in the round before. It is empty in the first round.
+    /// The reach of each class in the previous round. It is empty in the first round.
     pub(crate) reach_before: &'a [u64],
-    /// The rank that pools get in this round, which is its number.
+    /// The rank that pools get in this round: the round's number, from 0 on.
     pub(crate) rank: u64,
 }
 
-/// The vectors that were found for a pool in a round.
+/// The vectors that a round found for a pool.
 #[derive(Drop)]
 pub(crate) struct PoolVectors {
     pub(crate) pool: usize,
-    /// The bound of its queue, which only the first round searches for.
+    /// The bound of the pool's queue, which only the first round searches for.
     pub(crate) bound: Option<Bound>,
     pub(crate) blocked: Option<Vector>,
 }
 
 impl Round<'_> {
-    /// Searches for the vectors of a pool. If its jobs count the same gets as in the round before,
-    /// which found no blocked vector, none is searched for again. Fails with [`SearchFault::Mixed`]
-    /// if the plan does not have the pool.
+    /// Searches for the vectors of a pool. If the jobs of the pool have the same counted gets as in
+    /// the previous round, which found no blocked vector, does not search for a blocked vector
+    /// again. Returns [`SearchFault::Mixed`] if the plan does not have the pool.
     fn search_pool(&self, alloc: Global, pool: usize) -> Result<PoolVectors, SearchFault>
         ensures named { IfOk result (λ found. found.pool ≡ pool) }
         ensures exists { IfOk result (λ _. pool < length self.now.plan.now.pools) }
@@ -67,8 +67,8 @@ impl Round<'_> {
         })
     }
 
-    /// Returns whether the jobs of a pool without a rank count the same gets as in the round
-    /// before. In the first round the result is `false`.
+    /// Returns whether the jobs of a pool without a rank have the same counted gets as in the
+    /// previous round. Returns `false` in the first round.
     fn counts_same_gets(&self, pool: usize) -> bool {
         if self.rank == 0 {
             return false;
@@ -81,8 +81,8 @@ impl Round<'_> {
         true
     }
 
-    /// Returns whether a job with this body, of a pool without a rank, counts the same gets as in
-    /// the round before.
+    /// Returns whether a job with this body, of a pool without a rank, has the same counted gets as
+    /// in the previous round.
     fn body_counts_same_gets(&self, body: &[Action]) -> bool {
         let rank_before = self.rank.saturating_sub(1);
         for action in body {
@@ -97,9 +97,9 @@ impl Round<'_> {
         true
     }
 
-    /// Claims a pool from the board, asks the gate, looks at the pool and returns it, until no pool
-    /// is free or the round must stop. The board is unlocked while the gate is asked and the pool
-    /// is looked at.
+    /// Claims pools and searches for their vectors, until no pool is free or the round must stop.
+    /// Asks the gate before each search. The board is not locked while the gate is asked or a
+    /// search runs.
     fn search_free_pools<R: Wait, G: PoolGate>(
         &self,
         rt: &R,
@@ -130,7 +130,7 @@ impl Round<'_> {
         Ok(found)
     }
 
-    /// Runs one worker in the round. If it fails, it stops the others.
+    /// Runs one worker in the round. If the worker fails, stops the other workers.
     pub(crate) fn work<R: Wait, G: PoolGate>(
         &self,
         rt: &R,
@@ -147,7 +147,7 @@ impl Round<'_> {
     }
 }
 
-/// Returns whether the class reaches the rank.
+/// Returns whether the reach of the class is at least the rank.
 fn reaches(reach: &[u64], class: usize, rank: u64) -> bool {
     reach.get(class).copied().unwrap_or(0) >= rank
 }

@@ -1,4 +1,4 @@
-//! The workers of a round: the calling thread, and each other one on a thread of its own.
+//! The workers of a round: one on the calling thread, and each other worker on a thread of its own.
 
 ghost use Rattle.std.specs.Prelude.{IfOk, IsTrue};
 ghost use Rattle.cert_search.specs.Results.{are_complete};
@@ -15,14 +15,14 @@ use std::sync::atomic::{AtomicBool, Ordering};
 use std::thread;
 use std::thread::{JoinHandle, Threads};
 
-/// Looks at each pool without a rank with `workers` workers, including the calling thread. Returns
-/// what they found, in no particular order.
+/// Searches for the vectors of each pool without a rank, with `workers` workers, one of which runs
+/// on the calling thread. Returns the results of all workers, in no particular order.
 ///
 /// # Errors
 ///
-/// [`SearchFault::Memory`] if memory runs out or a thread cannot be started, [`SearchFault::Gate`]
-/// if the gate rejects a pool, and [`SearchFault::Mixed`] if the results are inconsistent. All
-/// threads have ended in each case.
+/// Returns [`SearchFault::Memory`] if memory runs out or a thread cannot be started,
+/// [`SearchFault::Gate`] if the gate returns `false` for a pool, and [`SearchFault::Mixed`] if the
+/// results are inconsistent. In each case, all threads have ended.
 pub(crate) fn search_pools<R: Threads + Wait + Sync, G: PoolGate>(
     rt: &R,
     alloc: Global,
@@ -72,7 +72,7 @@ pub(crate) fn search_pools<R: Threads + Wait + Sync, G: PoolGate>(
     }
 }
 
-/// Joins the other workers and combines all results. Returns the fault of the first worker that
+/// Joins the other workers and returns all results together, or the fault of the first worker that
 /// failed.
 fn join_all<R: Threads>(
     rt: &R,
@@ -86,7 +86,7 @@ fn join_all<R: Threads>(
     all
 }
 
-/// Combines the results of two workers, or returns the fault of one of them.
+/// Returns the results of two workers together, or the fault of one of them.
 fn both(
     first: Result<Vec<PoolVectors>, SearchFault>,
     second: Result<Vec<PoolVectors>, SearchFault>,
