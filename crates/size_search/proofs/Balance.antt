@@ -30,7 +30,7 @@ submit_of body t is_submit = is_the_submit (slice_get body t) is_submit
 
 -- ---- the list of weights
 
--- the weight at each position is that before the rest of the body
+-- the number at index i of the list of weights is the weight at the start of the suffix of the body from i on
 pub weights-at : (plan : Plan) (v : Vector) (least : ℕ) (body : List Action) (last : ℕ) (rest : List Action) (i : ℕ) → i ≤ length rest → get_or (weights_from plan v least body last rest) i 0 ≡ weight_at plan v least body last (drop i rest)
 weights-at plan v least body last [] i within =
     let is : i ≡ 0 = omega (arith, within) in
@@ -42,7 +42,7 @@ pub weights-length : (plan : Plan) (v : Vector) (least : ℕ) (body : List Actio
 weights-length plan v least body last [] = refl
 weights-length plan v least body last (x ∷ rest) = let longer = weights-length plan v least body last rest in omega arith
 
--- no weight is below the least
+-- no weight is below `least`
 pub least-le : (plan : Plan) (v : Vector) (least : ℕ) (body : List Action) (last : ℕ) (rest : List Action) → least ≤ last → least ≤ weight_at plan v least body last rest
 least-le plan v least body last [] enough = enough
 least-le plan v least body last (Work u ∷ rest) enough = least-le plan v least body last rest enough
@@ -55,7 +55,7 @@ least-le plan v least body last (Get t ∷ rest) enough =
 
 -- ---- the balance
 
--- one action keeps the balance
+-- if the balance holds after an action, it holds before the action
 before_action : (plan : Plan) (v : Vector) (least : ℕ) (body : List Action) (last : ℕ) → IsValidBody plan body → GivesAllBack plan v body → most v body + least ≤ last → (i : ℕ) → i < length body
     → weight_at plan v least body last (drop (suc i) body) + open_weight v body (suc i) ≡ last → weight_at plan v least body last (drop i body) + open_weight v body i ≡ last
 before_action plan v least body last valid back enough i inside behind = by_action (get_or body i (Work 0)) (slice_get-get_or body i (Work 0) inside)
@@ -84,7 +84,7 @@ balance plan v least body last valid back enough zero i at =
 balance plan v least body last valid back enough (suc n) i at =
     before_action plan v least body last valid back enough i (omega (arith, at)) (balance plan v least body last valid back enough n (suc i) (omega (arith, at)))
 
--- so the weight at the start is that at the end
+-- an actor that gets back the weight of all its jobs has the same weight at the start of its body as at the end
 pub begins_as_it_ends : (plan : Plan) (v : Vector) (least : ℕ) (body : List Action) (last : ℕ) → IsValidBody plan body → GivesAllBack plan v body → most v body + least ≤ last → weight_at plan v least body last body ≡ last
 begins_as_it_ends plan v least body last valid back enough =
     let all = balance plan v least body last valid back enough (length body) 0 (omega arith) in

@@ -32,7 +32,7 @@ queued_weighs : (plan : Plan) (p : ℕ) (bound : Bound) → BoundLaws plan p bou
 queued_weighs plan p (Standing v) laws = laws.queued
 queued_weighs plan p (Lifetime v) laws = laws.queued
 
--- the bound of their pool: no action makes an actor heavier, and such a job has weight in the queue
+-- the bound of the pool of class k: no action makes an actor heavier, and a job of class k has weight in the queue
 record IsBounded (plan : Plan) (cert : Cert) (bound : Bound) (k : ℕ) : Type 0 where
   weighed : IsWeighed (bound_get_return bound) plan (bound_vector bound) cert.ranks
   weighs : 1 ≤ queued_weight (bound_vector bound) k

@@ -27,14 +27,14 @@ length-outline plan = length-changed nameplate plan.pools
 
 -- ---- well-formed pools
 
--- their names
+-- the names of valid pools are valid
 all_named : (pools : List Pool) → list_all is_valid_pool pools ≡ true → list_all is_valid_name (map (λ (pool : Pool). pool.name) pools) ≡ true
 all_named [] all = refl
 all_named (pool ∷ pools) all =
     let parts = and_parts (is_valid_pool pool) (list_all is_valid_pool pools) all in
     and_from (is_valid_name pool.name) (list_all is_valid_name (map (λ (x : Pool). x.name) pools)) (and_parts (is_valid_name pool.name) (has_valid_sizes pool) parts.0).0 (all_named pools parts.1)
 
--- from their names and sizes
+-- pools with valid names and valid sizes are valid
 all_valid : (pools : List Pool) → list_all is_valid_name (map (λ (pool : Pool). pool.name) pools) ≡ true → list_all has_valid_sizes pools ≡ true → list_all is_valid_pool pools ≡ true
 all_valid [] named sized = refl
 all_valid (pool ∷ pools) named sized =
@@ -42,7 +42,7 @@ all_valid (pool ∷ pools) named sized =
     let sizes = and_parts (has_valid_sizes pool) (list_all has_valid_sizes pools) sized in
     and_from (is_valid_pool pool) (list_all is_valid_pool pools) (and_from (is_valid_name pool.name) (has_valid_sizes pool) names.0 sizes.0) (all_valid pools names.1 sizes.1)
 
--- their sizes
+-- the sizes of valid pools are valid
 pub all_sized : (pools : List Pool) → list_all is_valid_pool pools ≡ true → list_all has_valid_sizes pools ≡ true
 all_sized [] all = refl
 all_sized (pool ∷ pools) all =
@@ -51,7 +51,7 @@ all_sized (pool ∷ pools) all =
 
 -- ---- the plan
 
--- a plan that differs only in sizes is well-formed if those are valid
+-- a plan that differs from a well-formed plan only in sizes is well-formed if its sizes are valid
 pub well_formed_changed : (plan other : Plan) → IsWellFormed plan → outline other ≡ outline plan → list_all has_valid_sizes other.pools ≡ true → IsWellFormed other
 well_formed_changed plan other well same sized =
     let names : map (λ (pool : Pool). pool.name) other.pools ≡ map (λ (pool : Pool). pool.name) plan.pools =
@@ -90,7 +90,7 @@ outline_of_shape plan other same = sym (outline-shape other) ∙ (ap outline sam
 
 -- ---- sizes
 
--- the ranges of valid sizes
+-- the sizes of the pool are within their ranges
 pub record HasSizes (pool : Pool) : Type 0 where
   pub core : 1 ≤ pool.core
   pub max : pool.core ≤ pool.max
@@ -119,11 +119,11 @@ valid_from_sizes pool sizes =
     (and_from (is_within 1 MAX_SIZE pool.core) (is_within pool.core MAX_SIZE pool.max) (is_within_from 1 MAX_SIZE pool.core sizes.core (omega (arith, sizes.max, sizes.most_max))) (is_within_from pool.core MAX_SIZE pool.max sizes.max sizes.most_max))
     (is_within_from 1 MAX_SIZE pool.queue sizes.queue sizes.most_queue)
 
--- the sizes of a pool of a well-formed plan
+-- the sizes of a pool of a well-formed plan are within their ranges
 pub sizes_at : (plan : Plan) (p : ℕ) → IsWellFormed plan → p < length plan.pools → HasSizes (pool_at plan p)
 sizes_at plan p well inside = has_sizes (pool_at plan p) (list_all_at_In has_valid_sizes (all_sized plan.pools well.pools) (In-get_or plan.pools p no_pool inside))
 
--- from valid sizes at each index
+-- the sizes of all pools are valid if those of the pool at each index are within their ranges
 pub sized_from_places : (pools : List Pool) → ((p : ℕ) → p < length pools → HasSizes (get_or pools p no_pool)) → list_all has_valid_sizes pools ≡ true
 sized_from_places [] each = refl
 sized_from_places (pool ∷ pools) each =

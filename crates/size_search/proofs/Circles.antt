@@ -9,12 +9,12 @@ use Rattle.weights.specs.Ranks.{Ranks, level}
 use Rattle.soundness.proofs.RankLaws.{RankLaws}
 use Rattle.size_search.specs.Submitted.{IsSubmitted, begins, follows}
 
--- the index of an element
+-- an element of a list has an index
 pub position_of : {X : Type 0} {x : X} {xs : List X} → In x xs → (i : ℕ) × (slice_get xs i ≡ Some x)
 position_of here = (0, refl)
 position_of (there at) = let found = position_of at in (suc found.0, found.1)
 
--- plans with the same classes submit the same
+-- plans with the same classes submit the same classes
 pub submitted_in : (plan other : Plan) (bodies : List (List Action)) → other.classes ≡ plan.classes → {k : ℕ} → IsSubmitted plan bodies k → IsSubmitted other bodies k
 submitted_in plan other bodies same (begins from at) = begins from at
 submitted_in plan other bodies same (follows {j = j} {k = k} known at) =

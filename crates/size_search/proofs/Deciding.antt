@@ -30,11 +30,11 @@ sizes_where_sized plan fit cert sized = record {
   accepts = sized.fits.accepts;
 }
 
--- if sizes were found
+-- if sizes were found, sizes exist and no cause holds
 pub decided_where_sized : (plan fit : Plan) (cert : Cert) → IsSized plan cert fit → IsDecided plan (Found fit cert)
 decided_where_sized plan fit cert sized = let sizes = sizes_where_sized plan fit cert sized in (sizes, free_where_sizes plan sizes)
 
--- if none were found for a plan without a cause
+-- if the plan has no cause, the result of the search decides whether sizes exist
 pub decided_without_cause : (plan : Plan) (found : SizesFound) → IsWithoutCause plan → IsFound plan found → IsDecided plan found
 decided_without_cause plan (Found fit cert) free sized = decided_where_sized plan fit cert sized
 decided_without_cause plan (NotFound (Cause cause)) free holds = beyond plan cause holds

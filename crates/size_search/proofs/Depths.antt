@@ -12,7 +12,7 @@ use Rattle.size_search.specs.Steady.{sum_below, level_above, levels_within, stea
 use Rattle.size_search.proofs.Sums.{sum_below_ones, sum_below-le-at}
 use Rattle.size_search.proofs.Opened.{place_in}
 
--- the level of a class when submits are followed n steps
+-- the level of class k, computed by following submits n steps
 abbrev pub level_of : Plan → ℕ → ℕ → ℕ
 level_of plan n k = get_or (levels_within plan n) k 0
 
@@ -31,7 +31,7 @@ submits_below levels {k} (here {xs = rest}) =
     omega (arith, step)
 submits_below levels (there {y = x} {xs = rest} at) = omega (arith, submits_below levels at, no_less levels x rest)
 
--- a body that is above a level submits a class of that level
+-- the body submits a class whose level is at least n
 record Submits (levels : List ℕ) (body : List Action) (n : ℕ) : Type 0 where
   class : ℕ
   at : In (Submit class) body
@@ -48,7 +48,7 @@ one_as_high levels (Submit k ∷ rest) n high =
     (cases_lt n (get_or levels k 0 + 1))
 one_as_high levels (Get t ∷ rest) n high = let found = one_as_high levels rest n high in record { class = found.class; at = there found.at; high = found.high }
 
--- only the levels of the classes that the body submits matter
+-- the least level above a body depends only on the levels of the classes that the body submits
 pub level_above-agree : (known others : List ℕ) (body : List Action) → ((k : ℕ) → In (Submit k) body → get_or known k 0 ≡ get_or others k 0) → level_above known body ≡ level_above others body
 level_above-agree known others [] same = refl
 level_above-agree known others (Work u ∷ rest) same = level_above-agree known others rest (λ k at. same k (there at))
@@ -69,11 +69,11 @@ level-step plan n k = get_or-changed (λ (class : Class). level_above (levels_wi
 abbrev one_if : Bool → ℕ
 one_if b = cond b 1 0
 
--- the number of the plan's classes that were met
+-- the number of the plan's classes in the set `met`
 abbrev how_many : Plan → (ℕ → Bool) → ℕ
 how_many plan met = sum_below (λ j. one_if (met j)) (length plan.classes)
 
--- one more class was met
+-- the set `met` with class k added
 abbrev with_class : ℕ → (ℕ → Bool) → ℕ → Bool
 with_class k met j = eqb j k || met j
 
@@ -94,7 +94,7 @@ one_more plan k met inside new =
     let behind : one_if (with_class k met k) ≡ 1 = ap (λ (b : Bool). one_if (b || met k)) (eq-eqb k k refl) in
     sum_below-le-at (λ j. one_if (met j)) (λ j. one_if (with_class k met j)) (length plan.classes) k 1 inside (λ j. no_fewer (eqb j k) (met j)) (omega (arith, before, behind))
 
--- each class that was met submits this one, directly or through other classes
+-- each class in the set `met` submits class k, directly or through other classes
 abbrev AllSubmit : Plan → (ℕ → Bool) → ℕ → Type 0
 AllSubmit plan met k = (j : ℕ) → met j ≡ true → IsSubmitted plan ((class_at plan j).body ∷ []) k
 
@@ -105,7 +105,7 @@ all_submit plan met k j each at i is_met =
     (λ (earlier : met i ≡ true). follows (each i earlier) at)
     (or_cases (eqb i k) (met i) is_met)
 
--- this class has at least the level n, and enough classes were met
+-- a class of level n or above is impossible, if all except n of the plan's classes submit it and no class submits itself
 deep_circle : (plan : Plan) → HasValidBodies plan → NoCircle plan → (n k : ℕ) (met : ℕ → Bool) → k < length plan.classes → n ≤ level_of plan n k → length plan.classes ≤ how_many plan met + n → AllSubmit plan met k → ⊥
 deep_circle plan ordered none zero k met inside deep many each =
     ⊎_elim

@@ -13,7 +13,7 @@ use Rattle.size_search.specs.declared.submitted_classes.SubmittedClasses.{Submit
 use Rattle.size_search.specs.Submitted.{IsSubmitted, begins, follows, repeated_bodies}
 use Rattle.size_search.specs.Reaching.{Has, Covers, Grows, IsReaching, unfound}
 
--- the index of an element
+-- an element of a list has an index
 pub place_in : {X : Type 0} {x : X} {xs : List X} → In x xs → (i : ℕ) × (slice_get xs i ≡ Some x)
 place_in here = (0, refl)
 place_in (there at) = let found = place_in at in (suc found.0, found.1)
@@ -31,7 +31,7 @@ client_submits_within plan c k well at = submits_within plan (client_at plan c).
 pub covers_more : (a b : SubmittedClasses) (body : List Action) → ((k : ℕ) → Has a k → Has b k) → Covers a body → Covers b body
 covers_more a b body kept covers = record { found = λ k at. kept k (covers.found k at) }
 
--- after the step for one of the initial bodies
+-- the set has the property after the classes that one of the initial bodies submits were added
 pub starts : (plan : Plan) (bodies : List (List Action)) (body : List Action) (old new : SubmittedClasses) → In body bodies → Grows old new
     → ((k : ℕ) → Has new k → Has old k ⊎ In (Submit k) body) → IsReaching plan bodies old → IsReaching plan bodies new
 starts plan bodies body old new from grows only reaching = record {
@@ -42,7 +42,7 @@ starts plan bodies body old new from grows only reaching = record {
   few = omega (arith, grows.fewer, reaching.few);
 }
 
--- after the step for the body of a class that was found
+-- the set has the property after the body of one pending class was scanned
 pub follows_one : (plan : Plan) (bodies : List (List Action)) (old mid new : SubmittedClasses) (number : ℕ) → mid.is_found.items ≡ old.is_found.items → old.pending.items ≡ mid.pending.items ++ number ∷ []
     → Grows mid new → Covers new (class_at plan number).body → ((k : ℕ) → Has new k → Has mid k ⊎ In (Submit k) (class_at plan number).body) → IsReaching plan bodies old → IsReaching plan bodies new
 follows_one plan bodies old mid new number same pending grows covers only reaching = record {
@@ -75,27 +75,27 @@ follows_one plan bodies old mid new number same pending grows covers only reachi
 
 -- ---- loops
 
--- the first actions of one body
+-- the set after the first i actions of one body were added
 pub record IsAdded (start r : SubmittedClasses) (body : List Action) (i : ℕ) : Type 0 where
   pub grows : Grows start r
   pub covers : Covers r (take i body)
   pub only : (k : ℕ) → Has r k → Has start k ⊎ In (Submit k) body
 
--- the bodies of the first clients that repeat
+-- the set after the bodies of the first client kinds that repeat were added
 pub record AreAdded (plan : Plan) (r : SubmittedClasses) (number : ℕ) : Type 0 where
   pub reaching : IsReaching plan (repeated_bodies plan) r
   pub covers : (c : ℕ) → c < number → (client_at plan c).repeat ≡ true → Covers r (client_at plan c).body
 
 -- ---- after the loop
 
--- the state after some rounds: nothing is pending, or one less in each round
+-- the set after some rounds: no class is pending, or the number of pending and unfound classes has decreased by at least 1 in each round
 pub record IsFollowed (plan : Plan) (start r : SubmittedClasses) (rounds : ℕ) : Type 0 where
   pub reaching : (bodies : List (List Action)) → IsReaching plan bodies start → IsReaching plan bodies r
   pub kept : (k : ℕ) → Has start k → Has r k
   pub as_many : length r.is_found.items ≡ length start.is_found.items
   pub fewer : (r.pending.items ≡ []) ⊎ (unfound r + length r.pending.items + rounds ≤ unfound start + length start.pending.items)
 
--- the step for one more round
+-- the property of the set after some rounds also holds after one more round
 pub followed_further : (plan : Plan) (start r new : SubmittedClasses) (rounds : ℕ) → IsFollowed plan start r rounds → ((bodies : List (List Action)) → IsReaching plan bodies r → IsReaching plan bodies new)
     → ((k : ℕ) → Has r k → Has new k) → length new.is_found.items ≡ length r.is_found.items
     → (new.pending.items ≡ []) ⊎ (unfound new + length new.pending.items + 1 ≤ unfound r + length r.pending.items) → (r.pending.items ≡ [] → new.pending.items ≡ []) → IsFollowed plan start new (rounds + 1)

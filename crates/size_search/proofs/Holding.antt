@@ -19,7 +19,7 @@ use Rattle.soundness.proofs.VectorLaws.{BodyLaws, VectorLaws}
 use Rattle.weights.specs.Ranks.{Ranks, rank_rows_of_action, rank_rows_of_class, rank_rows}
 use Rattle.soundness.proofs.RankLaws.{RankLaws}
 
--- an element of an enumerated list is the one at its index
+-- an entry of an enumeration from n is a number n + i, with the element at index i
 pub numbered : {X : Type 0} (n : ℕ) (xs : List X) (entry : ℕ × X) → In entry (enumerate_from n xs) → (i : ℕ) × (entry.0 ≡ n + i) × (slice_get xs i ≡ Some entry.1)
 numbered n [] entry at = absurd (not_In_nil at)
 numbered {X} n (x ∷ xs) entry at =
@@ -33,7 +33,7 @@ numbered {X} n (x ∷ xs) entry at =
     (suc found.0, omega (arith, found.1), found.2))
     (In-cons_cases at)
 
--- the same for an enumeration from 0
+-- an entry of an enumeration from 0 is an index, with the element at this index
 pub at_number : {X : Type 0} (xs : List X) (entry : ℕ × X) → In entry (enumerate_from 0 xs) → slice_get xs entry.0 ≡ Some entry.1
 at_number xs entry at =
     let found = numbered 0 xs entry at in

@@ -1,4 +1,4 @@
--- A larger max saves no core.
+-- A larger maximum saves no core.
 use Rattle.std.proofs.Common.{◌≡◌, ℕ, ◌+◌, ◌*◌, ◌<◌, ◌≤◌, inl, inr, suc, true, List, [], ◌∷◌, length, get_or, sum_by, refl, ap, sym, subst, ◌∙◌, arith, zero-add}
 use Rattle.std.specs.List.{enumerate_from}
 use Rattle.std.proofs.lemmas.Bool.{cases_lt, and_parts}
@@ -19,9 +19,9 @@ use Rattle.size_search.proofs.TotalRows.{totals_where_accepted}
 use Rattle.size_search.proofs.Changes.{nameplate, length-outline, sizes_at}
 use Rattle.size_search.proofs.LeastSizes.{raised_at, raised_past}
 
--- ---- totals grow with the maxes
+-- ---- totals grow with the maximums
 
--- the weight of the workers of all pools from the pool of this number
+-- the weight of the workers of all pools of the list, the first of which has number n
 abbrev workers_total : Vector → ℕ → List Pool → ℕ
 workers_total v n pools = sum_by (λ (entry : ℕ × Pool). workers_weight v entry.0 * entry.1.max) (enumerate_from n pools)
 
@@ -35,7 +35,7 @@ workers_total-grows v n (pool ∷ pools) (other ∷ others) long grows =
     let first = mul-le-mul_left (workers_weight v n) (grows 0) in
     omega (arith, sum_by-cons term (n, pool) (enumerate_from (n + 1) pools), sum_by-cons term (n, other) (enumerate_from (n + 1) others))
 
--- if only sizes differ and no max is smaller, no total is smaller
+-- if two plans differ only in sizes and no maximum is smaller, no total is smaller
 pub total-grows : (plan other : Plan) (v : Vector) → outline other ≡ outline plan → ((p : ℕ) → (pool_at plan p).max ≤ (pool_at other p).max) → total plan v ≤ total other v
 total-grows plan other v same grows =
     let as_many : length other.pools ≡ length plan.pools = sym (length-outline other) ∙ (ap (λ (any : Plan). length any.pools) same ∙ length-outline plan) in
@@ -45,11 +45,11 @@ total-grows plan other v same grows =
 
 -- ---- the widened plan
 
--- the pool without its max
+-- the pool without its maximum
 abbrev pub maxless : Pool → Pool
 maxless pool = record pool { max = 0 }
 
--- each core is at least the one that is needed with the plan's maxes
+-- each core of a plan that fits is at least the one that is needed with the plan's own maximums
 cores_least : (plan other : Plan) (cert : Cert) (p : ℕ) → p < length plan.pools → IsWideFit plan cert other → core_needed plan (pool_cert_at cert p).blocked ≤ (pool_at other p).core
 cores_least plan other cert p inside fits =
     let as_many : length other.pools ≡ length plan.pools = sym (length-outline other) ∙ (ap (λ (any : Plan). length any.pools) fits.same_outline ∙ length-outline plan) in
@@ -130,14 +130,14 @@ widened_maxes_are_least = record {
 pub length-widened : (plan : Plan) (cert : Cert) → length (widened plan cert).pools ≡ length plan.pools
 length-widened plan cert = length-numbered (λ (entry : ℕ × Pool). with_max plan (pool_cert_at cert entry.0).blocked entry.1) 0 plan.pools
 
--- the certificate fits
+-- the certificate fits the plan if it accepts a plan that differs only in sizes
 pub wide_fit_fits : (plan other : Plan) (cert : Cert) → IsWideFit plan cert other → cert_fits plan cert ≡ true
 wide_fit_fits plan other cert fits =
     sym (cert_fits-pools plan (outline plan).pools cert (length-outline plan))
     ∙ (sym (ap (λ (any : Plan). cert_fits any cert) fits.same_outline)
     ∙ (cert_fits-pools other (outline other).pools cert (length-outline other) ∙ (and_parts (cert_fits other cert) (is_nil (failing other cert)) fits.accepts).0))
 
--- no max is above the limit
+-- no maximum of the widened plan is above the limit, if some plan fits
 pub wide_fit_has_room : (plan other : Plan) (cert : Cert) (p : ℕ) → IsWideFit plan cert other → p < length (widened plan cert).pools → (pool_at (widened plan cert) p).max ≤ MAX_SIZE
 wide_fit_has_room plan other cert p fits there =
     let as_many : length other.pools ≡ length plan.pools = sym (length-outline other) ∙ (ap (λ (any : Plan). length any.pools) fits.same_outline ∙ length-outline plan) in

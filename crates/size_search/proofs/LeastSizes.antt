@@ -21,7 +21,7 @@ use Rattle.size_search.proofs.Changes.{well_formed_changed, outline_of_shape, Ha
 
 -- ---- plans of the same shape
 
--- they have equally many pools, the same totals, and pools that differ only in core and queue
+-- plans of the same shape have equally many pools, the same totals, and pools that differ only in core and queue
 pub record HasShape (plan other : Plan) : Type 0 where
   pub as_many : length other.pools ≡ length plan.pools
   pub total : (v : Vector) → total other v ≡ total plan v
@@ -51,7 +51,7 @@ pub raised_past : (plan : Plan) (cert : Cert) (p : ℕ) → length plan.pools �
 raised_past plan cert p past =
     numbered_past (λ (entry : ℕ × Pool). raised_pool plan (pool_cert_at cert entry.0) entry.1) 0 plan.pools p no_pool past ∙ sym (get_or_past plan.pools p no_pool past)
 
--- no size is smaller
+-- no size of the raised plan is smaller than that of the plan
 pub raised_no_smaller : (plan : Plan) (cert : Cert) → IsNoSmaller (raised plan cert) plan
 raised_no_smaller plan cert = record { core = λ p. (at_pool p).0; queue = λ p. (at_pool p).1 }
   where
@@ -69,7 +69,7 @@ raised_no_smaller plan cert = record { core = λ p. (at_pool p).0; queue = λ p.
 
 -- ---- the room that a pool has
 
--- the limit of the bound's total
+-- the limit of the total of a pool's bound
 abbrev pool_limit : Bound → Pool → ℕ
 pool_limit (Standing v) pool = pool.queue
 pool_limit (Lifetime v) pool = lifetime_limit pool
@@ -78,11 +78,11 @@ bound_limit-pool : (plan : Plan) (p : ℕ) (bound : Bound) → bound_limit plan 
 bound_limit-pool plan p (Standing v) = refl
 bound_limit-pool plan p (Lifetime v) = refl
 
--- a queue that makes room for a total t, next to m threads of which f are the first workers
+-- a queue of this capacity makes room for a total t, if the pool has m threads, f of them prestarted
 queue_makes_room : (t q m f : ℕ) → t ≤ max q (t + f - m) + m - f
 queue_makes_room t q m f = omega arith
 
--- a raised pool has room for the totals
+-- a raised pool has room for the total of its bound
 bound_has_room : (plan : Plan) (bound : Bound) (pool : Pool) → total plan (bound_vector bound) ≤ pool_limit bound (with_queue plan bound pool)
 bound_has_room plan (Standing v) pool = omega arith
 bound_has_room plan (Lifetime v) pool = queue_makes_room (total plan v) pool.queue pool.max (first_workers pool)
@@ -104,7 +104,7 @@ raised_totals plan cert =
 
 -- ---- the least of the plans that fit
 
--- a pool with no smaller core and queue, and with room for the totals
+-- the other pool has no smaller core and queue, and has room for the totals
 record HasRoom (plan : Plan) (cert : PoolCert) (pool other : Pool) : Type 0 where
   max : other.max ≡ pool.max
   prestart : other.prestart ≡ pool.prestart
@@ -114,7 +114,7 @@ record HasRoom (plan : Plan) (cert : PoolCert) (pool other : Pool) : Type 0 wher
   bound : total plan (bound_vector cert.bound) ≤ pool_limit cert.bound other
   blocked : total plan cert.blocked ≤ other.core - 1
 
--- the first workers grow with the core, and are at most the core
+-- the number of prestarted threads grows with the core, and is at most the core
 cond-le : (a b : Bool) (m n : ℕ) → b ≡ a → m ≤ n → cond a m 0 ≤ cond b n 0
 cond-le true true m n same less = less
 cond-le true false m n same less = absurd cc
@@ -125,7 +125,7 @@ pub cond-le-self : (b : Bool) (n : ℕ) → cond b n 0 ≤ n
 cond-le-self true n = omega arith
 cond-le-self false n = omega arith
 
--- no smaller queue makes room
+-- no smaller queue makes room for a total t
 no_smaller_queue : (t q m f q' f' : ℕ) → f ≤ f' → f' ≤ m → q ≤ q' → t ≤ q' + m - f' → max q (t + f - m) ≤ q'
 no_smaller_queue t q m f q' f' more within no_smaller room = omega arith
 
@@ -178,7 +178,7 @@ raised_least plan other cert fits = record { core = λ p. (at_pool p).0; queue =
           (omega (arith, fits.no_smaller.core p), omega (arith, fits.no_smaller.queue p))
     ]
 
--- if a plan fits, the raised one has valid sizes
+-- if some plan fits, the raised plan has valid sizes
 raised_sized : (plan other : Plan) (cert : Cert) → IsWellFormed plan → IsFit plan cert other → list_all has_valid_sizes (raised plan cert).pools ≡ true
 raised_sized plan other cert well fits = sized_from_places (raised plan cert).pools each
   where
@@ -200,7 +200,7 @@ raised_sized plan other cert well fits = sized_from_places (raised plan cert).po
 
 -- ---- the fitted plan
 
--- the fitted plan is the raised plan
+-- the fitted plan is the raised plan, if that has valid sizes and only totals fail
 record IsRaised (plan : Plan) (cert : Cert) (fit : Plan) : Type 0 where
   only_at_totals : fails_only_at_totals plan cert ≡ true
   sized : list_all has_valid_sizes (raised plan cert).pools ≡ true
@@ -233,7 +233,7 @@ fits_raised plan cert well of_plan = record {
   accepts = accepted_from_totals (raised plan cert) cert (hold_in_shape plan (raised plan cert) cert (raised-shape plan cert) (hold_but_totals plan cert of_plan.only_at_totals)) (raised_totals plan cert);
 }
 
--- if a plan fits, only totals fail
+-- if the certificate accepts some plan of the same shape, only totals of this plan fail
 only_at_totals_where_fit : (plan other : Plan) (cert : Cert) → shape other ≡ shape plan → accepted other cert ≡ true → fails_only_at_totals plan cert ≡ true
 only_at_totals_where_fit plan other cert same is_accepted =
     fails_only_at_totals_from plan cert (hold_in_shape other plan cert (sym same) (hold_but_totals other cert (at_totals_where_accepted other cert is_accepted)))
@@ -258,13 +258,13 @@ fitted_sizes_are_least = record {
   none = λ plan cert well none. none_fits plan cert well none;
 }
 
--- the postcondition of `fitted`
+-- the postcondition of `fitted`: the fitted plan has the least sizes
 pub least_fit : (plan fit : Plan) (cert : Cert) → IsWellFormed plan → fitted plan cert ≡ Some fit → IsLeastFit plan cert fit
 least_fit plan fit cert well e = record { fits = fitted_fits plan fit cert well e; least = λ other fits. fitted_is_least plan fit other cert e fits }
 
 -- ---- an accepted plan
 
--- a pool that has room does not change
+-- raising does not change a pool that has room for the totals
 stays : (plan : Plan) (cert : PoolCert) (pool : Pool) → HasRoom plan cert pool pool → raised_pool plan cert pool ≡ pool
 stays plan cert pool room =
     let core : (raised_pool plan cert pool).core ≡ pool.core = omega (arith, least_core plan cert pool pool room) in

@@ -7,44 +7,44 @@ use Rattle.job_bodies.specs.Plan.{Pool, no_pool}
 use Rattle.size_search.specs.declared.unfit.Unfit.{Unfit}
 use Rattle.size_search.specs.Unfit.{unfit_pool, first_unfit}
 
--- the pools from this one are it and those after it
+-- the list of the pools from index i on begins with pool i
 turn : {Y : Type 0} (F : List (ℕ × Pool) → Y) (pools : List Pool) (i : ℕ) → i < length pools → F (enumerate_from i (drop i pools)) ≡ F ((i, get_or pools i no_pool) ∷ enumerate_from (i + 1) (drop (i + 1) pools))
 turn F pools i inside = at_drop_more (λ (ps : List Pool). F (enumerate_from i ps)) pools i no_pool inside
 
 -- ---- pools made from them
 
--- the results for the pools from this one
+-- the pools made from the pools from index i on
 abbrev pub rest_made : (ℕ × Pool → Pool) → List Pool → ℕ → List Pool
 rest_made made pools i = map made (enumerate_from i (drop i pools))
 
--- the step for one more pool
+-- a loop that appends the pool made from pool i still has to append those after it
 pub made_more : (made : ℕ × Pool → Pool) (pools : List Pool) (i : ℕ) (front all : List Pool) → i < length pools → front ++ rest_made made pools i ≡ all
     → (front ++ made (i, get_or pools i no_pool) ∷ []) ++ rest_made made pools (i + 1) ≡ all
 made_more made pools i front all inside prefix_is =
     append_assoc front (made (i, get_or pools i no_pool) ∷ []) (rest_made made pools (i + 1))
     ∙ (sym (ap (λ (ps : List Pool). front ++ ps) (turn (map made) pools i inside)) ∙ prefix_is)
 
--- after the last pool
+-- after the last pool, the list of made pools is complete
 pub made_all : (made : ℕ × Pool → Pool) (pools : List Pool) (i : ℕ) (front all : List Pool) → length pools ≤ i → front ++ rest_made made pools i ≡ all → front ≡ all
 made_all made pools i front all past prefix_is =
     sym (append-nil front) ∙ (sym (ap (λ (ps : List Pool). front ++ ps) (at_drop_all (λ (ps : List Pool). map made (enumerate_from i ps)) pools i past)) ∙ prefix_is)
 
 -- ---- the first unfit pool
 
--- the result for the pools from this one
+-- the first reason among the pools from index i on
 abbrev pub rest_unfit : List Pool → ℕ → Option Unfit
 rest_unfit pools i = first_unfit (enumerate_from i (drop i pools))
 
--- this pool is not unfit
+-- if pool i is not unfit, the first reason is that of the later pools
 pub unfit_later : (pools : List Pool) (i : ℕ) (all : Option Unfit) → i < length pools → unfit_pool i (get_or pools i no_pool) ≡ None → rest_unfit pools i ≡ all → rest_unfit pools (i + 1) ≡ all
 unfit_later pools i all inside fits prefix_is =
     sym (turn first_unfit pools i inside ∙ ap (λ (here : Option Unfit). option_or here (rest_unfit pools (i + 1))) fits) ∙ prefix_is
 
--- this pool is unfit
+-- if pool i is unfit, its reason is the first one
 pub unfit_here : (pools : List Pool) (i : ℕ) (unfit : Unfit) (all : Option Unfit) → i < length pools → unfit_pool i (get_or pools i no_pool) ≡ Some unfit → rest_unfit pools i ≡ all → Some unfit ≡ all
 unfit_here pools i unfit all inside found prefix_is =
     sym (turn first_unfit pools i inside ∙ ap (λ (here : Option Unfit). option_or here (rest_unfit pools (i + 1))) found) ∙ prefix_is
 
--- no pool is left
+-- after the last pool, there is no reason
 pub none_unfit : (pools : List Pool) (i : ℕ) (all : Option Unfit) → length pools ≤ i → rest_unfit pools i ≡ all → None ≡ all
 none_unfit pools i all past prefix_is = sym (at_drop_all (λ (ps : List Pool). first_unfit (enumerate_from i ps)) pools i past) ∙ prefix_is

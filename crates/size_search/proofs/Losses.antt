@@ -75,7 +75,7 @@ got_from body (suc n) s passes =
     (λ earlier. let found = got_from body n s earlier in record { position = found.position; before = omega (arith, found.before); is_get = found.is_get })
     (or_cases (gets_at s (slice_get body n)) (got_before body n s) passes)
 
--- if no action of the body gets it, none before n does
+-- if no action of the body gets the submit at position s, no action before position n does
 not_got_before : (body : List Action) (n s : ℕ) → has_get_of body s ≡ false → got_before body n s ≡ false
 not_got_before body n s not_got =
     false_from_ne_true (got_before body n s)
@@ -96,11 +96,11 @@ cost get_return plan v got (Some (Work u)) = 0
 cost get_return plan v got (Some (Get t)) = 0
 cost get_return plan v got None = 0
 
--- the cost so far, at position n, of the submit at position s
+-- the cost, at position n, of the submit at position s: the weight of the queued job, minus what a get before n has returned
 abbrev cost_at : GetReturn → Plan → Vector → List Action → ℕ → ℕ → ℕ
 cost_at get_return plan v body n s = cost get_return plan v (got_before body n s) (slice_get body s)
 
--- the cost does not rise later
+-- the cost of a submit does not rise at later positions
 price-or : (get_return : GetReturn) (plan : Plan) (v : Vector) (k : ℕ) (now before : Bool) → price get_return plan v k (now || before) ≤ price get_return plan v k before
 price-or get_return plan v k false before = le-refl (price get_return plan v k before)
   where
@@ -165,7 +165,7 @@ get_pays get_return plan v body n t valid gains is_get =
     let given : returned_weight get_return plan v (submitted_class body t) ≡ returned_weight get_return plan v k = ap (returned_weight get_return plan v) names in
     omega (arith, cost_before, cost_behind, given, gains t k submitted.1)
 
--- the effect of the action at position n
+-- the action at position n does not increase the sum of the actor's weight and the costs of its submits
 step : (get_return : GetReturn) (plan : Plan) (v : Vector) (weight : ℕ → ℕ) (body : List Action) (n : ℕ) (x : Action) → IsValidBody plan body → BodyLaws get_return plan v weight body → NoneGains get_return plan v body → slice_get body n ≡ Some x
     → weight (suc n) + sum_below (cost_at get_return plan v body (suc n)) (suc n) ≤ weight n + sum_below (cost_at get_return plan v body n) n
 step get_return plan v weight body n x valid laws gains at = by_action x at
@@ -197,7 +197,7 @@ step get_return plan v weight body n x valid laws gains at = by_action x at
         let pays = sum_below-le-at new old n t (returned_weight get_return plan v (submitted_class body t)) (valid.behind n t is_get) (cost_later get_return plan v body n) (get_pays get_return plan v body n t valid gains is_get) in
         omega (arith, one_more, next, free, pays, laws.get n t is_get)
 
--- an actor has lost the cost of its submits
+-- an actor has lost at least the costs of its submits so far
 lost_so_far : (get_return : GetReturn) (plan : Plan) (v : Vector) (weight : ℕ → ℕ) (body : List Action) (n : ℕ) → IsValidBody plan body → BodyLaws get_return plan v weight body → NoneGains get_return plan v body → n ≤ length body
     → weight n + sum_below (cost_at get_return plan v body n) n ≤ weight 0
 lost_so_far get_return plan v weight body zero valid laws gains within =
@@ -207,11 +207,11 @@ lost_so_far get_return plan v weight body (suc n) valid laws gains within =
     let at = slice_get-get_or body n (Work 0) (omega (arith, within)) in
     omega (arith, step get_return plan v weight body n _ valid laws gains at, lost_so_far get_return plan v weight body n valid laws gains (omega (arith, within)))
 
--- so no body makes its actor heavier
+-- an actor is not heavier at the end of its body than at the start
 pub never_heavier : (get_return : GetReturn) (plan : Plan) (v : Vector) (weight : ℕ → ℕ) (body : List Action) → IsValidBody plan body → BodyLaws get_return plan v weight body → NoneGains get_return plan v body → weight (length body) ≤ weight 0
 never_heavier get_return plan v weight body valid laws gains = omega (arith, lost_so_far get_return plan v weight body (length body) valid laws gains (omega arith))
 
--- a body with a submit of positive cost makes it lighter
+-- a submit with a positive cost makes its actor lighter at the end of the body than at the start
 lost_by : (get_return : GetReturn) (plan : Plan) (v : Vector) (weight : ℕ → ℕ) (body : List Action) (i k : ℕ) → IsValidBody plan body → BodyLaws get_return plan v weight body → NoneGains get_return plan v body → slice_get body i ≡ Some (Submit k)
     → 1 ≤ price get_return plan v k (got_before body (length body) i) → weight (length body) < weight 0
 lost_by get_return plan v weight body i k valid laws gains is_submit costs =
@@ -219,14 +219,14 @@ lost_by get_return plan v weight body i k valid laws gains is_submit costs =
     let counted = term-le-sum (cost_at get_return plan v body (length body)) (length body) i (slice_get_within body i _ is_submit) in
     omega (arith, costs, costs_at, counted, lost_so_far get_return plan v weight body (length body) valid laws gains (omega arith))
 
--- such as a submit that is never got, of a class whose jobs have weight
+-- a submit that is never got, of a class whose jobs have weight, makes its actor lighter at the end of the body
 pub lost_without_get : (get_return : GetReturn) (plan : Plan) (v : Vector) (weight : ℕ → ℕ) (body : List Action) (i k : ℕ) → IsValidBody plan body → BodyLaws get_return plan v weight body → NoneGains get_return plan v body → slice_get body i ≡ Some (Submit k)
     → has_get_of body i ≡ false → 1 ≤ queued_weight v k → weight (length body) < weight 0
 lost_without_get get_return plan v weight body i k valid laws gains is_submit not_got weighs =
     let whole : price get_return plan v k (got_before body (length body) i) ≡ queued_weight v k = ap (price get_return plan v k) (not_got_before body (length body) i not_got) in
     lost_by get_return plan v weight body i k valid laws gains is_submit (omega (arith, whole, weighs))
 
--- or one whose get returns less
+-- a submit whose get returns less than the queued job weighs makes its actor lighter at the end of the body
 pub lost_by_child : (get_return : GetReturn) (plan : Plan) (v : Vector) (weight : ℕ → ℕ) (body : List Action) (i k : ℕ) → IsValidBody plan body → BodyLaws get_return plan v weight body → NoneGains get_return plan v body → slice_get body i ≡ Some (Submit k)
     → returned_weight get_return plan v k < queued_weight v k → weight (length body) < weight 0
 lost_by_child get_return plan v weight body i k valid laws gains is_submit less =

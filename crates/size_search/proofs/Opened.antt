@@ -15,12 +15,12 @@ use Rattle.size_search.proofs.Sums.{sum_below-agree, sum_below_zero, sum_below-b
 
 -- ---- the rest of a body
 
--- the index of an action
+-- an action of a list has an index
 pub place_in : {X : Type 0} {x : X} {xs : List X} → In x xs → (i : ℕ) × (slice_get xs i ≡ Some x)
 place_in here = (0, refl)
 place_in (there at) = let found = place_in at in (suc found.0, found.1)
 
--- the rest begins with the action at this index
+-- the suffix of a body from index i on begins with the action at this index
 pub rest_at : (body : List Action) (i : ℕ) (x : Action) → slice_get body i ≡ Some x → drop i body ≡ x ∷ drop (suc i) body
 rest_at body i x at =
     drop-cons body i x (slice_get_within body i x at) ∙ ap (λ (y : Action). y ∷ drop (suc i) body) (get_or_from_slice_get body i x x at)
@@ -32,7 +32,7 @@ slice_get-drop (suc i) (x ∷ xs) j =
     let number : suc i + j ≡ suc (i + j) = omega arith in
     slice_get-drop i xs j ∙ sym (ap (slice_get (x ∷ xs)) number)
 
--- a get at position i or later
+-- an action at position i or later gets the submit at position s
 record IsGotFrom (body : List Action) (i s : ℕ) : Type 0 where
   pub position : ℕ
   pub late : i ≤ position
@@ -71,7 +71,7 @@ got_behind plan body s valid =
     (λ later. let found = got_from body (suc s) s later in got_late body 0 s found.position (omega arith) found.is_get)
     (λ passes. let found = got_from body 0 s passes in got_late body (suc s) s found.position (omega (arith, valid.behind found.position s found.is_get)) found.is_get)
 
--- no further get comes after its get
+-- no further get of a submit comes after its get
 none_behind : (plan : Plan) (body : List Action) (i t : ℕ) → IsValidBody plan body → slice_get body i ≡ Some (Get t) → has_get_of (drop (suc i) body) t ≡ false
 none_behind plan body i t valid is_get =
     false_from_ne_true (has_get_of (drop (suc i) body) t)

@@ -19,7 +19,7 @@ use Rattle.size_search.specs.Submitted.{IsSubmitted, begins, follows, repeated_b
 use Rattle.size_search.proofs.Circles.{position_of}
 use Rattle.size_search.proofs.Losses.{NoneGains, never_heavier, lost_without_get, lost_by_child}
 
--- a vector of a plan, and the levels of its classes
+-- a vector of a plan that satisfies its rules, and ranks that satisfy theirs
 pub record IsWeighed (get_return : GetReturn) (plan : Plan) (v : Vector) (ranks : Ranks) : Type 0 where
   pub ordered : HasValidBodies plan
   pub vector : VectorLaws get_return plan v
@@ -35,7 +35,7 @@ returned_weight-le NoWeight plan v k =
 
 -- ---- jobs
 
--- a job is not heavier at its end than in the queue, level by level
+-- a job is not heavier at its end than in the queue, by induction on the level of its class
 never_gains : (get_return : GetReturn) (plan : Plan) (v : Vector) (ranks : Ranks) → IsWeighed get_return plan v ranks → (n k : ℕ) → k < length plan.classes → level ranks k < n → done_weight plan v k ≤ queued_weight v k
 never_gains get_return plan v ranks weighed zero k inside low = absurd (omega (arith, low))
 never_gains get_return plan v ranks weighed (suc n) k inside low =
@@ -55,7 +55,7 @@ lighter_at_end : (get_return : GetReturn) (plan : Plan) (v : Vector) (ranks : Ra
     → done_weight plan v k < queued_weight v k
 lighter_at_end get_return plan v ranks k weighed inside lost = omega (arith, lost, weighed.vector.begins k inside, weighed.vector.ends k inside)
 
--- so is one with a submit that is never got
+-- a job with a submit that is never got is lighter at its end than in the queue
 pub lighter_without_get : (get_return : GetReturn) (plan : Plan) (v : Vector) (ranks : Ranks) (k i j : ℕ) → IsWeighed get_return plan v ranks → slice_get (class_at plan k).body i ≡ Some (Submit j) → has_get_of (class_at plan k).body i ≡ false
     → 1 ≤ queued_weight v j → done_weight plan v k < queued_weight v k
 lighter_without_get get_return plan v ranks k i j weighed is_submit not_got weighs =
@@ -64,7 +64,7 @@ lighter_without_get get_return plan v ranks k i j weighed is_submit not_got weig
     lighter_at_end get_return plan v ranks k weighed (class_of_action plan k i (Submit j) is_submit)
     (lost_without_get get_return plan v (job_weight v k) body i j valid (weighed.vector.classes k) (none_gains get_return plan v ranks body weighed valid) is_submit not_got weighs)
 
--- so is one that submits such a job
+-- a job that submits a lighter job is lighter too
 lighter_by_child : (get_return : GetReturn) (plan : Plan) (v : Vector) (ranks : Ranks) (k i j : ℕ) → IsWeighed get_return plan v ranks → slice_get (class_at plan k).body i ≡ Some (Submit j) → done_weight plan v j < queued_weight v j
     → done_weight plan v k < queued_weight v k
 lighter_by_child get_return plan v ranks k i j weighed is_submit lighter =
@@ -75,7 +75,7 @@ lighter_by_child get_return plan v ranks k i j weighed is_submit lighter =
 
 -- ---- clients that repeat
 
--- they make no submit that is never got
+-- clients that repeat make no submit that is never got
 pub repeats_with_gets : (get_return : GetReturn) (plan : Plan) (v : Vector) (ranks : Ranks) (c i k : ℕ) → IsWeighed get_return plan v ranks → (client_at plan c).repeat ≡ true → slice_get (client_at plan c).body i ≡ Some (Submit k)
     → has_get_of (client_at plan c).body i ≡ false → 1 ≤ queued_weight v k → ⊥
 repeats_with_gets get_return plan v ranks c i k weighed repeats is_submit not_got weighs =
@@ -84,7 +84,7 @@ repeats_with_gets get_return plan v ranks c i k weighed repeats is_submit not_go
     let lost = lost_without_get get_return plan v (client_weight v c) body i k valid (weighed.vector.clients c) (none_gains get_return plan v ranks body weighed valid) is_submit not_got weighs in
     omega (arith, lost, weighed.vector.loops c repeats)
 
--- they submit no job that is lighter at its end than in the queue
+-- clients that repeat submit no job that is lighter at its end than in the queue
 client_submits_none : (get_return : GetReturn) (plan : Plan) (v : Vector) (ranks : Ranks) (c i k : ℕ) → IsWeighed get_return plan v ranks → (client_at plan c).repeat ≡ true → slice_get (client_at plan c).body i ≡ Some (Submit k)
     → done_weight plan v k < queued_weight v k → ⊥
 client_submits_none get_return plan v ranks c i k weighed repeats is_submit lighter =
@@ -93,7 +93,7 @@ client_submits_none get_return plan v ranks c i k weighed repeats is_submit ligh
     let lost = lost_by_child get_return plan v (client_weight v c) body i k valid (weighed.vector.clients c) (none_gains get_return plan v ranks body weighed valid) is_submit (omega (arith, lighter, returned_weight-le get_return plan v k)) in
     omega (arith, lost, weighed.vector.loops c repeats)
 
--- the client that has this body
+-- a client that repeats has this body
 record IsRepeatedBy (plan : Plan) (body : List Action) : Type 0 where
   client : ℕ
   repeats : (client_at plan client).repeat ≡ true
@@ -113,7 +113,7 @@ repeated_by plan body from =
       same = subst (λ (any : Client). any.body ≡ body) (sym is_client) of_client.2;
     }
 
--- nor do they cause such a job, directly or through other jobs
+-- clients that repeat cause no job that is lighter at its end than in the queue, directly or through other jobs
 pub none_is_lighter : (get_return : GetReturn) (plan : Plan) (v : Vector) (ranks : Ranks) → IsWeighed get_return plan v ranks → {k : ℕ} → IsSubmitted plan (repeated_bodies plan) k → done_weight plan v k < queued_weight v k → ⊥
 none_is_lighter get_return plan v ranks weighed (begins {k = k} {body = body} from at) lighter =
     let by = repeated_by plan body from in

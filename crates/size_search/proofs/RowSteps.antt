@@ -1,4 +1,4 @@
--- Class by class, each class gets its steady row.
+-- The computation of the steady rows, class by class.
 use Rattle.std.proofs.Common.{◌≡◌, ℕ, zero, suc, ◌+◌, ◌<◌, ◌≤◌, ◌⊎◌, inl, inr, ⊎_elim, true, false, ◌&&◌, List, [], ◌∷◌, length, map, replicate, set, get_or, slice_get, Some, refl, sym, ap, subst, ◌∙◌, arith}
 use Rattle.std.specs.List.{list_all}
 use Rattle.std.proofs.lemmas.Bool.{cases_lt, false≢true, and_parts, false_from_ne_true}
@@ -28,7 +28,7 @@ with_row v m row = record v { classes = set v.classes m row }
 
 -- ---- one class
 
--- the computed row is its steady row
+-- the row that is computed for class m is its steady row
 row_is : (plan : Plan) (v : Vector) (n m : ℕ) → HasValidBodies plan → NoCircle plan → IsComputedUpTo plan v n m → level_at plan m ≡ n → m < length plan.classes
     → class_row plan v (class_at plan m).body ≡ class_weights (steady_vector plan) m
 row_is plan v n m ordered none computed of_level inside =
@@ -62,7 +62,7 @@ same_or_not k m =
     (λ (no_less : m ≤ k). ⊎_elim (λ (more : m < k). inr (λ e. omega (arith, e, more))) (λ (no_more : k ≤ m). inl (omega (arith, no_less, no_more))) (cases_lt m k))
     (cases_lt k m)
 
--- the class gets it
+-- if class m has this level and its row is set, the rows up to class m + 1 are computed
 pub computed_put : (plan : Plan) (v : Vector) (n m : ℕ) → HasValidBodies plan → NoCircle plan → IsComputedUpTo plan v n m → level_at plan m ≡ n → m < length plan.classes
     → list_all is_small (class_row plan v (class_at plan m).body) ≡ true → IsComputedUpTo plan (with_row v m (class_row plan v (class_at plan m).body)) n (m + 1)
 computed_put plan v n m ordered none computed of_level inside small = record {
@@ -92,7 +92,7 @@ computed_put plan v n m ordered none computed of_level inside small = record {
         not_yet : (j l : ℕ) → j < l + 1 → (j ≡ l → ⊥) → j < l
         not_yet j l within differs = ⊎_elim (λ (less : j < l). less) (λ (more : l ≤ j). absurd (differs (omega (arith, within, more)))) (cases_lt j l)
 
--- or the class has another level
+-- if class m has another level, the rows up to class m + 1 are computed
 pub computed_skip : (plan : Plan) (v : Vector) (n m : ℕ) → IsComputedUpTo plan v n m → (level_at plan m ≡ n → ⊥) → IsComputedUpTo plan v n (m + 1)
 computed_skip plan v n m computed other = record {
   as_many = computed.as_many;
@@ -108,7 +108,7 @@ computed_skip plan v n m computed other = record {
         (λ (more : m ≤ k). let is : m ≡ k = omega (arith, within, more) in absurd (other (ap (level_at plan) is ∙ of_level)))
         (cases_lt k m)
 
--- a level is complete
+-- after the last class, the rows of this level are complete
 pub computed_next : (plan : Plan) (v : Vector) (n m : ℕ) → IsComputedUpTo plan v n m → length plan.classes ≤ m → IsComputedUpTo plan v (n + 1) 0
 computed_next plan v n m computed all = record {
   as_many = computed.as_many;
@@ -136,7 +136,7 @@ computed_all plan v ordered none computed = same_by_slice_get v.classes (jobs pl
     at_each k (inr past) =
         slice_get_past v.classes k (omega (arith, past, computed.as_many)) ∙ sym (slice_get_past (jobs plan).classes k (omega (arith, past, as_many_jobs plan (length plan.classes) refl)))
 
--- a vector of these rows
+-- a vector with these parts
 abbrev pub vector_of : List ℕ → List (List ℕ) → List (List ℕ) → Vector
 vector_of workers classes clients = record { workers = workers; classes = classes; clients = clients }
 
@@ -155,7 +155,7 @@ zeros : {X : Type 0} (xs : List X) → replicate (length xs) zero ≡ map (λ (x
 zeros [] = refl
 zeros (x ∷ xs) = ap (λ (ns : List ℕ). zero ∷ ns) (zeros xs)
 
--- the steady vector, from its parts
+-- the vector with the computed parts is the steady vector
 pub vector_from : (plan : Plan) (v : Vector) (workers : List ℕ) (clients : List (List ℕ)) → HasValidBodies plan → NoCircle plan → IsComputedUpTo plan v (length plan.classes) 0
     → workers ≡ replicate (length plan.pools) 0 → clients ≡ map (client_row plan v) plan.clients → vector_of workers v.classes clients ≡ steady_vector plan
 vector_from plan v workers clients ordered none computed are_zeros are_rows =

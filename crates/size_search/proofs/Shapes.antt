@@ -1,4 +1,4 @@
--- The properties of a plan that do not depend on its cores and queues: its shape has the same ones.
+-- The properties of a plan that do not depend on its cores and queues, so that the plan's shape has them too.
 use Rattle.std.proofs.Common.{◌≡◌, ℕ, ◌+◌, ◌*◌, zero, suc, Bool, ◌&&◌, List, [], ◌∷◌, ◌++◌, length, get_or, map, flat_map, sum_by, refl, ap, ap₂, ◌∙◌}
 use Rattle.std.specs.Prelude.{◌==◌}
 use Rattle.std.specs.List.{enumerate_from, list_all}
@@ -22,27 +22,27 @@ use Rattle.size_search.specs.Fitted.{shape}
 
 -- ---- lists
 
--- equal functions give the same list
+-- two functions that agree on every value map a list to the same list
 pub map-agree : {X Y : Type 0} (f g : X → Y) (xs : List X) → ((x : X) → f x ≡ g x) → map f xs ≡ map g xs
 map-agree f g [] same = refl
 map-agree f g (x ∷ xs) same = ap₂ (λ y ys. y ∷ ys) (same x) (map-agree f g xs same)
 
--- equal tests pass on the same lists
+-- two tests that agree on every value pass on the same lists
 pub list_all-agree : {X : Type 0} (f g : X → Bool) (xs : List X) → ((x : X) → f x ≡ g x) → list_all f xs ≡ list_all g xs
 list_all-agree f g [] same = refl
 list_all-agree f g (x ∷ xs) same = ap₂ (λ a b. a && b) (same x) (list_all-agree f g xs same)
 
--- a map keeps the length
+-- a map does not change the length of a list
 pub length-changed : {X Y : Type 0} (f : X → Y) (xs : List X) → length (map f xs) ≡ length xs
 length-changed f [] = refl
 length-changed f (x ∷ xs) = ap suc (length-changed f xs)
 
--- a map that uses only the indices
+-- a map that uses only the indices does not depend on the elements
 numbers-map : {X Y Z : Type 0} (f : ℕ → Z) (g : X → Y) (n : ℕ) (xs : List X) → map (λ (entry : ℕ × Y). f entry.0) (enumerate_from n (map g xs)) ≡ map (λ (entry : ℕ × X). f entry.0) (enumerate_from n xs)
 numbers-map f g n [] = refl
 numbers-map f g n (x ∷ xs) = ap (λ ys. f n ∷ ys) (numbers-map f g (n + 1) xs)
 
--- a sum over indexed elements of a mapped list
+-- a sum over the indexed elements of a mapped list is a sum over the elements of the list
 pub sum_by-changed : {X Y : Type 0} (f : ℕ × Y → ℕ) (g : X → Y) (n : ℕ) (xs : List X) → sum_by f (enumerate_from n (map g xs)) ≡ sum_by (λ (entry : ℕ × X). f (entry.0, g entry.1)) (enumerate_from n xs)
 sum_by-changed f g n xs = ap (sum_by f) (enumerated-map g n xs) ∙ sum_by-map f (λ entry. (entry.0, g entry.1)) (enumerate_from n xs)
   where
@@ -56,7 +56,7 @@ sum_by-changed f g n xs = ap (sum_by f) (enumerated-map g n xs) ∙ sum_by-map f
 abbrev pub bare : Pool → Pool
 bare pool = record pool { core = 0; queue = 0 }
 
--- the element at an index of a mapped list
+-- the element at an index of a mapped list is the mapped element at this index
 pub get_or-changed : {X Y : Type 0} (f : X → Y) (xs : List X) (i : ℕ) (d : X) → get_or (map f xs) i (f d) ≡ f (get_or xs i d)
 get_or-changed f [] i d = refl
 get_or-changed f (x ∷ xs) zero d = refl
@@ -108,7 +108,7 @@ blocked_body-shape plan ranks p v = refl
 vector_fits-pools : (plan : Plan) (pools : List Pool) (v : Vector) → length pools ≡ length plan.pools → vector_fits (record plan { pools = pools }) v ≡ vector_fits plan v
 vector_fits-pools plan pools v as_many = rw as_many refl
 
--- a certificate depends only on the number of pools
+-- of the pools, only their number affects whether a certificate fits the plan
 pub cert_fits-pools : (plan : Plan) (pools : List Pool) (cert : Cert) → length pools ≡ length plan.pools → cert_fits (record plan { pools = pools }) cert ≡ cert_fits plan cert
 cert_fits-pools plan pools cert as_many =
     let other = record plan { pools = pools } in

@@ -89,7 +89,7 @@ total-pools plan pools =
     let same : of_clients (steady_vector other).clients ≡ of_clients (steady_vector plan).clients = ap of_clients (clients-pools plan pools) in
     omega (arith, same, no_workers (steady_vector other) (enumerate_from 0 pools) (no_worker pools), no_workers (steady_vector plan) (enumerate_from 0 plan.pools) (no_worker plan.pools))
 
--- ---- nor do the causes
+-- ---- the causes do not depend on sizes
 
 pub free-pools : (plan : Plan) (pools : List Pool) → IsWithoutCause plan → IsWithoutCause (with_pools plan pools)
 free-pools plan pools free = record {

@@ -38,7 +38,7 @@ no_smaller_than_wider plan wide other wider larger = record {
   queue = λ p. omega (arith, larger.queue p, ap (λ (pool : Pool). pool.queue) (wider_pool plan wide p wider));
 }
 
--- a plan that is widened twice
+-- a plan that is widened twice has the least maximums, as one that is widened once
 pub widened_again : (plan wide wider : Plan) (cert : Cert) → IsLeastWide plan cert wide → IsLeastWide wide cert wider → IsLeastWide plan cert wider
 widened_again plan wide wider cert first second = record {
   wider = record {
@@ -59,7 +59,7 @@ widened_again plan wide wider cert first second = record {
 
 -- ---- sizes
 
--- the plan fitted to a widened plan
+-- the plan fitted to a widened plan has the least sizes
 pub sized_where_fitted : (plan wide fit : Plan) (cert : Cert) → IsLeastWide plan cert wide → IsLeastFit wide cert fit → HasLeastCores wide cert fit → IsSized plan cert fit
 sized_where_fitted plan wide fit cert widest found cores = record {
   fits = record {
@@ -96,7 +96,7 @@ sized_where_fitted plan wide fit cert widest found cores = record {
       | inr past ↦ let none = ap (λ (pool : Pool). pool.max) (get_or_past fit.pools p no_pool past) in absurd (omega arith)
     ]
 
--- a plan that is accepted as it is
+-- a plan that is accepted as it is has the least sizes
 pub sized_where_accepted : (plan : Plan) (cert : Cert) → IsWellFormed plan → IsTrue (accepted plan cert) → IsSized plan cert plan
 sized_where_accepted plan cert well accepts = record {
   fits = record { well_formed = well; same_outline = refl; no_smaller_max = λ p. omega arith; accepts = accepts };

@@ -27,7 +27,7 @@ weight-step plan v least body last i x at =
     let number : suc i ≡ i + 1 = omega arith in
     ap (weight_at plan v least body last) (rest_at body i x at) ∙ ap (λ (n : ℕ). weight_before plan v least body x (weight_at plan v least body last (drop n body))) number
 
--- weights that are computed from the end keep the rules of a body
+-- weights that are computed from the end of a body satisfy the rules of a body
 body_laws_of : (plan : Plan) (v : Vector) (least : ℕ) (body : List Action) (last : ℕ) (weight : ℕ → ℕ) → ((i : ℕ) → i ≤ length body → weight i ≡ weight_at plan v least body last (drop i body)) → BodyLaws DoneWeight plan v weight body
 body_laws_of plan v least body last weight is = record {
   work = λ i u at.
@@ -78,7 +78,7 @@ got_or false wrong = absurd (wrong refl)
 never_got : (body : List Action) (i k : ℕ) → slice_get body i ≡ Some (Submit k) → has_get_of body i ≡ false → IsNeverGot body i
 never_got body i k at none = record { is_submit = ap submits at; not_got = none }
 
--- such a job weighs as much done as queued, level by level
+-- a job that repeating clients cause weighs as much done as queued, by induction on the level of its class
 done_as_queued : (plan : Plan) → HasValidBodies plan → IsWithoutCause plan → (n k : ℕ) → k < length plan.classes → get_or (steady_levels plan) k 0 < n → IsSubmitted plan (repeated_bodies plan) k
     → done_weight plan (steady_vector plan) k ≡ queued_weight (steady_vector plan) k
 done_as_queued plan ordered free zero k inside low known = absurd (omega (arith, low))

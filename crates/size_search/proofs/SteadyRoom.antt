@@ -56,7 +56,7 @@ cert-pools plan pools as_many =
     (constants zero pools plan.pools as_many)
     (levels_within-pools plan pools (length plan.classes))
 
--- ---- so it accepts the plan with all sizes that are enough
+-- ---- the steady certificate accepts the plan with all sizes that are enough
 
 pub accepts_with : (plan : Plan) (pools : List Pool) → IsWellFormed (with_pools plan pools) → IsWithoutCause plan → IsTrue (has_small_numbers (steady_vector plan)) → length pools ≡ length plan.pools
     → ((p : ℕ) → p < length pools → (steady_total plan ≤ (get_or pools p no_pool).queue) × (steady_total plan < (get_or pools p no_pool).core)) → IsTrue (accepted (with_pools plan pools) (steady_cert plan))
@@ -69,7 +69,7 @@ accepts_with plan pools well free small as_many enough =
     let of_pool = enough p inside in
     (omega (arith, same, of_pool.0), omega (arith, same, of_pool.1))))
 
--- ---- such sizes exist below the limit
+-- ---- sizes that are enough exist below the limit
 
 abbrev roomy : ℕ → Pool → Pool
 roomy n pool = record pool { core = n; max = max pool.max n; queue = n }
@@ -121,12 +121,12 @@ some_fit_wide plan well free small low none = none other (record { well_formed =
         let there = at p inside in
         (omega (arith, ap (λ (pool : Pool). pool.queue) there.0), omega (arith, ap (λ (pool : Pool). pool.core) there.0)))
 
--- ---- a plan that was widened for it has room for its cores
+-- ---- a plan that was widened for the steady certificate has room for its cores
 
 abbrev filled : ℕ → Pool → Pool
 filled n pool = record pool { core = max pool.core n; queue = max pool.queue n }
 
--- the plan with these pools, if each maximum has room for a core above the total
+-- some plan fits the plan with these pools, if each maximum is above the total
 room_is_left : (plan : Plan) (pools : List Pool) → IsWellFormed (with_pools plan pools) → IsWithoutCause plan → IsTrue (has_small_numbers (steady_vector plan)) → length pools ≡ length plan.pools
     → ((p : ℕ) → p < length pools → steady_total plan < (get_or pools p no_pool).max) → NoneFits (with_pools plan pools) (steady_cert plan) → ⊥
 room_is_left plan pools well free small as_many room none =

@@ -41,7 +41,7 @@ most-agree v w body same =
     (λ i. sum_below-agree (awaited_weight v body i) (awaited_weight w body i) i
     (λ s below. ap (λ (n : ℕ). cond (has_get_of (drop i body) s) n 0) (submitted-agree v w body s (slice_get body s) same refl)))
 
--- the rest of a body
+-- each action of the list `rest` is an action of the body
 record IsRest (rest body : List Action) : Type 0 where
   among : (x : Action) → In x rest → In x body
 
@@ -79,7 +79,7 @@ client_row-agree plan v w client valid same =
     weights_from-agree plan v w 0 client.body (client_end v client) client.body valid same (whole client.body)
     ∙ ap (λ (n : ℕ). weights_from plan w 0 client.body (cond client.repeat n 0) client.body) (most-agree v w client.body same)
 
--- ---- the rounds are stable
+-- ---- further rounds do not change the rows
 
 row-step : (plan : Plan) (n k : ℕ) → k < length plan.classes → class_weights (jobs_within plan (suc n)) k ≡ class_row plan (jobs_within plan n) (class_at plan k).body
 row-step plan n k inside = get_or-map (λ (class : Class). class_row plan (jobs_within plan n) class.body) plan.classes k no_class [] inside
@@ -95,7 +95,7 @@ row_is_final plan ordered none (suc n) k inside low =
     } in
     row-step plan (suc n) k inside ∙ (class_row-agree plan (jobs_within plan (suc n)) (jobs_within plan n) (class_at plan k).body valid same ∙ sym (row-step plan n k inside))
 
--- ---- so each row follows from the vector itself
+-- ---- each row follows from the vector itself
 
 pub class_is : (plan : Plan) → HasValidBodies plan → NoCircle plan → (k : ℕ) → k < length plan.classes → class_weights (steady_vector plan) k ≡ class_row plan (steady_vector plan) (class_at plan k).body
 class_is plan ordered none k inside =
@@ -110,7 +110,7 @@ client_is plan ordered c inside =
 
 -- ---- the numbers of the rows
 
--- of a class
+-- the weights of the jobs of class k
 pub record IsClassRow (plan : Plan) (v : Vector) (k : ℕ) : Type 0 where
   pub queued : queued_weight v k ≡ weight_at plan v 1 (class_at plan k).body (job_end v (class_at plan k).body) (class_at plan k).body
   pub position : (i : ℕ) → i ≤ length (class_at plan k).body → job_weight v k i ≡ weight_at plan v 1 (class_at plan k).body (job_end v (class_at plan k).body) (drop i (class_at plan k).body)
@@ -140,7 +140,7 @@ class_numbers plan v k is = record { queued = ap (λ (row : List ℕ). get_or ro
         ∙ (ap (λ (n : ℕ). get_or (class_row plan v body) n 0) number
         ∙ get_or-append_seam middle (job_end v body) [] 0)
 
--- of a kind of clients
+-- the weights of the clients of kind c
 pub client_numbers : (plan : Plan) (v : Vector) (c i : ℕ) → client_weights v c ≡ client_row plan v (client_at plan c) → i ≤ length (client_at plan c).body
     → client_weight v c i ≡ weight_at plan v 0 (client_at plan c).body (client_end v (client_at plan c)) (drop i (client_at plan c).body)
 client_numbers plan v c i is within =

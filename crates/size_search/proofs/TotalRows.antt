@@ -52,7 +52,7 @@ of_no_total-flat_map : {X : Type 0} (f : X → List Row) (xs : List X) → ((x :
 of_no_total-flat_map f [] each = refl
 of_no_total-flat_map f (x ∷ xs) each = of_no_total-append (f x) (flat_map f xs) (each x) (of_no_total-flat_map f xs each)
 
--- the row of an action
+-- the row of an action is not a total
 of_action : (get_return : GetReturn) (plan : Plan) (v : Vector) (weight : ℕ → ℕ) (place_at : ℕ → Place) (body : List Action) (i : ℕ) (action : Action) → is_total (place_at i) ≡ false
     → is_total (action_row get_return plan v weight place_at body i action).place ≡ false
 of_action get_return plan v weight place_at body i (Work u) other = other
@@ -81,7 +81,7 @@ of_rows get_return plan v =
     (of_no_total-flat_map (λ (entry : ℕ × Class). class_rows get_return plan v entry.0 entry.1) (enumerate_from 0 plan.classes) (λ entry. of_class get_return plan v entry.0 entry.1))
     (of_no_total-flat_map (λ (entry : ℕ × Client). client_rows get_return plan v entry.0 entry.1) (enumerate_from 0 plan.clients) (λ entry. of_client get_return plan v entry.0 entry.1))
 
--- the rows of a bound, without its total
+-- the rows of a bound, without its total, are not totals
 of_bound : (plan : Plan) (p : ℕ) (bound : Bound) → OfNoTotal (bound_body plan p bound)
 of_bound plan p (Standing v) =
     of_no_total-append (rows DoneWeight plan v) _ (of_rows DoneWeight plan v) (of_no_total-map (λ (entry : ℕ × Class). row S1 (place.Class entry.0) 1 (queued_weight v entry.0)) (classes_of plan p) (λ entry. refl))
@@ -92,7 +92,7 @@ of_bound plan p (Lifetime v) =
     (of_no_total-flat_map (λ (entry : ℕ × Class). map (λ weight. row L2 (place.Class entry.0) 1 weight) (class_weights v entry.0)) (classes_of plan p)
     (λ entry. of_no_total-map (λ weight. row L2 (place.Class entry.0) 1 weight) (class_weights v entry.0) (λ weight. refl)))
 
--- the rows of a blocked vector, without its total
+-- the rows of a blocked vector, without its total, are not totals
 of_blocked : (plan : Plan) (ranks : Ranks) (p : ℕ) (v : Vector) → OfNoTotal (blocked_body plan ranks p v)
 of_blocked plan ranks p v =
     of_no_total-append (rows DoneWeight plan v) _ (of_rows DoneWeight plan v)
@@ -125,7 +125,7 @@ bound_total-place : (plan : Plan) (p : ℕ) (bound : Bound) → is_total (bound_
 bound_total-place plan p (Standing v) = refl
 bound_total-place plan p (Lifetime v) = refl
 
--- the total is within its limit
+-- a bound's total is within its limit if its row holds
 total_within : (plan : Plan) (p : ℕ) (bound : Bound) → (bound_total plan p bound).left ≤ (bound_total plan p bound).right → total plan (bound_vector bound) ≤ bound_limit plan p bound
 total_within plan p (Standing v) within = within
 total_within plan p (Lifetime v) within = within
@@ -151,7 +151,7 @@ pub record TotalsHold (plan : Plan) (cert : Cert) : Type 0 where
 
 -- ---- if only totals fail
 
--- rows that are not totals hold if only totals fail
+-- if only totals fail, rows that are not totals hold
 hold_elsewhere : (plan : Plan) (cert : Cert) (part : Section) (rows : List Row) → list_all (λ note. is_total note.place) (failing plan cert) ≡ true → OfNoTotal rows
     → ((x : Row) → In x rows → In (note part x) (conditions plan cert)) → AllHold rows
 hold_elsewhere plan cert part rows only_totals of_none among x i =
@@ -187,14 +187,14 @@ hold_but_totals plan cert only_totals =
           (λ x i. pool_inside plan cert p (note part x) inside (In-append_right of_bound (In-map (note part) (In-append_left (blocked_total plan p pool.blocked ∷ []) i))));
     }
 
--- a note that fails is not a note of rows that hold
+-- a note that fails does not belong to rows that all hold
 fails_not : (part : Section) (rows : List Row) (n : Note) → AllHold rows → ltb n.right n.left ≡ true → In n (in_section part rows) → is_total n.place ≡ true
 fails_not part rows n hold wrong i =
     let found = In-map_from (note part) rows i in
     let right : ltb n.right n.left ≡ false = subst (λ (y : Note). ltb y.right y.left ≡ false) found.2 (le-ltb found.0.right found.0.left (hold found.0 found.1)) in
     absurd (false≢true (sym right ∙ wrong))
 
--- if it is not a total, it is not a note of such rows with a total appended either
+-- a note that fails, of rows that all hold and an appended total, is that total
 fails_at_total : (part : Section) (rows : List Row) (t : Row) (n : Note) → AllHold rows → is_total t.place ≡ true → ltb n.right n.left ≡ true → In n (in_section part (rows ++ t ∷ [])) → is_total n.place ≡ true
 fails_at_total part rows t n hold at_total wrong i =
     let found = In-map_from (note part) (rows ++ t ∷ []) i in
@@ -259,7 +259,7 @@ totals_where_accepted plan cert is_accepted =
           hold (blocked_total plan p pool.blocked) (In-append_right (blocked_body plan cert.ranks p pool.blocked) here);
     }
 
--- rows that hold, with a total appended that holds
+-- rows that all hold, with a total appended that holds, all hold
 hold_with : (rows : List Row) (t : Row) → AllHold rows → t.left ≤ t.right → AllHold (rows ++ t ∷ [])
 hold_with rows t hold within x i = ⊎_elim (λ before. hold x before) (λ (last : x ≡ t). subst (λ (y : Row). y.left ≤ y.right) (sym last) within) (In-push_cases rows t i)
 

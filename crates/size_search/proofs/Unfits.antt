@@ -42,7 +42,7 @@ all_not_unfit : (n : ℕ) (pools : List Pool) → ((p q : ℕ) → p < length po
 all_not_unfit n [] each = refl
 all_not_unfit n (pool ∷ pools) each = ap₂ option_or (each 0 n (omega arith)) (all_not_unfit (n + 1) pools (λ p q inside. each (suc p) q (omega arith)))
 
--- the parts of a reason
+-- if there is no reason, the certificate fits the plan, and no condition or size is a reason
 fit_parts : (fits : Bool) (reason : Option Unfit) → cond fits reason (Some Shape) ≡ None → (fits ≡ true) × (reason ≡ None)
 fit_parts true reason none = (refl, none)
 fit_parts false reason none = absurd cc
@@ -69,7 +69,7 @@ none_found {X} test (x ∷ xs) all =
 
 -- ---- sizes
 
--- a pool that is not unfit has its core within its max, and its max and queue within the limit
+-- a pool that is not unfit has its core within its maximum, and its maximum and queue within the limit
 record IsWithin (pool : Pool) : Type 0 where
   core : pool.core ≤ pool.max
   max : pool.max ≤ MAX_SIZE
@@ -94,7 +94,7 @@ valid_fits p pool valid =
 
 -- ---- the fitted plan
 
--- there is no reason
+-- there is no reason why the plan is not fitted
 record NotUnfit (plan : Plan) (cert : Cert) : Type 0 where
   fits : cert_fits plan cert ≡ true
   elsewhere : failing_elsewhere plan cert ≡ None
@@ -107,7 +107,7 @@ not_unfit plan cert none =
     let parts = or_parts (option_map Condition (failing_elsewhere plan cert)) sizes whole.1 in
     record { fits = whole.0; elsewhere = no_condition (failing_elsewhere plan cert) parts.0; sizes = parts.1 }
 
--- then the raised plan has valid sizes
+-- if there is no reason, the raised plan has valid sizes
 sized : (plan : Plan) (cert : Cert) → IsWellFormed plan → NotUnfit plan cert → list_all has_valid_sizes (raised plan cert).pools ≡ true
 sized plan cert well found = sized_from_places (raised plan cert).pools each
   where
@@ -125,7 +125,7 @@ sized plan cert well found = sized_from_places (raised plan cert).pools each
           most_queue = limits.queue;
         }
 
--- and is the fitted one
+-- if there is no reason, the raised plan is the fitted plan
 pub fitted_where_not_unfit : (plan : Plan) (cert : Cert) → IsWellFormed plan → why_unfit plan cert ≡ None → fitted plan cert ≡ Some (raised plan cert)
 fitted_where_not_unfit plan cert well none =
     let found = not_unfit plan cert none in
@@ -145,7 +145,7 @@ not_unfit_where_fitted plan cert only_totals all_sized =
     ap (λ (fits : Bool). cond fits (option_or (option_map Condition (failing_elsewhere plan cert)) (first_unfit (enumerate_from 0 pools))) (Some Shape)) parts.0
     ∙ ap₂ (λ (found : Option Note) (sizes : Option Unfit). option_or (option_map Condition found) sizes) (none_found (λ (note : Note). is_total note.place) (failing plan cert) parts.1) none
 
--- so if there is a reason, there is no fitted plan
+-- if there is a reason, there is no fitted plan
 pub none_where_unfit : (plan : Plan) (cert : Cert) (unfit : Unfit) → why_unfit plan cert ≡ Some unfit → fitted plan cert ≡ None
 none_where_unfit plan cert unfit some =
     let only_totals = fails_only_at_totals plan cert in
@@ -156,7 +156,7 @@ none_where_unfit plan cert unfit some =
     let none = not_unfit_where_fitted plan cert parts.0 parts.1 in
     absurd cc))
 
--- the postcondition of `fitted`
+-- the postcondition of `fitted`: if there is no reason, the raised plan has the least sizes
 pub least_where_not_unfit : (plan : Plan) (cert : Cert) → IsWellFormed plan → why_unfit plan cert ≡ None → IsLeastFit plan cert (raised plan cert)
 least_where_not_unfit plan cert well none = least_fit plan (raised plan cert) cert well (fitted_where_not_unfit plan cert well none)
 
@@ -165,7 +165,7 @@ none_fits_where_unfit plan cert unfit well some = none_fits plan cert well (none
 
 -- ---- the widened plan
 
--- the sizes of its pools are valid, except for a max above the limit
+-- the sizes of the widened plan's pools are valid, except for a maximum above the limit
 widened_sizes : (plan : Plan) (cert : Cert) (p : ℕ) → IsWellFormed plan → p < length (widened plan cert).pools → (pool_at (widened plan cert) p).max ≤ MAX_SIZE → HasSizes (pool_at (widened plan cert) p)
 widened_sizes plan cert p well there small =
     let inside : p < length plan.pools = subst (λ (n : ℕ). p < n) (length-widened plan cert) there in
@@ -182,7 +182,7 @@ widened_sizes plan cert p well there small =
       most_queue = omega (arith, declared.most_queue);
     }
 
--- the code's result, if the certificate fits
+-- the code returns `why_not_widened`, if the certificate fits the plan
 pub why_not_widened_is : (plan : Plan) (cert : Cert) (pools : List Pool) (found : Option Unfit) → cert_fits plan cert ≡ true → pools ≡ (widened plan cert).pools → found ≡ first_unfit (enumerate_from 0 pools) → why_not_widened plan cert ≡ found
 why_not_widened_is plan cert pools found fits is e =
     ap (λ (fit : Bool). cond fit (first_unfit (enumerate_from 0 (widened plan cert).pools)) (Some Shape)) fits
@@ -209,7 +209,7 @@ none_fits_where_not_widened plan cert unfit well some other fits =
 
 -- ---- a core as the reason
 
--- the core of the pool is above its max, or its max is above the limit
+-- the core of the reported pool is above its maximum, or its maximum is above the limit
 record IsAbove (p : ℕ) (pool : Pool) (reported : ℕ) : Type 0 where
   number : p ≡ reported
   above : (pool.max < pool.core) ⊎ (MAX_SIZE < pool.max)
@@ -224,7 +224,7 @@ core_above p pool reported some = at_tests (ltb pool.max pool.core) refl (ltb MA
     at_tests false is false more true e = absurd cc
     at_tests false is false more false e = absurd cc
 
--- the pool at this index of the list is the one with that core
+-- the list has the reported pool, whose core or maximum is too large
 record IsReportedAt (n : ℕ) (pools : List Pool) (reported : ℕ) : Type 0 where
   place : ℕ
   inside : place < length pools
@@ -252,13 +252,13 @@ reported_at n (pool ∷ pools) reported some = at_first (unfit_pool n pool) refl
     at_first (Some unfit) is rest e =
         record { place = 0; inside = omega arith; is_above = subst (λ (j : ℕ). IsAbove j pool reported) first_place (core_above n pool reported (is ∙ e)) }
 
--- the reason comes from the sizes
+-- a core that is a reason comes from the raised sizes
 of_sizes : (fits : Bool) (found : Option Note) (sizes : Option Unfit) (reported : ℕ) → cond fits (option_or (option_map Condition found) sizes) (Some Shape) ≡ Some (Core reported) → sizes ≡ Some (Core reported)
 of_sizes true None sizes reported some = some
 of_sizes true (Some note) sizes reported some = absurd cc
 of_sizes false found sizes reported some = absurd cc
 
--- so a core above the max is needed there
+-- if a core is the reason, its pool needs a larger maximum
 pub reported_cores_need_larger_maxes : ReportedCoresNeedLargerMaxes
 reported_cores_need_larger_maxes plan other cert p well some fits =
     let pools = (raised plan cert).pools in

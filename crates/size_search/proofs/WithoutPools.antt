@@ -128,7 +128,7 @@ no_pools_no_classes plan well none =
 bare_plan : (plan : Plan) → IsWellFormed plan → length plan.pools ≡ 0 → plan ≡ without plan.clients
 bare_plan plan well none = is_without plan (nil_from_length plan.pools none) (no_pools_no_classes plan well none)
 
--- if the steady certificate is too large, there is a pool
+-- if the steady certificate of a plan is too large, the plan has a pool
 pub too_large_for_a_pool : (plan : Plan) → IsWellFormed plan → ((has_small_numbers (steady_vector plan) ≡ false) ⊎ (MAX_SIZE ≤ steady_total plan)) → 0 < length plan.pools
 too_large_for_a_pool plan well large =
     elim (cases_lt 0 (length plan.pools)) [
@@ -143,7 +143,7 @@ too_large_for_a_pool plan well large =
           large
     ]
 
--- if it is accepted, its weights are within the limit
+-- if the steady certificate of a plan is accepted, its weights are within the limit
 pub small_where_accepted : (plan : Plan) → IsWellFormed plan → IsTrue (accepted plan (steady_cert plan)) → has_small_numbers (steady_vector plan) ≡ true
 small_where_accepted plan well is_accepted =
     elim (cases_lt 0 (length plan.pools)) [

@@ -20,7 +20,7 @@ use Rattle.size_search.specs.Unfit.{why_unfit, why_not_widened}
 pub two_clients : fitted (one_pool 1 1 1 2) (standing_cert 1) ≡ Some (one_pool 1 1 2 2)
 two_clients = refl
 
--- a larger queue does not change, and the least queue of all is two
+-- a queue that is larger than necessary is unchanged, and the least queue is two
 pub larger_queue : fitted (one_pool 1 1 9 2) (standing_cert 1) ≡ Some (one_pool 1 1 9 2)
 larger_queue = refl
 
@@ -47,7 +47,7 @@ fire_and_forget = refl
 pub fire_and_forget_unfit : why_unfit (forgetting true) forgetting_cert ≡ Some (Condition (note (section.Standing 0) (row V7 (place.Client 0) 1 0)))
 fire_and_forget_unfit = refl
 
--- a certificate of another plan
+-- a certificate of another plan does not fit
 pub other_shape : why_unfit (nested 2 2 false) (standing_cert 1) ≡ Some Shape
 other_shape = refl
 
@@ -56,7 +56,7 @@ other_shape_widened = refl
 
 -- ---- cores
 
--- an outer job and its inner one need two threads, if max leaves room for them
+-- an outer job and its inner job need two threads, if the maximum leaves room for them
 pub nested_two_of_eight : fitted (nested 1 8 false) nested_cert ≡ Some (nested 2 8 false)
 nested_two_of_eight = refl
 
@@ -66,14 +66,14 @@ nested_one_worker = refl
 pub nested_one_worker_unfit : why_unfit (nested 1 1 false) nested_cert ≡ Some (Core 0)
 nested_one_worker_unfit = refl
 
--- the second of two pools needs one more thread
+-- the second of two pools needs one more thread than its maximum
 pub cross_pools : fitted (two_pools 1) two_pools_cert ≡ None
 cross_pools = refl
 
 pub cross_pools_unfit : why_unfit (two_pools 1) two_pools_cert ≡ Some (Core 1)
 cross_pools_unfit = refl
 
--- with wider pools both are fitted
+-- with larger maximums, both plans are fitted
 pub nested_one_worker_widened : fitted (widened (nested 1 1 false) nested_cert) nested_cert ≡ Some (nested 2 2 false)
 nested_one_worker_widened = refl
 
@@ -82,21 +82,21 @@ cross_pools_widened = refl
 
 -- ---- lifetime vectors
 
--- four jobs, two threads and a queue of two
+-- four jobs need two threads and a queue of two
 pub lifetime_over : fitted (one_pool_once 2 2 1 4 false) lifetime_cert ≡ Some (one_pool_once 2 2 2 4 false)
 lifetime_over = refl
 
--- prestarted threads take no job, so the queue takes all three
+-- prestarted threads take no job, so the queue must have room for all three jobs
 pub lifetime_prestarted : fitted (one_pool_once 2 2 1 3 true) lifetime_cert ≡ Some (one_pool_once 2 2 3 3 true)
 lifetime_prestarted = refl
 
--- with a core of one, a job starts the second thread
+-- with a core of one, a job starts the second thread, and a queue of two is enough
 pub lifetime_prestarted_smallest : fitted (smallest (one_pool_once 2 2 1 3 true)) lifetime_cert ≡ Some (one_pool_once 1 2 2 3 true)
 lifetime_prestarted_smallest = refl
 
 -- ---- one failing condition and two numbers to change
 
--- a prestarted pool of at most two threads, and a client that submits one outer job, which submits an inner one
+-- a plan of a prestarted pool of at most two threads, and a client that submits one outer job, which submits an inner job
 abbrev nested_once : ℕ → ℕ → Plan
 nested_once core queue = record {
   pools = a_pool 112 core 2 queue true ∷ [];
@@ -104,7 +104,7 @@ nested_once core queue = record {
   clients = clients 99 1 false (asks 0) ∷ [];
 }
 
--- at most two jobs are made, and only the outer one can be blocked
+-- a certificate for `nested_once`: at most two jobs are created, and only the outer job can be blocked
 abbrev nested_once_cert : Cert
 nested_once_cert = record {
   pools =
@@ -115,10 +115,10 @@ nested_once_cert = record {
   ranks = nested_ranks;
 }
 
--- only the core is too small
+-- the only condition that fails is that of the core
 pub nested_once_fails : failing (nested_once 1 1) nested_once_cert ≡ note (section.Blocked 0) (row B2 place.Total 1 0) ∷ []
 nested_once_fails = refl
 
--- with a second prestarted thread, no job starts it, and the queue takes one more
+-- a second prestarted thread takes no job, so the queue must have room for one more job
 pub nested_once_fitted : fitted (nested_once 1 1) nested_once_cert ≡ Some (nested_once 2 2)
 nested_once_fitted = refl

@@ -4,11 +4,11 @@ use Rattle.job_bodies.specs.declared.action.Action.{Action}
 use Rattle.job_bodies.specs.Plan.{Client, Plan}
 use Rattle.size_search.specs.Submitted.{IsSubmitted}
 
--- the bodies of clients
+-- the bodies of all client kinds
 abbrev pub client_bodies : Plan → List (List Action)
 client_bodies plan = map (λ (client : Client). client.body) plan.clients
 
--- a mark for each class, true exactly if a client submits it, or a job that a client causes
+-- a mark for each class, true exactly when a client, or a job that a client causes, submits it
 pub record MarksSubmitted (plan : Plan) (marks : List Bool) : Type 0 where
   pub as_many : length marks ≡ length plan.classes
   pub submitted : (k : ℕ) → (slice_index_or marks k false ≡ true) ↔ IsSubmitted plan (client_bodies plan) k

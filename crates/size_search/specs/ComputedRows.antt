@@ -5,7 +5,7 @@ use Rattle.weights.specs.Vector.{Vector, class_weights}
 use Rattle.size_search.specs.Small.{JobsAreSmall}
 use Rattle.size_search.specs.Steady.{steady_vector, steady_levels}
 
--- all classes of a lower level have them, and those of this level with a smaller number
+-- the classes of lower levels, and those of this level with a smaller number, have their steady rows
 pub record IsComputedUpTo (plan : Plan) (v : Vector) (level number : ℕ) : Type 0 where
   pub as_many : length v.classes ≡ length plan.classes
   pub no_workers : v.workers ≡ []

@@ -15,11 +15,11 @@ use Rattle.soundness.specs.Accepted.{accepted}
 
 -- ---- the sizes that a certificate needs of a pool
 
--- rule B2: a core larger than the number of jobs that can be blocked
+-- the core that rule B2 requires, which is larger than the number of jobs that can be blocked
 abbrev pub core_needed : Plan → Vector → ℕ
 core_needed plan v = total plan v + 1
 
--- rules S2 and L3: a queue for the total; for a lifetime total, the threads beyond the first workers take some of it
+-- the queue that rules S2 and L3 require: the total, or for a lifetime bound, what the threads that are not prestarted leave of it
 abbrev pub queue_needed : Plan → Bound → Pool → ℕ
 queue_needed plan (Standing v) pool = total plan v
 queue_needed plan (Lifetime v) pool = total plan v + first_workers pool - pool.max
@@ -32,15 +32,15 @@ with_core plan v pool = record pool { core = max pool.core (core_needed plan v) 
 abbrev pub with_queue : Plan → Bound → Pool → Pool
 with_queue plan bound pool = record pool { queue = max pool.queue (queue_needed plan bound pool) }
 
--- the core first, since a prestarted pool with a larger core can need a larger queue
+-- the pool with its core raised first, and then its queue, since a prestarted pool with a larger core can need a larger queue
 abbrev pub raised_pool : Plan → PoolCert → Pool → Pool
 raised_pool plan cert pool = with_queue plan cert.bound (with_core plan cert.blocked pool)
 
--- each core and each queue that is below what the certificate needs is raised to it
+-- the plan with each core and each queue raised to what the certificate needs, if it is below that
 abbrev pub raised : Plan → Cert → Plan
 raised plan cert = record plan { pools = map (λ entry. raised_pool plan (pool_cert_at cert entry.0) entry.1) (enumerate_from 0 plan.pools) }
 
--- a total, which is compared with a pool's sizes
+-- the place of a condition on a total, which is compared with a pool's sizes
 abbrev pub is_total : Place → Bool
 is_total Total = true
 is_total _ = false
@@ -49,7 +49,8 @@ is_total _ = false
 abbrev pub fails_only_at_totals : Plan → Cert → Bool
 fails_only_at_totals plan cert = cert_fits plan cert && list_all (λ note. is_total note.place) (failing plan cert)
 
--- the raised plan; None if another condition fails, or if a core would be above its pool's max or a queue above its limit
+-- the raised plan; None if a condition fails that no core or queue affects, if a raised core is above its pool's maximum, or if a raised
+-- queue is above the limit
 abbrev pub fitted : Plan → Cert → Option Plan
 fitted plan cert = if fails_only_at_totals plan cert && list_all has_valid_sizes (raised plan cert).pools then Some (raised plan cert) else None
 
@@ -79,26 +80,26 @@ pub record IsFit (plan : Plan) (cert : Cert) (other : Plan) : Type 0 where
   pub no_smaller : IsNoSmaller other plan
   pub accepts : IsTrue (accepted other cert)
 
--- it fits, and no plan that fits has a smaller core or queue
+-- the fit fits the plan, as `IsFit` says, and no plan that fits has a smaller core or queue
 pub record IsLeastFit (plan : Plan) (cert : Cert) (fit : Plan) : Type 0 where
   pub fits : IsFit plan cert fit
   pub least : (other : Plan) → IsFit plan cert other → IsNoSmaller other fit
 
--- no plan fits
+-- no plan fits: the certificate accepts no plan that differs from this one only in larger cores and queues
 abbrev pub NoneFits : Plan → Cert → Type 0
 NoneFits plan cert = (other : Plan) → ¬ IsFit plan cert other
 
--- the fitted plan fits, and none that fits has a smaller core or queue; if there is no fitted plan, none fits
+-- a fitted plan fits, and no plan that fits has a smaller core or queue; if there is no fitted plan, no plan fits
 pub record FittedSizesAreLeast : Type 0 where
   pub fits : (plan fit : Plan) (cert : Cert) → IsWellFormed plan → fitted plan cert ≡ Some fit → IsFit plan cert fit
   pub least : (plan fit other : Plan) (cert : Cert) → fitted plan cert ≡ Some fit → IsFit plan cert other → IsNoSmaller other fit
   pub none : (plan : Plan) (cert : Cert) → IsWellFormed plan → fitted plan cert ≡ None → NoneFits plan cert
 
--- if the certificate accepts the plan, nothing changes
+-- fitting does not change a plan that the certificate accepts
 abbrev pub AcceptedPlansFit : Type 0
 AcceptedPlansFit = (plan : Plan) (cert : Cert) → IsWellFormed plan → IsTrue (accepted plan cert) → fitted plan cert ≡ Some plan
 
--- an accepted plan stays accepted with other cores and queues, if no core is smaller, nor the limit of a bound
+-- a certificate that accepts a plan also accepts it with other cores and queues, if no core and no limit of a bound is smaller
 abbrev pub LargerSizesAreAccepted : Type 0
 LargerSizesAreAccepted = (plan other : Plan) (cert : Cert) → shape other ≡ shape plan → IsTrue (accepted plan cert) → ((p : ℕ) → (pool_at plan p).core ≤ (pool_at other p).core)
     → ((p : ℕ) → bound_limit plan p (pool_cert_at cert p).bound ≤ bound_limit other p (pool_cert_at cert p).bound) → IsTrue (accepted other cert)
@@ -109,7 +110,7 @@ LargerSizesAreAccepted = (plan other : Plan) (cert : Cert) → shape other ≡ s
 abbrev pub smallest : Plan → Plan
 smallest plan = with_sizes 1 plan
 
--- the plan fitted to the smallest plan has the least sizes of all with which the certificate accepts the plan
+-- fitting the smallest plan gives the least cores and queues with which the certificate accepts the plan
 pub record SmallestFitIsLeast : Type 0 where
   pub fits : (plan fit : Plan) (cert : Cert) → IsWellFormed plan → fitted (smallest plan) cert ≡ Some fit → IsResized plan fit × IsTrue (accepted fit cert)
   pub least : (plan fit other : Plan) (cert : Cert) → fitted (smallest plan) cert ≡ Some fit → IsResized plan other → IsTrue (accepted other cert) → IsNoSmaller other fit

@@ -16,18 +16,18 @@ use Rattle.size_search.specs.Causes.{IsCause}
 abbrev pub IsBeyondSizes : Plan → Type 0
 IsBeyondSizes plan = (other : Plan) (cert : Cert) → IsWellFormed other → outline other ≡ outline plan → ¬ IsTrue (accepted other cert)
 
--- this holds if the plan has one of these causes
+-- no sizes help a plan with one of these causes
 pub record NoSizesHelp : Type 0 where
   -- a class submits itself, directly or through other classes
   pub circle : (plan : Plan) (k : ℕ) → IsCause plan (Circle k) → IsBeyondSizes plan
-  -- clients that repeat never get a job that they submit
+  -- clients of a kind that repeats never get a job that they submit
   pub client_never_gets : (plan : Plan) (c i : ℕ) → IsCause plan (ClientNeverGets c i) → IsBeyondSizes plan
   -- jobs that repeating clients cause never get a job that they submit
   pub class_never_gets : (plan : Plan) (k i : ℕ) → IsCause plan (ClassNeverGets k i) → IsBeyondSizes plan
 
 -- ---- plans without a cause
 
--- sizes with which some certificate accepts the plan
+-- the plan has sizes with which some certificate accepts it
 pub record HasSizes (plan : Plan) : Type 0 where
   pub other : Plan
   pub cert : Cert
@@ -35,7 +35,7 @@ pub record HasSizes (plan : Plan) : Type 0 where
   pub same_outline : outline other ≡ outline plan
   pub accepts : IsTrue (accepted other cert)
 
--- a plan has sizes exactly if it has no cause, provided that its steady weights are within their limit, and its steady total
--- leaves room below the limit of sizes
+-- a plan whose steady weights are within their limit, and whose steady total is below the limit of sizes, has sizes exactly when it has no
+-- cause
 abbrev pub SizesExist : Type 0
 SizesExist = (plan : Plan) → IsWellFormed plan → IsTrue (has_small_numbers (steady_vector plan)) → steady_total plan < MAX_SIZE → HasSizes plan ↔ IsWithoutCause plan

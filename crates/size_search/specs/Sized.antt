@@ -13,10 +13,10 @@ use Rattle.size_search.specs.declared.found.NoSizes.TheVariants.{Cause, TooLarge
 use Rattle.size_search.specs.declared.found.SizesFound.{SizesFound}
 use Rattle.size_search.specs.declared.found.SizesFound.TheVariants.{Found, NotFound}
 
--- The certificate accepts the plan with these sizes, which differs from the plan only in larger sizes. Among all such plans
--- that the certificate accepts, none has a smaller max or a smaller core, and among those with these maxes none has a
--- smaller queue. With larger maxes a smaller queue can be enough: in a lifetime bound, the threads beyond the first workers
--- take jobs too. A max that grows equals its core.
+-- The certificate accepts the plan with these sizes, which differs from the plan only in larger sizes. Among all such plans that the
+-- certificate accepts, none has a smaller maximum or a smaller core, and among those with these maximums none has a smaller queue. With
+-- larger maximums a smaller queue can be enough: in a lifetime bound, each thread that is not prestarted takes one of the jobs. A maximum
+-- that grows equals its core.
 pub record IsSized (plan : Plan) (cert : Cert) (fit : Plan) : Type 0 where
   pub fits : IsWideFit plan cert fit
   pub no_smaller : IsNoSmaller fit plan
@@ -25,12 +25,12 @@ pub record IsSized (plan : Plan) (cert : Cert) (fit : Plan) : Type 0 where
   pub least_cores : HasLeastCores plan cert fit
   pub max_is_core : (p : ℕ) → (pool_at plan p).max < (pool_at fit p).max → (pool_at fit p).max ≡ (pool_at fit p).core
 
--- a weight of the plan's steady certificate is above its limit, or its total leaves no room below the limit of sizes
+-- a weight of the plan's steady certificate is above its limit, or the certificate's total is at least the limit of sizes
 abbrev pub IsTooLarge : Plan → Type 0
 IsTooLarge plan = (has_small_numbers (steady_vector plan) ≡ false) ⊎ (MAX_SIZE ≤ steady_total plan)
 
--- the result is true of the plan: sizes have these properties; or a cause against all sizes holds; or a pool is named and
--- the steady certificate is too large
+-- the result is true of the plan: the sizes that were found have these properties, or the cause that was found holds, or the steady
+-- certificate is too large and the pool that is named exists
 abbrev pub IsFound : Plan → SizesFound → Type 0
 IsFound plan (Found fit cert) = IsSized plan cert fit
 IsFound plan (NotFound (Cause cause)) = IsCause plan cause

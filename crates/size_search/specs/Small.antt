@@ -1,4 +1,4 @@
--- Vectors whose jobs weigh at most the limit.
+-- Vectors in which every weight of a job is at most `MAX_WEIGHT`.
 use Rattle.std.specs.Prelude.{◌≤◌, ℕ, slice_index}
 use Rattle.job_bodies.specs.declared.limits.TheConstants.{MAX_WEIGHT}
 use Rattle.weights.specs.Vector.{Vector, class_weights}

@@ -5,7 +5,7 @@ use Rattle.job_bodies.specs.declared.action.Action.{Action}
 use Rattle.job_bodies.specs.declared.action.Action.TheVariants.{Submit}
 use Rattle.job_bodies.specs.Plan.{Client, Plan, class_at, client_at, submits, has_get_of}
 
--- one of the bodies submits the class, or a class that is itself submitted does
+-- one of the bodies submits the class, or the body of a class that is itself submitted does
 pub data IsSubmitted (plan : Plan) (bodies : List (List Action)) : ℕ → Type 0 where
   begins : {k : ℕ} {body : List Action} → In body bodies → In (Submit k) body → IsSubmitted plan bodies k
   follows : {j k : ℕ} → IsSubmitted plan bodies j → In (Submit k) (class_at plan j).body → IsSubmitted plan bodies k
@@ -14,12 +14,12 @@ pub data IsSubmitted (plan : Plan) (bodies : List (List Action)) : ℕ → Type 
 pub record SubmitsOnly (plan : Plan) (bodies : List (List Action)) (body : List Action) : Type 0 where
   pub submitted : (k : ℕ) → In (Submit k) body → IsSubmitted plan bodies k
 
--- the action at this position is a submit that no action gets
+-- the action at position i is a submit of which the body has no get
 pub record IsNeverGot (body : List Action) (i : ℕ) : Type 0 where
   pub is_submit : submits (slice_get body i) ≡ true
   pub not_got : has_get_of body i ≡ false
 
--- the bodies of clients that repeat
+-- the bodies of the client kinds that repeat
 abbrev pub repeated_bodies : Plan → List (List Action)
 repeated_bodies plan = map (λ (client : Client). client.body) (filter (λ (client : Client). client.repeat) plan.clients)
 
@@ -35,7 +35,7 @@ pub record NeverGotByJobs (plan : Plan) (k i : ℕ) : Type 0 where
 abbrev pub NoCircle : Plan → Type 0
 NoCircle plan = (k : ℕ) → ¬ IsSubmitted plan ((class_at plan k).body ∷ []) k
 
--- and no repeating client causes a submit that is never got
+-- no class submits itself, and no repeating client causes a submit that is never got
 pub record IsWithoutCause (plan : Plan) : Type 0 where
   pub no_circle : NoCircle plan
   pub clients_get : (c i : ℕ) → ¬ NeverGotByClients plan c i

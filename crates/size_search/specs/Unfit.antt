@@ -1,4 +1,4 @@
--- The reasons why a certificate accepts a plan with no cores and queues, or no maxes.
+-- The reasons why no choice of cores and queues, or of maximums, makes a certificate accept a plan.
 use Rattle.std.specs.Prelude.{◌≡◌, ◌<◌, ℕ, not, ◌||◌, nat_lt, if◌then◌else◌, List, [], ◌∷◌, Option, Some, None}
 use Rattle.std.specs.List.{enumerate_from, find}
 use Rattle.std.specs.Option.{option_or, option_map}
@@ -17,26 +17,27 @@ use Rattle.size_search.specs.Widened.{widened, IsWideFit}
 abbrev pub failing_elsewhere : Plan → Cert → Option Note
 failing_elsewhere plan cert = find (λ note. not (is_total note.place)) (failing plan cert)
 
--- a raised core above its pool's max, a max that was raised for a core above the limit, or a raised queue above its limit
+-- the reason why the raised sizes of a pool are invalid: its core is above its maximum, its maximum, which was raised for a core, is above
+-- the limit, or its queue is above the limit; None if they are valid
 abbrev pub unfit_pool : ℕ → Pool → Option Unfit
 unfit_pool p pool = if nat_lt pool.max pool.core || nat_lt MAX_SIZE pool.max then Some (Core p) else (if nat_lt MAX_SIZE pool.queue then Some (Queue p) else None)
 
--- the reason for the first such pool of the list
+-- the reason for the first pool of the list whose sizes are invalid, or None
 abbrev pub first_unfit : List (ℕ × Pool) → Option Unfit
 first_unfit [] = None
 first_unfit (entry ∷ entries) = option_or (unfit_pool entry.0 entry.1) (first_unfit entries)
 
--- the reason why the plan has no fitted plan; a condition that no size changes takes precedence over a size
+-- the reason why the plan has no fitted plan, or None; a condition that no size changes takes precedence over a size
 abbrev pub why_unfit : Plan → Cert → Option Unfit
 why_unfit plan cert =
     if cert_fits plan cert
     then option_or (option_map Condition (failing_elsewhere plan cert)) (first_unfit (enumerate_from 0 (raised plan cert).pools))
     else Some Shape
 
--- the reason why the plan is not widened
+-- the reason why the plan has no widened plan, or None
 abbrev pub why_not_widened : Plan → Cert → Option Unfit
 why_not_widened plan cert = if cert_fits plan cert then first_unfit (enumerate_from 0 (widened plan cert).pools) else Some Shape
 
--- if a core is the reason, all sizes with which the certificate accepts the plan have a larger max there
+-- if the reason is the core of a pool, this pool has a larger maximum in all sizes with which the certificate accepts the plan
 abbrev pub ReportedCoresNeedLargerMaxes : Type 0
 ReportedCoresNeedLargerMaxes = (plan other : Plan) (cert : Cert) (p : ℕ) → IsWellFormed plan → why_unfit plan cert ≡ Some (Core p) → IsWideFit plan cert other → (pool_at plan p).max < (pool_at other p).max

@@ -16,15 +16,16 @@ pub(crate) struct Attempt {
     pub(crate) cert: Cert,
     /// The core and maximum that each pool needs.
     pub(crate) threads: Vec<PoolThreads>,
-    /// The sum of all increases of the plan's sizes.
+    /// The sum by which all sizes of the plan grow.
     pub(crate) cost: u64,
-    /// The largest number of pools to choose from in a round in which no pool had a large enough
-    /// core, not counting repeated rounds.
+    /// The largest number of candidate pools in a round in which no pool had a large enough core.
+    /// Repeated rounds are not counted.
     pub(crate) choices: usize,
 }
 
 /// Searches for a certificate, starting with these cores and maximums. In the first round in which
-/// no pool has a large enough core, it skips the `passed_over` pools with the smallest shortfall.
+/// no pool has a large enough core, passes over the `passed_over` pools with the smallest
+/// shortfall.
 pub(crate) fn attempt_from(
     alloc: Global,
     cache: &mut VectorCache,
@@ -44,7 +45,7 @@ pub(crate) fn attempt_from(
     }
 }
 
-/// Returns the sum of all increases of the plan's sizes.
+/// Returns the sum by which the sizes of `fit` exceed those of the plan.
 pub(crate) fn growth(plan: &Plan, fit: &Plan) -> u64 {
     let mut growth = 0u64;
     for (pool, fit) in plan.pools().iter().zip(fit.pools()) {

@@ -12,7 +12,7 @@ use job_bodies::{Action, Client, Plan, has_get_of};
 use std::alloc::{AllocError, Global};
 use weights::{Vector, submitted_class};
 
-/// Returns the number at this index of the class's row, or 0 if there is none.
+/// Returns the number at this index of the class's row of weights, or 0 if there is none.
 fn number_of(vector: &Vector, class: usize, place: usize) -> u64
     ensures { result ≡ slice_index (vector_spec.class_weights vector.now class) place }
 {
@@ -41,7 +41,8 @@ fn done(plan: &Plan, vector: &Vector, class: usize) -> u64
     number_of(vector, class, actions + 2)
 }
 
-/// Returns the weight of the open jobs after the action at this position, given that before it.
+/// Returns the weight of the open jobs after the action at this position. `current_weight` is their
+/// weight before it.
 fn open_weight_after(
     plan: &Plan,
     vector: &Vector,
@@ -68,7 +69,7 @@ fn open_weight_after(
     }
 }
 
-/// Returns the largest weight of open jobs at a position of the body.
+/// Returns the largest weight that the open jobs have together at a position of the body.
 fn most(plan: &Plan, vector: &Vector, body: &[Action]) -> u64
     requires valid { IsValidBody plan.now body.now }
     requires small { JobsAreSmall vector.now }
@@ -84,7 +85,9 @@ fn most(plan: &Plan, vector: &Vector, body: &[Action]) -> u64
     most
 }
 
-/// Returns the weight of the actor before the action, given its weight after it.
+/// Returns the weight of the actor before the action, given its weight after it. A submit adds the
+/// weight of the queued job. A get subtracts the weight that it returns, but leaves at least
+/// `least`.
 fn before(
     plan: &Plan,
     vector: &Vector,
@@ -107,7 +110,8 @@ fn before(
     }
 }
 
-/// Returns the weight of the actor at each position of its body, computed from its end.
+/// Returns the weight of the actor at each position of its body, computed backwards from its weight
+/// `last` at the end.
 fn weights(
     alloc: Global,
     plan: &Plan,

@@ -8,8 +8,8 @@ use least_vectors::Kind;
 use std::alloc::Global;
 use weights::Bound;
 
-/// Returns the bound of the pool that needs the smaller increase of its queue: the standing vector,
-/// or the lifetime vector if that needs less. `pool_threads` are the threads of this pool, and
+/// Returns the vector that bounds the pool's queue: the standing vector, or the lifetime vector if
+/// the queue has to grow less with that. `pool_threads` are the core and maximum of this pool, and
 /// `maxes` the maximums of all pools.
 pub(crate) fn bound_of(
     alloc: Global,
@@ -48,8 +48,9 @@ pub(crate) fn bound_of(
     }
 }
 
-/// Returns the queue that the pool needs for this number of jobs in its lifetime. The threads take
-/// as many of them as there are threads that do not start idle.
+/// Returns the queue capacity that the pool needs if it is given this number of jobs in its
+/// lifetime. Each thread that is not prestarted starts with one job, which needs no place in the
+/// queue.
 fn lifetime_queue(pool: &Pool, pool_threads: PoolThreads, jobs: u64) -> u64 {
     let first_workers = if pool.prestart { pool_threads.core } else { 0 };
     jobs.saturating_add(first_workers)

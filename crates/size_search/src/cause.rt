@@ -3,12 +3,12 @@
 /// A cause for which no certificate accepts a plan with any sizes.
 #[derive(Clone, Copy, PartialEq, Eq)]
 pub enum Cause {
-    /// The class of this number submits itself, directly or through other classes.
+    /// The class with this number submits itself, directly or through other classes.
     Circle(usize),
-    /// Clients of this kind repeat, and never get the job that they submit at this action of their
-    /// body.
+    /// Clients of the kind with this number repeat, and never get the job that they submit at this
+    /// position of their body.
     ClientNeverGets(usize, usize),
-    /// Jobs of this class never get the job that they submit at this action of their body, and
-    /// clients that repeat submit such jobs, directly or through other jobs.
+    /// Jobs of the class with this number never get the job that they submit at this position of
+    /// their body, and clients that repeat submit such jobs, directly or through other jobs.
     ClassNeverGets(usize, usize),
 }

@@ -1,4 +1,4 @@
-//! The causes that a plan has.
+//! The search for a cause for which no sizes are enough.
 
 ghost use Rattle.std.specs.Prelude.{◌≡◌, ◌<◌, ◌↔◌, ℕ, [], ◌∷◌, true, IfOk, IfSome, IfNone, length};
 ghost use Rattle.job_bodies.specs.Plan.{class_at};
@@ -13,11 +13,11 @@ use crate::submitted_classes::SubmittedClasses;
 use job_bodies::{Action, Plan, has_get_of};
 use std::alloc::{AllocError, Global};
 
-/// Returns a cause for which no sizes are enough, or `None` exactly if the plan has none.
+/// Returns a cause for which no sizes are enough, or `None` if the plan has none.
 ///
 /// # Errors
 ///
-/// [`AllocError`] if memory runs out.
+/// Returns [`AllocError`] if memory runs out.
 pub fn cause_of(alloc: Global, plan: &Plan) -> Result<Option<Cause>, AllocError>
     ensures cause { IfOk result (λ found. IfSome found (IsCause plan.now)) }
     ensures none { IfOk result (λ found. IfNone found (IsWithoutCause plan.now)) }
@@ -33,7 +33,7 @@ pub fn cause_of(alloc: Global, plan: &Plan) -> Result<Option<Cause>, AllocError>
     Ok(never_got_by_jobs(plan, &submitted_classes))
 }
 
-/// Returns the first class that submits itself, directly or through other classes.
+/// Returns, as a cause, the first class that submits itself, directly or through other classes.
 fn circle(alloc: Global, plan: &Plan) -> Result<Option<Cause>, AllocError>
     ensures cause { IfOk result (λ found. IfSome found (IsCause plan.now)) }
     ensures none { IfOk result (λ found. IfNone found (NoCircle plan.now)) }
@@ -60,7 +60,8 @@ fn submits_itself(alloc: Global, plan: &Plan, number: usize) -> Result<bool, All
     Ok(submitted_classes.has(number))
 }
 
-/// Returns the first submit of repeating clients that they never get.
+/// Returns, as a cause, the first submit without a get in the bodies of the client kinds that
+/// repeat.
 fn never_got_by_clients(plan: &Plan) -> Option<Cause>
     ensures cause { IfSome result (IsCause plan.now) }
     ensures none { IfNone result ((c i : ℕ) → ¬ NeverGotByClients plan.now c i) }
@@ -76,7 +77,7 @@ fn never_got_by_clients(plan: &Plan) -> Option<Cause>
     None
 }
 
-/// Returns the first submit that jobs of the reached classes never get.
+/// Returns, as a cause, the first submit without a get in the bodies of these classes.
 fn never_got_by_jobs(plan: &Plan, submitted_classes: &SubmittedClasses) -> Option<Cause>
     requires { (k : ℕ) → Has submitted_classes.now k ↔ IsSubmitted plan.now (repeated_bodies plan.now) k }
     ensures cause { IfSome result (IsCause plan.now) }
@@ -93,7 +94,7 @@ fn never_got_by_jobs(plan: &Plan, submitted_classes: &SubmittedClasses) -> Optio
     None
 }
 
-/// Returns the position of the first submit that no get of the body names.
+/// Returns the position of the first submit that has no get in the body.
 fn submit_without_get(body: &[Action]) -> Option<usize>
     ensures found { IfSome result (IsNeverGot body.now) }
     ensures none { IfNone result ((i : ℕ) → ¬ IsNeverGot body.now i) }

@@ -37,7 +37,8 @@ fn copied(alloc: Global, vector: &Vector) -> Result<Vector, AllocError>
     })
 }
 
-/// Returns the vector, or `None` if a number in it is above the limit.
+/// Returns the steady vector, or `None` if a weight in it is above
+/// [`MAX_WEIGHT`](job_bodies::MAX_WEIGHT).
 fn steady_vector(alloc: Global, plan: &Plan, levels: &[u64]) -> Result<Option<Vector>, AllocError>
     requires free { NoCircle plan.now }
     requires levels { levels.now ≡ spec.steady_levels plan.now }
@@ -63,7 +64,8 @@ fn steady_vector(alloc: Global, plan: &Plan, levels: &[u64]) -> Result<Option<Ve
     }))
 }
 
-/// Returns the certificate's part for one pool.
+/// Returns the part of the steady certificate for one pool: the vector is both its bound and its
+/// blocked vector.
 fn pool_of(alloc: Global, vector: &Vector) -> Result<PoolCert, AllocError>
     ensures { IfOk result (λ pool. pool ≡ spec.pool_of vector.now) }
 {
@@ -72,7 +74,7 @@ fn pool_of(alloc: Global, vector: &Vector) -> Result<PoolCert, AllocError>
     Ok(PoolCert { bound, blocked })
 }
 
-/// Returns the certificate's part for each pool.
+/// Returns the parts of the steady certificate for all pools.
 fn pools_of(alloc: Global, plan: &Plan, vector: &Vector) -> Result<Vec<PoolCert>, AllocError>
     ensures { IfOk result (λ pools.
         pools.items ≡ map (λ (pool : plan_spec.Pool). spec.pool_of vector.now) plan.now.pools) }
@@ -84,7 +86,7 @@ fn pools_of(alloc: Global, plan: &Plan, vector: &Vector) -> Result<Vec<PoolCert>
     Ok(pools)
 }
 
-/// Returns the steady certificate of the plan, or `None` exactly if a number of its vector is above
+/// Returns the steady certificate of the plan, or `None` if a weight of its vector is above
 /// [`MAX_WEIGHT`](job_bodies::MAX_WEIGHT).
 ///
 /// With large enough sizes, this certificate accepts the plan if no repeating client causes a
@@ -92,7 +94,7 @@ fn pools_of(alloc: Global, plan: &Plan, vector: &Vector) -> Result<Vec<PoolCert>
 ///
 /// # Errors
 ///
-/// [`AllocError`] if memory runs out.
+/// Returns [`AllocError`] if memory runs out.
 pub fn steady(alloc: Global, plan: &Plan) -> Result<Option<Cert>, AllocError>
     // A class that submits itself has no level.
     requires { NoCircle plan.now }

@@ -1,4 +1,4 @@
-//! The certificate of pools that all have ranks.
+//! The certificate of an assignment in which every pool has a rank.
 
 use crate::bounds::bound_of;
 use crate::found::{AttemptError, Obstacle};
@@ -10,8 +10,8 @@ use least_vectors::{Kind, reach};
 use std::alloc::{AllocError, Global};
 use weights::{Ranks, Vector};
 
-/// Builds the certificate. The sizes that it needs are computed afterwards from those of the plan,
-/// and can be smaller than those of the placing.
+/// Returns the certificate of an assignment in which every pool has a rank. The sizes that it needs
+/// are computed afterwards from the plan's sizes, and can be smaller than those of the assignment.
 pub(crate) fn cert_of(
     alloc: Global,
     cache: &mut VectorCache,
@@ -55,9 +55,9 @@ fn pool_certs(
     Ok(pools)
 }
 
-/// Returns the blocked vector that was found for a pool of this rank. The final reaches count the
-/// same gets as those in the round in which the pool got its rank, because every pool that had no
-/// rank then has at least this rank now.
+/// Returns the blocked vector that was found for a pool when it got this rank. The final reaches
+/// give the same counted gets as the reaches in that round, because every pool that had no rank
+/// then has at least this rank now.
 fn blocked_of(
     alloc: Global,
     cache: &VectorCache,

@@ -12,8 +12,8 @@ pub fn no_sizes_help()
 {}
 
 /// States that a plan whose steady certificate is within the limits has sizes that some certificate
-/// accepts exactly if no class submits itself, directly or through other classes, and no repeating
-/// client causes a submit that is never got.
+/// accepts exactly when no class submits itself, directly or through other classes, and no
+/// repeating client causes a submit that is never got.
 pub fn sizes_exist()
     ensures { SizesExist }
 {}

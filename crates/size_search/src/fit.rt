@@ -20,8 +20,8 @@ use soundness::Note;
 use std::alloc::{AllocError, Global};
 use weights::{Bound, Place, Vector};
 
-/// Returns the core that a pool with this blocked vector needs: one more than the jobs that can be
-/// blocked.
+/// Returns the core that a pool with this blocked vector needs: one more than the number of jobs
+/// that can be blocked.
 pub(crate) fn core_needed(plan: &Plan, blocked: &Vector) -> u64
     requires well_formed { IsWellFormed plan.now }
     requires fits { IsTrue (vector_fits plan.now blocked.now) }
@@ -30,12 +30,12 @@ pub(crate) fn core_needed(plan: &Plan, blocked: &Vector) -> u64
     blocked.total(plan) + 1
 }
 
-/// Returns the queue that a pool with these sizes needs. For a lifetime bound, the threads beyond
-/// the first workers take jobs too.
+/// Returns the queue capacity that a pool with this core and maximum needs. With a lifetime bound,
+/// each thread that is not prestarted takes one of the jobs.
 fn queue_needed(plan: &Plan, bound: &Bound, pool: &Pool) -> u64
     requires well_formed { IsWellFormed plan.now }
     requires fits { IsTrue (vector_fits plan.now (bound_vector bound.now)) }
-    // No core that a certificate needs is larger.
+    // The core that a certificate needs is always smaller.
     requires core { pool.now.core < 2 ^ 63 }
     ensures { result ≡ spec.queue_needed plan.now bound.now pool.now }
 {
@@ -47,8 +47,8 @@ fn queue_needed(plan: &Plan, bound: &Bound, pool: &Pool) -> u64
     }
 }
 
-/// Returns the pool of this number with its core raised to what the certificate needs, and then its
-/// queue: a prestarted pool with a larger core can need a larger queue.
+/// Returns the pool with this number, with its core and then its queue raised to what the
+/// certificate needs. A prestarted pool with a larger core can need a larger queue.
 fn raised_pool(alloc: Global, plan: &Plan, cert: &Cert, number: usize) -> Result<Pool, AllocError>
     requires fits { IsTrue (cert_fits plan.now cert.now) }
     requires number { number < length plan.now.pools }
@@ -75,14 +75,15 @@ fn raised_pools(alloc: Global, plan: &Plan, cert: &Cert) -> Result<Vec<Pool>, Al
     Ok(pools)
 }
 
-/// Returns whether the place is a total, which is compared with a pool's sizes.
+/// Returns whether a condition at this place limits a total. Totals are compared with a pool's
+/// sizes.
 fn is_total(place: Place) -> bool
     ensures { result ≡ spec.is_total place }
 {
     matches!(place, Place::Total)
 }
 
-/// Returns the first note that is not about a total.
+/// Returns the first note whose place is not a total.
 fn first_elsewhere(notes: &[Note]) -> Option<Note>
     ensures { result ≡ find (λ note. not (spec.is_total note.place)) notes.now }
 {
@@ -103,7 +104,8 @@ fn failing_elsewhere(alloc: Global, plan: &Plan, cert: &Cert) -> Result<Option<N
     Ok(first_elsewhere(&failing))
 }
 
-/// Returns why the plan has no fitted plan, given its raised pools.
+/// Returns the reason why the plan cannot be fitted, or `None` if it can. `raised` are the plan's
+/// pools with raised sizes.
 fn unfit(
     alloc: Global,
     plan: &Plan,
@@ -127,7 +129,7 @@ fn unfit(
 ///
 /// # Errors
 ///
-/// [`AllocError`] if memory runs out.
+/// Returns [`AllocError`] if memory runs out.
 pub fn fitted(
     alloc: Global,
     plan: Plan,
@@ -175,12 +177,13 @@ fn smallest_pools(alloc: Global, plan: &Plan) -> Result<Vec<Pool>, AllocError>
     Ok(small)
 }
 
-/// Returns the plan with each core and each queue set to 1. Fitting that plan gives the least cores
-/// and queues of all with which the certificate accepts the plan, whatever sizes the plan declares.
+/// Returns the plan with each core and each queue set to 1. [`fitted`] raises the sizes of that
+/// plan to the least cores and queues with which the certificate accepts the plan, and they can be
+/// smaller than those that the plan declares.
 ///
 /// # Errors
 ///
-/// [`AllocError`] if memory runs out.
+/// Returns [`AllocError`] if memory runs out.
 pub fn smallest(alloc: Global, plan: &Plan) -> Result<Plan, AllocError>
     ensures { IfOk result (λ small. small ≡ spec.smallest plan.now) }
 {

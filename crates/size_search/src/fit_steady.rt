@@ -1,4 +1,4 @@
-//! The least sizes for the steady certificate, for when the rounds find nothing.
+//! The least sizes for the steady certificate, which is used if the rounds find no sizes.
 
 ghost use Rattle.std.specs.Prelude.{◌≡◌, ◌≤◌, IfOk, IfSome, IfNone, IsTrue};
 ghost use Rattle.job_bodies.specs.WellFormed.{IsWellFormed};
@@ -16,8 +16,8 @@ use cert_text::Cert;
 use job_bodies::Plan;
 use std::alloc::{AllocError, Global};
 
-/// Returns the plan with the least sizes that its steady certificate needs. If those are too large,
-/// returns that, with the pool at which an attempt failed.
+/// Returns the plan with the least sizes that its steady certificate needs, or
+/// [`NoSizes::TooLarge`] if they are too large. `obstacle` gives the pool that the latter names.
 pub(crate) fn fit_steady(
     alloc: Global,
     plan: &Plan,
@@ -33,7 +33,8 @@ pub(crate) fn fit_steady(
     }
 }
 
-/// Returns the least sizes for this steady certificate.
+/// Returns the plan with the least sizes for `cert`, its steady certificate, or
+/// [`NoSizes::TooLarge`].
 fn fit_steady_cert(
     alloc: Global,
     plan: &Plan,
@@ -60,8 +61,8 @@ fn too_large(plan: &Plan, obstacle: Obstacle) -> SizesFound
     SizesFound::NotFound(NoSizes::TooLarge(obstacle.pool(plan)))
 }
 
-/// Returns the plan with the least sizes for its steady certificate, or `None` if its total leaves
-/// no room below the limit.
+/// Returns the plan with the least sizes for its steady certificate, or `None` if the certificate's
+/// total is at least the limit of sizes.
 fn least_steady_sizes(alloc: Global, plan: &Plan, cert: &Cert) -> Result<Option<Plan>, AllocError>
     requires free { IsWithoutCause plan.now }
     requires well_formed { IsWellFormed plan.now }
@@ -70,15 +71,16 @@ fn least_steady_sizes(alloc: Global, plan: &Plan, cert: &Cert) -> Result<Option<
     ensures sized { IfOk result (λ found. IfSome found (IsSized plan.now cert.now)) }
     ensures none { IfOk result (λ found. IfNone found (MAX_SIZE ≤ steady_total plan.now)) }
 {
-    // Workers have weight 0 in the steady certificate, so its total does not change, and widening
-    // once is enough.
+    // Workers have weight 0 in the steady certificate. Raising the maximums therefore does not
+    // change its total, and once is enough.
     match widened(alloc, plan, cert)? {
         Ok(wide) => least_wide(alloc, plan, wide, cert),
         Err(_unfit) => Ok(None),
     }
 }
 
-/// Returns the least sizes for the plan with widened maximums.
+/// Returns the plan with the least sizes for its steady certificate, given the plan `wide` with
+/// raised maximums.
 fn least_wide(
     alloc: Global,
     plan: &Plan,

@@ -4,33 +4,34 @@ ghost use Rattle.size_search.specs.Fitted.{FittedSizesAreLeast, AcceptedPlansFit
 ghost use Rattle.size_search.specs.Widened.{WidenedMaxesAreLeast};
 ghost use Rattle.size_search.specs.Unfit.{ReportedCoresNeedLargerMaxes};
 
-/// States that the certificate accepts the fitted plan, which differs from its plan only in larger
-/// cores and queues, that no other such plan that it accepts has a smaller core or queue, and that
-/// there is no such plan if there is no fitted plan.
+/// States that a fitted plan differs from its plan only in larger cores and queues, that the
+/// certificate accepts it, and that no other such plan that the certificate accepts has a smaller
+/// core or queue. If there is no fitted plan, there is no such plan.
 pub fn fitted_sizes_are_least()
     ensures { FittedSizesAreLeast }
 {}
 
-/// States that a plan that a certificate accepts is fitted without a change.
+/// States that fitting does not change a plan that the certificate accepts.
 pub fn accepted_plans_fit()
     ensures { AcceptedPlansFit }
 {}
 
 /// States that a certificate that accepts a plan also accepts it with other cores and queues, if no
-/// core is smaller, nor the limit of a bound.
+/// core and no limit of a bound is smaller.
 pub fn larger_sizes_are_accepted()
     ensures { LargerSizesAreAccepted }
 {}
 
-/// States that fitting a plan whose cores and queues are 1 gives the least cores and queues of all
-/// with which the certificate accepts the plan.
+/// States that fitting a plan whose cores and queues are 1 gives the least cores and queues with
+/// which the certificate accepts the plan.
 pub fn smallest_fit_is_least()
     ensures { SmallestFitIsLeast }
 {}
 
 /// States that larger maximums save no core. In all sizes with which a certificate accepts a plan,
 /// and whose maximums are no smaller than the plan's, the cores are at least those that the
-/// certificate needs with the plan's maximums. So the maximums are at least the widened ones.
+/// certificate needs with the plan's maximums. So the maximums are at least those of the widened
+/// plan.
 pub fn widened_maxes_are_least()
     ensures { WidenedMaxesAreLeast }
 {}

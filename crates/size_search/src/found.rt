@@ -19,26 +19,26 @@ pub enum SizesFound {
 /// The reason why no sizes were found.
 #[derive(Clone, Copy, PartialEq, Eq)]
 pub enum NoSizes {
-    /// A cause that holds of the plan, and for which no certificate accepts any sizes. The plan can
+    /// A cause that the plan has, and with which no certificate accepts any sizes. The plan can
     /// still be safe.
     Cause(Cause),
-    /// The first attempt failed at the pool of this number, and the plan's steady certificate needs
-    /// sizes above 1,000,000 or has a weight above its limit. Other sizes can exist.
+    /// The first attempt failed at the pool with this number, and the plan's steady certificate
+    /// needs sizes above 1,000,000 or has a weight above its limit. Other sizes can exist.
     TooLarge(usize),
 }
 
 /// The obstacle at which an attempt failed.
 #[derive(Clone, Copy, PartialEq, Eq)]
 pub(crate) enum Obstacle {
-    /// A size of the pool of this number.
+    /// The pool with this number, for which no vector or no size was found.
     Pool(usize),
     /// Any other obstacle.
     Unknown,
 }
 
 impl Obstacle {
-    /// Returns the pool to report, or the first one if the obstacle names none. The search is not
-    /// trusted to name a pool of the plan.
+    /// Returns the number of the pool to report: that of the obstacle, or 0 if the obstacle names
+    /// no pool of the plan. The search is not trusted to name one.
     pub(crate) fn pool(self, plan: &Plan) -> usize
         requires { 0 < length plan.now.pools }
         ensures { result < length plan.now.pools }

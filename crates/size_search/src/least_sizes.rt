@@ -10,7 +10,8 @@ use cert_text::Cert;
 use job_bodies::Plan;
 use std::alloc::{AllocError, Global};
 
-/// Returns the plan with the least sizes that the certificate needs, or why there are none.
+/// Returns the plan with the least sizes that the certificate needs, or the obstacle if there are
+/// none.
 pub(crate) fn least_sizes(
     alloc: Global,
     plan: &Plan,
@@ -28,9 +29,9 @@ pub(crate) fn least_sizes(
     })
 }
 
-/// Returns the plan with its maximums widened until they leave room for each core. A wider pool can
-/// need another one to be wider. If that takes more turns than there are pools, it returns to a
-/// pool again, and no sizes are enough.
+/// Returns the plan with its maximums raised until none is below the core that its pool needs.
+/// Raising one maximum can make another raise necessary. If there are more iterations than pools,
+/// some pool is raised again, and no sizes are enough.
 fn widest(alloc: Global, plan: &Plan, cert: &Cert) -> Result<Result<Plan, Unfit>, AllocError>
     ensures { IfOk result (λ answer. IfOk answer (IsLeastWide plan.now cert.now)) }
 {
@@ -60,7 +61,7 @@ fn have_same_maxes(plan: &Plan, other: &Plan) -> bool {
         .all(|(pool, other)| pool.max == other.max)
 }
 
-/// Returns why the plan was not widened.
+/// Converts the reason why the maximums could not be raised to an obstacle.
 fn obstacle_of_wide(unfit: Unfit) -> Obstacle {
     match unfit {
         Unfit::Core(pool) => Obstacle::Pool(pool),
@@ -68,8 +69,8 @@ fn obstacle_of_wide(unfit: Unfit) -> Obstacle {
     }
 }
 
-/// Returns why the widened plan was not fitted. A core above its maximum is not known to be above
-/// the limit of sizes.
+/// Converts the reason why the plan with raised maximums was not fitted to an obstacle. A core
+/// above its maximum need not exceed the limit of sizes.
 fn obstacle_of_fit(unfit: Unfit) -> Obstacle {
     match unfit {
         Unfit::Queue(pool) => Obstacle::Pool(pool),

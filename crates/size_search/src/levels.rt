@@ -1,4 +1,4 @@
-//! The levels of classes above those that they submit.
+//! The levels of classes, each above the levels of the classes that it submits.
 
 ghost use Rattle.std.specs.Prelude.{◌≡◌, ◌≤◌, ℕ, IfOk, map, slice_index};
 ghost use Rattle.job_bodies.specs.declared.limits.TheConstants.{MAX_CLASSES};
@@ -20,7 +20,7 @@ pub(crate) fn number_at(numbers: &[u64], place: usize) -> u64
     }
 }
 
-/// Returns a level above those of the classes that the body submits.
+/// Returns the least level above those of the classes that the body submits.
 fn level_above(levels: &[u64], body: &[Action]) -> u64
     requires { (k : ℕ) → slice_index levels.now k ≤ MAX_CLASSES }
     ensures { result ≡ spec.level_above levels.now body.now }
@@ -34,7 +34,8 @@ fn level_above(levels: &[u64], body: &[Action]) -> u64
     highest
 }
 
-/// Returns the levels when submits are followed one step further.
+/// Returns, for each class, the least level above those that `levels` has for the classes that it
+/// submits.
 fn next_levels(alloc: Global, plan: &Plan, levels: &[u64]) -> Result<Vec<u64>, AllocError>
     requires { (k : ℕ) → slice_index levels.now k ≤ MAX_CLASSES }
     ensures { IfOk result (λ next.
@@ -49,7 +50,7 @@ fn next_levels(alloc: Global, plan: &Plan, levels: &[u64]) -> Result<Vec<u64>, A
     Ok(next)
 }
 
-/// Returns the level of each class.
+/// Returns the level of each class in the steady certificate.
 pub(crate) fn steady_levels(alloc: Global, plan: &Plan) -> Result<Vec<u64>, AllocError>
     ensures levels { IfOk result (λ levels. levels.items ≡ spec.steady_levels plan.now) }
     ensures well_formed { IsWellFormed plan.now }

@@ -1,7 +1,7 @@
 //! The search for pool sizes that make a plan safe, and the causes for which no sizes do.
 //!
-//! Results are not trusted: sizes that [`search_sizes`] finds are accepted by [`fitted`] or [`cert_check::accepts`] before
-//! they are returned.
+//! The heuristics of the search are not trusted: [`search_sizes`] returns only sizes that
+//! [`fitted`] or [`cert_check::accepts`] has accepted.
 #![tactic(auto)]
 
 mod attempt;

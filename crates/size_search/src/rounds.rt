@@ -1,4 +1,4 @@
-//! The rounds in which pools get their ranks while their cores grow.
+//! The rounds in which pools get ranks, with larger cores if necessary.
 
 use crate::found::{AttemptError, Obstacle};
 use crate::pool_threads::{PoolThreads, maxes_of};
@@ -7,22 +7,22 @@ use job_bodies::MAX_SIZE;
 use least_vectors::{Kind, reach};
 use std::alloc::{AllocError, Global};
 
-/// The pools, and the ranks that they have so far.
+/// The cores, maximums and ranks of the pools after some rounds.
 #[derive(Drop)]
 pub(crate) struct RankAssignment {
     /// The current core and maximum of each pool.
     pub(crate) threads: Vec<PoolThreads>,
-    /// The rank and the blocked vector of each pool that has them.
+    /// For each pool, its rank and its blocked vector, or `None` if it has none yet.
     pub(crate) assigned: Vec<Option<(u64, CacheHit)>>,
-    /// Whether a maximum has grown.
+    /// Whether a maximum was raised.
     pub(crate) has_widened: bool,
-    /// The largest number of pools to choose from in a round in which no pool had a large enough
-    /// core, or 0 if there was no such round.
+    /// The largest number of candidate pools in a round in which no pool had a large enough core,
+    /// or 0 if there was no such round.
     pub(crate) choices: usize,
 }
 
 impl RankAssignment {
-    /// Creates a placing without ranks.
+    /// Creates an assignment without ranks.
     fn new(alloc: Global, threads: Vec<PoolThreads>) -> Result<RankAssignment, AllocError> {
         let assigned = vec![in alloc; None; threads.len()]?;
         Ok(RankAssignment {
@@ -41,7 +41,8 @@ impl RankAssignment {
             .collect(alloc)
     }
 
-    /// Returns the lightest blocked vector in this round of each pool without a rank.
+    /// Returns, for each pool without a rank, its lightest blocked vector in the round of this
+    /// rank.
     fn lightest_vectors(
         &self,
         alloc: Global,
@@ -105,7 +106,8 @@ impl RankAssignment {
         Ok(())
     }
 
-    /// Returns why no pool can get the core that it needs.
+    /// Returns the obstacle if no pool can get the core that it needs: the pool with the smallest
+    /// shortfall.
     fn obstacle_of(&self, hits: &[CacheHit]) -> Obstacle {
         match self.choice_of(hits, 0) {
             Some(hit) => Obstacle::Pool(hit.pool),
@@ -113,7 +115,7 @@ impl RankAssignment {
         }
     }
 
-    /// Returns the `choice`-th pool, ordered by shortfall.
+    /// Returns the `choice`-th pool, ordered by shortfall and counted from 0.
     fn choice_of(&self, hits: &[CacheHit], choice: usize) -> Option<CacheHit> {
         for hit in hits {
             let shortfall = self.shortfall(hit);
@@ -137,7 +139,7 @@ impl RankAssignment {
         }
     }
 
-    /// Returns the pool's shortfall of core and maximum together.
+    /// Returns the sum by which the pool's core and maximum must grow for this vector.
     fn shortfall(&self, hit: &CacheHit) -> u64 {
         match self.threads.get(hit.pool) {
             Some(pool_threads) => pool_threads.shortfall(core_for(hit)),
@@ -146,12 +148,12 @@ impl RankAssignment {
     }
 }
 
-/// Returns the core that leaves one thread that is not blocked.
+/// Returns the core that a pool with this blocked vector needs, so that one thread is not blocked.
 fn core_for(hit: &CacheHit) -> u64 {
     hit.total.saturating_add(1)
 }
 
-/// Returns the looks whose core is within the limit.
+/// Returns the cache hits whose core is at most `MAX_SIZE`.
 fn within_limit(alloc: Global, hits: &[CacheHit]) -> Result<Vec<CacheHit>, AllocError> {
     hits.iter()
         .filter(|hit| core_for(hit) <= MAX_SIZE)
@@ -160,9 +162,9 @@ fn within_limit(alloc: Global, hits: &[CacheHit]) -> Result<Vec<CacheHit>, Alloc
 }
 
 /// Gives each pool a rank and a blocked vector, starting with these cores and maximums. In each
-/// round, the rank goes to all pools whose core is large enough. If there are none, it goes to the
-/// pool with the smallest shortfall, whose core is raised. The first time that happens, it skips
-/// the `passed_over` pools with the smallest shortfall.
+/// round, all pools whose core is large enough get the rank. If there are none, the core of the
+/// pool with the smallest shortfall is raised, and this pool gets the rank. The first time this
+/// happens, the `passed_over` pools with the smallest shortfall are passed over.
 pub(crate) fn assign_ranks(
     alloc: Global,
     cache: &mut VectorCache,
@@ -193,8 +195,9 @@ pub(crate) fn assign_ranks(
     Ok(assignment)
 }
 
-/// Repeats the rounds while maximums grow, because workers with a weight then weigh more in total.
-/// In the last turn no worker gets a weight, so that the loop ends.
+/// Repeats the rounds until no maximum grows, and returns the last assignment. A larger maximum can
+/// increase totals, because each worker that has weight counts for its whole pool. In the last
+/// repetition no worker gets weight, so that the loop ends.
 pub(crate) fn assign_ranks_to_fixpoint(
     alloc: Global,
     cache: &mut VectorCache,

@@ -23,8 +23,8 @@ fn put_row(jobs: &mut Vector, number: usize, row: Vec<u64>)
     jobs.classes[number] = row;
 }
 
-/// Sets the row of the class of this number, which has this level. Returns `false`, and sets no
-/// row, if a number in it is above the limit.
+/// Sets the row of the class with this number, whose level is `level`. If a weight in the row is
+/// above the limit, sets no row and returns `false`.
 fn set_class_row(
     alloc: Global,
     plan: &Plan,
@@ -50,7 +50,7 @@ fn set_class_row(
     Ok(true)
 }
 
-/// Sets the row of the class, if it has this level.
+/// Sets the row of the class if it has this level. Returns `false` if a weight is above the limit.
 fn set_row_of_level(
     alloc: Global,
     plan: &Plan,
@@ -76,7 +76,7 @@ fn set_row_of_level(
     }
 }
 
-/// Sets the rows of the classes of this level. Returns `false` if a number is above the limit.
+/// Sets the rows of the classes of this level. Returns `false` if a weight is above the limit.
 fn set_level_rows(
     alloc: Global,
     plan: &Plan,
@@ -117,7 +117,7 @@ fn no_jobs(alloc: Global, plan: &Plan) -> Result<Vector, AllocError>
 }
 
 /// Returns the rows of all classes, computed from the lowest level to the highest, or `None` if a
-/// number is above the limit.
+/// weight is above the limit.
 pub(crate) fn jobs_of(
     alloc: Global,
     plan: &Plan,
@@ -140,7 +140,7 @@ pub(crate) fn jobs_of(
     Ok(Some(jobs))
 }
 
-/// Returns the rows of all kinds of clients.
+/// Returns the rows of all client kinds.
 pub(crate) fn clients_of(
     alloc: Global,
     plan: &Plan,

@@ -22,39 +22,39 @@ use job_bodies::{MAX_POOLS, Plan};
 use least_vectors::Levels;
 use std::alloc::{AllocError, Global};
 
-/// The number of further pools that attempts start with, and the number of pools whose growth is
-/// undone.
+/// The number of further attempts that start with another pool, and, in a plan with more than
+/// [`FEW_POOLS`] pools, of attempts that reset one pool to its declared sizes.
 const FURTHER_ATTEMPTS: usize = 3;
 
-/// In a plan with at most this many pools, the growth of each pool is undone, one at a time.
+/// In a plan with at most this many pools, each pool whose sizes have grown is reset in an attempt
+/// of its own.
 const FEW_POOLS: usize = 8;
 
 /// Searches for sizes with which a certificate accepts the plan, with few and small increases. If
-/// `first` accepts the plan as it is, as the result of a search for a certificate does, nothing
-/// changes.
+/// `first` accepts the plan as it is, returns the plan unchanged, with `first`.
 ///
 /// In rounds, as in the search for a certificate, pools get ranks and blocked vectors. If no pool
-/// has a large enough core in a round, the one with the smallest shortfall gets it. The queues
-/// follow, and then the sizes are reduced to what the certificate needs. Further attempts start
-/// with another pool, or undo the growth of one pool. The cheapest attempt is returned. If none
-/// finds anything, the result is the plan's steady certificate with the least sizes for it. Sizes
-/// are returned only if the search finds a certificate with them again, unless the steady
-/// certificate is too large.
+/// has a large enough core in a round, the core of the pool with the smallest shortfall is raised.
+/// Then the queues are computed, and all sizes are reduced to what the certificate needs. Further
+/// attempts start with another pool, or reset one pool to its declared sizes. The attempt with the
+/// smallest sum of increases is the result. If no attempt succeeds, the result is the plan's steady
+/// certificate with the least sizes for it. Sizes are returned only if a search for a certificate
+/// succeeds again with them, unless the steady certificate is too large.
 ///
-/// If no sizes are found, either a cause holds of the plan for which no sizes are enough, or the
-/// steady certificate is too large. So below the limits, sizes are found exactly when they exist.
-/// They exist if no class submits itself, directly or through other classes, and no repeating
-/// client causes submits that are never got.
+/// If no sizes are found, either the plan has a cause for which no sizes are enough, or the steady
+/// certificate is too large. So within the limits, sizes are found exactly when they exist: when no
+/// class submits itself, directly or through other classes, and no repeating client causes a submit
+/// that is never got.
 ///
 /// The contract proves that the certificate accepts the plan with these sizes. It also proves that
-/// they are the least for this certificate: among sizes that are no smaller than declared, no
-/// smaller maximum and no smaller core is accepted, nor a smaller queue with these maximums, and a
-/// maximum that grows equals its core. Larger maximums can save queue, and another certificate can
-/// need less.
+/// they are the least for this certificate. Among sizes that are no smaller than declared, the
+/// certificate accepts none with a smaller maximum or a smaller core, and none with these maximums
+/// and a smaller queue. A maximum that grows equals its core. With larger maximums, smaller queues
+/// can be enough, and another certificate can need smaller sizes.
 ///
 /// # Errors
 ///
-/// [`AllocError`] if memory runs out.
+/// Returns [`AllocError`] if memory runs out.
 pub fn search_sizes(
     alloc: Global,
     plan: &Plan,
@@ -74,7 +74,7 @@ pub fn search_sizes(
     search_without_first(alloc, plan)
 }
 
-/// Searches for sizes when no certificate is at hand.
+/// Searches for sizes without a given certificate.
 fn search_without_first(alloc: Global, plan: &Plan) -> Result<SizesFound, AllocError>
     ensures found { IfOk result (IsFound plan.now) }
     ensures decided { IfOk result (IsDecided plan.now) }
@@ -86,7 +86,7 @@ fn search_without_first(alloc: Global, plan: &Plan) -> Result<SizesFound, AllocE
     Ok(found)
 }
 
-/// Searches for sizes of a plan that has no cause against all sizes.
+/// Searches for sizes for a plan that has no cause for which no sizes are enough.
 fn sizes_without_cause(alloc: Global, plan: &Plan) -> Result<SizesFound, AllocError>
     requires free { IsWithoutCause plan.now }
     requires well_formed { IsWellFormed plan.now }
@@ -98,7 +98,7 @@ fn sizes_without_cause(alloc: Global, plan: &Plan) -> Result<SizesFound, AllocEr
     }
 }
 
-/// Returns the plan with the sizes that the rounds found, and their certificate.
+/// Returns the plan with the sizes that the rounds found, and the certificate that accepts it.
 fn sizes_by_rounds(alloc: Global, plan: &Plan) -> Result<Result<(Plan, Cert), Obstacle>, AllocError>
     ensures { IfOk result (λ answer. IfOk answer (λ found. IsSized plan.now found.1 found.0)) }
 {
@@ -112,7 +112,8 @@ fn sizes_by_rounds(alloc: Global, plan: &Plan) -> Result<Result<(Plan, Cert), Ob
     }
 }
 
-/// Returns a certificate that other sizes make acceptable. It has not been checked.
+/// Returns a certificate that can be expected to accept the plan with other sizes. It has not been
+/// checked.
 pub(crate) fn unchecked_certificate(
     alloc: Global,
     plan: &Plan,
@@ -127,7 +128,7 @@ pub(crate) fn unchecked_certificate(
     })
 }
 
-/// Returns the cheapest attempt.
+/// Returns the attempt with the smallest cost, or the obstacle of the first attempt if all failed.
 fn cheapest_attempt(
     alloc: Global,
     cache: &mut VectorCache,
@@ -139,7 +140,7 @@ fn cheapest_attempt(
     }
 }
 
-/// Returns the best attempt that starts with the plan's own sizes.
+/// Returns the cheapest attempt that starts with the plan's own sizes.
 fn best_from_declared(
     alloc: Global,
     cache: &mut VectorCache,
@@ -157,8 +158,8 @@ fn best_from_declared(
     Ok(best)
 }
 
-/// Returns the best attempt, or a cheaper one. Each of the pools that were raised most is reset to
-/// the plan's sizes, and another attempt starts from there.
+/// Returns the cheapest of `best` and of further attempts. Each further attempt starts with the
+/// sizes of `best`, with one of the most raised pools reset to its declared sizes.
 fn improved_attempt(
     alloc: Global,
     cache: &mut VectorCache,
@@ -184,7 +185,7 @@ fn attempt(
     outcome(attempt_from(alloc, cache, threads, passed_over))
 }
 
-/// Returns the better of two attempts, or the first obstacle if both failed.
+/// Returns the cheaper of two attempts, or the first obstacle if both failed.
 fn better_attempt(
     first: Result<Attempt, Obstacle>,
     second: Result<Attempt, Obstacle>,
@@ -206,7 +207,7 @@ fn cheaper_attempt(first: Attempt, second: Result<Attempt, Obstacle>) -> Attempt
     first
 }
 
-/// Separates running out of memory from the obstacle of an attempt.
+/// Returns the attempt or its obstacle as a value, and only running out of memory as an error.
 fn outcome(
     attempt: Result<Attempt, AttemptError>,
 ) -> Result<Result<Attempt, Obstacle>, AllocError> {
@@ -217,8 +218,8 @@ fn outcome(
     }
 }
 
-/// Returns the pools whose core and maximum have grown most: at most three, or all if the plan has
-/// few pools.
+/// Returns the pools whose core and maximum have grown most: all that have grown if the plan has at
+/// most [`FEW_POOLS`] pools, otherwise at most three.
 fn most_raised_pools(
     alloc: Global,
     best: &Attempt,
@@ -247,7 +248,8 @@ fn most_raised_pools(
     Ok(raised)
 }
 
-/// Returns the threads that the attempt needs, with this pool reset to its declared ones.
+/// Returns the cores and maximums that the attempt needs, with those of this pool reset to the
+/// declared ones.
 fn reset_pool(
     alloc: Global,
     best: &Attempt,

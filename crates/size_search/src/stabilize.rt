@@ -1,4 +1,4 @@
-//! Sizes that the search itself does not change again.
+//! Sizes that are unchanged if the search runs again with them.
 
 ghost use Rattle.std.specs.Prelude.{IfOk};
 ghost use Rattle.size_search.specs.Submitted.{IsWithoutCause};
@@ -18,21 +18,22 @@ use std::alloc::{AllocError, Global};
 /// The maximum number of refinement rounds.
 const MAX_TURNS: usize = 4;
 
-/// The result of a search that starts with sizes that were found.
+/// The result of a search for a certificate of the plan with the sizes that were found.
 #[derive(Drop)]
 enum Recheck {
-    /// A certificate that accepts the plan with these sizes.
+    /// The search found a certificate that accepts the plan with these sizes.
     Same,
-    /// A certificate that needs larger sizes.
+    /// The search found a certificate that needs larger sizes.
     More(Cert),
-    /// No certificate.
+    /// The search found no certificate.
     Nothing,
 }
 
-/// Returns these sizes if the search finds a certificate with them again. Otherwise repeats this
-/// with the sizes that it finds then. If that does not end within the maximum number of rounds,
-/// returns the sizes of the steady certificate, with which the search always finds one, or the
-/// current sizes if those are too large.
+/// Returns the plan with these sizes if the search finds a certificate for it again. Otherwise
+/// repeats this with the larger sizes that the search finds. If that does not end within the
+/// maximum number of rounds, returns the plan with the sizes for its steady certificate, with which
+/// the search always finds a certificate. If those sizes are too large, returns the plan with the
+/// current sizes.
 pub(crate) fn stabilize(
     alloc: Global,
     plan: &Plan,
@@ -63,8 +64,8 @@ pub(crate) fn stabilize(
     or_fit_steady(alloc, plan, fit, cert)
 }
 
-/// Searches for a certificate of the fitted plan. A plan without a larger size keeps its
-/// certificate.
+/// Searches for a certificate of the fitted plan. If no size has grown, does not search, since the
+/// plan keeps its certificate.
 fn recheck_plan(alloc: Global, plan: &Plan, fit: &Plan) -> Result<Recheck, AllocError> {
     if growth(plan, fit) == 0 {
         return Ok(Recheck::Same);
@@ -81,7 +82,8 @@ fn recheck_plan(alloc: Global, plan: &Plan, fit: &Plan) -> Result<Recheck, Alloc
     })
 }
 
-/// Returns the least sizes for the steady certificate, or the current sizes if those are too large.
+/// Returns the plan with the least sizes for its steady certificate, or the current plan if those
+/// sizes are too large.
 fn or_fit_steady(
     alloc: Global,
     plan: &Plan,

@@ -11,11 +11,11 @@ use crate::submitted_classes::SubmittedClasses;
 use job_bodies::Plan;
 use std::alloc::{AllocError, Global};
 
-/// Returns for each class whether it is submitted by a client, or by a job that a client causes.
+/// Returns, for each class, whether a client, or a job that a client causes, submits it.
 ///
 /// # Errors
 ///
-/// [`AllocError`] if memory runs out.
+/// Returns [`AllocError`] if memory runs out.
 pub fn submitted_by_clients(alloc: Global, plan: &Plan) -> Result<Vec<bool>, AllocError>
     ensures { IfOk result (λ marks. MarksSubmitted plan.now marks.items) }
 {

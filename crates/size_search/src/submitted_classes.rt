@@ -15,9 +15,9 @@ use std::alloc::{AllocError, Global};
 /// A set of classes that are submitted.
 #[derive(Drop)]
 pub(crate) struct SubmittedClasses {
-    /// Whether each class was found.
+    /// For each class, whether it was found.
     is_found: Vec<bool>,
-    /// The classes that were found and whose bodies were not looked at yet.
+    /// The classes that were found and whose bodies have not been scanned yet.
     pending: Vec<usize>,
 }
 
@@ -40,7 +40,7 @@ impl SubmittedClasses {
         class < self.is_found.len() && self.is_found[class]
     }
 
-    /// Returns for each class whether it is submitted.
+    /// Returns, for each class, whether it is submitted.
     pub(crate) fn into_marks(self) -> Vec<bool>
         ensures { result.items ≡ self.is_found.items }
     {

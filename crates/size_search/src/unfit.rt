@@ -7,22 +7,22 @@ ghost use Rattle.size_search.specs.Unfit as spec;
 use job_bodies::{MAX_SIZE, Pool};
 use soundness::Note;
 
-/// The reason why a certificate accepts a plan with no cores and queues.
+/// The reason why no choice of cores and queues makes the certificate accept the plan.
 #[derive(Clone, Copy, Debug, PartialEq, Eq)]
 pub enum Unfit {
     /// The certificate has another shape than the plan.
     Shape,
-    /// This condition fails, and it does not depend on cores and queues. It is the first such
-    /// condition.
+    /// The first condition that fails and does not depend on cores and queues.
     Condition(Note),
-    /// The core of the pool of this number would be above the pool's maximum or, if maximums can be
-    /// raised, above 1,000,000.
+    /// The core of the pool with this number would be above the pool's maximum or, if maximums can
+    /// be raised, above 1,000,000.
     Core(usize),
-    /// The queue of the pool of this number would be above 1,000,000.
+    /// The queue of the pool with this number would be above 1,000,000.
     Queue(usize),
 }
 
-/// Returns why a pool with raised sizes is invalid, if it is. A maximum was raised for a core.
+/// Returns the reason why a pool with raised sizes is invalid, or `None` if it is valid. A maximum
+/// above the limit was raised for a core, so that the core is the reason.
 fn unfit_pool(number: usize, pool: &Pool) -> Option<Unfit>
     ensures { result ≡ spec.unfit_pool number pool.now }
 {
@@ -35,7 +35,7 @@ fn unfit_pool(number: usize, pool: &Pool) -> Option<Unfit>
     }
 }
 
-/// Returns why the first invalid pool of the list is invalid.
+/// Returns the reason for the first invalid pool of the list, or `None` if all are valid.
 pub(crate) fn unfit_pools(pools: &[Pool]) -> Option<Unfit>
     ensures { result ≡ spec.first_unfit (enumerate_from 0 pools.now) }
 {

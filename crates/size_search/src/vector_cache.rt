@@ -1,4 +1,4 @@
-//! A cache of vectors. Most attempts ask for vectors that an earlier one asked for.
+//! A cache of vectors. Most attempts need vectors that an earlier attempt has computed.
 
 use crate::found::{AttemptError, Obstacle};
 use job_bodies::{Action, Plan};
@@ -10,15 +10,15 @@ use weights::submitted_class;
 /// plan needs a quarter of them.
 const MAX_VECTORS: usize = 32_768;
 
-/// The kind of vector of a pool.
+/// The kind of a pool's vector, with everything except maximums on which the vector depends.
 #[derive(PartialEq, Drop)]
 enum VectorKey {
     Standing,
     Lifetime,
     Blocked {
-        /// Whether the pool's jobs count a get of a job of each class.
+        /// For each class, whether a get of its jobs by a job of this pool is counted.
         counted: Vec<bool>,
-        /// Whether other pools can give weight to their workers.
+        /// Whether the workers of other pools can have weight.
         lending: bool,
     },
 }
@@ -29,11 +29,11 @@ struct CacheKey {
     vector: VectorKey,
     /// The maximum of each pool.
     maxes: Vec<u64>,
-    /// The total that is small enough.
+    /// A total that is small enough, so that no further weight is given to workers.
     enough: u64,
 }
 
-/// A cached vector.
+/// A cache key with its vector.
 #[derive(Drop)]
 struct CacheEntry {
     key: CacheKey,
@@ -41,24 +41,24 @@ struct CacheEntry {
 }
 
 impl CacheEntry {
-    /// Returns whether the cached vector also answers this question.
+    /// Returns whether this entry is valid for the key.
     fn matches_key(&self, key: &CacheKey) -> bool {
         self.key.enough == key.enough
             && self.key.vector == key.vector
             && self.is_valid_for(&key.maxes)
     }
 
-    /// Returns whether the answer is the same with these maximums. The pools whose workers got
-    /// weight must have the same ones. The maximums of the others can be larger: their workers
-    /// would weigh no less, so they would not get weight now either.
+    /// Returns whether the cached vector is also the result for these maximums. The maximums must
+    /// be equal for pools whose workers got weight. They may be larger for the other pools: workers
+    /// of these would then add no less to the total, so they would get no weight now either.
     fn is_valid_for(&self, maxes: &[u64]) -> bool {
         self.key.maxes.iter().zip(maxes).enumerate().all(|(pool, (before, now))| before == now
             || (before < now && !self.is_lender(pool)))
     }
 
-    /// Returns whether the workers of the pool got weight in the search for the answer. If there is
-    /// no vector, none did, except for the sake of a class that is never submitted. For such a
-    /// class larger maximums are not tried again.
+    /// Returns whether the workers of the pool got weight in the search for the cached vector.
+    /// Returns `false` if there is no vector: then workers got weight only for the sake of a class
+    /// that is never submitted, and larger maximums are not tried again for such a class.
     fn is_lender(&self, pool: usize) -> bool {
         match &self.answer {
             Some(summary) => summary.lenders.contains(&pool),
@@ -70,23 +70,23 @@ impl CacheEntry {
 /// The cached vectors of a pool.
 #[derive(Drop)]
 struct PoolCache {
-    /// For each class, whether a job of the pool gets jobs of it.
+    /// For each class, whether a job of the pool gets jobs of that class.
     gets: Vec<bool>,
     entries: Vec<CacheEntry>,
 }
 
-/// The total of a cached answer, and its position.
+/// The total of a cached vector, and the place of the vector in the cache.
 #[derive(Clone, Copy)]
 pub(crate) struct CacheHit {
     pub(crate) pool: usize,
-    /// The vector's total, or the largest number if there is no vector.
+    /// The vector's total, or `u64::MAX` if there is no vector.
     pub(crate) total: u64,
-    /// The answer's index in the pool's cache, or `None` if there is no vector.
+    /// The index of the entry in the pool's cache, or `None` if there is no vector.
     index: Option<usize>,
 }
 
 impl CacheHit {
-    /// Returns the result without a vector.
+    /// Returns the cache hit of a pool that has no vector.
     fn empty(pool: usize) -> CacheHit {
         CacheHit {
             pool,
@@ -129,7 +129,7 @@ impl<'a> VectorCache<'a> {
     }
 
     /// Returns the pool's lightest vector of this kind for these maximums. Once the limit of
-    /// computed vectors is reached, it returns only cached ones.
+    /// computed vectors is reached, returns only cached vectors.
     pub(crate) fn lightest(
         &mut self,
         alloc: Global,
@@ -170,7 +170,8 @@ impl<'a> VectorCache<'a> {
         }
     }
 
-    /// Returns the weights of the workers of each pool in the vector of an answer.
+    /// Returns the weight of the workers of each pool in the vector of the cache hit, or `None` if
+    /// it has no vector.
     pub(crate) fn workers_at(&self, hit: CacheHit) -> Option<&[u64]> {
         let entry = self.pools.get(hit.pool)?.entries.get(hit.index?)?;
         match &entry.answer {
@@ -207,8 +208,8 @@ impl PoolCache {
         })
     }
 
-    /// Returns for each class whether a job of this pool counts its gets of jobs of that class, if
-    /// the pool has this rank.
+    /// Returns, for each class, whether a get of its jobs by a job of this pool is counted, if the
+    /// pool has this rank.
     fn counted(&self, alloc: Global, reach: &[u64], rank: u64) -> Result<Vec<bool>, AllocError> {
         self.gets
             .iter()
@@ -217,12 +218,12 @@ impl PoolCache {
             .collect(alloc)
     }
 
-    /// Returns the index of the answer to the question.
+    /// Returns the index of the entry for this key.
     fn index_of(&self, key: &CacheKey) -> Option<usize> {
         self.entries.iter().position(|entry| entry.matches_key(key))
     }
 
-    /// Returns the total of the answer at this index.
+    /// Returns the cache hit at this index, which is empty if the entry has no vector.
     fn hit(&self, pool: usize, index: usize) -> CacheHit {
         let mut hit = CacheHit::empty(pool);
         if let Some(entry) = self.entries.get(index) {
@@ -235,7 +236,7 @@ impl PoolCache {
     }
 }
 
-/// Returns for each class whether a job of the pool gets jobs of it.
+/// Returns, for each class, whether a job of the pool gets jobs of that class.
 fn gets_of(alloc: Global, plan: &Plan, pool: usize) -> Result<Vec<bool>, AllocError> {
     let mut gets = vec![in alloc; false; plan.classes().len()]?;
     for class in plan.classes() {

@@ -1,4 +1,4 @@
-//! The plan with maximums that leave room for the cores that a certificate needs.
+//! The plan with each maximum raised to the core that a certificate needs.
 
 ghost use Rattle.std.specs.Prelude.{◌≡◌, ◌<◌, IfOk, IfErr, IsTrue, Some, length};
 ghost use Rattle.job_bodies.specs.Plan.{pool_at};
@@ -14,7 +14,8 @@ use cert_text::Cert;
 use job_bodies::{Plan, Pool};
 use std::alloc::{AllocError, Global};
 
-/// Returns the pool of this number with its maximum raised to the core that the certificate needs.
+/// Returns the pool with this number, with its maximum raised to the core that the certificate
+/// needs.
 fn widened_pool(alloc: Global, plan: &Plan, cert: &Cert, number: usize) -> Result<Pool, AllocError>
     requires fits { IsTrue (cert_fits plan.now cert.now) }
     requires number { number < length plan.now.pools }
@@ -43,14 +44,14 @@ fn widened_pools(alloc: Global, plan: &Plan, cert: &Cert) -> Result<Vec<Pool>, A
 /// Returns the plan with each maximum raised to the core that the certificate needs. Each raise is
 /// necessary: all sizes with which the certificate accepts the plan, and whose maximums are no
 /// smaller than the plan's, have at least these maximums. If the raises increase totals, the
-/// certificate can need more.
+/// certificate can need still larger cores.
 ///
 /// If the certificate has another shape than the plan, or needs a core above 1,000,000, there are
 /// no such sizes, and the reason is returned.
 ///
 /// # Errors
 ///
-/// [`AllocError`] if memory runs out.
+/// Returns [`AllocError`] if memory runs out.
 pub fn widened(alloc: Global, plan: &Plan, cert: &Cert) -> Result<Result<Plan, Unfit>, AllocError>
     ensures widened { IfOk result
         (λ answer. IfOk answer (λ wide. wide ≡ spec.widened plan.now cert.now)) }

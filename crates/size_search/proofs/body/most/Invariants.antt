@@ -1,4 +1,4 @@
--- The weight of open jobs here, and the largest so far.
+-- The weight of the open jobs at this position, and the largest such weight so far.
 use Rattle.std.proofs.Common.{◌≡◌}
 use Rattle.size_search.specs.Steady.{greatest_upto, open_weight}
 use Rattle.size_search.proofs.body.most.Given as goal

@@ -1,4 +1,4 @@
--- The weights after this position, the last one first.
+-- The weights at the later positions, in reverse order.
 use Rattle.std.proofs.Common.{◌≡◌, ◌-◌, length, drop, reverse}
 use Rattle.size_search.specs.Steady.{weight_at, weights_from}
 use Rattle.size_search.proofs.body.weights.Given as goal

@@ -1,4 +1,4 @@
--- The rows before this one are copied.
+-- The rows before this one were copied.
 use Rattle.std.proofs.Common.{◌≡◌, map, take}
 use Rattle.size_search.proofs.certificate.copied_rows.Given as goal
 

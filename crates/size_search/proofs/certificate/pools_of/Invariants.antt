@@ -1,4 +1,4 @@
--- One part for each pool so far.
+-- The list has one part for each pool before this one.
 use Rattle.std.proofs.Common.{◌≡◌, map, take}
 use Rattle.job_bodies.specs.Plan.{Pool}
 use Rattle.size_search.specs.Steady.{pool_of}

@@ -1,4 +1,4 @@
--- The result depends on the notes from this one.
+-- The earlier notes are totals, so the result is that for the remaining notes.
 use Rattle.std.proofs.Common.{◌≡◌, not, drop}
 use Rattle.std.specs.List.{find}
 use Rattle.soundness.specs.declared.note.Note.{Note}

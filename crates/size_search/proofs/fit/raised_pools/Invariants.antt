@@ -1,4 +1,4 @@
--- The pools so far and the raised remaining ones are all pools.
+-- The pools so far, followed by the remaining pools with raised sizes, are all pools of the raised plan.
 use Rattle.std.proofs.Common.{◌≡◌, ◌++◌}
 use Rattle.cert_text.specs.Cert.{pool_cert_at}
 use Rattle.size_search.specs.Fitted.{raised_pool, raised}

@@ -1,4 +1,4 @@
--- No max is larger than necessary so far.
+-- No maximum is larger than necessary so far.
 use Rattle.size_search.specs.Widened.{IsLeastWide}
 use Rattle.size_search.proofs.least_sizes.widest.Given as goal
 

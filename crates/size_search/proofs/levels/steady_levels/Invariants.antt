@@ -1,4 +1,4 @@
--- The levels after this number of rounds.
+-- The levels are those after this number of rounds.
 use Rattle.std.proofs.Common.{◌≡◌}
 use Rattle.size_search.specs.Steady.{levels_within}
 use Rattle.size_search.proofs.levels.steady_levels.Given as goal

@@ -1,4 +1,4 @@
--- The levels below this one have their rows.
+-- The classes of all levels below this one have their rows.
 use Rattle.size_search.specs.ComputedRows.{IsComputedUpTo}
 use Rattle.size_search.proofs.rows.jobs_of.Given as goal
 

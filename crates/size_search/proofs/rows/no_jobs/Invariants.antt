@@ -1,4 +1,4 @@
--- An empty row for each class so far.
+-- The list has an empty row for each class before this one.
 use Rattle.std.proofs.Common.{◌≡◌, [], map, replicate}
 use Rattle.size_search.proofs.rows.no_jobs.Given as goal
 

@@ -1,4 +1,4 @@
--- The classes before this one have their rows.
+-- The classes of lower levels, and those of this level before this class, have their rows.
 use Rattle.size_search.specs.ComputedRows.{IsComputedUpTo}
 use Rattle.size_search.proofs.rows.set_level_rows.Given as goal
 

@@ -1,4 +1,4 @@
--- The bodies of the clients before this one are added.
+-- The classes that the client kinds before this one submit were added.
 use Rattle.size_search.proofs.AllClients.{AreBegun}
 use Rattle.size_search.proofs.submitted.classes_of_clients.Given as goal
 

@@ -1,4 +1,4 @@
--- The bodies of the clients before this one that repeat are added.
+-- The classes that the repeating client kinds before this one submit were added.
 use Rattle.size_search.proofs.Following.{AreAdded}
 use Rattle.size_search.proofs.submitted.classes_of_repeating_clients.Given as goal
 

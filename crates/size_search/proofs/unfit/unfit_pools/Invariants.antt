@@ -1,4 +1,4 @@
--- The result depends on the pools from this one.
+-- The earlier pools are valid, so the result is that for the remaining pools.
 use Rattle.std.proofs.Common.{◌≡◌}
 use Rattle.size_search.proofs.Loops.{rest_unfit}
 use Rattle.size_search.proofs.unfit.unfit_pools.Given as goal

@@ -1,4 +1,4 @@
--- The pools so far and the widened remaining ones are all pools.
+-- The pools so far, followed by the remaining pools with raised maximums, are all pools of the widened plan.
 use Rattle.std.proofs.Common.{◌≡◌, ◌++◌}
 use Rattle.cert_text.specs.Cert.{pool_cert_at}
 use Rattle.size_search.specs.Widened.{with_max, widened}

@@ -1,4 +1,4 @@
--- The state after this number of rounds.
+-- The set is that after this number of rounds.
 use Rattle.size_search.proofs.Following.{IsFollowed}
 use Rattle.size_search.proofs.submitted_classes.SubmittedClasses.add_all.Given as goal
 

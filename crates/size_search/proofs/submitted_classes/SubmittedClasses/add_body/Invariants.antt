@@ -1,4 +1,4 @@
--- The actions before this one are added.
+-- The classes that the actions before this one submit were added.
 use Rattle.size_search.proofs.Following.{IsAdded}
 use Rattle.size_search.proofs.submitted_classes.SubmittedClasses.add_body.Given as goal
 
