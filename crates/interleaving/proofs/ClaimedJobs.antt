@@ -209,7 +209,7 @@ settled_takes plan s p j rest head settled =
       makers = makers_staged s.jobs j (At 0) (length s.clients) settled.makers;
     }
 
--- ---- every event
+-- ---- the property holds after every event
 
 settled_put : (plan : Plan) (s : State) (pools : List PoolPart) (refusals : ℕ) → AllOlderAreClaimed plan s → AllOlderAreClaimed plan (record s { pools = pools; refusals = refusals })
 settled_put plan s pools refusals settled = record { actors = settled.actors; childless = settled.childless; makers = settled.makers }

@@ -13,7 +13,7 @@ use Rattle.written_machine.specs.Reach.{new_clients}
 use Rattle.interleaving.specs.Clients.{ends_from, IsRising, starting, moved_or, standing, client_of}
 use Rattle.interleaving.specs.MovedClients.{at_position}
 
--- ---- the start
+-- ---- clients at their start
 
 pub rising_ends : (n : ℕ) (kinds : List Client) → IsRising n (ends_from n kinds)
 rising_ends n [] = tt
@@ -164,7 +164,7 @@ none_there [] k none = omega arith
 none_there (client ∷ clients) zero none = absurd cc
 none_there (client ∷ clients) (suc k) none = let past = none_there clients k none in omega (arith, past)
 
--- the list `clients`, of which the clients that have a state in `at` have moved
+-- the clients in the list `clients`, of which those that have a state in `at` have moved
 module _ (at : ℕ → Option ClientState) (clients : List ClientState) (k : ℕ) where
   -- the state of client k is its stored state, if it has one
   pub moved_found : (client : ClientState) → at k ≡ Some client → k < length clients → slice_get (standing at 0 clients) k ≡ Some client
@@ -233,7 +233,7 @@ module _ (at : ℕ → Option ClientState) (clients : List ClientState) (k : ℕ
         let long = length-standing at 0 clients in
         standing-same at after 0 clients (all_stay none) ∙ sym (set_past (standing at 0 clients) k x (omega (arith, long)))
 
-  -- a client at position 0 moves to position 0
+  -- a move of client k to position 0 changes only that client, also if it has no stored state
   module _ (after : ℕ → Option ClientState) (e : (q : ℕ) → after q ≡ (if k == q then option_map (at_position 0) (at k) else at q)) (starts : (client_of clients k).position ≡ 0) where
     starts_again : (o : Option ClientState) → at k ≡ o → ((client : ClientState) → at k ≡ Some client → k < length clients) → standing after 0 clients ≡ set (standing at 0 clients) k (at_position 0 (client_of (standing at 0 clients) k))
     starts_again (Some client) moved inside = goes after 0 e client moved (inside client moved)

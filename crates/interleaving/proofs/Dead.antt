@@ -23,7 +23,7 @@ use Rattle.written_machine.specs.Step.{Point}
 use Rattle.interleaving.specs.LiveView.{View}
 use Rattle.interleaving.specs.ViewStep.{live_job, live_child, is_done, in_phase, with_phase, drop_if_stale, drop_if_orphan, finished_if_gettable, move_actor, new_live_job, made, answered_in, got_in, got_child_in, finished_job_in, looped_in, step_action_in, point_in, step_actor, take_head_in, retire_worker_in, pool_in, view_step}
 
--- no job that is not live in the first list is live in the second one, and the second list is at least as long
+-- each job that is not live in the first list is also not live in the second list, which is at least as long
 pub record StaysDead (jobs jobs' : List (Option JobView)) : Type 0 where
   pub long : length jobs ≤ length jobs'
   pub stays : (n : ℕ) → n < length jobs → live_job jobs n ≡ None → live_job jobs' n ≡ None

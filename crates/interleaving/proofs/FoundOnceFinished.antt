@@ -22,7 +22,7 @@ use Rattle.interleaving.proofs.LatestFound.{latest_is, made_if_child, is_call_of
 pub orphans_found : (jobs : List (Option JobView)) (latest : LatestJobsView) (j : ℕ) → AreFound jobs latest → DoneAreLatest jobs → may_get_in jobs (parent.Job j) ≡ true → OrphansAreFound jobs latest j
 orphans_found jobs latest j f done asks = λ t k job e child is_done_job. f.complete (parent.Job j) t k asks (latest_is jobs (parent.Job j) t k (done (parent.Job j) t k job e child is_done_job))
 
--- a job that the actor did not create is not an orphan
+-- a job that job j did not create is unchanged when the done children of job j are removed
 pub not_orphan : (j : ℕ) (job : Option JobView) → ((t : ℕ) → is_live_child (parent.Job j) t job ≡ false) → drop_if_orphan j job ≡ job
 not_orphan j None none = refl
 not_orphan j (Some job) none =
@@ -111,7 +111,7 @@ module _ (jobs : List (Option JobView)) (n : ℕ) (job : JobView) (live : live_j
   not_n : (a : Parent) → may_get_in after a ≡ true → a ≢ parent.Job n
   not_n a e same = both_ways (may_get_in after a) (ap (may_get_in after) same ∙ n_asks_not) e
 
-  -- the latest job of an actor that may still get its jobs is still live
+  -- the latest job of an actor that may still get its jobs is still live after job n finished
   survives : (a : Parent) (t m : ℕ) → may_get_in after a ≡ true → live_child jobs a t ≡ Some m → is_live_child a t (live_job after m) ≡ true
   survives a t m asks e =
       let child = (latest_is jobs a t m e).passes in

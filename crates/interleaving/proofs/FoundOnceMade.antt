@@ -18,7 +18,7 @@ stale_child_if : (a b : Parent) (t u : ℕ) (v : JobView) (stale : Bool) → (st
 stale_child_if a b t u v true of_call other = sym (false_from_ne_true (is_live_child b u (Some v)) (λ e. both_ways (is_call a t b u) other (is_call_of a b t u (Some v) (of_call refl) e)))
 stale_child_if a b t u v false of_call other = refl
 
--- a job that becomes stale by one call is not a job of another call
+-- a new job of one submit call makes no job of another call stale
 stale_child : (a b : Parent) (t u : ℕ) (x : Option JobView) → is_call a t b u ≡ false → is_live_child b u (drop_if_stale a t x) ≡ is_live_child b u x
 stale_child a b t u None other = refl
 stale_child a b t u (Some v) other = stale_child_if a b t u v (is_live_child a t (Some v) && is_done v.phase) (λ e. (and_parts (is_live_child a t (Some v)) (is_done v.phase) e).0) other

@@ -36,7 +36,7 @@ phased_finished job was e b finished same = subst (λ o. IfSome o (λ x. in_phas
     by_test true = ap (in_phase phase.Done) e
     by_test false = tt
 
--- a job that is not done is not an orphan
+-- a job that is not done is unchanged when the done children of job n are removed
 pub going_stays : (n : ℕ) (job : JobView) → is_done job.phase ≡ false → drop_if_orphan n (Some job) ≡ Some job
 going_stays n job going = by_test (same_parent (parent.Job n) job.parent) (is_done job.phase) going
   where

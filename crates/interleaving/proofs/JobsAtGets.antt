@@ -71,7 +71,7 @@ none_left plan view a next of w e has_get =
     (λ stands. none_left_in_state plan of.0 a x w of.1 stands (and_parts (submits (slice_get x.body x.position)) (has_get_of x.body x.position) names).1) found.1 in
     subst (λ n. live_child view.jobs a n ≡ None) (ap (λ (p : NextAction). p.position) found.2) gone
 
--- ---- at the get
+-- ---- the live jobs of an actor at a get
 
 latest_at_get : (plan : Plan) (s : State) (a : Parent) (x : Point) (t : ℕ) → IsReached plan s → IsWellFormed plan → point_in plan (live_view plan s) a ≡ Some x → slice_get x.body x.position ≡ Some (Get t)
     → (k : ℕ) → is_live_child a t (live_job (live_view plan s).jobs k) ≡ true → child s a t ≡ Some k

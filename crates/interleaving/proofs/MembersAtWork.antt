@@ -204,7 +204,7 @@ module _ (plan : Plan) (view : View) (members : List ℕ) (m : ℕ) (job : JobVi
       ))
       (cases_eq p q)
 
--- ---- a pool whose queue waits
+-- ---- a pool whose queue contains a member
 
 at_work_in_state : (plan : Plan) (s : State) (p : ℕ) → p < length plan.pools → (pool_in (live_view plan s) p).threads ≡ (pool_in (live_view plan s) p).idle + length (places_where (is_busy_job plan p) (live_view plan s).jobs)
 at_work_in_state plan s p inside =

@@ -20,7 +20,7 @@ use Rattle.written_machine.proofs.Stages.{staged, length-staged, stage-staged, g
 use Rattle.written_machine.proofs.Children.{maker_of, one_maker, child_is, not_at_slot}
 use Rattle.interleaving.specs.LiveView.{may_get}
 
--- the property that of the jobs that actor a, at position i of its body, created by a submit with a get, only the latest can be unclaimed
+-- of the jobs that actor a created by a submit with a get, only the latest can be unclaimed; the actor is at position i of its body
 pub record OlderAreClaimed (jobs : List CreatedJob) (a : Parent) (body : List Action) (i : ℕ) : Type 0 where
   -- a job whose submit has a get is claimed, or it is the latest of its submit and the actor is between the submit and the get
   pub settled : (g t j : ℕ) → slice_get body g ≡ Some (Get t) → j < length jobs → is_made_by a t (get_or jobs j no_job) ≡ true
@@ -74,7 +74,7 @@ latest_unclaimed plan s (parent.Client c) t j m settled asks inside made unclaim
     older_latest s.jobs (parent.Client c) at.body at.position t j m (settled.actors (parent.Client c) at.body at.position stands) inside made unclaimed e
 latest_unclaimed plan s (parent.Job n) t j m settled asks inside made unclaimed e = unfinished_latest plan s n t j m settled (job_at s n).stage refl asks inside made unclaimed e
 
--- ---- changes that leave an actor's jobs
+-- ---- changes that leave an actor's jobs unchanged
 
 -- job j existed before, with the same parent and slot, and was claimed exactly when it is claimed afterwards
 pub record WasMade (jobs jobs' : List CreatedJob) (a : Parent) (t j : ℕ) : Type 0 where
@@ -106,7 +106,8 @@ was_staged jobs j stage a t unclaimed inside made =
       was = λ claimed. absurd ((unclaimed before).1 (sym (stage-staged jobs j stage inside) ∙ claimed));
     }
 
--- a change of a job's stage changes nothing for the actor, if the actor did not create the job or the job is claimed neither before nor
+-- the jobs of actor a, and whether they are claimed, are unchanged if a job changes its stage that the actor did not create, or that is
+-- claimed neither before nor after
 -- after
 pub same_made-staged : (jobs : List CreatedJob) (j : ℕ) (stage : Stage) (a : Parent) → ((t : ℕ) → is_made_by a t (get_or jobs j no_job) ≡ true → ((get_or jobs j no_job).stage ≢ Claimed) × (stage ≢ Claimed)) → SameMade jobs (staged jobs j stage) a
 same_made-staged jobs j stage a unclaimed =
@@ -127,7 +128,7 @@ same_made-moved plan s (parent.Job j) body i i' stands a =
     let at = (stage_of_standing plan (job_at s j).class (job_at s j).stage body i stands).0 in
     same_made-staged s.jobs j (At i') a (λ t made. (At≢Claimed at, At≢Claimed refl))
 
--- a job that another actor creates changes nothing for the actor
+-- the jobs of actor a are unchanged if another actor creates a job
 pub same_made-pushed : (jobs : List CreatedJob) (job : CreatedJob) (a : Parent) → job.parent ≢ a → SameMade jobs (jobs ++ job ∷ []) a
 same_made-pushed jobs job a other =
     let long = length_push jobs job in
@@ -152,7 +153,7 @@ older_changes jobs jobs' a body i i' same passes older = record {
 pub older_stays : (jobs jobs' : List CreatedJob) (a : Parent) (body : List Action) (i : ℕ) → SameMade jobs jobs' a → OlderAreClaimed jobs a body i → OlderAreClaimed jobs' a body i
 older_stays jobs jobs' a body i same older = older_changes jobs jobs' a body i i same (λ g t e below above. (below, above)) older
 
--- an actor that created no job has the property
+-- `OlderAreClaimed` holds for an actor that created no job
 pub older_none : (jobs : List CreatedJob) (a : Parent) (body : List Action) (i : ℕ) → ((t j : ℕ) → j < length jobs → is_made_by a t (get_or jobs j no_job) ≡ true → ⊥) → OlderAreClaimed jobs a body i
 older_none jobs a body i none = record {
   settled = λ g t j e inside made. absurd (none t j inside made);
@@ -164,7 +165,7 @@ pub passes_get : (body : List Action) (i g t : ℕ) (there : Action) → slice_g
 passes_get body i g t there is_there other e above =
     ⊎_elim (λ (same : i ≡ g). absurd (other (same_Some there (Get t) (sym is_there ∙ ap (slice_get body) same ∙ e)))) (λ (apart : i ≢ g). omega arith) (cases_eq i g)
 
--- the property holds after the actor submits a job at position i
+-- `OlderAreClaimed` holds after the actor submits a job at position i
 pub older_submits : (plan : Plan) (jobs : List CreatedJob) (a : Parent) (body : List Action) (i k : ℕ) (stage : Stage) → IsValidBody plan body → slice_get body i ≡ Some (Submit k) → stage ≢ Claimed → OlderAreClaimed jobs a body i
     → OlderAreClaimed (jobs ++ new_job k a i stage ∷ []) a body (i + 1)
 older_submits plan jobs a body i k stage valid there unclaimed older =
@@ -196,7 +197,7 @@ older_submits plan jobs a body i k stage valid there unclaimed older =
           (cases_lt j (length jobs));
     }
 
--- the property holds after the actor gets, at position i, its latest job of position t
+-- `OlderAreClaimed` holds after the actor gets, at position i, its latest job of position t
 pub older_gets : (jobs : List CreatedJob) (a : Parent) (body : List Action) (i t j : ℕ) → slice_get body i ≡ Some (Get t) → last_of (places_where (is_made_by a t) jobs) ≡ Some j → OlderAreClaimed jobs a body i → OlderAreClaimed (staged jobs j Claimed) a body (i + 1)
 older_gets jobs a body i t j there latest older =
     let jobs' = staged jobs j Claimed in

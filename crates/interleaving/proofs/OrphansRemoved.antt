@@ -18,7 +18,7 @@ use Rattle.interleaving.specs.JobTable.{JobTableView}
 use Rattle.interleaving.proofs.SubmitBoundsStay.{stays, stays_freed}
 use Rattle.interleaving.proofs.JobsInPlaces.{jobs_set}
 
--- ---- the start, a step and the end
+-- ---- the start of the loop, and one step
 
 pub orphans_none : (j : ℕ) (jobs : List (Option JobView)) (latest : LatestJobsView) → AreOrphaned j 0 jobs jobs latest latest
 orphans_none j jobs latest = record {
@@ -150,7 +150,7 @@ module _ (j n : ℕ) (jobs : List (Option JobView)) (kept kept' : JobTableView) 
   pub orphans_step : RemovesOrphan j n kept kept' later later' → IsOneOn j n jobs kept kept' latest later'
   orphans_step forgets = by_found (found later (parent.Job j) n) refl forgets
 
--- ---- the end
+-- ---- the end of the loop
 
 not_done_stays : (j : ℕ) (v : JobView) (mine : Bool) → (mine ≡ true → is_done v.phase ≡ false) → ◌≡◌ {A = Option JobView} (Some v) (if mine && is_done v.phase then None else Some v)
 not_done_stays j v true going = ap (λ b. if b then None else Some v) (sym (going refl))

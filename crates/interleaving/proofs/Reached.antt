@@ -31,7 +31,7 @@ settled plan s well_formed reached =
     (λ s₁ e s₂ o held happened. (kept_step plan s₁ s₂ o (ordered plan well_formed) held.0 happened, settled_step plan s₁ s₂ o (ordered plan well_formed) held.0 held.1 happened)) s reached in
     both.1
 
--- ---- one more event
+-- ---- replays with one more event
 
 replay_append : (plan : Plan) (first : Option State) (events more : List Event) → replay plan first (events ++ more) ≡ replay plan (replay plan first events) more
 replay_append plan first [] more = refl

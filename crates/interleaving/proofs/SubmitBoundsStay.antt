@@ -23,7 +23,7 @@ stays_then items middle after one two = record {
       (o.0, o.1, omega (arith, o.2, m.2));
 }
 
--- the removal of one entry is such a change
+-- the removal of one entry makes no job live and lowers no submit bound
 pub stays_freed : (items : List (Option JobEntry)) (n : ℕ) → SubmitBoundsStay items (set items n None)
 stays_freed items n = record {
   long = length-set items n None;
@@ -39,7 +39,7 @@ stays_freed items n = record {
         cleared : (xs : List (Option JobEntry)) (i : ℕ) → place_at (set xs i None) i ≡ None
         cleared xs i = ⊎_elim (λ inside. get_or-set_same xs i None None inside) (λ past. get_or_past (set xs i None) i None (omega (arith, length-set xs i None))) (cases_lt i (length xs))
 
--- the replacement of one entry, with a submit bound that is not lower, is such a change
+-- the replacement of one entry by one whose submit bound is not lower makes no job live and lowers no submit bound
 pub stays_set : (items : List (Option JobEntry)) (n : ℕ) (was place : JobEntry) → place_at items n ≡ Some was → was.submit_bound ≤ place.submit_bound → SubmitBoundsStay items (set items n (Some place))
 stays_set items n was place there further = record {
   long = length-set items n (Some place);

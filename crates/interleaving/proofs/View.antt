@@ -17,7 +17,7 @@ use Rattle.written_machine.specs.Step.{point, point_of_job, with_pool}
 use Rattle.interleaving.specs.LiveView.{may_get, is_number, phase_seen, job_with, job_seen, View, live_view}
 use Rattle.interleaving.specs.ViewStep.{live_job, is_unfinished_job, may_get_in, point_of_live_job, point_in, no_pool_view, pool_in}
 
--- the element of the view at number n
+-- the live job with number n in the view of the state, or None if that job is not live
 abbrev pub seen : State → ℕ → Option JobView
 seen s n = job_seen s n (job_at s n)
 

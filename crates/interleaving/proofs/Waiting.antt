@@ -103,7 +103,7 @@ module _ (plan : Plan) (s : State) (members : List ℕ) (ordered : HasValidBodie
   pub waiting_seen : is_waiting_set plan s members ≡ is_waiting_set_in plan (live_view plan s) members
   waiting_seen = ap (λ b. not (is_none members) && b) (list_all_agree (waits plan s members) (waits_in plan (live_view plan s) members) members waits_seen)
 
--- ---- the start
+-- ---- the initial view
 
 start_pool_seen : (plan : Plan) (p : ℕ) → p < length plan.pools → pool_seen plan (start plan) p ≡ new_pool (pool_at plan p)
 start_pool_seen plan p inside =

@@ -47,7 +47,7 @@ abbrev pub starting : ℕ → ℕ → List ℕ → List ClientState
 starting kind n [] = []
 starting kind n (end ∷ ends) = replicate (end - n) (record { kind = kind; position = 0 }) ++ starting (kind + 1) end ends
 
--- the moved state of a client if it has one, otherwise its state at the start
+-- the state to which a client has moved, or `client`, its state at the start, if it has not moved
 abbrev pub moved_or : Option ClientState → ClientState → ClientState
 moved_or None client = client
 moved_or (Some moved) client = moved

@@ -1,4 +1,4 @@
--- The laws that relate live views to the reference machine.
+-- The laws that relate live views to the machine of a plan.
 use Rattle.std.specs.Prelude.{◌≡◌, ◌<◌, ℕ, [], List, length, map, count_by, Some, None}
 use Rattle.std.specs.List.{flat_map, enumerate_from}
 use Rattle.std.specs.Option.{option_map}
