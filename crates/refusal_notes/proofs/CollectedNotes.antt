@@ -69,7 +69,7 @@ one_more_after : {X : Type 0} (prefix : List Note) (notes_at : ℕ → List Note
 one_more_after prefix notes_at xs i inside =
     rw add-one (ap (λ (ns : List Note). prefix ++ ns) (one_more notes_at 0 xs i inside) ∙ rw zero-add (sym (append_assoc prefix _ _)))
 
--- each part of a certificate that fits the plan also fits, and belongs to a pool of the plan
+-- each pool's part of a certificate that fits the plan also fits, and its number is that of a pool of the plan
 pub part_fits : (plan : Plan) (cert : Cert) (i : ℕ) (pool : PoolCert) → IsTrue (cert_fits plan cert) → i < length cert.pools → pool ≡ get_or cert.pools i pool
     → IsTrue (pool_cert_fits plan pool) × (i < length plan.pools)
 part_fits plan cert i pool fits inside here =
