@@ -43,7 +43,7 @@ none_failing-append (x ∷ xs) ys =
     and-assoc true b c = refl
     and-assoc false b c = refl
 
--- no note of a section fails exactly when no row of it is the first to fail
+-- no note of a section fails exactly when the section has no first failing row
 none_failing-section : (part : Section) (rows : List Row) → none_failing (in_section part rows) ≡ not (is_some (first_failing rows))
 none_failing-section part [] = refl
 none_failing-section part (x ∷ rows) =

@@ -22,7 +22,7 @@ pub fails_here : (test : ℕ → Bool) (pools : List Pool) (i : ℕ) (all : Bool
 fails_here test pools i all inside fails prior =
     sym (turn (list_all (λ entry. test entry.0)) pools i inside ∙ ap (λ (b : Bool). b && rest_passes test pools (i + 1)) fails) ∙ prior
 
--- after the last pool, the result is true
+-- the result for no remaining pools is true
 pub passes_all : (test : ℕ → Bool) (pools : List Pool) (i : ℕ) (all : Bool) → length pools ≤ i → rest_passes test pools i ≡ all → true ≡ all
 passes_all test pools i all past prior = sym (at_drop_all (λ (ps : List Pool). list_all (λ entry. test entry.0) (enumerate_from i ps)) pools i past) ∙ prior
 
@@ -49,7 +49,7 @@ decides_all test pools i prior all past before =
 abbrev pub rest_of_results : {Y : Type 0} → (ℕ → Y) → List Pool → ℕ → List Y
 rest_of_results f pools i = map (λ entry. f entry.0) (enumerate_from i (drop i pools))
 
--- a loop that appends the value at pool i leaves the values after pool i to append
+-- the values so far, the value at pool i and the values at the later pools are all values
 pub results_more : {Y : Type 0} (f : ℕ → Y) (pools : List Pool) (i : ℕ) (front all : List Y) → i < length pools → front ++ rest_of_results f pools i ≡ all → (front ++ f i ∷ []) ++ rest_of_results f pools (i + 1) ≡ all
 results_more {Y} f pools i front all inside prior =
     append_assoc front (f i ∷ []) (rest_of_results f pools (i + 1))

@@ -24,7 +24,7 @@ use Rattle.cert_check.proofs.Pools.{rest_passes, passes_all}
 abbrev holds : Row → Bool
 holds row = not (fails row)
 
--- no row is the first to fail exactly when all rows hold
+-- a list of rows has no first failing row exactly when all its rows hold
 pub none_first : (rows : List Row) → not (is_some (first_failing rows)) ≡ list_all (λ row. not (fails row)) rows
 none_first [] = refl
 none_first (x ∷ rows) =

@@ -38,7 +38,7 @@ exact_capacity = refl
 pub exact_capacity_fails_nowhere : failing (one_pool 1 1 2 2) (standing_cert 1) ≡ []
 exact_capacity_fails_nowhere = refl
 
--- a queue of one is not enough for two clients: the total exceeds the queue
+-- a queue of one is not enough for two clients: the total exceeds the queue's capacity
 pub over_capacity : verdict (one_pool 1 1 1 2) (standing_cert 1) ≡ no (standing 2 1 0 0 ∷ [])
 over_capacity = refl
 
@@ -106,7 +106,7 @@ lifetime_over = refl
 pub lifetime_over_fails : failing (one_pool_once 2 2 1 4 false) lifetime_cert ≡ note (section.Lifetime 0) (row L3 place.Total 4 3) ∷ []
 lifetime_over_fails = refl
 
--- clients that repeat submit an unbounded number of jobs, so no lifetime vector bounds it
+-- clients that repeat submit an unbounded number of jobs, so no lifetime vector bounds that number
 pub lifetime_repeating : verdict (one_pool 1 1 1 2) lifetime_cert ≡ no (lifetime 2 2 0 0 ∷ [])
 lifetime_repeating = refl
 

@@ -54,9 +54,9 @@ pub(crate) fn pool_holds(plan: &Plan, cert: &Cert, pool: usize) -> bool
 
 /// Returns whether the certificate fits the plan and gives each pool a standing vector whose
 /// conditions all hold. Ignores the blocked vectors and the ranks.
+///
 /// If it returns `true`, no submit is ever refused, even if each submit takes the separate steps of
 /// Java's `execute`. Allocates nothing.
-/// `execute`. Allocates nothing.
 pub fn accepts_standing(plan: &Plan, cert: &Cert) -> bool
     ensures exact { result ≡ spec.accepted_standing plan.now cert.now }
     ensures refuses_nothing { IsTrue result → RefusesNothing plan.now }
