@@ -1,4 +1,4 @@
--- The numbers of the classes include all generations of jobs, for each choice of valid levels.
+-- The quantities of the classes include all generations of jobs, whatever valid levels the ranks have.
 use Rattle.std.proofs.Common.{◌≡◌, ◌≤◌, ◌<◌, ◌+◌, ◌*◌, ℕ, zero, suc, List, [], ◌∷◌, length, max, fold, slice_get, slice_index, get_or, Some, sum_by, refl, sym, ap, ap₂, ◌∙◌, arith}
 use Rattle.std.proofs.lemmas.List.Sums.{sum_by-cons}
 use Rattle.job_bodies.specs.declared.action.Action.{Action}

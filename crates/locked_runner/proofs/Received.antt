@@ -1,4 +1,4 @@
--- Receipts of a legal history, checked by the owner of each of its events.
+-- Receipts of a legal history, checked against the owner of each of its events.
 use Rattle.std.proofs.Common.{◌≡◌, ◌↔◌, ℕ, suc, Bool, false, IsTrue, List, [], ◌∷◌, length, slice_get, Option, Some, refl, sym, ap, ◌∙◌}
 use Rattle.std.proofs.lemmas.Option.{same_Some}
 use Rattle.job_bodies.specs.Plan.{Plan}

@@ -9,7 +9,7 @@ pub value_holds : (P : RunReport → Type 0) (r : Result RunReport RunFault) (wh
 value_holds P (Ok report) whole is holds = subst P (sym is) holds
 value_holds P (Err fault) whole is holds = tt
 
--- a property of the value holds for the report
+-- a property of the known value holds for the report
 pub value_holds_of_all : (P : RunReport → Type 0) (r : Result RunReport RunFault) (whole : RunReport) → IfOk r (λ report. report ≡ whole) → P whole → IfOk r P
 value_holds_of_all P (Ok report) whole is holds = subst P (sym is) holds
 value_holds_of_all P (Err fault) whole is holds = tt

@@ -18,7 +18,7 @@ units_of _ = 0
 abbrev pub units_in : List Action → ℕ
 units_in body = sum_by units_of body
 
--- the sum of f over the classes that the body submits
+-- the sum of f over the classes that the body submits, once for each submit
 abbrev pub submitted : (ℕ → ℕ) → List Action → ℕ
 submitted f body = sum_by (of_submit f) body
 
@@ -36,8 +36,8 @@ quantity_within plan own_quantity (suc n) k = own_quantity (class_at plan k) + s
 abbrev pub greatest : List ℕ → ℕ
 greatest = fold (λ a n. max a n) 0
 
--- the quantity of one job with all jobs that it causes: the generations are all, since the level of a class is above the levels of the
--- classes that it submits
+-- the quantity of one job with all jobs that it causes; this many generations are all of them, since the level of a class is above the
+-- levels of the classes that it submits
 abbrev pub total_quantity : Plan → Ranks → (Class → ℕ) → ℕ → ℕ
 total_quantity plan ranks own_quantity k = quantity_within plan own_quantity (greatest ranks.levels + 1) k
 
@@ -56,10 +56,11 @@ units_of_clients rounds client = client.count * (rounds_of rounds client * units
 abbrev pub events_of_clients : ℕ → Client → ℕ
 events_of_clients rounds client = client.count * events_of_client rounds client
 
--- the number of jobs of a run; below it, the units of work of its jobs and clients
+-- the number of jobs of a run
 abbrev pub jobs : Plan → Ranks → ℕ → ℕ
 jobs plan ranks rounds = by_jobs plan ranks rounds (own_quantity Jobs)
 
+-- the units of work of the jobs and the clients of a run
 abbrev pub units : Plan → Ranks → ℕ → ℕ
 units plan ranks rounds = by_jobs plan ranks rounds (own_quantity Units) + sum_by (units_of_clients rounds) plan.clients
 

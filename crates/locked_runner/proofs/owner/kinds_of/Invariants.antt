@@ -1,4 +1,4 @@
--- The kinds so far, followed by those of the remaining entries, are all kinds.
+-- The kinds so far, followed by those of the clients of the remaining client kinds, are all kinds.
 use Rattle.std.proofs.Common.{◌≡◌, ◌++◌, drop}
 use Rattle.std.specs.List.{flat_map, enumerate_from}
 use Rattle.locked_runner.specs.Owner.{kinds_of_entry}
