@@ -141,7 +141,7 @@ only_totals plan is_ordered free n at =
     of_pool plan of.0.0 n is_ordered free (omega (arith, within.1)) found.1 of.2)
     (In-append_cases (in_section section.Ranks (rank_rows plan cert.ranks)) (flat_map conditions_of (enumerate_from 0 plan.pools)) found.0)
 
--- ---- accepted
+-- ---- the steady certificate is accepted
 
 hold_with : (rows : List Row) (t : Row) → AllHold rows → t.left ≤ t.right → AllHold (rows ++ t ∷ [])
 hold_with rows t hold within x at = ⊎_elim (λ before. hold x before) (λ (final : x ≡ t). subst (λ (y : Row). y.left ≤ y.right) (sym final) within) (In-push_cases rows t at)

@@ -1,5 +1,5 @@
--- The weight of an actor and of its open jobs together equals its weight at the end, if each job that it submits returns
--- what it cost.
+-- The weight of an actor and of its open jobs together equals its weight at the end, if each job that it submits weighs as much done as
+-- queued.
 use Rattle.std.proofs.Common.{◌≡◌, ℕ, zero, suc, ◌+◌, ◌-◌, ◌<◌, ◌≤◌, max, Bool, true, cond, List, [], ◌∷◌, length, drop, get_or, slice_get, Option, Some, None, refl, sym, ap, subst, ◌∙◌, arith}
 use Rattle.std.proofs.Math.Seq.{drop-length}
 use Rattle.std.proofs.lemmas.Bool.{false≢true}
@@ -18,7 +18,7 @@ pub record GivesAllBack (plan : Plan) (v : Vector) (body : List Action) : Type 0
   pub got : (i k : ℕ) → slice_get body i ≡ Some (Submit k) → has_get_of body i ≡ true
   pub same : (i k : ℕ) → slice_get body i ≡ Some (Submit k) → done_weight plan v k ≡ queued_weight v k
 
--- the submit that a get names
+-- a submit is the submit of its class
 is_the_submit : (x : Option Action) → submits x ≡ true → x ≡ Some (Submit (class_of_submit x))
 is_the_submit (Some (Submit k)) is_submit = refl
 is_the_submit (Some (Work u)) is_submit = absurd (false≢true is_submit)
@@ -55,7 +55,7 @@ least-le plan v least body last (Get t ∷ rest) enough =
 
 -- ---- the balance
 
--- if the balance holds after an action, it holds before the action
+-- if the weight of an actor and of its open jobs together is `last` after an action, it is `last` before the action
 before_action : (plan : Plan) (v : Vector) (least : ℕ) (body : List Action) (last : ℕ) → IsValidBody plan body → GivesAllBack plan v body → most v body + least ≤ last → (i : ℕ) → i < length body
     → weight_at plan v least body last (drop (suc i) body) + open_weight v body (suc i) ≡ last → weight_at plan v least body last (drop i body) + open_weight v body i ≡ last
 before_action plan v least body last valid back enough i inside behind = by_action (get_or body i (Work 0)) (slice_get-get_or body i (Work 0) inside)

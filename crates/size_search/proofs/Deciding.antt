@@ -40,7 +40,7 @@ decided_without_cause plan (Found fit cert) free sized = decided_where_sized pla
 decided_without_cause plan (NotFound (Cause cause)) free holds = beyond plan cause holds
 decided_without_cause plan (NotFound (TooLarge p)) free large = (free, large.1)
 
--- ---- the steady certificate is fitted, unless its total leaves no room
+-- ---- the steady certificate is fitted, unless its total is at least the limit of sizes
 
 pub too_high_where_not_wide : (plan : Plan) (cert : Cert) → IsWellFormed plan → IsWithoutCause plan → IsTrue (has_small_numbers (steady_vector plan)) → cert ≡ steady_cert plan → NoneFitsWide plan cert → MAX_SIZE ≤ steady_total plan
 too_high_where_not_wide plan cert well free small is none =

@@ -131,7 +131,7 @@ shallow plan ordered none k inside =
     (λ (deep : length plan.classes ≤ level_of plan (length plan.classes) k). absurd (deep_circle plan ordered none (length plan.classes) k (λ j. false) inside deep (omega arith) (λ j is_met. absurd (false≢true is_met))))
     (cases_lt (level_of plan (length plan.classes) k) (length plan.classes))
 
--- ---- so the levels are stable
+-- ---- further steps do not change the levels
 
 level_is_final : (plan : Plan) (n k : ℕ) → level_of plan n k < n → level_of plan (suc n) k ≡ level_of plan n k
 level_is_final plan zero k low = absurd (omega (arith, low))

@@ -1,4 +1,4 @@
--- Once all classes that were found are followed, they are exactly those that are submitted.
+-- Once the bodies of all classes that were found have been scanned, these are exactly the classes that are submitted.
 use Rattle.std.proofs.Common.{◌≡◌, ℕ, ◌+◌, ◌<◌, ◌≤◌, suc, Bool, true, false, not, get_or, slice_get, Some, count_by, ◌⊎◌, ◌↔◌, inl, inr, ⊎_elim, List, [], ◌∷◌, ◌++◌, length, take, refl, sym, ap, subst, ◌∙◌, arith}
 use Rattle.std.proofs.lemmas.List.{length_push, nil_from_length}
 use Rattle.support.specs.In.{In, here, there}
@@ -31,7 +31,7 @@ client_submits_within plan c k well at = submits_within plan (client_at plan c).
 pub covers_more : (a b : SubmittedClasses) (body : List Action) → ((k : ℕ) → Has a k → Has b k) → Covers a body → Covers b body
 covers_more a b body kept covers = record { found = λ k at. kept k (covers.found k at) }
 
--- the set has the property after the classes that one of the initial bodies submits were added
+-- `IsReaching` holds after the classes that one of the initial bodies submits were added
 pub starts : (plan : Plan) (bodies : List (List Action)) (body : List Action) (old new : SubmittedClasses) → In body bodies → Grows old new
     → ((k : ℕ) → Has new k → Has old k ⊎ In (Submit k) body) → IsReaching plan bodies old → IsReaching plan bodies new
 starts plan bodies body old new from grows only reaching = record {
@@ -42,7 +42,7 @@ starts plan bodies body old new from grows only reaching = record {
   few = omega (arith, grows.fewer, reaching.few);
 }
 
--- the set has the property after the body of one pending class was scanned
+-- `IsReaching` holds after the body of one pending class was scanned
 pub follows_one : (plan : Plan) (bodies : List (List Action)) (old mid new : SubmittedClasses) (number : ℕ) → mid.is_found.items ≡ old.is_found.items → old.pending.items ≡ mid.pending.items ++ number ∷ []
     → Grows mid new → Covers new (class_at plan number).body → ((k : ℕ) → Has new k → Has mid k ⊎ In (Submit k) (class_at plan number).body) → IsReaching plan bodies old → IsReaching plan bodies new
 follows_one plan bodies old mid new number same pending grows covers only reaching = record {
@@ -95,7 +95,7 @@ pub record IsFollowed (plan : Plan) (start r : SubmittedClasses) (rounds : ℕ) 
   pub as_many : length r.is_found.items ≡ length start.is_found.items
   pub fewer : (r.pending.items ≡ []) ⊎ (unfound r + length r.pending.items + rounds ≤ unfound start + length start.pending.items)
 
--- the property of the set after some rounds also holds after one more round
+-- `IsFollowed` holds after one more round
 pub followed_further : (plan : Plan) (start r new : SubmittedClasses) (rounds : ℕ) → IsFollowed plan start r rounds → ((bodies : List (List Action)) → IsReaching plan bodies r → IsReaching plan bodies new)
     → ((k : ℕ) → Has r k → Has new k) → length new.is_found.items ≡ length r.is_found.items
     → (new.pending.items ≡ []) ⊎ (unfound new + length new.pending.items + 1 ≤ unfound r + length r.pending.items) → (r.pending.items ≡ [] → new.pending.items ≡ []) → IsFollowed plan start new (rounds + 1)

@@ -145,7 +145,7 @@ least_pool plan cert pool other room =
     least_queue plan cert.bound (with_core plan cert.blocked pool) other room.max (cond-le pool.prestart other.prestart (with_core plan cert.blocked pool).core other.core room.prestart (least_core plan cert pool other room))
     (omega (arith, within, room.sizes.max)) room.queue room.bound
 
--- the pools of a plan that fits have room
+-- the pools of a plan that fits have room for the totals
 has_room : (plan other : Plan) (cert : Cert) (p : ℕ) → IsFit plan cert other → p < length plan.pools → HasRoom plan (pool_cert_at cert p) (pool_at plan p) (pool_at other p)
 has_room plan other cert p fits inside =
     let alike = has_shape plan other fits.resized.same_shape in
@@ -323,7 +323,7 @@ smallest_is_well_formed plan well = well_formed_changed plan (smallest plan) wel
           most_queue = omega (arith, declared.core, declared.max, declared.most_max);
         }
 
--- a plan that is accepted with any cores and queues fits the smallest one
+-- a plan that the certificate accepts with any cores and queues is one that fits the smallest plan
 fits_smallest : (plan other : Plan) (cert : Cert) → IsResized plan other → accepted other cert ≡ true → IsFit (smallest plan) cert other
 fits_smallest plan other cert resized is_accepted = record {
   resized = record { well_formed = resized.well_formed; same_shape = resized.same_shape ∙ sym (smallest-shape plan) };

@@ -11,7 +11,7 @@ use Rattle.size_search.specs.Unfit.{unfit_pool, first_unfit}
 turn : {Y : Type 0} (F : List (ℕ × Pool) → Y) (pools : List Pool) (i : ℕ) → i < length pools → F (enumerate_from i (drop i pools)) ≡ F ((i, get_or pools i no_pool) ∷ enumerate_from (i + 1) (drop (i + 1) pools))
 turn F pools i inside = at_drop_more (λ (ps : List Pool). F (enumerate_from i ps)) pools i no_pool inside
 
--- ---- pools made from them
+-- ---- pools made from the plan's pools
 
 -- the pools made from the pools from index i on
 abbrev pub rest_made : (ℕ × Pool → Pool) → List Pool → ℕ → List Pool
@@ -31,20 +31,20 @@ made_all made pools i front all past prefix_is =
 
 -- ---- the first unfit pool
 
--- the first reason among the pools from index i on
+-- the reason for the first unfit pool from index i on, or None
 abbrev pub rest_unfit : List Pool → ℕ → Option Unfit
 rest_unfit pools i = first_unfit (enumerate_from i (drop i pools))
 
--- if pool i is not unfit, the first reason is that of the later pools
+-- if pool i is not unfit, the result is that for the later pools
 pub unfit_later : (pools : List Pool) (i : ℕ) (all : Option Unfit) → i < length pools → unfit_pool i (get_or pools i no_pool) ≡ None → rest_unfit pools i ≡ all → rest_unfit pools (i + 1) ≡ all
 unfit_later pools i all inside fits prefix_is =
     sym (turn first_unfit pools i inside ∙ ap (λ (here : Option Unfit). option_or here (rest_unfit pools (i + 1))) fits) ∙ prefix_is
 
--- if pool i is unfit, its reason is the first one
+-- if pool i is unfit, the result is its reason
 pub unfit_here : (pools : List Pool) (i : ℕ) (unfit : Unfit) (all : Option Unfit) → i < length pools → unfit_pool i (get_or pools i no_pool) ≡ Some unfit → rest_unfit pools i ≡ all → Some unfit ≡ all
 unfit_here pools i unfit all inside found prefix_is =
     sym (turn first_unfit pools i inside ∙ ap (λ (here : Option Unfit). option_or here (rest_unfit pools (i + 1))) found) ∙ prefix_is
 
--- after the last pool, there is no reason
+-- after the last pool, the result is None
 pub none_unfit : (pools : List Pool) (i : ℕ) (all : Option Unfit) → length pools ≤ i → rest_unfit pools i ≡ all → None ≡ all
 none_unfit pools i all past prefix_is = sym (at_drop_all (λ (ps : List Pool). first_unfit (enumerate_from i ps)) pools i past) ∙ prefix_is

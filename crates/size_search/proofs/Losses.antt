@@ -27,7 +27,7 @@ sum_below-le f g (suc n) each =
     let of_g : sum_below g (suc n) ≡ sum_below g n + g n = refl in
     omega (arith, of_f, of_g, each n, sum_below-le f g n each)
 
--- if the term at t is smaller, so is the sum
+-- if the term at t is smaller by some amount and no term is larger, the sum is smaller by at least this amount
 sum_below-le-at : (f g : ℕ → ℕ) (n t less : ℕ) → t < n → ((s : ℕ) → f s ≤ g s) → f t + less ≤ g t → sum_below f n + less ≤ sum_below g n
 sum_below-le-at f g zero t less inside each at = absurd (omega (arith, inside))
 sum_below-le-at f g (suc n) t less inside each at =
@@ -85,7 +85,7 @@ not_got_before body n s not_got =
 
 -- ---- the cost of submits
 
--- the cost of a submit of class k, with or without its get
+-- the cost of a submit of class k: the weight that its actor loses by it, with or without its get
 abbrev price : GetReturn → Plan → Vector → ℕ → Bool → ℕ
 price get_return plan v k true = queued_weight v k - returned_weight get_return plan v k
 price get_return plan v k false = queued_weight v k
@@ -134,7 +134,7 @@ price-le get_return plan v k false =
     let not_got : price get_return plan v k false ≡ queued_weight v k = refl in
     omega (arith, not_got)
 
--- ---- over a body
+-- ---- the weight that an actor loses over its body
 
 -- no job that the body submits returns more than it weighed when queued
 abbrev pub NoneGains : GetReturn → Plan → Vector → List Action → Type 0

@@ -86,7 +86,7 @@ cond_same false n = refl
 is_got_now : (body : List Action) (i s : ℕ) (x : Action) → slice_get body i ≡ Some x → has_get_of (drop i body) s ≡ gets s x || has_get_of (drop (suc i) body) s
 is_got_now body i s x at = ap (λ (rest : List Action). has_get_of rest s) (rest_at body i x at)
 
--- an action that does not get a submit leaves its term unchanged
+-- an action that does not get a submit does not change the weight that the submit adds to the open jobs
 stays : (v : Vector) (body : List Action) (i s : ℕ) (x : Action) → slice_get body i ≡ Some x → gets s x ≡ false → awaited_weight v body (suc i) s ≡ awaited_weight v body i s
 stays v body i s x at not_got =
     let same : has_get_of (drop i body) s ≡ has_get_of (drop (suc i) body) s = is_got_now body i s x at ∙ ap (λ (b : Bool). b || has_get_of (drop (suc i) body) s) not_got in

@@ -8,7 +8,7 @@ use Rattle.support.proofs.Members.{In-append_left, In-append_right, In-push_case
 use Rattle.size_search.specs.declared.submitted_classes.SubmittedClasses.{SubmittedClasses}
 use Rattle.size_search.specs.Reaching.{Has, Grows}
 
--- ---- one more mark
+-- ---- one more class is marked as found
 
 has_after : (marks : List Bool) (k j : ℕ) → k < length marks → get_or marks j false ≡ true → get_or (set marks k true) j false ≡ true
 has_after marks k j inside has =

@@ -203,7 +203,7 @@ heavy_here plan v n m ordered none computed of_level inside heavy =
     let row : list_all is_small (class_weights all m) ≡ true = list_all_at_In (list_all is_small) rows (In-get_or all.classes m [] there_is) in
     false≢true (sym heavy ∙ (ap (list_all is_small) (row_is plan v n m ordered none computed of_level inside) ∙ row)))
 
--- ---- the start
+-- ---- the vector before the first class
 
 pub computed_none : (plan : Plan) (v : Vector) → v.workers ≡ [] → v.clients ≡ [] → v.classes ≡ replicate (length plan.classes) [] → IsComputedUpTo plan v 0 0
 computed_none plan v workers clients are = record {

@@ -43,7 +43,7 @@ sum_below-but_one f g (suc n) t less inside same at =
     omega (arith, of_f, of_g, here, front))
     (cases_lt t n)
 
--- if the term at t is smaller, so is the sum
+-- if the term at t is smaller by some amount and no term is larger, the sum is smaller by at least this amount
 pub sum_below-le-at : (f g : ℕ → ℕ) (n t less : ℕ) → t < n → ((s : ℕ) → f s ≤ g s) → f t + less ≤ g t → sum_below f n + less ≤ sum_below g n
 sum_below-le-at f g zero t less inside each at = absurd (omega (arith, inside))
 sum_below-le-at f g (suc n) t less inside each at =

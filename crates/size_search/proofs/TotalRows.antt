@@ -149,7 +149,7 @@ pub record TotalsHold (plan : Plan) (cert : Cert) : Type 0 where
   pub bounds : (p : ℕ) → p < length plan.pools → total plan (bound_vector (pool_cert_at cert p).bound) ≤ bound_limit plan p (pool_cert_at cert p).bound
   pub blocked : (p : ℕ) → p < length plan.pools → total plan (pool_cert_at cert p).blocked ≤ (pool_at plan p).core - 1
 
--- ---- if only totals fail
+-- ---- conditions of which only totals fail
 
 -- if only totals fail, rows that are not totals hold
 hold_elsewhere : (plan : Plan) (cert : Cert) (part : Section) (rows : List Row) → list_all (λ note. is_total note.place) (failing plan cert) ≡ true → OfNoTotal rows

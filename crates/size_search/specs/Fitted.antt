@@ -54,7 +54,7 @@ fails_only_at_totals plan cert = cert_fits plan cert && list_all (λ note. is_to
 abbrev pub fitted : Plan → Cert → Option Plan
 fitted plan cert = if fails_only_at_totals plan cert && list_all has_valid_sizes (raised plan cert).pools then Some (raised plan cert) else None
 
--- ---- its properties
+-- ---- properties of the fitted plan
 
 -- the plan with this number as each core and each queue
 abbrev pub with_sizes : ℕ → Plan → Plan
@@ -104,7 +104,7 @@ abbrev pub LargerSizesAreAccepted : Type 0
 LargerSizesAreAccepted = (plan other : Plan) (cert : Cert) → shape other ≡ shape plan → IsTrue (accepted plan cert) → ((p : ℕ) → (pool_at plan p).core ≤ (pool_at other p).core)
     → ((p : ℕ) → bound_limit plan p (pool_cert_at cert p).bound ≤ bound_limit other p (pool_cert_at cert p).bound) → IsTrue (accepted other cert)
 
--- ---- for any declared sizes
+-- ---- the least sizes, whatever sizes the plan declares
 
 -- the plan with cores and queues of 1
 abbrev pub smallest : Plan → Plan

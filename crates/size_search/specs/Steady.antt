@@ -40,7 +40,7 @@ open_weight v body i = sum_below (awaited_weight v body i) i
 abbrev pub most : Vector → List Action → ℕ
 most v body = greatest_upto (open_weight v body) (length body)
 
--- ---- the weights of an actor, computed from its end
+-- ---- the weights of an actor, computed from the end of its body
 
 -- the weight before an action, from the weight after it: a submit adds the weight of the queued job; a get subtracts what it returns, but
 -- the result is at least `least`

@@ -35,7 +35,7 @@ HasLeastCores plan cert fit = (other : Plan) → IsWideFit plan cert other → I
 abbrev pub NoneFitsWide : Plan → Cert → Type 0
 NoneFitsWide plan cert = (other : Plan) → ¬ IsWideFit plan cert other
 
--- ---- its properties
+-- ---- properties of the widened plan
 
 -- the plan without its maximums
 abbrev pub without_maxes : Plan → Plan

@@ -8,8 +8,8 @@ use least_vectors::Kind;
 use std::alloc::Global;
 use weights::Bound;
 
-/// Returns the vector that bounds the pool's queue: the standing vector, or the lifetime vector if
-/// the queue has to grow less with that. `pool_threads` are the core and maximum of this pool, and
+/// Returns the vector that bounds the pool's queue: the standing vector, or the lifetime vector  if
+/// the queue has to grow less with it. `pool_threads` are the core and maximum of this pool, and
 /// `maxes` the maximums of all pools.
 pub(crate) fn bound_of(
     alloc: Global,

@@ -35,7 +35,7 @@ pub(crate) fn core_needed(plan: &Plan, blocked: &Vector) -> u64
 fn queue_needed(plan: &Plan, bound: &Bound, pool: &Pool) -> u64
     requires well_formed { IsWellFormed plan.now }
     requires fits { IsTrue (vector_fits plan.now (bound_vector bound.now)) }
-    // The core that a certificate needs is always smaller.
+    // No certificate needs a core of 2^63 or more.
     requires core { pool.now.core < 2 ^ 63 }
     ensures { result ≡ spec.queue_needed plan.now bound.now pool.now }
 {

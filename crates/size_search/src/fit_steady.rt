@@ -72,7 +72,7 @@ fn least_steady_sizes(alloc: Global, plan: &Plan, cert: &Cert) -> Result<Option<
     ensures none { IfOk result (λ found. IfNone found (MAX_SIZE ≤ steady_total plan.now)) }
 {
     // Workers have weight 0 in the steady certificate. Raising the maximums therefore does not
-    // change its total, and once is enough.
+    // change its total, and raising them once is enough.
     match widened(alloc, plan, cert)? {
         Ok(wide) => least_wide(alloc, plan, wide, cert),
         Err(_unfit) => Ok(None),

@@ -31,7 +31,7 @@ impl PoolThreads {
         self.core.saturating_sub(other.core).saturating_add(max)
     }
 
-    /// Returns these threads with core and maximum raised to at least this core.
+    /// Returns core and maximum, each raised to at least this core.
     pub(crate) fn raised(self, core: u64) -> PoolThreads {
         PoolThreads {
             core: self.core.max(core),

@@ -196,8 +196,8 @@ pub(crate) fn assign_ranks(
 }
 
 /// Repeats the rounds until no maximum grows, and returns the last assignment. A larger maximum can
-/// increase totals, because each worker that has weight counts for its whole pool. In the last
-/// repetition no worker gets weight, so that the loop ends.
+/// increase totals,  because a pool whose workers have weight adds this weight once for each of its
+/// threads. In the last repetition no worker gets weight, so that the loop ends.
 pub(crate) fn assign_ranks_to_fixpoint(
     alloc: Global,
     cache: &mut VectorCache,
