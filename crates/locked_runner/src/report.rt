@@ -42,8 +42,8 @@ impl Model for RunReport {
 /// - 41: a list has a receipt that does not belong there: the history has no such event at the
 ///   receipt's number, the event belongs to another client or pool, or the numbers of the list are
 ///   not in ascending order.
-/// - 42: the history is not complete, or one of its events is not in exactly one place of the
-///   lists, or its number of jobs or units differs from the computed one.
+/// - 42: the history has an impossible event or is not complete, or one of its events is not in
+///   exactly one place of the lists, or its number of jobs or units differs from the computed one.
 /// - 43: the gate failed.
 #[derive(Clone, Copy, Debug, PartialEq, Eq)]
 pub struct RunFault {
