@@ -61,7 +61,9 @@ fn have_same_maxes(plan: &Plan, other: &Plan) -> bool {
         .all(|(pool, other)| pool.max == other.max)
 }
 
-/// Converts the reason why the maximums could not be raised to an obstacle.
+/// Returns why the plan was not widened.
+///
+/// Converts the reason why its maximums could not be raised to an obstacle.
 fn obstacle_of_wide(unfit: Unfit) -> Obstacle {
     match unfit {
         Unfit::Core(pool) => Obstacle::Pool(pool),

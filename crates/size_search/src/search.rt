@@ -26,8 +26,8 @@ use std::alloc::{AllocError, Global};
 /// [`FEW_POOLS`] pools, of attempts that reset one pool to its declared sizes.
 const FURTHER_ATTEMPTS: usize = 3;
 
-/// In a plan with at most this many pools, each pool whose sizes have grown is reset in an attempt
-/// of its own.
+/// In a plan with at most this many pools, each pool whose core or maximum has grown is reset in an
+/// attempt of its own.
 const FEW_POOLS: usize = 8;
 
 /// Searches for sizes with which a certificate accepts the plan, with few and small increases. If
