@@ -27,7 +27,7 @@ stays_for plan s members standing PoolsStayAtCore waits shown = record {
   starts_no_thread = λ p j member queued. ⊎_elim (λ (full : IsFull plan s p). inl full) (λ (given : GivenStanding plan standing p). inr (record { vector = given.vector; hold = given.hold })) (shown.1 p j member queued);
 }
 
--- if no reason for a permanent wait is proved, the set is not full
+-- if no reason for a permanent wait is proved, some pool with a queued member has fewer threads than its maximum
 waits_for_now : (plan : Plan) (s : State) (members : List ℕ) (standing : List Vector) → IsWaitingSet plan s members → IsReason plan members standing s None → WaitsForNow plan members s
 waits_for_now plan s members standing waits shown = record {
   waits = waits;
@@ -50,19 +50,19 @@ is_witness plan events members standing front (StuckNow stuck) ends =
     let of_stuck : LeadsTo plan events (WaitsForNow plan stuck.items) = subst (λ (numbers : List ℕ). LeadsTo plan events (WaitsForNow plan numbers)) (sym ends.1) waits in
     (named_rising stuck.items members ends.1 ends.2.rising, subst (λ (list : List Event). LeadsTo plan list (WaitsForNow plan stuck.items)) (sym ends.0) of_stuck)
 
--- ---- the cases
+-- ---- the cases of the result
 
--- a rejection after the first n events
+-- the first n events end in a submit that pool p refuses
 pub ends_refused : (plan : Plan) (events : List Event) (members : List ℕ) (standing : List Vector) (front : List Event) (n p : ℕ) → front ≡ take n events → EndsRefused plan (take n events) p → HasEnding plan events members standing front (Refused p)
 ends_refused plan events members standing front n p is_front ends =
     subst (λ (list : List Event). BeginsWith events list × EndsRefused plan list p) (sym is_front) ((drop n events, sym (take-append-drop n events)), ends)
 
--- members that wait only for each other
+-- the members wait only for each other after all events
 pub is_stuck : (plan : Plan) (events : List Event) (members : List ℕ) (standing : List Vector) (view : View) (reason : Option Reason) → (comes : ComesTo plan events view) → IsTrue (are_rising members) → IsWaitingSet plan comes.state members → IsReason plan members standing comes.state reason
     → IsStuck plan events members standing reason
 is_stuck plan events members standing view reason comes rising waits shown = record { rising = rising; none_refused = comes.none_refused; leads = (comes.state, comes.reaches, (waits, shown)) }
 
--- the answer of a world about the state that the events reach
+-- the answer of a world whether the members are a waiting set holds for the state that the events reach
 pub in_words_at : (plan : Plan) (events : List Event) (members : List ℕ) (view : View) (stuck : Bool) → (comes : ComesTo plan events view)
     → ((s : State) → IsReached plan s → live_view plan s ≡ view → IsTrue stuck ↔ IsWaitingSet plan s members) → IsTrue stuck ↔ IsWaitingSet plan comes.state members
 in_words_at plan events members view stuck comes in_words = in_words comes.state (events, comes.reaches) comes.seen

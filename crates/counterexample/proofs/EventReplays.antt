@@ -21,7 +21,7 @@ use Rattle.counterexample.specs.ReplayResult.{ComesTo, StopsShort}
 
 -- ---- lists of events
 
--- the replay of two lists in sequence
+-- the replay of two lists in sequence is the replay of the second from the state after the first
 pub replay-append : (plan : Plan) (s : Option State) (front rest : List Event) → replay plan s (front ++ rest) ≡ replay plan (replay plan s front) rest
 replay-append plan s [] rest = refl
 replay-append plan None (e ∷ front) rest = sym (replay_none plan rest)
@@ -33,16 +33,16 @@ outcomes-append plan None (e ∷ front) rest =
     ap (λ (xs : List (Option Outcome)). None ∷ xs) (outcomes-append plan None front rest ∙ ap (λ (s : Option State). outcomes plan None front ++ outcomes plan s rest) (replay_none plan front))
 outcomes-append plan (Some s) (e ∷ front) rest = ap (λ (xs : List (Option Outcome)). outcome_of (step plan s e) ∷ xs) (outcomes-append plan (state_after (step plan s e)) front rest)
 
--- after an impossible event there are no outcomes
+-- after an event that is not possible, no event has an outcome
 none_of_none : (plan : Plan) (events : List Event) (o : Outcome) → In (Some o) (outcomes plan None events) → ⊥
 none_of_none plan [] o i = not_In_nil i
 none_of_none plan (e ∷ events) o i = ⊎_elim (λ (same : Some o ≡ None). absurd cc) (λ later. none_of_none plan events o later) (In-cons_cases i)
 
--- the replay with one more event
+-- the replay with one more event leads to the state after that event
 pub reaches_more : (plan : Plan) (front : List Event) (e : Event) (s : State) → Reaches plan front s → replay plan (Some (start plan)) (front ++ e ∷ []) ≡ state_after (step plan s e)
 reaches_more plan front e s reached = replay-append plan (Some (start plan)) front (e ∷ []) ∙ ap (λ (x : Option State). replay plan x (e ∷ [])) reached
 
--- the outcomes with one more event
+-- the outcomes with one more event are the earlier outcomes, the outcome of that event, and the later ones
 outcomes_more : (plan : Plan) (front rest : List Event) (e : Event) (s : State) (found : Option (State × Outcome)) → Reaches plan front s → step plan s e ≡ found
     → outcomes plan (Some (start plan)) (front ++ e ∷ rest) ≡ outcomes plan (Some (start plan)) front ++ outcome_of found ∷ outcomes plan (state_after found) rest
 outcomes_more plan front rest e s found reached is_step =
@@ -50,7 +50,7 @@ outcomes_more plan front rest e s found reached is_step =
     ∙ ap (λ (x : Option State). outcomes plan (Some (start plan)) front ++ outcomes plan x (e ∷ rest)) reached
     ∙ ap (λ (x : Option (State × Outcome)). outcomes plan (Some (start plan)) front ++ outcome_of x ∷ outcomes plan (state_after x) rest) is_step
 
--- a list is the events before an index, the event at it, and the events after it
+-- a list consists of the events before index i, the event at index i, and the events after it
 pub split_at : (events : List Event) (i : ℕ) (d : Event) → i < length events → take i events ++ get_or events i d ∷ drop (i + 1) events ≡ events
 split_at events i d inside =
     let tail : drop i events ≡ get_or events i d ∷ drop (i + 1) events = drop-cons events i d inside ∙ ap (λ (n : ℕ). get_or events i d ∷ drop n events) (sym (add-one i)) in
@@ -58,11 +58,11 @@ split_at events i d inside =
 
 -- ---- the result of a replay
 
--- the result at the start
+-- without events, the replay reaches the live view of the start
 pub comes_to_start : (plan : Plan) (view : View) → view ≡ live_view plan (start plan) → ComesTo plan [] view
 comes_to_start plan view seen = record { state = start plan; reaches = refl; seen = sym seen; none_refused = λ p i. not_In_nil i }
 
--- one more event, which is not a rejection
+-- one more possible event, which is not a refused submit, leads to the view after it
 pub comes_further : (plan : Plan) (front : List Event) (view after : View) (e : Event) (o : Outcome) (s s' : State) → NoneRefused plan front → Reaches plan front s → step plan s e ≡ Some (s', o) → after ≡ live_view plan s' → ((p : ℕ) → o ≢ outcome.Refused p)
     → ComesTo plan (front ++ e ∷ []) after
 comes_further plan front view after e o s s' none reached is_step seen no_refusal = record {
@@ -76,7 +76,7 @@ comes_further plan front view after e o s s' none reached is_step seen no_refusa
       (In-append_cases (outcomes plan (Some (start plan)) front) (Some o ∷ []) j);
 }
 
--- an event that is not possible
+-- the replay stops at an event that is not possible
 pub stops_short : (plan : Plan) (front rest : List Event) (e : Event) (s : State) → NoneRefused plan front → Reaches plan front s → step plan s e ≡ None → StopsShort plan (front ++ e ∷ rest)
 stops_short plan front rest e s none reached is_step = record {
   none_refused = λ p i.
@@ -93,7 +93,7 @@ stops_short plan front rest e s none reached is_step = record {
       ∙ reaches);
 }
 
--- ---- the answer of a world to the event at this index
+-- ---- the answer of a world to the event at index i
 
 abbrev pub AnswersAt : Plan → List Event → ℕ → View → Option Outcome → View → Type 0
 AnswersAt plan events i view answer after = (s : State) → IsReached plan s → live_view plan s ≡ view → AnswersAs plan s (get_or events i (event.Client 0)) answer after

@@ -1,4 +1,4 @@
--- A plan with lower maximums has the same steps, as long as no thread is started above them.
+-- A plan with lower maximums has the same steps, as long as no pool starts a thread above its lowered maximum.
 use Rattle.std.proofs.Common.{◌≡◌, ℕ, zero, suc, ◌+◌, ◌<◌, ◌≤◌, ◌⊎◌, List, [], ◌∷◌, length, map, get_or, Option, Some, None, inl, inr, ⊎_elim, refl, sym, ap, ◌∙◌, arith}
 use Rattle.std.specs.List.{enumerate_from}
 use Rattle.std.proofs.lemmas.Option.{same_Some}
@@ -28,11 +28,11 @@ use Rattle.written_machine.proofs.InvariantSubmits.{class_exists}
 abbrev pub with_most : (ℕ → ℕ) → ℕ × Pool → Pool
 with_most most entry = record entry.1 { max = most entry.0 }
 
--- the plan with this maximum for each pool
+-- the plan with these maximums
 abbrev pub lowered : Plan → (ℕ → ℕ) → Plan
 lowered plan most = record plan { pools = map (with_most most) (enumerate_from 0 plan.pools) }
 
--- each maximum is between core and the maximum of the plan
+-- the lowered maximum of each pool is between the pool's core and its maximum in the plan
 abbrev pub IsBetween : Plan → (ℕ → ℕ) → Type 0
 IsBetween plan most = (p : ℕ) → p < length plan.pools → ((pool_at plan p).core ≤ most p) × (most p ≤ (pool_at plan p).max)
 
@@ -71,7 +71,7 @@ queue-lowered plan most p = queue_from most 0 plan.pools p
 pub max-lowered : (plan : Plan) (most : ℕ → ℕ) (p : ℕ) → p < length plan.pools → (pool_at (lowered plan most) p).max ≡ most p
 max-lowered plan most p inside = max_from most 0 plan.pools p inside ∙ ap most (let same : 0 + p ≡ p = omega arith in same)
 
--- the plan has the same initial state
+-- the lowered plan has the same initial state
 pub start-lowered : (plan : Plan) (most : ℕ → ℕ) → start (lowered plan most) ≡ start plan
 start-lowered plan most = ap (λ (parts : List PoolPart). record (start plan) { pools = parts }) (parts_from most 0 plan.pools)
 
@@ -116,13 +116,13 @@ kept-lowered plan most s kept within = record {
   actors = λ a body i stands. kept.actors a body i stands;
 }
 
--- ---- its steps
+-- ---- the steps of the lowered plan
 
--- a pool that starts a thread is below core, or its queue is full
+-- a pool that starts a thread has fewer than core, or its queue is full
 pub started_when : (pool : PoolView) → answer pool ≡ offer.Started → (pool.threads < pool.core) ⊎ (pool.capacity ≤ length pool.queue)
 started_when pool e = grind (arith, common_steps)
 
--- only a pool that starts a thread gives this outcome
+-- the outcome of a submit is `Started` only if the pool's response is
 started_given : (plan : Plan) (s s' : State) (a : Parent) (i k n : ℕ) (given : Offer) → answered plan s a i k given ≡ (s', outcome.Started n) → given ≡ offer.Started
 started_given plan s s' a i k n offer.Started e = refl
 started_given plan s s' a i k n offer.Queued e = let same : outcome.Queued (length s.jobs) ≡ outcome.Started n = ap (λ (x : State × Outcome). x.1) e in absurd cc
@@ -136,7 +136,7 @@ started_answer : (plan : Plan) (s s' : State) (a : Parent) (body : List Action) 
 started_answer plan s s' a body i k n at is_step =
     started_given plan s s' a i k n (answer (pool_seen plan s (pool_of plan k))) (same_Some (submitted plan s a i k) (s', outcome.Started n) (sym (step_of plan s a body i k at) ∙ is_step))
 
--- each pool that starts a thread is below the lowered maximum
+-- each pool that a submit makes start a thread has fewer threads than its lowered maximum, or than core
 abbrev pub StartsBelow : Plan → (ℕ → ℕ) → State → Type 0
 StartsBelow plan most s = (a : Parent) (body : List Action) (i k : ℕ) → IsAtAction plan s a body i (Some (action.Submit k)) → answer (pool_seen plan s (pool_of plan k)) ≡ offer.Started
     → (threads plan s (pool_of plan k) < most (pool_of plan k)) ⊎ (threads plan s (pool_of plan k) < (pool_at plan (pool_of plan k)).core)

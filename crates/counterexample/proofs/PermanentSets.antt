@@ -1,5 +1,5 @@
--- Permanent waiting sets stay. In the plan where the current threads of such a pool are its maximum, the set is full and the
--- steps are the same.
+-- Permanent waiting sets last. In the plan whose pools with queued members have their current threads as maximum, the set is
+-- full, and each event has the same effect as in the original plan.
 use Rattle.std.proofs.Common.{◌≡◌, ℕ, Bool, true, false, cond, eqb, ◌<◌, ◌≤◌, ◌⊎◌, inl, inr, ⊎_elim, List, length, refl, sym, ap, subst, ◌∙◌, arith}
 use Rattle.std.specs.List.{list_any}
 use Rattle.std.proofs.lemmas.Bool.{and_parts, eqb-true}
@@ -24,13 +24,13 @@ use Rattle.counterexample.specs.PermanentSets.{HasStanding, IsPermanentWaitingSe
 use Rattle.counterexample.proofs.Lowered.{lowered, IsBetween, max-lowered, ordered-lowered, kept-lowered, StartsBelow, happens-lowered}
 use Rattle.counterexample.proofs.StandingPools.{StaysThroughSteps, steps_keep, starts_below_core}
 
--- ---- the maximums
+-- ---- the lowered maximums
 
--- a member waits in the pool's queue
+-- some member waits in the queue of pool q
 abbrev queues_member : Plan → State → List ℕ → ℕ → Bool
 queues_member plan s members q = list_any (λ j. is_queued_in plan q (job_at s j)) members
 
--- the current number of threads for a pool with a queued member, and the maximum for the others
+-- the lowered maximum of pool q: its current number of threads if a member waits in its queue, and otherwise its maximum
 abbrev threads_for_max : Plan → State → List ℕ → ℕ → ℕ
 threads_for_max plan s members q = cond (queues_member plan s members q) (threads plan s q) (pool_at plan q).max
 
@@ -63,7 +63,7 @@ module _ (plan : Plan) (s : State) (members : List ℕ) (well_formed : IsWellFor
   abbrev low : Plan
   low = lowered plan most
 
-  -- if the test holds for a pool, some member waits in its queue
+  -- if `queues_member` holds for a pool, some member waits in its queue
   known : (q : ℕ) → queues_member plan s members q ≡ true → (j : ℕ) × IsMember members j × (is_queued_in plan q (job_at s j) ≡ true)
   known q queues =
       let found = In-from_list_any (λ (j : ℕ). is_queued_in plan q (job_at s j)) members queues in
@@ -84,20 +84,20 @@ module _ (plan : Plan) (s : State) (members : List ℕ) (well_formed : IsWellFor
   low_ordered : HasValidBodies low
   low_ordered = ordered-lowered plan most (ordered plan well_formed) between
 
-  -- the maximum of a pool with a queued member
+  -- the lowered maximum of a pool with a queued member is its current number of threads
   max_is : (q j : ℕ) → IsMember members j → is_queued_in plan q (job_at s j) ≡ true → (pool_at low q).max ≡ threads plan s q
   max_is q j member queued =
       max-lowered plan most q (queued_at_core plan s j q (ordered plan well_formed) has_kept queued).0
       ∙ ap (λ (b : Bool). cond b (threads plan s q) (pool_at plan q).max) (queues q j member queued)
 
-  -- the set is full
+  -- in the lowered plan, each pool with a queued member has all its threads
   full_set : IsFullWaitingSet low s members
   full_set = record {
     waits = (waiting_set_test low s members).0 ((waiting_set_test plan s members).1 set.waits);
     full = λ q j member queued. sym (max_is q j member queued);
   }
 
-  -- if a pool starts a thread later, it is below that maximum, or below core
+  -- if a pool starts a thread later, it has fewer threads than its lowered maximum or than core
   starts_below : (now : State) → IsReached plan now → StartsBelow plan most now
   starts_below now reached_now a body i k at starts =
       let q = pool_of plan k in
@@ -128,7 +128,7 @@ module _ (plan : Plan) (s : State) (members : List ℕ) (well_formed : IsWellFor
     };
   }
 
-  -- the result for the original plan
+  -- the result for the original plan, from that for the lowered plan
   lasts : (s' : State) → StaysFull low s s' members → StaysPermanent plan s s' members
   lasts s' stayed = record {
     still = record {

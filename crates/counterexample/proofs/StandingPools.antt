@@ -46,9 +46,9 @@ steps_keep plan holds stays [] s s' held replayed = subst holds (same_Some s s' 
 steps_keep plan holds stays (e ∷ events) s s' held replayed =
     after_step plan holds stays s e events s' (λ next held' rest. steps_keep plan holds stays events next s' held' rest) held (step plan s e) refl replayed
 
--- ---- the pool
+-- ---- the threads of the pool
 
--- the pool starts a thread only below core, since a submit never finds its queue full
+-- a pool with a standing vector starts a thread only if it has fewer than core, since a submit never finds its queue full
 pub starts_below_core : (plan : Plan) (s : State) (a : Parent) (body : List Action) (i k : ℕ) → IsWellFormed plan → IsReached plan s → HasStanding plan (pool_of plan k) → IsAtAction plan s a body i (Some (action.Submit k))
     → answer (pool_seen plan s (pool_of plan k)) ≡ offer.Started → threads plan s (pool_of plan k) < (pool_at plan (pool_of plan k)).core
 starts_below_core plan s a body i k well_formed reached standing at starts =
@@ -57,7 +57,7 @@ starts_below_core plan s a body i k well_formed reached standing at starts =
     (λ full. absurd (standing_refuses_nothing plan standing.vector s a body i k (ordered plan well_formed) laws (kept plan s well_formed reached) (balanced DoneWeight plan standing.vector s well_formed laws.laws reached) at full))
     (started_when (pool_seen plan s (pool_of plan k)) starts)
 
--- the maximums of the plan in which the maximum of the pool is its core
+-- the lowered maximum of pool q: its core if q is p, and otherwise its maximum
 abbrev core_for_max : Plan → ℕ → ℕ → ℕ
 core_for_max plan p q = cond (eqb q p) (pool_at plan q).core (pool_at plan q).max
 
@@ -79,7 +79,7 @@ below_core plan p s well_formed standing reached a body i k at starts =
     (λ same. starts_below_core plan s a body i k well_formed reached (subst (HasStanding plan) (sym (eqb-true q p same)) standing) at starts)
     (started_below (pool_seen plan s q) starts)
 
--- the invariants of both plans
+-- the state is reached in the plan, and satisfies the invariant of the lowered plan
 record BothKeep (plan : Plan) (p : ℕ) (s : State) : Type 0 where
   reached : IsReached plan s
   kept_low : StateInvariant (lowered plan (core_for_max plan p)) s
@@ -95,7 +95,7 @@ both_keep plan p well_formed standing s e s' o both is_step =
           (happens-lowered plan most s s' e o is_ordered between (below_core plan p s well_formed standing both.reached) (happens plan s e s' o is_step) is_step);
     }
 
--- therefore the pool never has more than core threads
+-- a pool with a standing vector never has more than core threads
 pub stays_at_core : StandingPoolsStayAtCore
 stays_at_core plan p s well_formed inside standing reached =
     let most = core_for_max plan p in

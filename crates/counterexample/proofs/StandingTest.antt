@@ -1,4 +1,4 @@
--- The test of the pools with queued members determines the same property of the state.
+-- The test that pools with queued members start no further thread, on a view, decides this property of the state.
 use Rattle.std.proofs.Common.{◌≡◌, ℕ, ◌<◌, ◌⊎◌, inl, inr, ⊎_elim, Bool, true, false, cond, ◌&&◌, ◌||◌, not, eqb, ltb, List, [], length, slice_get, Option, Some, None, is_some, refl, sym, ap, subst, ◌∙◌, arith}
 use Rattle.std.specs.List.{list_all}
 use Rattle.std.proofs.lemmas.Bool.{false≢true, and_parts, and_from, or_left, or_right, eqb-true, eq-eqb, lt-ltb}
@@ -31,7 +31,7 @@ use Rattle.counterexample.specs.Confirmed.{GivenStanding, AreFull, AreFullOrStan
 
 -- ---- one pool
 
--- the view has each pool of the plan
+-- a reachable view has each pool of the plan
 pub pool_in_view : (plan : Plan) (view : View) (p : ℕ) → IsReachableView plan view → p < length plan.pools → p < length view.pools
 pool_in_view plan view p of_plan inside = subst (λ (v : View). p < length v.pools) of_plan.2 (omega (arith, length-pools plan of_plan.0))
 
@@ -78,7 +78,7 @@ done_passes : (plan : Plan) (view : View) (standing : List Vector) (job : Create
 done_passes plan view standing job true = refl
 done_passes plan view standing job false = refl
 
--- a queued job passes if its class does, and any other job passes
+-- the test of a job by its stage: a queued job passes if its class does, and any other job passes
 abbrev stage_test : Plan → View → List Vector → ℕ → Stage → Bool
 stage_test plan view standing k Stage.Queued = class_starts_no_thread plan view standing (slice_get plan.classes k)
 stage_test plan view standing k _ = true
@@ -100,7 +100,7 @@ module _ (plan : Plan) (s : State) (well_formed : IsWellFormed plan) (reached : 
   abbrev of_job : ℕ → Bool
   of_job j = job_starts_no_thread plan (live_view plan s) standing (live_job (live_view plan s).jobs j)
 
-  -- a queued job has a class of the plan
+  -- each job that was created has a class of the plan
   class_found : (j : ℕ) → j < length s.jobs → slice_get plan.classes (job_at s j).class ≡ Some (class_at plan (job_at s j).class)
   class_found j made =
       let has_kept = kept plan s well_formed reached in
@@ -144,7 +144,7 @@ pub not_shown : (plan : Plan) (s : State) (view : View) (standing : List Vector)
 not_shown plan s view standing members well_formed reached seen fails shown =
     false≢true (sym fails ∙ sym (ap (λ (v : View). all_start_no_thread plan v standing members) seen) ∙ test_of_shown plan s well_formed reached standing members shown)
 
--- without vectors the pools are full
+-- ---- without vectors, each pool with a queued member has all its threads
 
 pub full_from_shown : (plan : Plan) (s : State) (members : List ℕ) → AreFullOrStanding plan s members [] → AreFull plan s members
 full_from_shown plan s members shown p j member queued = ⊎_elim (λ full. full) (λ given. absurd (none-some given.vector given.given)) (shown p j member queued)

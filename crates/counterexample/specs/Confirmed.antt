@@ -1,4 +1,4 @@
--- The result of the call that confirms a witness.
+-- The result of the call `confirmed`, which checks a witness.
 use Rattle.std.specs.Prelude.{◌≡◌, ◌⊎◌, ℕ, IsTrue, List, ◌++◌, Option, Some, None, slice_get}
 use Rattle.job_bodies.specs.Plan.{Plan}
 use Rattle.written_machine.specs.declared.event.Event.{Event}
@@ -18,22 +18,22 @@ use Rattle.counterexample.specs.Witness.{LeadsTo, NoneRefused, EndsRefused}
 
 -- ---- the reasons for a permanent wait
 
--- the vector given for the pool is a standing vector whose conditions hold
+-- `standing` has a vector for the pool that satisfies the conditions of a standing vector
 pub record GivenStanding (plan : Plan) (standing : List Vector) (p : ℕ) : Type 0 where
   pub vector : Vector
   pub given : slice_get standing p ≡ Some vector
   pub fits : IsTrue (vector_fits plan vector)
   pub hold : AllHold (standing_rows plan p vector)
 
--- each pool with a queued member is full
+-- each pool with a queued member has all its threads
 abbrev pub AreFull : Plan → State → List ℕ → Type 0
 AreFull plan s members = WhereMembersQueue plan s members (IsFull plan s)
 
--- each pool with a queued member is full, or a standing vector is given for it
+-- each pool with a queued member has all its threads, or `standing` has a valid standing vector for it
 abbrev pub AreFullOrStanding : Plan → State → List ℕ → List Vector → Type 0
 AreFullOrStanding plan s members standing = WhereMembersQueue plan s members (λ p. IsFull plan s p ⊎ GivenStanding plan standing p)
 
--- the first reason that holds
+-- the first of the two reasons that holds; None if neither holds
 abbrev pub IsReason : Plan → List ℕ → List Vector → State → Option Reason → Type 0
 IsReason plan members standing s (Some PoolsAreFull) = AreFull plan s members
 IsReason plan members standing s (Some PoolsStayAtCore) = (¬ AreFull plan s members) × AreFullOrStanding plan s members standing
@@ -41,7 +41,7 @@ IsReason plan members standing s None = ¬ AreFullOrStanding plan s members stan
 
 -- ---- the result
 
--- after all the events, none of which is rejected, the members wait only for each other, for this reason
+-- no event is a refused submit, and after all the events the members wait only for each other, permanently if there is a reason
 pub record IsStuck (plan : Plan) (events : List Event) (members : List ℕ) (standing : List Vector) (reason : Option Reason) : Type 0 where
   pub rising : IsTrue (are_rising members)
   pub none_refused : NoneRefused plan events
@@ -57,8 +57,8 @@ HasEnding plan events members standing front (Refused p) = BeginsWith events fro
 HasEnding plan events members standing front (StuckForever stuck reason) = (front ≡ events) × (stuck.items ≡ members) × IsStuck plan events members standing (Some reason)
 HasEnding plan events members standing front (StuckNow stuck) = (front ≡ events) × (stuck.items ≡ members) × IsStuck plan events members standing None
 
--- there is no witness exactly if none of the events is rejected and they do not lead to members, in ascending order, that
--- wait only for each other
+-- the answer of `confirmed`: None exactly when no event is refused and the events do not lead to a waiting set with these
+-- members in ascending order; otherwise a witness with its ending
 abbrev pub IsAnswer : Plan → List Event → List ℕ → List Vector → Option Witness → Type 0
 IsAnswer plan events members standing None = NoneRefused plan events × (IsTrue (are_rising members) → ¬ LeadsTo plan events (λ s. IsWaitingSet plan s members))
 IsAnswer plan events members standing (Some witness) = HasEnding plan events members standing witness.events.items witness.ending

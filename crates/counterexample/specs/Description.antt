@@ -9,28 +9,28 @@ use Rattle.counterexample.specs.declared.ending.Ending.TheVariants.{Refused, Stu
 use Rattle.counterexample.specs.declared.ending.Reason.TheVariants.{PoolsAreFull, PoolsStayAtCore}
 use Rattle.counterexample.specs.declared.witness.Witness.{Witness}
 
--- the number of jobs that wait only for each other, in words
+-- the text that says how many jobs wait only for each other
 abbrev pub jobs_wait : List ℕ → List ℕ
 jobs_wait members = decimal (length members) ++ codes " jobs wait only for each other"
 
--- the ending of the witness
+-- the text of the witness's ending
 abbrev pub ending_text : Plan → Ending → List ℕ
 ending_text plan (Refused p) = codes "refused by " ++ (pool_at plan p).name
 ending_text plan (StuckForever members reason) = codes "stuck for ever: " ++ jobs_wait members.items
 ending_text plan (StuckNow members) = codes "stuck now: " ++ jobs_wait members.items
 
--- the client whose step the event is, or an empty list
+-- the client that performs the event, as a list, which is empty if no client does
 abbrev pub active_client_of : Event → List ℕ
 active_client_of (Client client) = client ∷ []
 active_client_of (Job job) = []
 active_client_of (Take pool) = []
 active_client_of (Retire pool) = []
 
--- the client of each event of a client, with duplicates
+-- the number of the acting client for each event of a client, with duplicates
 abbrev pub active_clients : List Event → List ℕ
 active_clients = flat_map active_client_of
 
--- count is the number of different clients that act in the events
+-- `count` is the number of different clients that act in the events
 pub record IsActiveClientCount (events : List Event) (count : ℕ) : Type 0 where
   pub clients : List ℕ
   pub each_once : IsStrictlyIncreasing clients
@@ -40,18 +40,18 @@ pub record IsActiveClientCount (events : List Event) (count : ℕ) : Type 0 wher
 abbrev pub of_clients : ℕ → List ℕ
 of_clients count = if count == 1 then codes " of 1 client" else codes " of " ++ decimal count ++ codes " clients"
 
--- the first line: the ending of the witness, the number of its events, and the number of clients that act in them
+-- the first line: the ending of the witness, the number of its events, and the number of clients that act in the events
 abbrev pub head : Plan → Witness → ℕ → List ℕ
 head plan witness clients = (ending_text plan witness.ending ++ codes ", after " ++ decimal (length witness.events.items) ++ codes " events") ++ (of_clients clients ++ 10 ∷ [])
 
--- the last line: the reason why jobs wait only for each other permanently, or what may end the wait
+-- the last line: the reason why jobs wait permanently, or what may end the wait; a refused submit has no such line
 abbrev pub why_text : Ending → List ℕ
 why_text (Refused p) = []
 why_text (StuckForever members PoolsAreFull) = codes "for ever: each pool in whose queue one waits has all its threads" ++ 10 ∷ []
 why_text (StuckForever members PoolsStayAtCore) = codes "for ever: each pool in whose queue one waits has all its threads, or never has more than core" ++ 10 ∷ []
 why_text (StuckNow members) = codes "until a pool in whose queue one waits starts a thread above core" ++ 10 ∷ []
 
--- the text is the first line, a story that is not specified, and the last line
+-- the text is the first line, a story that no clause specifies, and the last line
 pub record IsDescription (plan : Plan) (witness : Witness) (text : List ℕ) : Type 0 where
   pub clients : ℕ
   pub clients_are : IsActiveClientCount witness.events.items clients

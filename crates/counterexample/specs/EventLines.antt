@@ -7,18 +7,18 @@ use Rattle.counterexample.specs.declared.ending.Ending.{Ending}
 use Rattle.counterexample.specs.declared.ending.Ending.TheVariants.{Refused, StuckForever, StuckNow}
 use Rattle.counterexample.specs.declared.witness.Witness.{Witness}
 
--- the question whether these jobs wait only for each other; without jobs there is no question
+-- the line that asks whether these jobs wait only for each other; no line if there are no jobs
 abbrev pub question : List ℕ → List Line
 question [] = []
 question (j ∷ js) = Stuck (j ∷ js) ∷ []
 
--- the jobs that wait only for each other after the events
+-- the jobs that wait only for each other after the last event
 abbrev pub stuck_members : Ending → List ℕ
 stuck_members (Refused p) = []
 stuck_members (StuckForever members reason) = members.items
 stuck_members (StuckNow members) = members.items
 
--- the events, and after them the question whether those jobs are stuck
+-- a line for each event, and then the line that asks whether these jobs wait only for each other
 abbrev pub lines_of : List Event → List ℕ → List Line
 lines_of events members = map (λ event. Perform event) events ++ question members
 

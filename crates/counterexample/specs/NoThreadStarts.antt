@@ -1,4 +1,4 @@
--- The test that the pools with queued members start no further thread, on the live view of a state.
+-- The test that the pools with queued members start no further thread, computed from the live view of a state.
 use Rattle.std.specs.Prelude.{ℕ, ◌==◌, ◌&&◌, ◌||◌, not, nat_lt, Bool, true, false, List, length, Option, Some, None, is_some, slice_get}
 use Rattle.std.specs.List.{list_all}
 use Rattle.job_bodies.specs.Plan.{Plan, Class}
@@ -15,7 +15,7 @@ use Rattle.weights.specs.Standing.{standing_rows}
 abbrev pub is_full : View → ℕ → Bool
 is_full view p = (pool_in view p).threads == (pool_in view p).max
 
--- this is a standing vector of the pool whose conditions all hold
+-- there is a vector, and it satisfies all conditions of a standing vector of the pool
 abbrev pub has_standing : Plan → ℕ → Option Vector → Bool
 has_standing plan p None = false
 has_standing plan p (Some v) = vector_fits plan v && not (is_some (first_failing (standing_rows plan p v)))
@@ -36,6 +36,6 @@ abbrev pub job_starts_no_thread : Plan → View → List Vector → Option JobVi
 job_starts_no_thread plan view standing None = true
 job_starts_no_thread plan view standing (Some job) = phase_starts_no_thread plan view standing job.class job.phase
 
--- this holds for each of the jobs
+-- no member is queued in a pool that may start another thread
 abbrev pub all_start_no_thread : Plan → View → List Vector → List ℕ → Bool
 all_start_no_thread plan view standing members = list_all (λ j. job_starts_no_thread plan view standing (live_job view.jobs j)) members

@@ -1,4 +1,4 @@
--- Permanent waiting sets: each pool with a queued member has all its threads or never starts another one.
+-- Permanent waiting sets. Each pool with a queued member has all its threads or never starts another one.
 use Rattle.std.specs.Prelude.{◌≡◌, ◌≤◌, ◌<◌, ◌⊎◌, ℕ, List, length, Some}
 use Rattle.job_bodies.specs.Plan.{Plan, pool_at}
 use Rattle.job_bodies.specs.WellFormed.{IsWellFormed}
@@ -11,31 +11,31 @@ use Rattle.weights.specs.Row.{AllHold}
 use Rattle.weights.specs.Vector.{Vector}
 use Rattle.weights.specs.Standing.{standing_rows}
 
--- the pool has a standing vector whose conditions hold
+-- some vector satisfies the conditions of a standing vector of the pool
 pub record HasStanding (plan : Plan) (p : ℕ) : Type 0 where
   pub vector : Vector
   pub hold : AllHold (standing_rows plan p vector)
 
--- such a pool never has more than core threads, whatever the other pools do
+-- a pool with a standing vector never has more than core threads, whatever the other pools do
 abbrev pub StandingPoolsStayAtCore : Type 0
 StandingPoolsStayAtCore = (plan : Plan) (p : ℕ) (s : State) → IsWellFormed plan → p < length plan.pools → HasStanding plan p → IsReached plan s → threads plan s p ≤ (pool_at plan p).core
 
--- the pool starts no thread while a job is queued: it has all its threads, or it never has more than core threads and has
--- them already, since a job is queued
+-- the pool starts no thread while a job is queued: it has all its threads, or it never has more than core threads, which it
+-- already has if a job is queued
 abbrev pub StartsNoThread : Plan → State → ℕ → Type 0
 StartsNoThread plan s p = IsFull plan s p ⊎ HasStanding plan p
 
--- a waiting set whose queued members wait in such pools
+-- a waiting set whose queued members all wait in pools that start no thread while a job is queued
 pub record IsPermanentWaitingSet (plan : Plan) (s : State) (members : List ℕ) : Type 0 where
   pub waits : IsWaitingSet plan s members
   pub starts_no_thread : WhereMembersQueue plan s members (StartsNoThread plan s)
 
--- in the second state the members are still such a set, and none of them has moved
+-- in the second state the members are still a permanent waiting set, and none of them has moved since the first state
 pub record StaysPermanent (plan : Plan) (s s' : State) (members : List ℕ) : Type 0 where
   pub still : IsPermanentWaitingSet plan s' members
   pub unmoved : (j : ℕ) → IsMember members j → job_at s' j ≡ job_at s j
 
--- a permanent waiting set stays one after any list of events
+-- a permanent waiting set is still one after any list of events, and no member moves
 abbrev pub PermanentWaitingSetsStay : Type 0
 PermanentWaitingSetsStay = (plan : Plan) (s s' : State) (events : List Event) (members : List ℕ) → IsWellFormed plan → IsReached plan s → IsPermanentWaitingSet plan s members
     → replay plan (Some s) events ≡ Some s' → StaysPermanent plan s s' members

@@ -9,14 +9,14 @@ use Rattle.counterexample.specs.declared.replaying.ReplayResult.{ReplayResult}
 use Rattle.counterexample.specs.declared.replaying.ReplayResult.TheVariants.{Refused, NotPossible, Whole}
 use Rattle.counterexample.specs.Witness.{NoneRefused, EndsRefused}
 
--- each event is possible, none is rejected, and this is the live view after the last one
+-- each event is possible, none is a refused submit, and `view` is the live view of the state after the last event
 pub record ComesTo (plan : Plan) (events : List Event) (view : View) : Type 0 where
   pub state : State
   pub reaches : Reaches plan events state
   pub seen : live_view plan state ≡ view
   pub none_refused : NoneRefused plan events
 
--- some event is not possible, and no earlier one is rejected
+-- some event is not possible, and no earlier event is a refused submit
 pub record StopsShort (plan : Plan) (events : List Event) : Type 0 where
   pub none_refused : NoneRefused plan events
   pub reaches_none : (s : State) → ¬ Reaches plan events s

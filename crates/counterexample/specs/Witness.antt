@@ -24,11 +24,11 @@ use Rattle.counterexample.specs.PermanentSets.{IsPermanentWaitingSet}
 abbrev pub LeadsTo : Plan → List Event → (State → Type 0) → Type 0
 LeadsTo plan events holds = (s : State) × Reaches plan events s × holds s
 
--- no outcome of the events is a rejection
+-- no event is a refused submit
 abbrev pub NoneRefused : Plan → List Event → Type 0
 NoneRefused plan events = (p : ℕ) → ¬ In (Some (outcome.Refused p)) (outcomes plan (Some (start plan)) events)
 
--- the last event is a submit that pool p rejects; the earlier ones are possible, and none of them is rejected
+-- the last event is a submit that pool p refuses; each earlier event is possible, and none is a refused submit
 pub record EndsRefused (plan : Plan) (events : List Event) (p : ℕ) : Type 0 where
   pub front : List Event
   pub last : Event
@@ -39,12 +39,12 @@ pub record EndsRefused (plan : Plan) (events : List Event) (p : ℕ) : Type 0 wh
   pub after : State
   pub refused : step plan before last ≡ Some (after, outcome.Refused p)
 
--- the members are a permanent waiting set for this reason
+-- the members are a waiting set, which is permanent for this reason
 abbrev pub StaysFor : Plan → List ℕ → Reason → State → Type 0
 StaysFor plan members PoolsAreFull s = IsFullWaitingSet plan s members
 StaysFor plan members PoolsStayAtCore s = IsPermanentWaitingSet plan s members
 
--- the members are a waiting set, and one of them waits in the queue of a pool that may start another thread
+-- the members are a waiting set, and one of them waits in the queue of a pool that has fewer threads than its maximum
 pub record WaitsForNow (plan : Plan) (members : List ℕ) (s : State) : Type 0 where
   pub waits : IsWaitingSet plan s members
   pub not_full : ¬ IsFullWaitingSet plan s members

@@ -6,7 +6,7 @@ ghost use Rattle.counterexample.specs.Description as spec;
 use interleaving::Event;
 use std::alloc::{AllocError, Global};
 
-/// Returns the number of clients that act in the events.
+/// Returns the number of different clients that act in the events.
 ///
 /// # Errors
 ///
@@ -20,7 +20,7 @@ pub(crate) fn active_client_count(alloc: Global, events: &[Event]) -> Result<usi
     Ok(clients.len())
 }
 
-/// Returns the client of each event of a client, with duplicates.
+/// Returns the number of the acting client for each event of a client, with duplicates.
 fn active_clients(alloc: Global, mut events: &[Event]) -> Result<Vec<usize>, AllocError>
     ensures { IfOk result (λ clients. clients.items ≡ spec.active_clients events.now) }
 {

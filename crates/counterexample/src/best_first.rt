@@ -1,5 +1,5 @@
-//! A best-first search, which continues from the most promising open state by several measures in
-//! turn.
+//! A best-first search for a violation. Several measures take turns in selecting the open state
+//! that is visited next.
 
 use crate::branches::Branch;
 use crate::choices::Choices;
@@ -11,13 +11,13 @@ use std::alloc::{AllocError, Global};
 use std::collections::{BinaryHeap, HashSet};
 use std::hash::{BuildHasherDefault, FoldHasher};
 
-/// The maximum number of vectors that each get a measure of their own.
+/// The maximum number of vectors whose loss is a measure.
 const MAX_VECTORS: usize = 2;
 
 /// A state that the search reached.
 #[derive(Clone, Copy)]
 struct Node {
-    /// The number of the state before it, from which `branch` leads to this one. The start is its
+    /// The number of the preceding state, from which `branch` leads to this state. The start is its
     /// own predecessor.
     before: usize,
     branch: Branch,
@@ -36,14 +36,14 @@ struct ReplayedState<'a> {
 pub(crate) struct BestFirstResult {
     /// A permanent violation, if one was found.
     pub(crate) found: Option<(Script, Violation)>,
-    /// Events that lead to jobs that wait only for each other at this moment.
+    /// Events after which some jobs wait only for each other, perhaps not permanently.
     pub(crate) stuck_now: Option<Script>,
     /// The number of states that the search may still visit.
     pub(crate) left: usize,
 }
 
-/// Searches from the plan's start until it finds a permanent violation or has visited `states`
-/// states, the found one included.
+/// Searches from the plan's initial state until it finds a permanent violation, has visited
+/// `states` states (including the violating state), or no open state is left.
 pub(crate) fn best_first(
     alloc: Global,
     plan: &Plan,
@@ -56,7 +56,7 @@ pub(crate) fn best_first(
     Ok(search.into_result(found))
 }
 
-/// The state of a search: all reached states, by number. Each takes about 100 bytes.
+/// The state of a search. It stores each reached state as a node of about 100 bytes.
 #[derive(Drop)]
 struct BestFirst<'a> {
     alloc: Global,
@@ -65,18 +65,19 @@ struct BestFirst<'a> {
     potentials: &'a [Potential],
     nodes: Vec<Node>,
     seen: HashSet<u64, BuildHasherDefault<FoldHasher>, Global>,
-    /// For each measure, a heap of the open states. A greater number is more promising.
+    /// For each measure, a heap of the open states, which has the most promising state on top.
     opens: Vec<BinaryHeap<(u64, usize), Global>>,
-    /// All states with lower numbers are closed.
+    /// Every state with a lower number is closed.
     oldest: usize,
     /// The number of states that the search may still visit.
     left: usize,
-    /// Events that lead to jobs that wait only for each other at this moment.
+    /// Events after which some jobs wait only for each other, perhaps not permanently.
     stuck_now: Option<Script>,
 }
 
 impl<'a> BestFirst<'a> {
-    /// Creates a search from the plan's start, which may visit `states` states, the start included.
+    /// Creates a search that starts from the plan's initial state and may visit `states` states,
+    /// including that state.
     fn start(
         alloc: Global,
         plan: &'a Plan,
@@ -140,8 +141,8 @@ impl<'a> BestFirst<'a> {
         Ok(number)
     }
 
-    /// Closes an open state, and returns its number. By turns, each measure selects the state that
-    /// is most promising by it, and one further turn selects the oldest state.
+    /// Closes an open state, and returns its number. The measures take turns, each selecting its
+    /// most promising state; one further turn selects the oldest state.
     fn next_open(&mut self, turn: usize) -> Option<usize> {
         let measures = self.opens.len().saturating_add(1);
         let measure = turn.checked_rem(measures)?;
@@ -176,7 +177,7 @@ impl<'a> BestFirst<'a> {
         None
     }
 
-    /// Visits each successor of this state.
+    /// Visits the successors of this state, and returns the first permanent violation.
     fn expand(&mut self, number: usize) -> Result<Option<(Script, Violation)>, AllocError> {
         let replayed = self.replayed(number)?;
         for branch in &replayed.walk.branches(self.alloc)? {
@@ -195,7 +196,8 @@ impl<'a> BestFirst<'a> {
         Ok(None)
     }
 
-    /// Visits the state after this branch, and returns its violation, if there is one.
+    /// Visits the state that this branch leads to, and returns that state's violation, if any. A
+    /// state that was reached before is not visited again.
     fn visit(
         &mut self,
         replayed: &ReplayedState<'a>,
@@ -258,7 +260,7 @@ impl<'a> BestFirst<'a> {
         Ok(path)
     }
 
-    /// Returns the state with this number, by a replay of its branches.
+    /// Recreates the state with this number by performing the branches that lead to it.
     fn replayed(&self, number: usize) -> Result<ReplayedState<'a>, AllocError> {
         let mut walk = Walk::start(self.alloc, self.plan, self.choices)?;
         let mut lost = vec![in self.alloc; 0u64; self.potentials.len()]?;
@@ -271,7 +273,7 @@ impl<'a> BestFirst<'a> {
         Ok(ReplayedState { walk, lost })
     }
 
-    /// Returns the events that lead to the state after this branch.
+    /// Returns the events that lead to this state, followed by those of this branch.
     fn script_of(&self, number: usize, branch: Branch) -> Result<Script, AllocError> {
         let mut replayed = self.replayed(number)?;
         replayed.walk.choose(branch.place, branch.newer)?;

@@ -1,4 +1,4 @@
-//! The branches from a state.
+//! The branches that the best-first search tries from a state.
 
 use crate::choices::Choice;
 use crate::fingerprints::fingerprint;
@@ -13,8 +13,8 @@ use written_machine::Parent;
 /// The maximum number of actors that are tried for one choice.
 const MAX_ACTORS: usize = 8;
 
-/// A branch: a choice, and an actor that makes it. `newer` is the number of actors that became
-/// ready for this choice after that actor.
+/// A choice and the actor that makes it. `place` is the index of the choice, and `newer` is the
+/// number of actors that became ready for this choice after that actor.
 #[derive(Clone, Copy, PartialEq, Eq)]
 pub(crate) struct Branch {
     pub(crate) place: usize,
@@ -38,8 +38,8 @@ impl<'a> Walk<'a> {
         })
     }
 
-    /// Returns the branches from this state. A client that is again at its first submit represents
-    /// all clients of its kind that have not moved.
+    /// Returns the branches from this state. If a client of a kind is back at its first submit, no
+    /// new client of that kind is tried, because both would act alike.
     pub(crate) fn branches(&self, alloc: Global) -> Result<Vec<Branch>, AllocError> {
         let mut branches = Vec::new(alloc);
         for (place, (choice, ready)) in self.choices.all.iter().zip(&self.ready).enumerate() {
@@ -63,7 +63,7 @@ impl<'a> Walk<'a> {
             && !ready.is_empty())
     }
 
-    /// Returns the loss of the branch, measured by the weights of a vector.
+    /// Returns the weight that the state loses in this branch, by this vector.
     pub(crate) fn loss(&self, branch: Branch, potential: &Potential) -> u64 {
         let Some(choice) = self.choices.all.get(branch.place).copied() else {
             return 0;
@@ -77,8 +77,8 @@ impl<'a> Walk<'a> {
         ready.get(at).copied()
     }
 
-    /// Returns the number of threads that do not wait at a get. A pool below `core` counts as
-    /// `core` threads.
+    /// Returns the number of threads that do not wait at a get. A pool with fewer than `core`
+    /// threads counts as having `core`.
     pub(crate) fn moving_threads(&self) -> u64 {
         let mut threads = 0u64;
         for pool in &self.machine.pools {
@@ -95,7 +95,7 @@ impl<'a> Walk<'a> {
         threads.saturating_sub(waiting)
     }
 
-    /// Returns the least room of all pools, in jobs.
+    /// Returns the smallest number of jobs that any pool can still accept.
     pub(crate) fn least_room(&self) -> u64 {
         let mut least = u64::MAX;
         for pool in &self.machine.pools {
@@ -104,7 +104,7 @@ impl<'a> Walk<'a> {
         least
     }
 
-    /// Returns `true` if a pool has no idle thread and a queued job.
+    /// Returns `true` if some pool has a queued job but no idle thread.
     pub(crate) fn has_closed(&self) -> bool {
         self.machine
             .pools

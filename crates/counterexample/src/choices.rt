@@ -1,29 +1,29 @@
-//! The choices of a walk.
+//! The choices of a walk: what may happen next in a state.
 
 use crate::machine::Machine;
 use job_bodies::{Action, Plan};
 use std::alloc::{AllocError, Global};
 use written_machine::Parent;
 
-/// The entry for a position that is not a submit.
+/// The entry of a position that is not a submit, in place of the index of a choice.
 const NO_CHOICE: usize = usize::MAX;
 
-/// A kind of next step.
+/// A choice of what happens next in a walk.
 #[derive(Clone, Copy, PartialEq, Eq)]
 pub(crate) enum Choice {
-    /// A new client of the kind moves to its first submit and makes it.
+    /// A new client of this client kind starts its body and performs the first submit in it.
     Begin(usize),
-    /// A client of the kind makes the first submit of its body.
+    /// A client of this client kind, which has moved before, performs the first submit of its body.
     First(usize),
-    /// A client of the kind makes another submit of its body.
+    /// A client of this client kind performs a later submit of its body.
     Later(usize),
-    /// A job of the class makes a submit.
+    /// A job of the class performs its next submit.
     Inner(usize),
     /// A thread takes a job of the class from its pool's queue.
     Take(usize),
 }
 
-/// All choices of a plan, and the choice of each submit.
+/// All choices of a plan, and the index of the choice for each submit in a body.
 #[derive(Drop)]
 pub(crate) struct Choices {
     pub(crate) all: Vec<Choice>,
@@ -32,7 +32,7 @@ pub(crate) struct Choices {
 }
 
 impl Choices {
-    /// Returns the choices of the plan.
+    /// Computes the choices of the plan.
     pub(crate) fn of(alloc: Global, plan: &Plan) -> Result<Choices, AllocError> {
         let mut choices = Choices {
             all: Vec::new(alloc),
@@ -77,7 +77,8 @@ impl Choices {
         }
     }
 
-    /// Returns the index of the choice for an actor at this position of its body.
+    /// Returns the index of the choice for an actor at this position of its body: [`NO_CHOICE`] if
+    /// the action is not a submit, `None` at the end of the body.
     pub(crate) fn place_of(
         &self,
         machine: &Machine,

@@ -19,18 +19,17 @@ use job_bodies::Plan;
 use std::alloc::{AllocError, Global};
 use weights::Vector;
 
-/// Checks whether a list of events is a witness, and returns the witness if it is. `members` are
-/// the jobs that wait only for each other after the events. `standing` has one vector for each
-/// pool, which may prove that the pool never has more than `core` threads.
+/// Checks whether a list of events is a witness, and returns the witness if it is.
 ///
-/// The numbers in `members` must be in ascending order, without duplicates; otherwise they are not
-/// a witness.
+/// `members` are the numbers of the jobs that wait only for each other after the events, in
+/// ascending order and without duplicates. `standing` has one vector for each pool, which may prove
+/// that the pool never has more than `core` threads; `standing` may be empty.
 ///
 /// The arguments are not trusted. A vector that is not a standing vector of its pool, or that fails
-/// one of the conditions, proves nothing, and `standing` may be empty. A witness ends at the first
-/// rejected submit, and later events are removed. Returns `None` if no submit is rejected and the
-/// members do not wait only for each other after the last event. An event that is not possible also
-/// gives `None`.
+/// a condition, proves nothing. If a submit is refused, the witness ends at the first such submit,
+/// and later events are removed. Returns `None` if no submit is refused and the members are not in
+/// ascending order or do not wait only for each other after the last event. Also returns `None` if
+/// an event is not possible.
 ///
 /// # Errors
 ///
@@ -54,7 +53,8 @@ pub fn confirmed(
     }
 }
 
-/// Returns the witness of the first `length` events, the last of which the pool rejects.
+/// Returns the witness that consists of the first `length` events. The last of them is a submit
+/// that the pool refuses.
 fn refused(mut events: Vec<Event>, length: usize, pool: usize) -> Witness
     ensures events { result.events.items ≡ take length events.items }
     ensures ending { result.ending ≡ Refused pool }
@@ -66,8 +66,8 @@ fn refused(mut events: Vec<Event>, length: usize, pool: usize) -> Witness
     }
 }
 
-/// Returns the witness of the events that lead to this world, if the members wait only for each
-/// other in it.
+/// Returns the witness that consists of the events, which lead to this world, if the members wait
+/// only for each other in this world.
 fn stuck(
     plan: &Plan,
     world: &World,
@@ -93,8 +93,8 @@ fn stuck(
     Some(Witness { events, ending })
 }
 
-/// Returns the reason why members that wait only for each other do so permanently, or `None` if no
-/// reason is proved.
+/// Returns the reason why the members, which wait only for each other, do so permanently. Returns
+/// `None` if neither reason is proved.
 fn reason(plan: &Plan, world: &World, members: &[usize], standing: &[Vector]) -> Option<Reason>
     requires { IsReachableView plan.now world.now.view }
     ensures { (s : State)
@@ -102,7 +102,7 @@ fn reason(plan: &Plan, world: &World, members: &[usize], standing: &[Vector]) ->
         → live_view plan.now s ≡ world.now.view
         → IsReason plan.now members.now standing.now s result }
 {
-    // The contract of this call states that a plan is well-formed.
+    // The contract of this call states that the plan is well-formed, which the proof needs.
     let _pools = plan.pools();
     if all_start_no_thread(plan, world, members, &[]) {
         Some(Reason::PoolsAreFull)

@@ -1,4 +1,4 @@
-//! The description of a witness.
+//! The description of a witness for a reader.
 
 ghost use Rattle.std.specs.Prelude.{◌++◌, IfOk, codes, string_bytes};
 ghost use Rattle.support.specs.Pushed.{Pushes};
@@ -11,9 +11,11 @@ use crate::{Ending, Reason, Witness};
 use job_bodies::Plan;
 use std::alloc::{AllocError, Global};
 
-/// Returns the description of a witness. Its first line is like
-/// `refused by db, after 7 events of 2 clients`. Then come the events, the pools, and what each job
-/// waits for. The last line says why the jobs wait permanently, or what may end the wait.
+/// Returns the description of a witness.
+///
+/// The first line has the form `refused by db, after 7 events of 2 clients`. The events, the pools
+/// and what each job waits for follow. If jobs wait only for each other, the last line says why
+/// they do so permanently, or what may end the wait.
 ///
 /// # Errors
 ///
@@ -30,7 +32,7 @@ pub fn describe(alloc: Global, plan: &Plan, witness: &Witness) -> Result<String,
     Ok(text)
 }
 
-/// Appends the first line.
+/// Appends the first line: the ending of the witness, and the numbers of its events and clients.
 fn push_head(
     text: &mut String,
     plan: &Plan,
@@ -80,7 +82,7 @@ fn push_stuck(text: &mut String, how: &str, members: &[usize]) -> Result<(), All
     write!(text, "{how}{jobs} jobs wait only for each other")
 }
 
-/// Appends the reason for a permanent wait, or what may end the wait.
+/// Appends the last line: the reason why jobs wait permanently, or what may end the wait.
 fn push_why(text: &mut String, ending: &Ending) -> Result<(), AllocError>
     ensures { Pushes result text.old text.new (spec.why_text ending.now) }
 {

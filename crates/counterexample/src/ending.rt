@@ -3,22 +3,22 @@
 /// The ending of a witness.
 #[derive(Debug, Drop)]
 pub enum Ending {
-    /// The last event is a submit that the pool with this number rejects.
+    /// The last event is a submit that the pool with this number refuses.
     Refused(usize),
-    /// After the last event, the jobs with these numbers wait only for each other. They do so
-    /// permanently, for this reason.
+    /// After the last event, the jobs with these numbers wait only for each other, permanently, for
+    /// this reason.
     StuckForever(Vec<usize>, Reason),
     /// After the last event, the jobs with these numbers wait only for each other. A later event
-    /// may end that.
+    /// may end the wait.
     StuckNow(Vec<usize>),
 }
 
 /// The reason why jobs wait only for each other permanently.
 #[derive(Clone, Copy, Debug, PartialEq, Eq)]
 pub enum Reason {
-    /// Each pool in whose queue one of them waits has all its threads.
+    /// Each pool in whose queue one of the jobs waits has `max` threads.
     PoolsAreFull,
-    /// Each of these pools has all its threads or never has more than `core` threads, as a standing
-    /// vector proves.
+    /// Each pool in whose queue one of the jobs waits has `max` threads, or never has more than
+    /// `core` threads, as a standing vector proves.
     PoolsStayAtCore,
 }

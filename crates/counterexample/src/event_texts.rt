@@ -12,7 +12,7 @@ use std::alloc::AllocError;
 use support::push_number;
 
 /// Appends each event of the witness on a line of its own, in the format that `replay` reads. If
-/// jobs wait only for each other after the events, appends the question whether they are stuck.
+/// jobs wait only for each other after the events, appends a `stuck` line with their numbers.
 ///
 /// # Errors
 ///
@@ -24,7 +24,7 @@ pub fn push_event_lines(text: &mut String, plan: &Plan, witness: &Witness) -> Re
     push_lines(text, plan, &witness.events, stuck_members(&witness.ending))
 }
 
-/// Returns the jobs that wait only for each other after the events.
+/// Returns the numbers of the jobs that wait only for each other after the last event.
 pub(crate) fn stuck_members(ending: &Ending) -> &[usize]
     ensures { result.now ≡ spec.stuck_members ending.now }
 {
@@ -84,7 +84,7 @@ fn push_named(text: &mut String, words: &str, name: &str) -> Result<(), AllocErr
     text.push_str(name)
 }
 
-/// Appends the question whether the jobs are stuck, if there are any.
+/// Appends a `stuck` line with the numbers of the members, if there are any.
 fn push_question(text: &mut String, _plan: &Plan, members: &[usize]) -> Result<(), AllocError>
     ensures { Pushes result text.old text.new (lines_text _plan.now (spec.question members.now)) }
 {

@@ -11,15 +11,15 @@ use written_machine::Parent;
 
 /// A factor of the hash function.
 const FACTOR: u64 = 0x9e37_79b9_7f4a_7c15;
-/// The hash input for a phase. Lower numbers stand for positions.
+/// The hash input for the phase of a done job. The number of a position is smaller.
 const DONE: u64 = 1_000_001;
-
+/// The hash input for the phase of a queued job.
 const QUEUED: u64 = 1_000_002;
-/// Tags for the independent parts of a state.
+/// The tag of a job that no actor will get.
 const ROOT: u64 = 3;
-
+/// The tag of a client.
 const CLIENT: u64 = 5;
-
+/// The tag of a pool.
 const POOL: u64 = 7;
 
 /// Returns the fingerprint of a state.
@@ -55,7 +55,7 @@ fn mixed(first: u64, second: u64) -> u64 {
     mixed ^ (mixed >> 31)
 }
 
-/// The fingerprints of the parts of a state.
+/// The fingerprints of the parts of a state. An actor's part includes the jobs that it will get.
 #[derive(Drop)]
 struct Prints<'a> {
     machine: &'a Machine<'a>,
@@ -63,7 +63,7 @@ struct Prints<'a> {
     of_jobs: Vec<u64>,
     /// For each client, the fingerprint of the jobs that it will get.
     of_active_clients: Vec<u64>,
-    /// For each job, its place in a queue, counted from 1, or 0.
+    /// For each job, its place in its pool's queue, counted from 1. 0 if the job is not queued.
     places: Vec<u64>,
     whole: u64,
 }
@@ -86,8 +86,9 @@ impl Prints<'_> {
         }
     }
 
-    /// Adds a job whose own jobs were added before. Adds it to the actor that will get it, or to
-    /// the whole.
+    /// Adds the fingerprint of a job to that of the actor that will get the job. If no actor will,
+    /// adds it to the whole, unless the job is done. The jobs that this job will get must have been
+    /// added before.
     fn add_job(&mut self, number: usize, job: &Job) {
         let of_jobs = self.of_jobs.get(number).copied().unwrap_or(0);
         let phase = match job.phase {
@@ -103,7 +104,7 @@ impl Prints<'_> {
         }
     }
 
-    /// Adds a job to the actor that will get it.
+    /// Adds the fingerprint of a job to that of its parent.
     fn add_to_parent(&mut self, parent: Parent, print: u64) {
         match parent {
             Parent::Client(client) => {
@@ -119,7 +120,7 @@ impl Prints<'_> {
         }
     }
 
-    /// Returns `true` if the job's parent has yet to get it.
+    /// Returns `true` if the job's parent has not got the job yet, and will.
     fn will_get(&self, job: &Job, number: usize) -> bool {
         self.machine.is_to_get(job.parent, job.submit)
             && self.machine.child(job.parent, job.submit) == Some(number)

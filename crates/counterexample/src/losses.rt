@@ -1,5 +1,5 @@
-//! The losses of choices, measured by a vector. The total weight of a state never rises. If a
-//! vector misses its bound, a walk to a violation can lose only little of it.
+//! The weight that a state loses in a choice, by a vector. The total weight of a state never rises.
+//! If a vector exceeds its bound, a walk that violates the bound loses at most the excess.
 
 use crate::choices::Choice;
 use crate::machine::Machine;
@@ -8,20 +8,21 @@ use crate::vectors::Potential;
 use job_bodies::{Action, MAX_ACTIONS};
 use written_machine::Parent;
 
-/// The maximum of a reported loss.
+/// The greatest loss that is returned.
 const MAX_LOST: u64 = 1_000_000;
-/// The maximum number of parents that are followed when a finished job unblocks them.
+/// The maximum number of ancestors that are followed when the end of a job unblocks its parent, the
+/// end of the parent unblocks the grandparent, and so on.
 const MAX_PARENTS: usize = 16;
 
-/// A state, and the vector whose weights are used.
+/// A state, and the vector by which its losses are measured.
 #[derive(Clone, Copy)]
 pub(crate) struct Losses<'a> {
     machine: &'a Machine<'a>,
     potential: &'a Potential,
 }
 
-/// A body, the weight of an actor at each position of it, and the weight that remains after its
-/// end.
+/// A body, the weight of an actor at each position of the body, and the weight that remains after
+/// the end of the body.
 #[derive(Clone, Copy)]
 struct WeightedBody<'a> {
     body: &'a [Action],
@@ -34,8 +35,8 @@ impl WeightedBody<'_> {
         self.row.get(position).copied().unwrap_or(0)
     }
 
-    /// Returns the weight of the actor after the work from this position, and whether the actor is
-    /// then at the end of its body.
+    /// Returns the weight of an actor that has performed all work actions from this position to the
+    /// next submit or get, and whether the actor is then at the end of its body.
     fn settled(&self, position: usize) -> (u64, bool) {
         let mut position = position;
         for _ in 0..MAX_ACTIONS {
@@ -54,7 +55,7 @@ impl<'a> Losses<'a> {
         Losses { machine, potential }
     }
 
-    /// Returns the loss of a possible choice that this actor makes.
+    /// Returns the loss of a possible choice, which this actor makes.
     pub(crate) fn of(&self, choice: Choice, actor: Option<Parent>) -> u64 {
         let lost = match choice {
             Choice::Begin(kind) => self.of_begin(kind),
@@ -100,7 +101,7 @@ impl<'a> Losses<'a> {
         }
     }
 
-    /// Returns the weight of a finished job of the class.
+    /// Returns the weight of a done job of the class.
     fn done(&self, class: usize) -> u64 {
         match self.potential.classes.get(class) {
             Some(row) => row.last().copied().unwrap_or(0),
@@ -138,8 +139,8 @@ impl<'a> Losses<'a> {
         self.of_submit(&self.weighted_actor(actor)?, position, position)
     }
 
-    /// Returns the loss of a submit at position `at` by an actor that now has the weight of
-    /// position `from`.
+    /// Returns the loss of the submit at position `at`, by an actor that is now at position `from`
+    /// and performs only work in between.
     fn of_submit(&self, weighted: &WeightedBody, from: usize, at: usize) -> Option<u64> {
         let Action::Submit(class) = *weighted.body.get(at)? else {
             return None;
@@ -161,8 +162,8 @@ impl<'a> Losses<'a> {
         }
     }
 
-    /// Returns the loss when a job of the class is taken. If the job only works, includes the
-    /// actors that it unblocks.
+    /// Returns the loss when a job of the class is taken from its queue. If the job then runs to
+    /// its end, includes the actors that this end unblocks.
     fn of_take(&self, class: usize) -> Option<u64> {
         let pool = self.machine.plan.class_at(class)?.pool;
         let mut job = self.machine.pools.get(pool)?.next_to_take()?;

@@ -1,12 +1,12 @@
-//! A lightweight machine for searches. It stores only the clients that have moved, and no history
-//! except the jobs.
+//! A lightweight machine for searches. It stores the pools, all jobs that were created, and the
+//! clients that have moved, but no list of events.
 
 use crate::pools::{Admission, SearchPool};
 use job_bodies::{Action, MAX_ACTIONS, Plan};
 use std::alloc::{AllocError, Global};
 use written_machine::Parent;
 
-/// The phase of a job.
+/// The phase of a job: queued, at a position of its body, or done.
 #[derive(Clone, Copy, PartialEq, Eq)]
 pub(crate) enum Phase {
     Queued,
@@ -14,22 +14,23 @@ pub(crate) enum Phase {
     Done,
 }
 
-/// A job.
+/// A job that was created. Its number is its index in [`Machine::jobs`].
 #[derive(Clone, Copy, PartialEq, Eq)]
 pub(crate) struct Job {
     pub(crate) class: usize,
     pub(crate) pool: usize,
     pub(crate) parent: Parent,
     pub(crate) phase: Phase,
-    /// The position of the submit in the parent's body.
+    /// The position in the parent's body of the submit that created this job.
     pub(crate) submit: usize,
     /// The latest job that this job created.
     newest: Option<usize>,
-    /// The previous job of the same parent.
+    /// The job that the same parent created before this one.
     before: Option<usize>,
 }
 
-/// A client that has moved. Its number in this machine is its index in the list of such clients.
+/// A client that has moved. Its number in this machine is its index in
+/// [`Machine::active_clients`], which differs from its number in the plan.
 #[derive(Clone, Copy, PartialEq, Eq)]
 pub(crate) struct ActiveClient {
     kind: usize,
@@ -37,22 +38,23 @@ pub(crate) struct ActiveClient {
     newest: Option<usize>,
 }
 
-/// The outcome of a step.
+/// The outcome of an actor's step.
 #[derive(Clone, Copy, PartialEq, Eq)]
 pub(crate) enum StepOutcome {
-    /// The step was not possible, and nothing has changed.
+    /// The step was not possible, and nothing changed.
     Nothing,
     /// The actor worked, got a job or started its body again.
     Moved,
-    /// The job with this number was created. `started` tells whether a thread runs it.
+    /// The job with this number was created. `started` is `true` if a new thread runs it, and
+    /// `false` if it is queued.
     Created { job: usize, started: bool },
-    /// A pool rejected a job.
+    /// The pool refused the job.
     Refused,
-    /// The job is done. This actor created it.
+    /// The job reached the end of its body and is done. The value is the job's parent.
     Finished(Parent),
 }
 
-/// The pools, the jobs, and the clients that have moved.
+/// A state of the lightweight machine: the pools, the jobs, and the clients that have moved.
 #[derive(Drop)]
 pub(crate) struct Machine<'a> {
     pub(crate) plan: &'a Plan,
@@ -62,7 +64,7 @@ pub(crate) struct Machine<'a> {
 }
 
 impl<'a> Machine<'a> {
-    /// Creates the machine at the start of the plan.
+    /// Creates the machine in the plan's initial state.
     pub(crate) fn start(alloc: Global, plan: &'a Plan) -> Result<Machine<'a>, AllocError> {
         let pools = plan
             .pools()
@@ -107,7 +109,7 @@ impl<'a> Machine<'a> {
         Ok(Parent::Client(number))
     }
 
-    /// Returns the number of the client's kind, or of the job's class.
+    /// Returns the number of the client's client kind, or of the job's class.
     pub(crate) fn kind_of(&self, actor: Parent) -> Option<usize> {
         match actor {
             Parent::Client(number) => self.active_clients.get(number).map(|client| client.kind),
@@ -115,8 +117,8 @@ impl<'a> Machine<'a> {
         }
     }
 
-    /// Returns the position of the actor and the action there, which is `None` at the end of the
-    /// body. Returns `None` if the actor is not at a position.
+    /// Returns the actor's position in its body, and the action at this position, which is `None`
+    /// at the end of the body. Returns `None` if the actor is a queued or done job.
     pub(crate) fn point(&self, actor: Parent) -> Option<(usize, Option<Action>)> {
         match actor {
             Parent::Client(number) => {
@@ -135,7 +137,7 @@ impl<'a> Machine<'a> {
         }
     }
 
-    /// Returns the latest job that the actor created at this submit.
+    /// Returns the latest job that the actor created by the submit at this position of its body.
     pub(crate) fn child(&self, actor: Parent, submit: usize) -> Option<usize> {
         let mut next = self.newest(actor);
         for _ in 0..MAX_ACTIONS {
@@ -157,7 +159,7 @@ impl<'a> Machine<'a> {
         }
     }
 
-    /// Returns `true` if the actor has yet to perform a get of this submit.
+    /// Returns `true` if the rest of the actor's body has a get of the submit at this position.
     pub(crate) fn is_to_get(&self, actor: Parent, submit: usize) -> bool {
         let Some((position, _)) = self.point(actor) else {
             return false;
@@ -206,7 +208,8 @@ impl<'a> Machine<'a> {
         }
     }
 
-    /// Lets an idle thread of the pool take the head of its queue, and returns that job.
+    /// Makes an idle thread of the pool take the first job of its queue, and returns that job.
+    /// Returns `None` if no thread is idle or the queue is empty.
     pub(crate) fn take(&mut self, pool: usize) -> Option<usize> {
         let job = self.pools.get_mut(pool)?.take()?;
         self.go_to(Parent::Job(job), 0);

@@ -1,4 +1,4 @@
-//! The check that the pools with queued jobs start no further thread.
+//! The check that the pools with queued members of a waiting set start no further thread.
 
 ghost use Rattle.std.specs.Prelude.{◌≡◌, ◌<◌, length, slice_get};
 ghost use Rattle.interleaving.specs.ViewStep.{live_job};
@@ -9,9 +9,9 @@ use interleaving::{Phase, World};
 use job_bodies::Plan;
 use weights::Vector;
 
-/// Returns `true` if each queued member is in a pool that starts no thread while a job is queued.
-/// Such a pool has all its threads, or it never has more than `core` threads, as its vector in
-/// `standing` proves. Allocates no memory.
+/// Returns `true` if each queued member is in the queue of a pool that starts no thread while a job
+/// is queued: the pool has `max` threads, or its vector in `standing` proves that it never has more
+/// than `core` threads. Allocates no memory.
 pub(crate) fn all_start_no_thread(
     plan: &Plan,
     world: &World,
@@ -58,7 +58,7 @@ fn pool_starts_no_thread(plan: &Plan, world: &World, pool: usize, standing: &[Ve
     pool < plan.pools().len() && (is_full(world, pool) || has_standing(plan, pool, standing))
 }
 
-/// Returns `true` if the pool has all its threads.
+/// Returns `true` if the pool has `max` threads.
 fn is_full(world: &World, pool: usize) -> bool
     requires { pool < length world.now.view.pools }
     ensures { result ≡ spec.is_full world.now.view pool }
@@ -67,7 +67,8 @@ fn is_full(world: &World, pool: usize) -> bool
     state.threads() == state.max()
 }
 
-/// Returns `true` if the pool's vector is a standing vector whose conditions all hold.
+/// Returns `true` if `standing` has a vector for the pool that satisfies all conditions of a
+/// standing vector.
 fn has_standing(plan: &Plan, pool: usize, standing: &[Vector]) -> bool
     requires { pool < length plan.now.pools }
     ensures { result ≡ spec.has_standing plan.now pool (slice_get standing.now pool) }

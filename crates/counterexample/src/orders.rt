@@ -1,4 +1,4 @@
-//! Orders of the choices.
+//! Orders of the choices of a walk, as a key for each choice. The least key comes first.
 
 use crate::choices::Choice;
 use std::alloc::{AllocError, Global};
@@ -6,7 +6,7 @@ use std::alloc::{AllocError, Global};
 /// The number of fixed orders, which use no random numbers.
 pub(crate) const FIXED_ORDERS: usize = 48;
 
-/// The seed of the generator.
+/// The seed of the pseudo-random number generator.
 const SEED: u64 = 0x9e37_79b9_7f4a_7c15;
 
 /// A deterministic pseudo-random number generator.
@@ -20,7 +20,7 @@ impl Rng {
         Rng { state: SEED }
     }
 
-    /// Returns the next number.
+    /// Returns the next pseudo-random number, which is below 2^31.
     pub(crate) fn next_number(&mut self) -> u64 {
         self.state = self
             .state
@@ -30,7 +30,7 @@ impl Rng {
     }
 }
 
-/// Returns a key for each choice. A walk makes the possible choice with the least key.
+/// Returns the keys of the choices in the fixed order with this number.
 pub(crate) fn fixed_order(
     alloc: Global,
     choices: &[Choice],
@@ -56,7 +56,9 @@ pub(crate) fn shuffle(keys: &mut [u64], rng: &mut Rng) {
     }
 }
 
-/// The parameters of a fixed order.
+/// The parameters of a fixed order: the order of the three groups of choices (first submits, other
+/// submits, takes), and whether clients that have moved come before new ones, later choices before
+/// earlier ones, and later client kinds before earlier ones.
 #[derive(Clone, Copy)]
 struct OrderParams {
     groups: usize,
@@ -77,7 +79,8 @@ impl OrderParams {
             Choice::First(_) => !self.old_first,
             _ => false,
         };
-        // Both choices of a kind in the first group get the same number, so that they are adjacent.
+        // The choices `Begin` and `First` of a client kind get the same number, so that they are
+        // adjacent in the order.
         let number = match choice {
             Choice::Begin(kind) | Choice::First(kind) => kind as u64,
             _ => place,
@@ -93,7 +96,7 @@ impl OrderParams {
             .saturating_add(u64::from(late))
     }
 
-    /// Returns the rank of the group in the order: 0, 1 or 2.
+    /// Returns the position of this group among the three groups: 0, 1 or 2.
     fn rank(&self, group: usize) -> u64 {
         let ranks = match self.groups {
             0 => [0, 1, 2],

@@ -1,4 +1,4 @@
-//! The state of the pools.
+//! The lines of a story that show the state of the pools.
 
 ghost use Rattle.interleaving.specs.OfPlan.{IsReachableView};
 

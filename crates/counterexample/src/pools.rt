@@ -4,7 +4,7 @@ use job_bodies::Pool;
 use std::alloc::{AllocError, Global};
 use std::collections::VecDeque;
 
-/// The answer of a pool to an offered job.
+/// The response of a pool to an offered job.
 #[derive(Clone, Copy, PartialEq, Eq)]
 pub(crate) enum Admission {
     Started,
@@ -49,7 +49,7 @@ impl SearchPool {
         })
     }
 
-    /// Returns the answer of the pool to a job that is offered now.
+    /// Returns the response of the pool if a job is offered to it in this state.
     pub(crate) fn answer(&self) -> Admission {
         if self.threads < self.core {
             Admission::Started
@@ -62,7 +62,7 @@ impl SearchPool {
         }
     }
 
-    /// Offers the job with this number to the pool.
+    /// Offers the job with this number to the pool, and returns the pool's response.
     pub(crate) fn offer(&mut self, job: usize) -> Result<Admission, AllocError> {
         let answer = self.answer();
         match answer {
@@ -73,7 +73,8 @@ impl SearchPool {
         Ok(answer)
     }
 
-    /// Returns the job that an idle thread would take.
+    /// Returns the job that an idle thread would take next. Returns `None` if no thread is idle or
+    /// the queue is empty.
     pub(crate) fn next_to_take(&self) -> Option<usize> {
         if self.idle == 0 {
             return None;
@@ -81,7 +82,8 @@ impl SearchPool {
         self.queue.front().copied()
     }
 
-    /// Lets an idle thread take the head of the queue, and returns that job.
+    /// Makes an idle thread take the first job of the queue, and returns that job. Returns `None`
+    /// if no thread is idle or the queue is empty.
     pub(crate) fn take(&mut self) -> Option<usize> {
         let job = self.next_to_take()?;
         self.idle = self.idle.saturating_sub(1);
@@ -89,12 +91,12 @@ impl SearchPool {
         Some(job)
     }
 
-    /// Makes a busy thread idle.
+    /// Makes a busy thread idle, at the end of its job.
     pub(crate) fn finish(&mut self) {
         self.idle = self.idle.saturating_add(1);
     }
 
-    /// Returns the number of threads.
+    /// Returns the number of threads of the pool.
     pub(crate) fn threads(&self) -> u64 {
         self.threads
     }
@@ -104,25 +106,26 @@ impl SearchPool {
         self.idle
     }
 
-    /// Returns the number of threads, or `core` if there are fewer.
+    /// Returns the number of threads, but at least `core`: the pool starts the others before it
+    /// queues a job.
     pub(crate) fn threads_to_come(&self) -> u64 {
         self.threads.max(self.core)
     }
 
-    /// Returns the number of jobs that can be submitted before one is rejected, if no job ends
-    /// meanwhile.
+    /// Returns the number of further jobs that the pool accepts if no thread takes a job from the
+    /// queue meanwhile.
     pub(crate) fn room(&self) -> u64 {
         let places = self.capacity.saturating_sub(self.queue.len() as u64);
         places.saturating_add(self.max.saturating_sub(self.threads))
     }
 
-    /// Returns the numbers of the queued jobs.
+    /// Returns the numbers of the queued jobs, from the first to the last of the queue.
     pub(crate) fn queued(&self) -> &VecDeque<usize> {
         &self.queue
     }
 
-    /// Returns `true` if a queued job waits only for running ones. With `permanent`, no further
-    /// thread may start either.
+    /// Returns `true` if no thread of the pool is idle, so that a queued job waits only for running
+    /// jobs. If `permanent` is `true`, the pool must also have `max` threads.
     pub(crate) fn is_closed(&self, permanent: bool) -> bool {
         self.idle == 0 && (!permanent || self.threads == self.max)
     }

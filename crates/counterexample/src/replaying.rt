@@ -1,4 +1,4 @@
-//! The replay of a list of events.
+//! The replay of a list of events in a world.
 
 ghost use Rattle.std.specs.Prelude.{◌≡◌, IfOk};
 ghost use Rattle.written_machine.specs.Reach.{start};
@@ -9,22 +9,23 @@ use interleaving::{Event, Outcome, World};
 use job_bodies::Plan;
 use std::alloc::AllocError;
 
-/// The result of the replay of a list.
+/// The result of the replay of a list of events.
 pub(crate) enum ReplayResult {
-    /// The last of this many events is rejected by the pool with this number, and no earlier one
-    /// is.
+    /// The first refused submit is the last of this many events. The pool with the second number
+    /// refuses it.
     Refused(usize, usize),
-    /// An event is not possible, and no earlier one is a rejected submit.
+    /// An event is not possible, and no earlier event is a refused submit.
     NotPossible,
-    /// Each event is possible, and none is a rejected submit.
+    /// Each event is possible, and none is a refused submit.
     Whole,
 }
 
-/// Replays the events in a new world of the plan, up to the first that is rejected or not possible.
+/// Performs the events in a new world of the plan, up to the first event that is a refused submit
+/// or is not possible.
 ///
 /// # Errors
 ///
-/// Returns `AllocError` if there is not enough memory for an event.
+/// Returns `AllocError` if memory runs out.
 pub(crate) fn replay(
     plan: &Plan,
     world: &mut World,

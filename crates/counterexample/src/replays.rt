@@ -1,4 +1,4 @@
-//! Replays of selected events of a script. Events that are no longer possible are skipped.
+//! Replays of selected events of a script. A replay skips events that are no longer possible.
 
 use crate::machine::{Machine, StepOutcome};
 use crate::scripts::Script;
@@ -14,13 +14,14 @@ pub(crate) struct Replay<'a> {
     pub(crate) machine: Machine<'a>,
     pub(crate) script: Script,
     pub(crate) is_refused: bool,
-    /// The actor of the replay for each client and each job of the script.
+    /// For each client of the script, its actor in the replay, if it has moved there.
     clients: Vec<Option<Parent>>,
+    /// For each job of the script, its actor in the replay, if it was created there.
     jobs: Vec<Option<Parent>>,
 }
 
 impl<'a> Replay<'a> {
-    /// Replays the events of the script whose entry in `kept` is `true`, up to the first rejected
+    /// Replays the events of the script whose entry in `kept` is `true`, up to the first refused
     /// submit.
     pub(crate) fn of(
         alloc: Global,
@@ -46,7 +47,7 @@ impl<'a> Replay<'a> {
         Ok(replay)
     }
 
-    /// Returns `true` if the replay ended in this violation.
+    /// Returns `true` if the replay ended in this violation or in a refused submit.
     pub(crate) fn has_violation(
         &self,
         alloc: Global,
@@ -86,7 +87,8 @@ impl<'a> Replay<'a> {
         }
     }
 
-    /// Returns the actor for the client. Adds the client if it has not moved yet.
+    /// Returns the actor for this client of the script. Adds the client to the replay if it has not
+    /// moved yet.
     fn client(&mut self, script: &Script, client: usize) -> Result<Option<Parent>, AllocError> {
         if let Some(actor) = self.clients.get(client).copied().unwrap_or(None) {
             return Ok(Some(actor));

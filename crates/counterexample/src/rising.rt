@@ -1,4 +1,4 @@
-//! Numbers in ascending order.
+//! The check that numbers are in ascending order, without duplicates.
 
 ghost use Rattle.std.specs.Prelude.{◌≡◌};
 ghost use Rattle.counterexample.specs.Rising.{are_rising, rise_above};
@@ -13,8 +13,8 @@ pub(crate) fn are_rising(numbers: &[usize]) -> bool
     }
 }
 
-/// Returns `true` if the first number is greater than `last`, and each other one greater than the
-/// one before it.
+/// Returns `true` if the first number is greater than `last`, and each other number is greater than
+/// the one before it.
 fn rise_above(mut last: usize, mut numbers: &[usize]) -> bool
     ensures { result ≡ rise_above last numbers.now }
 {

@@ -1,23 +1,23 @@
-//! Lists of events in which clients are numbered in the order of their first moves.
+//! Scripts: lists of events in which clients are numbered in the order of their first steps.
 
 use crate::machine::{Machine, StepOutcome};
 use job_bodies::Plan;
 use std::alloc::{AllocError, Global};
 use written_machine::{Event, Parent};
 
-/// An event, and the job that it created. A client is identified by its number in the lightweight
-/// machine.
+/// An event, and the number of the job that it created. The number of a client in the event is its
+/// number in the lightweight machine.
 #[derive(Clone, Copy, PartialEq, Eq)]
 pub(crate) struct ScriptStep {
     pub(crate) event: Event,
     pub(crate) made: Option<usize>,
 }
 
-/// A list of events from a plan's start.
+/// A list of events that are possible in sequence from a plan's initial state.
 #[derive(Drop)]
 pub(crate) struct Script {
     pub(crate) steps: Vec<ScriptStep>,
-    /// The kind of each client that moves, in the order of their first moves.
+    /// The client kind of each client that moves, by the client's number.
     pub(crate) kinds: Vec<usize>,
 }
 
@@ -30,7 +30,7 @@ impl Script {
         }
     }
 
-    /// Appends a step of the actor with this outcome.
+    /// Appends the event of a step of this actor with this outcome.
     pub(crate) fn add(&mut self, actor: Parent, outcome: StepOutcome) -> Result<(), AllocError> {
         let made = match outcome {
             StepOutcome::Created { job, .. } => Some(job),
@@ -44,15 +44,15 @@ impl Script {
         Ok(())
     }
 
-    /// Appends a take from the pool's queue.
+    /// Appends the event in which a thread takes a job from the pool's queue.
     pub(crate) fn add_take(&mut self, pool: usize) -> Result<(), AllocError> {
         let event = Event::Take(pool);
         self.steps.push(ScriptStep { event, made: None })?;
         Ok(())
     }
 
-    /// Returns the events with the client numbers of the plan. Of each kind, the clients with the
-    /// lowest numbers move.
+    /// Returns the events with the client numbers of the plan. The clients of a client kind get its
+    /// lowest numbers, in the order of their first steps.
     pub(crate) fn events(&self, alloc: Global, plan: &Plan) -> Result<Vec<Event>, AllocError> {
         let numbers = self.numbers(alloc, plan)?;
         self.steps
@@ -66,7 +66,7 @@ impl Script {
             .collect(alloc)
     }
 
-    /// Returns the plan's number for each client that moves.
+    /// Returns the number in the plan of each client that moves.
     fn numbers(&self, alloc: Global, plan: &Plan) -> Result<Vec<usize>, AllocError> {
         let mut next = Vec::with_capacity(alloc, plan.clients().len())?;
         let mut clients = 0usize;
@@ -89,7 +89,7 @@ impl Script {
         Ok(numbers)
     }
 
-    /// Adds a client of this kind to the script and to the machine.
+    /// Adds a client of this client kind to the script and to the machine, and returns the client.
     pub(crate) fn begin(
         &mut self,
         machine: &mut Machine,

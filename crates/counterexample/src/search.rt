@@ -15,18 +15,18 @@ use job_bodies::Plan;
 use std::alloc::{AllocError, Global};
 use written_machine::Event;
 
-/// The number of walks for each vector that misses its bound.
+/// The number of guided walks for each vector that exceeds its bound.
 const GUIDED_WALKS: usize = 256;
 /// The number of walks in random orders.
 const RANDOM_WALKS: usize = 1500;
 
-/// Events that are probably a witness.
+/// Events that are probably a witness. [`confirmed`](crate::confirmed) checks whether they are.
 #[derive(Drop)]
 pub struct CandidateWitness {
-    /// The events, from the plan's start.
+    /// The events, from the plan's initial state.
     pub events: Vec<Event>,
     /// The numbers of the jobs that wait only for each other after the events. Empty if the last
-    /// event is a rejected submit.
+    /// event is a refused submit.
     pub members: Vec<usize>,
 }
 
@@ -35,18 +35,18 @@ pub struct CandidateWitness {
 pub struct SearchResult {
     /// A probable witness, if one was found.
     pub found: Option<CandidateWitness>,
-    /// The number of visited states: the start of each walk and of each search, and the state after
-    /// each choice. A state counts each time it is visited.
+    /// The number of visited states: the initial state once for each walk and once for the
+    /// best-first search, and the state after each choice. A state counts each time it is visited.
     pub states: usize,
 }
 
-/// Searches for a witness against the plan: events that end in a rejected submit, or in jobs that
-/// wait only for each other, possibly not permanently. Visits at most `states` states. If no
-/// witness is found, the plan may still have one. The result is the same for each call with the
-/// same arguments.
+/// Searches for a witness against the plan: events that end in a refused submit, or in jobs that
+/// wait only for each other, possibly not permanently. Visits at most `states` states. If the
+/// search finds no witness, the plan may still have one. The result is the same for each call with
+/// the same arguments.
 ///
-/// The contract promises nothing about a witness that is found: [`confirmed`](crate::confirmed)
-/// replays it.
+/// The contract promises nothing about the events that are found. Pass them to
+/// [`confirmed`](crate::confirmed), which replays them.
 ///
 /// # Errors
 ///
@@ -80,14 +80,17 @@ struct Search<'a> {
     rng: Rng,
     /// The number of states that the search may still visit.
     left: usize,
-    /// The number of further states that are reserved for the later stages.
+    /// The number of states that are reserved for the later stages of the search, in addition to
+    /// `left`.
     reserved: usize,
-    /// The result if no permanent violation is found.
+    /// Events after which some jobs wait only for each other, perhaps not permanently. They are the
+    /// result if no permanent violation is found.
     stuck_now: Option<Script>,
 }
 
 impl Search<'_> {
-    /// Performs the walks, and then the best-first search.
+    /// Performs the stages of the search: walks in fixed orders, guided walks, walks in random
+    /// orders, and the best-first search.
     fn find(&mut self) -> Result<Option<CandidateWitness>, AllocError> {
         if let Some(found) = self.in_fixed_orders()? {
             return Ok(Some(found));
@@ -105,7 +108,7 @@ impl Search<'_> {
         self.stuck_now_result()
     }
 
-    /// Reserves half of the remaining states for the later stages.
+    /// Reserves half of the remaining states for the later stages of the search.
     fn reserve_half(&mut self) {
         self.reserved = self.left / 2;
         self.left = self.left.saturating_sub(self.reserved);
@@ -116,7 +119,8 @@ impl Search<'_> {
         self.reserved = 0;
     }
 
-    /// Performs the walks in fixed orders. The first of them may use all remaining states.
+    /// Performs the walks in fixed orders. The first walk may use all remaining states, and the
+    /// others together half of them.
     fn in_fixed_orders(&mut self) -> Result<Option<CandidateWitness>, AllocError> {
         let first = self.fixed_rules(0)?;
         if let Some(found) = self.walk_once(first, None)? {
@@ -133,7 +137,8 @@ impl Search<'_> {
         Ok(None)
     }
 
-    /// Performs the walks that lose little of a vector that misses its bound.
+    /// Performs the guided walks, which lose as little weight as possible of a vector that exceeds
+    /// its bound.
     fn guided(&mut self, potentials: &[Potential]) -> Result<Option<CandidateWitness>, AllocError> {
         self.reserve_half();
         for potential in potentials {
@@ -187,7 +192,7 @@ impl Search<'_> {
         }
     }
 
-    /// Performs a walk, and returns a permanent violation if the walk finds one.
+    /// Performs a walk by these rules, and returns a permanent violation if the walk finds one.
     fn walk_once(
         &mut self,
         rules: Rules,
@@ -224,7 +229,7 @@ impl Search<'_> {
         }
     }
 
-    /// Returns the result if no permanent violation was found.
+    /// Returns the result of a search that found no permanent violation.
     fn stuck_now_result(&mut self) -> Result<Option<CandidateWitness>, AllocError> {
         match self.stuck_now.take() {
             Some(script) => {
@@ -235,7 +240,7 @@ impl Search<'_> {
         }
     }
 
-    /// Returns the rules of a walk in one of the fixed orders.
+    /// Returns the rules of a walk in the fixed order with this number.
     fn fixed_rules(&self, number: usize) -> Result<Rules, AllocError> {
         Ok(Rules {
             keys: fixed_order(self.alloc, &self.choices.all, number)?,
@@ -245,7 +250,8 @@ impl Search<'_> {
         })
     }
 
-    /// Returns the rules of a guided walk: first in the fixed orders, then in random orders.
+    /// Returns the rules of the guided walk with this number. The first walks choose in the fixed
+    /// orders, and the others in random orders.
     fn guided_rules(&mut self, number: usize) -> Result<Rules, AllocError> {
         let mut rules = self.fixed_rules(number)?;
         if number >= FIXED_ORDERS {
@@ -255,7 +261,7 @@ impl Search<'_> {
         Ok(rules)
     }
 
-    /// Returns the rules of a walk in a random order, mostly with few clients.
+    /// Returns the rules of the random walk with this number. Most random walks have few clients.
     fn random_rules(&mut self, number: usize) -> Result<Rules, AllocError> {
         let mut rules = self.fixed_rules(number)?;
         shuffle(&mut rules.keys, &mut self.rng);
@@ -268,7 +274,7 @@ impl Search<'_> {
     }
 }
 
-/// Returns the maximum number of states of a walk.
+/// Returns the maximum number of states that a walk visits.
 fn longest_walk(plan: &Plan) -> usize {
     let mut room = 0u64;
     for pool in plan.pools() {
@@ -277,7 +283,7 @@ fn longest_walk(plan: &Plan) -> usize {
     room.saturating_mul(12).saturating_add(128) as usize
 }
 
-/// Returns the result for this script.
+/// Shortens this script, which ends in this violation, and returns it as a probable witness.
 fn answer_of(
     alloc: Global,
     plan: &Plan,

@@ -1,4 +1,4 @@
-//! Reduction of scripts that keeps their violation.
+//! The reduction of a script to a shorter one with the same violation.
 
 use crate::replays::Replay;
 use crate::scripts::Script;
@@ -7,14 +7,14 @@ use job_bodies::Plan;
 use std::alloc::{AllocError, Global};
 use written_machine::Event;
 
-/// The maximum number of events that are replayed to shorten one script, in addition to the whole
-/// replays.
+/// The maximum number of events that are replayed to shorten one script, in addition to
+/// [`WHOLE_REPLAYS`] replays of the whole script.
 const MAX_REPLAYED: u64 = 6_000_000;
-/// The minimum number of whole replays.
+/// The number of replays of the whole script that are always allowed.
 const WHOLE_REPLAYS: u64 = 24;
-/// The maximum number of rounds.
+/// The maximum number of rounds, each of which tries every kind of removal.
 const MAX_ROUNDS: usize = 8;
-/// An upper bound of the number of times a length can be halved.
+/// An upper bound on the number of times that a length can be halved.
 const MAX_HALVES: usize = 40;
 
 /// The state of a reduction: the script, and the number of events that may still be replayed.
@@ -27,7 +27,7 @@ struct Shortener<'a> {
     left: u64,
 }
 
-/// Returns a script with the same violation that is at most as long.
+/// Returns a script with the same violation that is not longer.
 pub(crate) fn shorten_script(
     alloc: Global,
     plan: &Plan,
@@ -56,13 +56,13 @@ pub(crate) fn shorten_script(
 }
 
 impl Shortener<'_> {
-    /// Tries to remove all steps of jobs, and then all takes.
+    /// Tries to remove all steps of jobs, and then all takes from queues.
     fn without_kinds(&mut self) -> Result<(), AllocError> {
         self.try_without(|_, event| matches!(event, Event::Job(_)))?;
         self.try_without(|_, event| matches!(event, Event::Take(_)))
     }
 
-    /// Tries to remove groups of clients, in groups of decreasing size.
+    /// Tries to remove groups of clients with consecutive numbers, large groups before small ones.
     fn without_clients(&mut self) -> Result<(), AllocError> {
         let mut size = self.script.kinds.len();
         for _ in 0..MAX_HALVES {
@@ -83,7 +83,7 @@ impl Shortener<'_> {
         Ok(())
     }
 
-    /// Tries to remove runs of consecutive events, in runs of decreasing length.
+    /// Tries to remove runs of consecutive events, long runs before short ones.
     fn without_chunks(&mut self) -> Result<(), AllocError> {
         let mut size = self.script.steps.len() / 2;
         for _ in 0..MAX_HALVES {
@@ -101,7 +101,7 @@ impl Shortener<'_> {
         Ok(())
     }
 
-    /// Tries to remove all events of an actor from some event of that actor on.
+    /// Tries, for each event, to remove that event and all later events of the same actor.
     fn with_actors_still(&mut self) -> Result<(), AllocError> {
         for from in (0..self.script.steps.len()).rev() {
             if let Some(act) = self.script.steps.get(from).copied() {
@@ -111,8 +111,8 @@ impl Shortener<'_> {
         Ok(())
     }
 
-    /// Removes the events for which `is_out` returns `true`, if the remaining script has the same
-    /// violation and is shorter.
+    /// Removes the events for which `is_out` returns `true`, if the rest still has the violation
+    /// and is shorter. Does nothing if too few events may still be replayed.
     fn try_without<F: Fn(usize, Event) -> bool>(&mut self, is_out: F) -> Result<(), AllocError>
         requires { F.IsAlwaysCallable is_out }
     {
@@ -141,7 +141,8 @@ impl Shortener<'_> {
     }
 }
 
-/// Returns an upper bound of the number of parts of this size. The last part may be smaller.
+/// Returns an upper bound on the number of parts of this size that cover this length. The last part
+/// may be smaller.
 fn parts(length: usize, size: usize) -> usize {
     length.checked_div(size).unwrap_or(0).saturating_add(1)
 }

@@ -1,4 +1,4 @@
-//! The description of one event: the actor, and its action.
+//! The description of one event: the actor, and what it does.
 
 ghost use Rattle.interleaving.specs.OfPlan.{IsReachableView};
 
@@ -7,7 +7,7 @@ use job_bodies::{Action, Client, Plan};
 use std::alloc::{AllocError, Global};
 
 /// Performs the event, and returns its description in two parts, such as `client web` and
-/// `submits page (queued)`. Returns `None` if the event is not possible.
+/// `submits page (queued)`. Returns `None` and changes nothing if the event is not possible.
 pub(crate) fn describe_step(
     alloc: Global,
     world: &mut World,
@@ -34,7 +34,8 @@ pub(crate) fn describe_step(
     Ok(Some((who, act)))
 }
 
-/// Returns the actor, such as `client web`, `job page` or `pool db`. A job is named by its class.
+/// Returns the name of the event's actor, such as `client web`, `job page` or `pool db`. A client
+/// is named by its client kind, and a job by its class.
 fn actor(alloc: Global, world: &World, plan: &Plan, event: Event) -> Result<String, AllocError> {
     let mut text = String::new(alloc);
     match event {
@@ -54,8 +55,8 @@ fn actor(alloc: Global, world: &World, plan: &Plan, event: Event) -> Result<Stri
     Ok(text)
 }
 
-/// Returns the kind of the client with this number. Clients are numbered kind by kind in plan
-/// order, and a kind has as many clients as its count.
+/// Returns the client kind of the client with this number. The clients of each client kind have
+/// consecutive numbers, in the order of the client kinds in the plan.
 pub(crate) fn kind_of(plan: &Plan, client: usize) -> Option<&Client> {
     let mut before = 0u64;
     for kind in plan.clients() {
@@ -67,12 +68,12 @@ pub(crate) fn kind_of(plan: &Plan, client: usize) -> Option<&Client> {
     None
 }
 
-/// Returns the class of a live job, or a number without a class if the job is not live.
+/// Returns the number of the job's class, or a number that no class has if the job is not live.
 pub(crate) fn class_of(world: &World, job: usize) -> usize {
     world.job(job).map_or(usize::MAX, |job| job.class)
 }
 
-/// Returns the next action of the actor.
+/// Returns the next action of the event's actor, or `None` at the end of its body and for a pool.
 fn next_action(world: &World, plan: &Plan, event: Event) -> Option<Action> {
     match event {
         Event::Client(client) => {
@@ -90,7 +91,8 @@ fn next_action(world: &World, plan: &Plan, event: Event) -> Option<Action> {
     }
 }
 
-/// Returns the description of a step whose next action was `action`.
+/// Returns the description of an actor's step that performed `action`. Without an action, the actor
+/// was at the end of its body, or a thread of a pool ended.
 fn act(
     alloc: Global,
     plan: &Plan,
@@ -115,7 +117,7 @@ fn act(
     Ok(text)
 }
 
-/// Appends the answer of the pool to a submit.
+/// Appends the pool's response to a submit, such as ` (queued)`.
 fn push_answer(text: &mut String, plan: &Plan, outcome: Outcome) -> Result<(), AllocError> {
     match outcome {
         Outcome::Started(_) => text.push_str(" (a new thread starts it)"),
@@ -129,7 +131,7 @@ fn push_answer(text: &mut String, plan: &Plan, outcome: Outcome) -> Result<(), A
     }
 }
 
-/// Returns the description of a take by a thread of a pool.
+/// Returns the description of a step in which a thread takes a job from its pool's queue.
 fn taken(
     alloc: Global,
     world: &World,

@@ -1,4 +1,4 @@
-//! The story of a list of events.
+//! The story of a list of events: what happens, and the state after it.
 
 ghost use Rattle.interleaving.specs.OfPlan.{IsReachableView};
 
@@ -10,19 +10,18 @@ use interleaving::{Event, World};
 use job_bodies::Plan;
 use std::alloc::{AllocError, Global};
 
-/// The maximum number of lines for the events. If there are more, only the first and the last are
-/// listed.
+/// The maximum number of lines for the events. If there would be more, one line replaces the middle
+/// lines.
 const MAX_LINES: usize = 20;
 
-/// The number of first lines that are listed if there are too many.
+/// The number of lines before the line that replaces the middle lines.
 const FIRST_LINES: usize = 9;
 
-/// The number of last lines that are listed if there are too many. The first lines, one line
-/// between them and the last lines together have the maximum number.
+/// The number of lines after the line that replaces the middle lines.
 const LAST_LINES: usize = 10;
 
-/// Returns the story of the events from the plan's start: the events, the pools after them, and
-/// what each member waits for. An event that is not possible is skipped.
+/// Returns the story of the events from the plan's initial state: the events, the pools after them,
+/// and what each member waits for. An event that is not possible is skipped.
 ///
 /// # Errors
 ///
@@ -42,7 +41,7 @@ pub(crate) fn story(
     Ok(text)
 }
 
-/// Performs the events, and returns their descriptions.
+/// Performs the events, and returns their descriptions as runs of equal turns.
 fn runs_of(
     alloc: Global,
     world: &mut World,

@@ -1,4 +1,4 @@
-//! Turns of actors, and runs of equal turns.
+//! Turns of actors (consecutive steps of one actor), and runs of equal turns.
 
 use interleaving::Event;
 use std::alloc::{AllocError, Global};
@@ -11,7 +11,7 @@ struct Turn {
     events: u64,
 }
 
-/// A sequence of equal turns.
+/// A sequence of turns with the same text, which is listed on one line.
 #[derive(Drop)]
 pub(crate) struct Run {
     pub(crate) text: String,
@@ -34,7 +34,8 @@ impl RunBuilder {
         }
     }
 
-    /// Adds an event. If its actor also performed the previous event, extends the current turn.
+    /// Adds an event with its description: the actor `who`, and what the actor does. If the same
+    /// actor performed the previous event, extends the current turn.
     pub(crate) fn push(
         &mut self,
         actor: Event,
@@ -78,7 +79,7 @@ impl RunBuilder {
         Ok(())
     }
 
-    /// Returns all runs.
+    /// Ends the current turn, and returns all runs.
     pub(crate) fn into_runs(mut self) -> Result<Vec<Run>, AllocError> {
         if let Some(last) = self.current.take() {
             self.end(last)?;

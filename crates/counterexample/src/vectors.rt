@@ -1,11 +1,11 @@
-//! The vectors of a plan that miss their bounds.
+//! The vectors that exceed the bounds that the sizes of a plan set for them.
 
 use job_bodies::Plan;
 use least_vectors::{Kind, Levels, ResizedPlan, reach};
 use std::alloc::{AllocError, Global};
 use weights::Vector;
 
-/// The weights of a vector.
+/// The weights of a vector, by which walks measure their losses.
 #[derive(Drop)]
 pub(crate) struct Potential {
     pub(crate) workers: Vec<u64>,
@@ -13,7 +13,8 @@ pub(crate) struct Potential {
     pub(crate) clients: Vec<Vec<u64>>,
 }
 
-/// Returns the lightest vectors of the plan that are heavier than its sizes allow.
+/// Returns the lightest vectors of the pools, as far as they are heavier than the plan's sizes
+/// allow. They show where the plan may fail.
 pub(crate) fn missed_vectors(alloc: Global, plan: &Plan) -> Result<Vec<Potential>, AllocError> {
     let mut vectors = MissedVectors {
         alloc,
@@ -40,7 +41,7 @@ pub(crate) fn missed_vectors(alloc: Global, plan: &Plan) -> Result<Vec<Potential
     Ok(vectors.potentials)
 }
 
-/// The vectors found so far.
+/// The vectors that were found to exceed their bounds.
 #[derive(Drop)]
 struct MissedVectors {
     alloc: Global,
@@ -48,8 +49,8 @@ struct MissedVectors {
 }
 
 impl MissedVectors {
-    /// Returns `true` if the pool's vector of this kind weighs at most `limit`. Otherwise records
-    /// the vector.
+    /// Returns `true` if the pool's lightest vector of this kind weighs at most `limit`. Otherwise
+    /// records that vector.
     fn holds(
         &mut self,
         growing: &ResizedPlan,
@@ -78,8 +79,9 @@ impl MissedVectors {
         Ok(false)
     }
 
-    /// Assigns this rank to each pool whose blocked vector holds, and returns whether a pool got
-    /// it. If no pool got it, keeps the vectors of the other pools.
+    /// Assigns this rank to each pool without a rank whose blocked vector for this rank is within
+    /// its bound, and returns whether a pool got the rank. The other pools' blocked vectors remain
+    /// recorded only if no pool got it.
     fn rank_pools(
         &mut self,
         growing: &ResizedPlan,

@@ -1,4 +1,4 @@
-//! The jobs, and what each of them waits for.
+//! The lines of a story that show what each waiting job waits for.
 
 use interleaving::{JobView, Parent, Phase, World};
 use job_bodies::{Action, Plan};
@@ -7,8 +7,8 @@ use std::alloc::AllocError;
 /// The maximum number of waiting jobs that are listed.
 const MAX_LINES: usize = 20;
 
-/// Appends a line for each of the jobs, such as `job 0 (report) waits for job 1 (section)` or
-/// `job 1 (section) waits in the queue of p, ..`.
+/// Appends a line for each member of a waiting set, such as
+/// `job 0 (report) waits for job 1 (section)` or `job 1 (section) waits in the queue of p, ..`.
 pub(crate) fn push_waits(
     text: &mut String,
     plan: &Plan,

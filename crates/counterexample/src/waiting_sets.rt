@@ -5,7 +5,8 @@ use job_bodies::MAX_POOLS;
 use std::alloc::{AllocError, Global};
 use written_machine::Parent;
 
-/// The maximum number of jobs that are checked to reduce one set.
+/// The limit on the work to reduce one set: the number of removals that are tried, times the number
+/// of jobs.
 const MAX_LOOKS: usize = 4_000_000;
 
 /// A set of jobs of a machine, by number.
@@ -15,8 +16,9 @@ pub(crate) struct JobSet {
 }
 
 impl JobSet {
-    /// Returns the greatest set of jobs that wait only for each other, which may be empty. With
-    /// `permanent`, the jobs must wait permanently.
+    /// Returns the greatest set of jobs that wait only for each other, which may be empty. If
+    /// `permanent` is `true`, each pool in whose queue a member waits must have `max` threads, so
+    /// that the members wait permanently.
     pub(crate) fn greatest(
         alloc: Global,
         machine: &Machine,
@@ -32,8 +34,8 @@ impl JobSet {
         Ok(members)
     }
 
-    /// Removes members until no further one can be removed, and returns the remaining set of such
-    /// jobs. Stops early if the limit of checks is reached.
+    /// Returns a subset that is still a set of jobs that wait only for each other, and from which
+    /// no member can be removed. Stops earlier if [`MAX_LOOKS`] is reached.
     pub(crate) fn made_least(
         self,
         alloc: Global,
@@ -63,7 +65,7 @@ impl JobSet {
         Ok(best)
     }
 
-    /// Returns `true` if there is no member.
+    /// Returns `true` if the set has no member.
     pub(crate) fn is_empty(&self) -> bool {
         !self.is_member.iter().any(|is_member| *is_member)
     }
@@ -89,10 +91,10 @@ impl JobSet {
         }
     }
 
-    /// Shrinks the set to the greatest fixpoint: removes members that also wait for other jobs,
-    /// until there are none.
+    /// Repeatedly removes the members that wait for a job outside the set, or for none, until each
+    /// member waits only for members.
     ///
-    /// Each round except the last reduces the number of pools whose running jobs are all members.
+    /// Each round except the first and the last finds fewer closed pools than the round before.
     fn shrink(
         &mut self,
         alloc: Global,
@@ -108,7 +110,9 @@ impl JobSet {
         Ok(())
     }
 
-    /// Returns, for each pool, whether a job in its queue would wait only for members.
+    /// Returns, for each pool, whether it is closed: a job in its queue would wait only for
+    /// members, because no thread is idle and each running job is a member. If `permanent` is
+    /// `true`, the pool must also have `max` threads.
     fn closed_pools(
         &self,
         alloc: Global,
@@ -132,8 +136,8 @@ impl JobSet {
         Ok(closed)
     }
 
-    /// Removes each member that does not wait only for members, and returns whether it removed one.
-    /// Visits the jobs from the latest to the first, since a child is created after its parent.
+    /// Removes each member that does not wait only for members, and returns `true` if it removed
+    /// one. Visits the jobs from the latest to the first: a parent waits for a later job.
     fn shrink_once(&mut self, machine: &Machine, closed: &[bool]) -> bool {
         let mut changed = false;
         for number in (0..machine.jobs.len()).rev() {

@@ -1,5 +1,5 @@
-//! Walks. A walk repeatedly makes the first possible choice of an order, or the possible choice
-//! that loses least of a vector.
+//! Walks. A walk repeatedly makes a possible choice: the first one in an order, or the one that
+//! loses the least weight of a vector.
 
 use crate::choices::{Choice, Choices};
 use crate::losses::Losses;
@@ -12,31 +12,32 @@ use job_bodies::{Action, Plan};
 use std::alloc::{AllocError, Global};
 use written_machine::Parent;
 
-/// A factor greater than every key: a choice that loses less of a vector comes first.
+/// The factor for the loss of a choice. It is greater than every key, so that a choice with a
+/// smaller loss comes first, and the keys decide among equal losses.
 const FOR_A_LOSS: u64 = 10_000_000_000_000;
 
-/// A violation at the end of some events.
+/// The violation that a list of events ends in.
 #[derive(Clone, Copy, PartialEq, Eq)]
 pub(crate) enum Violation {
-    /// The last event is a rejected submit.
+    /// The last event is a refused submit.
     Refused,
-    /// Some jobs wait for each other, and the pools in whose queues they wait have all their
+    /// Some jobs wait only for each other, and the pools in whose queues they wait have `max`
     /// threads.
     StuckForever,
-    /// Some jobs wait for each other.
+    /// Some jobs wait only for each other. A later event may end the wait.
     StuckNow,
 }
 
 /// The rules of a walk.
 #[derive(Drop)]
 pub(crate) struct Rules {
-    /// The key of each choice. The least key comes first.
+    /// The key of each choice. The possible choice with the least key is made.
     pub(crate) keys: Vec<u64>,
     /// The maximum number of clients that move.
     pub(crate) max_active_clients: usize,
-    /// The maximum number of states that the walk visits, its start included.
+    /// The maximum number of states that the walk visits, including the initial state.
     pub(crate) max_states: usize,
-    /// Whether the keys change during the walk.
+    /// Whether the keys are replaced at random steps of the walk.
     pub(crate) changing: bool,
 }
 
@@ -45,11 +46,12 @@ pub(crate) struct Rules {
 pub(crate) struct WalkResult {
     pub(crate) script: Script,
     pub(crate) violation: Option<Violation>,
-    /// The number of visited states, the start included.
+    /// The number of visited states, including the initial state.
     pub(crate) states: usize,
 }
 
-/// The outcome of a choice.
+/// The outcome of a choice: the walk moved to a new state, a submit was refused, or the choice was
+/// not possible.
 #[derive(Clone, Copy, PartialEq, Eq)]
 pub(crate) enum WalkStep {
     Advanced,
@@ -63,16 +65,17 @@ pub(crate) struct Walk<'a> {
     pub(crate) machine: Machine<'a>,
     pub(crate) choices: &'a Choices,
     pub(crate) script: Script,
-    /// For each choice, the actors that are ready for it.
+    /// For each choice, the actors that are at its submit, in the order in which they arrived.
     pub(crate) ready: Vec<Vec<Parent>>,
-    /// For each kind, the number of its clients that have moved.
+    /// For each client kind, the number of its clients that have moved.
     pub(crate) begun: Vec<u64>,
-    /// Whether an actor has been blocked at a get since the flag was last cleared.
+    /// Whether an actor has stopped at a get or at its end since this flag was last cleared.
     pub(crate) has_blocked: bool,
 }
 
-/// Performs a walk by these rules. Each step makes a possible choice, and then performs all work,
-/// gets of finished jobs, ends and loops that follow.
+/// Performs a walk by these rules, until a submit is refused, a permanent violation is found, no
+/// choice is possible, or the limit of states is reached. Each step makes a choice, and then
+/// performs all work, gets of done jobs, ends and restarts of bodies that follow.
 pub(crate) fn perform_walk<'a>(
     alloc: Global,
     plan: &'a Plan,
@@ -144,8 +147,8 @@ impl<'a> Walk<'a> {
         }
     }
 
-    /// Returns the violation if jobs wait for each other. Without `now`, returns only permanent
-    /// ones.
+    /// Returns the violation if jobs wait only for each other. If `now` is `false`, returns only a
+    /// permanent violation.
     pub(crate) fn stuck(&self, alloc: Global, now: bool) -> Result<Option<Violation>, AllocError> {
         let members = JobSet::greatest(alloc, &self.machine, false)?;
         if members.is_empty() {
@@ -158,7 +161,7 @@ impl<'a> Walk<'a> {
         Ok(if now { Some(Violation::StuckNow) } else { None })
     }
 
-    /// Makes the first possible choice.
+    /// Makes the possible choice that comes first by these rules and this vector.
     fn step(
         &mut self,
         rules: &Rules,
@@ -191,8 +194,8 @@ impl<'a> Walk<'a> {
         }
     }
 
-    /// Removes and returns the actor that `newer` selects from those that are ready for this
-    /// choice.
+    /// Removes an actor from those that are ready for this choice, and returns it: the one after
+    /// which `newer` actors became ready.
     fn take_ready(&mut self, place: usize, newer: usize) -> Option<Parent> {
         let ready = self.ready.get_mut(place)?;
         let at = ready.len().checked_sub(1)?.checked_sub(newer)?;
@@ -203,8 +206,8 @@ impl<'a> Walk<'a> {
         }
     }
 
-    /// Returns the possible choice that loses least of the vector. If there are several, returns
-    /// the one with the least key.
+    /// Returns the index of the possible choice that loses the least weight of the vector; among
+    /// equal losses, the one with the least key.
     fn first_possible(&self, rules: &Rules, potential: Option<&Potential>) -> Option<usize> {
         let mut best = None;
         let mut least = u64::MAX;
@@ -239,7 +242,7 @@ impl<'a> Walk<'a> {
         }
     }
 
-    /// Returns `true` if a client of the kind has not moved and its body has a submit.
+    /// Returns `true` if some client of the client kind has not moved and its body has a submit.
     pub(crate) fn has_more(&self, kind: usize) -> bool {
         let Some(client) = self.machine.plan.client_at(kind) else {
             return false;
@@ -252,7 +255,8 @@ impl<'a> Walk<'a> {
                 .any(|action| matches!(action, Action::Submit(_)))
     }
 
-    /// Returns `true` if an idle thread would take a job of the class.
+    /// Returns `true` if a thread of the class's pool is idle and the first job in the pool's queue
+    /// is of this class.
     pub(crate) fn would_take(&self, class: usize) -> bool {
         let Some(pool) = self.pool_of(class) else {
             return false;
@@ -285,7 +289,7 @@ impl<'a> Walk<'a> {
         Ok(WalkStep::Advanced)
     }
 
-    /// Makes the first submit of a new client, which is at that submit.
+    /// Performs the first submit of a new client, which is at that submit.
     fn submit_of(&mut self, client: Parent) -> Result<WalkStep, AllocError> {
         let place = match self.machine.point(client) {
             Some((position, _)) => self.choices.place_of(&self.machine, client, position),
@@ -313,8 +317,8 @@ impl<'a> Walk<'a> {
         Ok(WalkStep::Advanced)
     }
 
-    /// Performs all steps of the actor up to its next submit, and then those of an actor that
-    /// waited for it.
+    /// Performs all steps of the actor up to its next submit or to a get that must wait. If the
+    /// actor is a job and ends, continues with its parent if the parent waited for it.
     fn settle(&mut self, actor: Parent) -> Result<(), AllocError> {
         let mut actor = actor;
         for _ in 0..u64::MAX {

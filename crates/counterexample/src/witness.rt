@@ -1,9 +1,10 @@
-//! A witness.
+//! A witness that a plan is not safe.
 
 use crate::Ending;
 use interleaving::Event;
 
-/// A list of events that are possible in sequence from a plan's start, and the ending of the list.
+/// A list of events that are possible in sequence from a plan's initial state, and the violation in
+/// which they end.
 #[derive(Drop)]
 pub struct Witness {
     pub events: Vec<Event>,

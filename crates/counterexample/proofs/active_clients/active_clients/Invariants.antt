@@ -1,4 +1,4 @@
--- The clients so far, followed by those of the remaining events, are all clients that act.
+-- The clients found so far, followed by those of the remaining events, are those of all events.
 use Rattle.std.proofs.Common.{◌≡◌, ◌++◌, length}
 use Rattle.counterexample.specs.Description.{active_clients}
 use Rattle.counterexample.proofs.active_clients.active_clients.Given as goal

@@ -1,4 +1,4 @@
--- The world is a world of the plan.
+-- The view of the world is a reachable view of the plan.
 use Rattle.interleaving.specs.OfPlan.{IsReachableView}
 use Rattle.counterexample.proofs.stories.runs_of.Given as goal
 
