@@ -1,4 +1,4 @@
--- The properties of the lines after one more line.
+-- The properties of a list of lines to which one line is appended.
 use Rattle.std.proofs.Common.{◌≡◌, ℕ, ◌+◌, ◌&&◌, ◌||◌, not, Bool, true, if◌then◌else◌, List, [], ◌∷◌, ◌++◌, Some, refl, arith}
 use Rattle.std.specs.List.{list_any, filter}
 use Rattle.std.proofs.lemmas.List.Sums.{sum_by_push}

@@ -1,4 +1,4 @@
--- Induction over lines, from the first to the last.
+-- Induction over lists of lines, by their last line.
 use Rattle.std.proofs.Common.{List, [], ◌∷◌, ◌++◌, refl, ap, sym, subst, ◌∙◌, append-nil, append_assoc}
 use Rattle.recordings.specs.RecordingLine.{RecordedLine}
 use Rattle.recordings.proofs.Keeping.{Keeps, keeps_all}

@@ -16,8 +16,8 @@ use Rattle.recordings.specs.Faults.{reason_for, lines_before, reason_at, IsFirst
 use Rattle.recordings.specs.CheckedLines.{AreUnbroken, lines_left, IsCheckerState, IsAcceptedNext, AreAllAccepted}
 use Rattle.recordings.proofs.FirstFaults.{there_next, rest_next, within_next, before_next, reason_next, none_past, first_missing}
 
--- ---- one more line, none of which breaks a rule
--- the index of a line in a list with one more at its end
+-- ---- one more line that breaks no rule
+-- a line of a list to which `one` is appended is `one` or a line of the list
 last_or_before : (lines before after : List RecordedLine) (one line : RecordedLine) → lines ++ one ∷ [] ≡ before ++ line ∷ after → ((lines ≡ before) × (one ≡ line)) ⊎ ((more : List RecordedLine) × (lines ≡ before ++ line ∷ more))
 last_or_before [] [] after one line h = inl (refl, cc)
 last_or_before [] (first ∷ []) after one line h = absurd cc
@@ -37,7 +37,7 @@ unbroken_more lines one unbroken kept = λ before line after h.
       | inr more ↦ unbroken before line more.0 more.1
     ]
 
--- no line was accepted yet
+-- the empty list has no line that breaks a rule
 pub unbroken_none : AreUnbroken []
 unbroken_none = λ before line after h. absurd (at_end before after line h)
   where
@@ -50,15 +50,15 @@ module _ (all : List (Option RecordedLine)) (old : CheckedLines) (r : IsCheckerS
   next_is : drop old.number all ≡ line ∷ rest
   next_is = sym r.rest ∙ next
 
-  -- its number is not saturated
+  -- the number of the next line is not saturated
   pub number_next : (number : ℕ) → number ≡ min (old.number + 1) (2 ^ 64 - 1) → number ≡ old.number + 1
   number_next number is = omega (arith, within_next all rest old.number line next_is, r.few, is)
 
-  -- it is bad
+  -- a next line that is bad is the first bad line
   pub bad_next : (number : ℕ) (b : FaultReason) → number ≡ old.number + 1 → reason_for (lines_before all old.number) line ≡ Some b → IsFirstFault all (Some (record { line = number; reason = b }))
   bad_next number b is bad = (old.number, is, reason_next all rest old.number line next_is ∙ bad, r.good)
 
--- it is valid
+-- the next line is valid
 module _ (all : List (Option RecordedLine)) (old new : CheckedLines) (r : IsCheckerState all old) (line : RecordedLine) (next : old.lines ≡ Some line ∷ new.lines) where
   next_good : drop old.number all ≡ Some line ∷ new.lines
   next_good = sym r.rest ∙ next
@@ -90,7 +90,7 @@ module _ (all : List (Option RecordedLine)) (old new : CheckedLines) (r : IsChec
       }
 
 -- ---- after the last line
--- if no line comes after the first n, they are all
+-- if no line comes after the first n lines, these are all lines
 take_all : (lines : List (Option RecordedLine)) (n : ℕ) → drop n lines ≡ [] → take n lines ≡ lines
 take_all [] zero none = refl
 take_all [] (suc n) none = refl
@@ -98,11 +98,11 @@ take_all (first ∷ lines) zero none = grind (arith, none)
 take_all (first ∷ lines) (suc n) none = ap (λ (more : List (Option RecordedLine)). first ∷ more) (take_all lines n none)
 
 module _ (all : List (Option RecordedLine)) (old : CheckedLines) (r : IsCheckerState all old) (next : old.lines ≡ []) where
-  -- there is no line at all
+  -- if the text has no line, the fault is that line 1 breaks O1
   pub missing_first : old.number ≡ 0 → reason_at all 0 ≡ Some (reason.LineRule Frame)
   missing_first none = first_missing all (ap (λ (n : ℕ). drop n all) (sym none) ∙ (sym r.rest ∙ next))
 
-  -- all lines were accepted
+  -- if no line is left after the first, the iterator has returned all lines
   pub all_taken : (lines : List (Option RecordedLine)) → lines ≡ [] → 0 < old.number → AreAllAccepted all old (record { lines = lines; validator = old.validator; number = old.number })
   all_taken lines none some =
       let gone : drop old.number all ≡ [] = sym r.rest ∙ next in

@@ -1,4 +1,4 @@
--- The actions after a submit in a path, and the last action.
+-- The gets after a submit in a path, and the last action of a path.
 use Rattle.std.proofs.Common.{◌≡◌, ℕ, ◌+◌, ◌-◌, ◌<◌, ◌≤◌, ◌==◌, ◌||◌, Bool, true, false, if◌then◌else◌, List, [], ◌∷◌, ◌++◌, length, take, drop, slice_get, Option, Some, None, refl, ap, sym, subst, ◌∙◌, arith}
 use Rattle.std.specs.List.{list_any, position_or_len}
 use Rattle.std.proofs.lemmas.List.{take_at, drop-append-le, drop_all, length_push}
@@ -23,7 +23,7 @@ got_nothing place path past = ap (list_any (gets place)) (drop_all (place + 1) p
 within_places : (j : ℕ) (steps : List JobStep) → list_any (is_submit_of j) steps ≡ true → position_or_len (is_submit_of j) steps < length (with_places steps)
 within_places j steps h = subst (λ n. position_or_len (is_submit_of j) steps < n) (sym (length_places steps)) (place_within (is_submit_of j) steps h)
 
--- after a submit of another job, or of this one
+-- whether job j is got, after a submit of another job or of j is appended
 got_submit : (steps : List JobStep) → ValidSteps steps → (job j : ℕ) → list_any (is_submit_of job) steps ≡ false
     → (list_any (is_submit_of j) steps ≡ true → is_got (position_or_len (is_submit_of j) steps) (with_places steps) ≡ list_any (is_get_of j) steps)
     → list_any (is_submit_of j) (steps ++ SubmitOf job ∷ []) ≡ true
@@ -51,7 +51,7 @@ got_get steps job j submitted before h =
     ∙ (ap (λ b. b || (position_or_len (is_submit_of job) steps == position_or_len (is_submit_of j) steps)) (before there)
     ∙ (ap (λ b. list_any (is_get_of j) steps || b) (same_places job j steps submitted there (job == j) refl) ∙ sym (any_more (is_get_of j) steps (GetOf job)))))
 
--- a submitted job was got if and only if there is a get of its index
+-- a submitted job was got if and only if the path has a get with the index of its submit
 pub got_there : (steps : List JobStep) → ValidSteps steps → (j : ℕ) → list_any (is_submit_of j) steps ≡ true → is_got (position_or_len (is_submit_of j) steps) (with_places steps) ≡ list_any (is_get_of j) steps
 got_there _ none j h = grind (arith, h)
 got_there _ (submit steps job l fresh) j h =
@@ -74,7 +74,7 @@ ends_more : (j : ℕ) (path : List RecordedStep) (step : RecordedStep) → ends_
 unfolding ends_with_submit
 ends_more j path step = ap (λ n. is_submit_there j (slice_get (path ++ step ∷ []) n)) (before_last path step) ∙ ap (is_submit_there j) (last_there path step)
 
--- removes the submit at the end
+-- `without_submit` removes a submit of the job at the end
 pub without_last : (j : ℕ) (path : List RecordedStep) → without_submit j (path ++ Submits j ∷ []) ≡ path
 without_last j path =
     ap (λ (b : Bool). if b then take (length (path ++ Submits j ∷ []) - 1) (path ++ Submits j ∷ []) else path ++ Submits j ∷ []) (ends_more j path (Submits j) ∙ same_self j)
@@ -88,6 +88,6 @@ no_end : (j : ℕ) (path : List RecordedStep) → list_any (submits j) path ≡ 
 unfolding ends_with_submit
 no_end j path h = there_passes j (slice_get path (length path - 1)) ∙ passes_nowhere (submits j) path (length path - 1) h
 
--- removes nothing if the job has no submit
+-- `without_submit` removes nothing if the path has no submit of the job
 pub without_none : (j : ℕ) (path : List RecordedStep) → list_any (submits j) path ≡ false → without_submit j path ≡ path
 without_none j path h = ap (λ (b : Bool). if b then take (length path - 1) path else path) (no_end j path h)

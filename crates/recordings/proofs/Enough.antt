@@ -1,4 +1,4 @@
--- The stored events are enough: the first one of each type is the first of all, also after one more line.
+-- The stored events suffice: the first stored event of each type is the first of all events of the type, also after one more line.
 use Rattle.std.proofs.Common.{◌≡◌, ℕ, ◌&&◌, ◌||◌, not, Bool, true, false, if◌then◌else◌, List, [], ◌∷◌, ◌++◌, map, Option, Some, None, refl, ap, sym, subst, ◌∙◌, append-nil}
 use Rattle.std.specs.Str.{bytes_eq}
 use Rattle.std.specs.Option.{option_to_list}
@@ -11,7 +11,7 @@ use Rattle.recordings.specs.Invalidations.{keyword_of, has_type, first_of_each}
 use Rattle.recordings.specs.InvalidationList.{invalidations_in, closed_with, IsEnough, none, keep, leave, is_certain_first, with_entry, ends_pending, remains_after, with_pending_ended, entries_after_line}
 use Rattle.recordings.proofs.Firsts.{same_text, unlike}
 
--- ---- removed events
+-- ---- events that a line discards
 or_wider : (a b c : Bool) → (a ≡ true → b ≡ true) → (a || c) ≡ true → (b || c) ≡ true
 or_wider true b c wider h = ap (λ x. x || c) (wider refl)
 or_wider false true c wider h = refl
@@ -116,7 +116,7 @@ both_ways false true false = refl
 both_ways false false true = refl
 both_ways false false false = refl
 
--- Of the types that are new after `one`, those other than its own.
+-- The events of types that are new and not the type of `one` are those of types that are new after `one` and not its type.
 new_after : (closed : List ℕ → Bool) (one : InvalidationEntry) (xs : List Invalidation) → filter (is_new closed) (filter (unlike one.invalidation) xs) ≡ filter (unlike one.invalidation) (filter (is_new (closed_with closed one)) xs)
 new_after closed one xs =
     let both : Invalidation → Bool = λ other. unlike one.invalidation other && is_new closed other in
@@ -128,7 +128,7 @@ same_after : (closed : List ℕ → Bool) (one : InvalidationEntry) (xs ys : Lis
 same_after closed one xs ys same =
     ap (λ (zs : List Invalidation). if is_new closed one.invalidation then one.invalidation ∷ zs else zs) (new_after closed one xs ∙ (ap (filter (unlike one.invalidation)) same ∙ sym (new_after closed one ys)))
 
--- An event whose type is not new.
+-- An event whose type is new has another type than `one`, whose type is not new.
 not_own : (closed : List ℕ → Bool) (one : InvalidationEntry) → closed (keyword_of one.invalidation.event) ≡ true → (other : Invalidation) → (s : Bool) → has_type other.event one.invalidation ≡ s → is_new closed other ≡ (not s && is_new closed other)
 not_own closed one is_closed other true same = ap not (subst (λ word. closed word ≡ true) (same_text (keyword_of one.invalidation.event) (keyword_of other.event) same) is_closed)
 not_own closed one is_closed other false same = refl

@@ -45,7 +45,7 @@ after_one line (Some one) = if remains_after line one then Some (with_pending_en
 abbrev noted_with : ℕ → InvalidatingEvent → Bool → InvalidationEntry
 noted_with number event pending = record { invalidation = record { line = number; event = event }; pending = pending }
 
--- A get that did not succeed, with the next line of its actor.
+-- The entry for a get that timed out or was interrupted, from the next line of its actor.
 abbrev asked : ℕ → InvalidatingEvent → RecordedActor → ℕ → Option RecordedLine → Option InvalidationEntry
 asked number event actor job next = if is_repeated_next actor job next then None else Some (noted_with number event (is_none next))
 
@@ -85,7 +85,7 @@ at_line : (line : RecordedLine) (number : ℕ) (after : List RecordedLine) (said
 at_line line number after None = refl
 at_line line number after (Some event) = by_what line number after event
 
--- ---- the last line
+-- ---- the event of the last line
 last_what : (number : ℕ) (event : InvalidatingEvent) → entry_unless_excused number [] event ≡ Some (noted_with number event (can_be_excused event))
 last_what number (event.TimedOut actor job) = ap (asked number (event.TimedOut actor job) actor job) (none_after actor)
 last_what number (event.Interrupted actor job) = ap (asked number (event.Interrupted actor job) actor job) (none_after actor)
@@ -134,7 +134,7 @@ noted_more number (first ∷ lines) line =
     ∙ (cons_append (after_one line (entry_at number first lines)) rest last
     ∙ ap (λ (all : List InvalidationEntry). all ++ last) (sym (settled_cons line (entry_at number first lines) (entries_from (number + 1) lines)))))
 
--- ---- without the pending flag
+-- ---- the events without the pending flag
 choice : (b : Bool) (one : InvalidationEntry) → option_map (λ (one : InvalidationEntry). one.invalidation) (if b then None else Some one) ≡ (if b then None else Some one.invalidation)
 choice true one = refl
 choice false one = refl

@@ -7,7 +7,7 @@ use Rattle.recordings.specs.declared.fault.FaultReason.TheVariants.{LineRule}
 use Rattle.recordings.specs.declared.rule.LineRule.TheVariants.{Frame}
 use Rattle.recordings.specs.Faults.{reason_for, lines_before, reason_at}
 
--- if the lines from index n on begin with this one, it is the line at index n
+-- the first of the lines after the first n lines is the line at index n
 there : (lines rest : List (Option RecordedLine)) (n : ℕ) (line : Option RecordedLine) → drop n lines ≡ line ∷ rest → slice_get lines n ≡ Some line
 there [] rest zero line h = grind (arith, h)
 there [] rest (suc n) line h = grind (arith, h)
@@ -39,7 +39,7 @@ unfolding reason_at
 reason_there [] n line h = grind (arith, h)
 reason_there (first ∷ lines) n line h = ap (option_and_then (reason_for (lines_before (first ∷ lines) n))) h
 
--- ---- the next line of a loop
+-- ---- the line that a loop reads next
 pub there_next : (lines rest : List (Option RecordedLine)) (n : ℕ) (line : Option RecordedLine) → drop n lines ≡ line ∷ rest → slice_get lines n ≡ Some line
 there_next lines rest n line h = there lines rest n line h
 
@@ -64,7 +64,7 @@ none_past (first ∷ lines) n i rest some within past =
     let beyond : length (first ∷ lines) ≤ i = omega (arith, gone, length-drop n (first ∷ lines)) in
     ap (option_and_then (reason_for (lines_before (first ∷ lines) i))) (slice_get_past (first ∷ lines) i beyond)
 
--- if there is no line, the first one is missing
+-- if the text has no line, the fault is that line 1 breaks O1
 pub first_missing : (lines : List (Option RecordedLine)) → lines ≡ [] → reason_at lines 0 ≡ Some (LineRule Frame)
 unfolding reason_at
 first_missing [] none = refl

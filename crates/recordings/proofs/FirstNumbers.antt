@@ -37,8 +37,8 @@ leading_written n rest valid =
     let after : drop (digit_count text) text ≡ 32 ∷ rest = ap (λ i. drop i text) count ∙ drop_at word (32 ∷ rest) (length word) refl in
     rw (front, after, read) refl
 
--- ---- a parsed number
--- followed by a space
+-- ---- the number that begins a text
+-- a number that is followed by a space parses
 pub space_there : (text : List ℕ) (n : ℕ) (rest : List ℕ) → Some (n, 32 ∷ rest) ≡ leading_number text → Some (n, rest) ≡ parse_number text
 space_there text n rest read =
     let found = prefix_read text n (32 ∷ rest) read in
@@ -46,7 +46,7 @@ space_there text n rest read =
     let whole : text ≡ decimal n ++ 32 ∷ rest = sym (take-append-drop (digit_count text) text) ∙ ap₂ (λ (x y : List ℕ). x ++ y) number.1 found.1 in
     sym (ap parse_number whole ∙ number_then_written n rest number.0)
 
--- otherwise the text does not begin with a number and a space
+-- a text that does not begin with a number and a space does not parse
 no_other : (text : List ℕ) → ((n : ℕ) (rest : List ℕ) → ¬ (leading_number text ≡ Some (n, 32 ∷ rest))) → None ≡ parse_number text
 no_other text other = by_read (parse_number text) refl
   where
@@ -56,10 +56,10 @@ no_other text other = by_read (parse_number text) refl
         let found = number_then_read text read e in
         absurd (other read.0 read.1 (ap leading_number found.1 ∙ leading_written read.0 read.1 found.0))
 
--- there is no number
+-- a text that does not begin with a number does not parse
 pub number_none : (text : List ℕ) → None ≡ leading_number text → None ≡ parse_number text
 number_none text none = no_other text (λ n rest e. none-some (n, 32 ∷ rest) (none ∙ e))
 
--- another byte follows the number
+-- a number that is followed by another byte than a space does not parse
 pub no_space : (text : List ℕ) (n : ℕ) (after : List ℕ) → Some (n, after) ≡ leading_number text → ((rest : List ℕ) → after ≢ 32 ∷ rest) → None ≡ parse_number text
 no_space text n after read other = no_other text (λ m rest e. other rest (ap (λ (x : ℕ × List ℕ). x.1) (same_Some (n, after) (m, 32 ∷ rest) (read ∙ e))))

@@ -1,4 +1,4 @@
--- The first event of each type.
+-- The first event of each type, after one more event.
 use Rattle.std.proofs.Common.{◌≡◌, ℕ, ◌||◌, not, Bool, true, false, if◌then◌else◌, List, [], ◌∷◌, ◌++◌, length, take, get_or, ◌+◌, ◌<◌, refl, ap, sym, subst, ◌∙◌}
 use Rattle.std.specs.Str.{bytes_eq}
 use Rattle.std.specs.List.{list_any, filter}
@@ -32,7 +32,7 @@ any_filter : {X : Type 0} (p q : X → Bool) → ((x : X) → p x ≡ true → q
 any_filter p q stays [] = refl
 any_filter p q stays (x ∷ xs) = any_if p (q x) x (filter q xs) (stays x) ∙ ap (λ b. p x || b) (any_filter p q stays xs)
 
--- Another event of a type that `invalidation` does not have.
+-- An event `other` of the type of `one` has another type than `invalidation`, if `one` has.
 not_like : (invalidation one other : Invalidation) → has_type one.event invalidation ≡ false → has_type one.event other ≡ true → (b : Bool) → has_type other.event invalidation ≡ b → not b ≡ true
 not_like invalidation one other fresh like true same =
     let one_word = same_text (keyword_of invalidation.event) (keyword_of other.event) same in
@@ -43,7 +43,7 @@ stays_unlike : (invalidation one other : Invalidation) → has_type one.event in
 stays_unlike invalidation one other fresh like = not_like invalidation one other fresh like (has_type other.event invalidation) refl
 
 -- ---- one more event
--- The events after the first one, whether it is of the type of the last one or not.
+-- The events after the first event, if the appended event has the type of the first.
 last_goes : (invalidation one : Invalidation) (firsts : List Invalidation) (there : Bool) → unlike invalidation one ≡ false → filter (unlike invalidation) (if there then firsts else firsts ++ one ∷ []) ≡ filter (unlike invalidation) firsts
 last_goes invalidation one firsts true like = refl
 last_goes invalidation one firsts false like = filter_more (unlike invalidation) firsts one ∙ ap (λ (b : Bool). if b then filter (unlike invalidation) firsts ++ one ∷ [] else filter (unlike invalidation) firsts) like
@@ -71,7 +71,7 @@ firsts_more (invalidation ∷ invalidations) one =
     ap (λ (xs : List Invalidation). invalidation ∷ filter (unlike invalidation) xs) (firsts_more invalidations one)
     ∙ step invalidation one (first_of_each invalidations) (has_type one.event invalidation) refl
 
--- The list after a loop over the stored events, in terms of the element read.
+-- The list of first events after a loop has read the entry at index i.
 pub firsts_next : (kept : List InvalidationEntry) (i : ℕ) (d : InvalidationEntry) → i < length kept → with_new_type (get_or kept i d).invalidation (first_of_each (invalidations_in (take i kept))) ≡ first_of_each (invalidations_in (take (i + 1) kept))
 firsts_next kept i d within =
     let one = get_or kept i d in

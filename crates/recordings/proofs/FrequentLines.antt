@@ -1,4 +1,4 @@
--- Lines that are parsed from left to right up to their newline.
+-- The lines that the parser for frequent lines reads from left to right up to their newline.
 use Rattle.std.proofs.Common.{◌≡◌, inl, inr, ℕ, suc, ◌+◌, ◌-◌, ◌*◌, ◌^◌, ◌<◌, ◌≤◌, true, false, ◌==◌, List, [], ◌∷◌, ◌++◌, length, take, drop, get_or, map, codes, decimal, Option, Some, refl, sym, ap, ap₂, ◌∙◌, arith, append_assoc, take-append-drop}
 use Rattle.std.specs.Char.{is_ascii_digit}
 use Rattle.std.specs.List.{list_all}
@@ -93,7 +93,7 @@ submits actor words job second class third pool after whose number label name =
     (ap (λ (t : List ℕ). codes "submit" ++ 32 ∷ t) whole)
 
 -- ---- numbers
--- a byte with a value of at most 9 is a digit
+-- a byte whose value as a digit is at most 9 is a digit
 pub one_digit : (byte digit : ℕ) → (48 ≤ byte → digit + 48 ≡ byte) → (byte < 48 → 9 < digit) → digit ≤ 9 → (is_ascii_digit byte ≡ true) × (digit ≡ byte - 48)
 one_digit byte digit same other small =
     elim (cases_lt byte 48) [
@@ -101,7 +101,7 @@ one_digit byte digit same other small =
       | inr from ↦ let is : digit + 48 ≡ byte = same from in (grind (arith, nat_tests), omega (arith, is))
     ]
 
--- after one more digit, the value is below the next power of ten
+-- a number of i + 1 digits is below 10 to the power i + 1
 pub power_more : (n digit i : ℕ) → n < 10 ^ i → digit ≤ 9 → n * 10 + digit < 10 ^ (i + 1)
 power_more n digit i small low =
     let next : i + 1 ≡ suc i = omega arith in
@@ -112,7 +112,7 @@ whole_number : (digits : List ℕ) (n : ℕ) → 0 < length digits → (get_or d
 unfolding number_of is_whole_number
 whole_number digits n some first all e within = rw (all, ← e) (grind (arith, nat_tests))
 
--- a number of `count` digits, of which the first is not 0, followed by a byte
+-- a text that begins with `count` digits, the first of which is not 0, and the byte `end` begins with a valid number
 pub number_there : (text : List ℕ) (count n end : ℕ) (after : List ℕ) → 1 ≤ count → count ≤ length text → count ≤ 9 → (get_or text 0 0 == 48) ≡ false → list_all is_ascii_digit (take count text) ≡ true
     → n ≡ digits_value 10 (take count text) → n < 10 ^ count → drop count text ≡ end ∷ after → (is_valid_number n ≡ true) × (text ≡ decimal n ++ end ∷ after)
 number_there text count n end after some inside few first digits e small rest =

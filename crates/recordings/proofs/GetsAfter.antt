@@ -1,4 +1,4 @@
--- The submitter of each job, and the actors that got it, after one more line.
+-- The stored submitters of unclaimed jobs are correct after one more line.
 use Rattle.std.proofs.Common.{◌≡◌, ◌≤◌, ℕ, ◌+◌, ◌==◌, ◌&&◌, ◌||◌, not, Bool, true, false, if◌then◌else◌, List, [], ◌∷◌, ◌++◌, length, map, Option, Some, None, slice_get, refl, ap, sym, ◌∙◌, arith}
 use Rattle.std.specs.Option.{option_to_list}
 use Rattle.std.specs.List.{list_any, filter_map}
@@ -20,7 +20,7 @@ use Rattle.recordings.specs.declared.unclaimed.UnclaimedJobs.{UnclaimedJobs}
 use Rattle.recordings.specs.ForeignGets.{submitter_by, submitter_of, is_own_get, is_got_by_own, is_foreign, foreign_get_of, foreign_gets, first_foreign_get}
 use Rattle.recordings.specs.UnclaimedJobs.{submitter_in, entry_after_get, entry_after_line, foreign_get_by, with_foreign}
 
--- ---- one more line
+-- ---- the submitter of a job, and whether the submitter got it, after one more line
 abbrev or_else : {X : Type 0} → Option X → Option X → Option X
 or_else None next = next
 or_else (Some x) next = Some x
@@ -56,7 +56,7 @@ gets_more before line =
 foreign_more : (before : List RecordedLine) (line : RecordedLine) → first_foreign_get (before ++ line ∷ []) ≡ or_else (first_foreign_get before) (foreign_get_of before line)
 foreign_more before line = ap (λ (gets : List ForeignGet). slice_get gets 0) (gets_more before line) ∙ first_or (foreign_gets before) (foreign_get_of before line)
 
--- ---- no lines
+-- ---- before the first line
 pub none_submitted : (job : ℕ) → submitter_of [] job ≡ None
 unfolding submitter_of
 none_submitted job = refl
@@ -69,7 +69,7 @@ pub none_foreign : first_foreign_get [] ≡ None
 unfolding foreign_gets
 none_foreign = refl
 
--- ---- a job that is not yet submitted
+-- ---- a job that was not submitted yet
 record IsFresh (lines : List RecordedLine) (job : ℕ) : Type 0 where
   submitter : submitter_of lines job ≡ None
   got : is_got_by_own lines job ≡ false

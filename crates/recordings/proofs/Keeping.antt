@@ -1,4 +1,4 @@
--- The rules that hold for a line that breaks none.
+-- A line that breaks no rule keeps each rule.
 use Rattle.std.proofs.Common.{◌≡◌, Bool, true, List, Option, Some, None, arith}
 use Rattle.recordings.specs.RecordingLine.{RecordedLine}
 use Rattle.recordings.specs.Rules.{first_broken_rule, keeps_frame, keeps_pools, keeps_numbers, keeps_rounds, keeps_jobs, keeps_refusals, keeps_gets}
@@ -15,7 +15,7 @@ pub record Keeps (before : List RecordedLine) (line : RecordedLine) : Type 0 whe
   pub refusals : keeps_refusals before line ≡ true
   pub gets : keeps_gets before line ≡ true
 
--- if the choice gives no rule, the first test holds and the rest gives no rule
+-- if the choice results in no rule, then the first test holds and the rest results in no rule
 passes : (holds : Bool) (rule : LineRule) (rest : Option LineRule) → (if not holds then Some rule else rest) ≡ None → (holds ≡ true) × (rest ≡ None)
 passes true rule rest h = grind arith
 passes false rule rest h = grind arith

@@ -1,4 +1,4 @@
--- The path that is returned with the last line of an actor.
+-- The path that is returned for the line that ends an actor.
 use Rattle.std.proofs.Common.{◌≡◌, List, Option, Some, None, refl}
 use Rattle.std.specs.Option.{option_and_then}
 use Rattle.recordings.specs.declared.recording_line.RecordedActor.{RecordedActor}

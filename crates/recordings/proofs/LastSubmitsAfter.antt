@@ -1,4 +1,4 @@
--- The state of the last submit of each actor is correct after one more line.
+-- The stored last submit of each actor is correct after one more line.
 use Rattle.std.proofs.Common.{◌≡◌, ℕ, ◌&&◌, ◌==◌, not, Bool, true, false, if◌then◌else◌, List, [], ◌∷◌, ◌++◌, is_some, Option, Some, None, refl, ap, sym, ◌∙◌, arith}
 use Rattle.std.specs.Option.{option_map}
 use Rattle.recordings.specs.declared.recording_line.RecordedActor.{RecordedActor}
@@ -16,7 +16,7 @@ use Rattle.recordings.proofs.Appended.{submitted_more}
 use Rattle.recordings.proofs.Keeping.{Keeps}
 use Rattle.recordings.proofs.JobsAfter.{next_number}
 
--- ---- the actor of a line has an entry
+-- ---- the actor of a line has an entry in the state
 abbrev has_place : TraceValidator → RecordedActor → Bool
 has_place lines (Job j) = is_some (job_at lines.jobs j)
 has_place lines (Round r) = is_some (round_at lines.rounds r)
@@ -41,8 +41,7 @@ last_one false b h = grind (arith, h)
 placed : (old : TraceValidator) (before : List RecordedLine) (line : RecordedLine) → Represents old before → Keeps before line → (actor : RecordedActor) → is_of actor line ≡ true → has_place old actor ≡ true
 placed old before line s k actor same = place_of old before (actor_of line) actor s (second _ _ _ k.numbers) k.rounds (last_one _ _ k.jobs) same
 
--- ---- an actor acts
--- the entry of a round and the entry of a job
+-- ---- the entry of an actor after an action of the actor
 round_acts : (same : Bool) (last_submit : Option ℕ) (there : Option (Option ℕ)) (j : ℕ) (said_so : Bool) → (same ≡ true → is_some there ≡ true) → is_at j (last_submit_of_round there) ≡ said_so
     → is_at j (last_submit_of_round (if same then option_map (λ _. last_submit) there else there)) ≡ (if same && true then is_at j last_submit else said_so)
 round_acts true last_submit None j said_so place represents = grind (arith, place refl)
@@ -55,7 +54,7 @@ job_acts true last_submit None j said_so place represents = grind (arith, place 
 job_acts true last_submit (Some state) j said_so place represents = refl
 job_acts false last_submit there j said_so place represents = represents
 
--- the last submit of a job is unchanged if the job is cancelled, starts or is new
+-- the last submit of a job is unchanged if the job is cancelled, starts or is added
 cancel_offers : (same : Bool) (there : Option JobState) → last_submit_in (if same then option_map with_cancel there else there) ≡ last_submit_in there
 cancel_offers true None = refl
 cancel_offers true (Some state) = refl
@@ -66,7 +65,7 @@ start_offers true None = refl
 start_offers true (Some state) = refl
 start_offers false there = refl
 
--- a job that is an actor with an entry was submitted before
+-- a new job changes neither the last submit of job i nor that job i has an entry
 new_offers : (old : TraceValidator) (before : List RecordedLine) (i job : ℕ) → Represents old before → job ≡ old.jobs.submitted → last_submit_in (if job == i then Some new_job else job_at old.jobs i) ≡ last_submit_in (job_at old.jobs i)
 new_offers old before i job s next = grind (arith, s.unsubmitted i, next)
 

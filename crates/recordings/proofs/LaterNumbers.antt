@@ -1,4 +1,4 @@
--- No line names a job or a round with a later number.
+-- No line names a job or a round whose number is still to be given.
 use Rattle.std.proofs.Common.{◌≡◌, ℕ, ◌+◌, ◌≤◌, ◌==◌, ◌||◌, Bool, true, false, if◌then◌else◌, List, Option, Some, None, refl, arith}
 use Rattle.std.specs.List.{list_any}
 use Rattle.recordings.specs.declared.recording_line.RecordedActor.{RecordedActor}
@@ -19,7 +19,7 @@ abbrev is_job : ℕ → Option ℕ → Bool
 is_job j None = false
 is_job j (Some job) = job == j
 
--- the line names the job, in any role
+-- the line names the job, as its actor or in another role
 abbrev pub names_job : ℕ → RecordedLine → Bool
 names_job j line = is_job j (job_of line) || is_actor (Job j) (actor_of line) || submits_job j line
 
@@ -50,7 +50,7 @@ fresh_job =
     let all : submits before + (if is_submit line then 1 else 0) ≤ j = rw (← submits_more before line) past in
     none_more (names_job j) before line (h j (omega arith)) (names_past before line k j all))
 
--- the number of a submitted job is a later number before its line
+-- before the line that submits a job, the job's number is still to be given
 pub next_job : (before : List RecordedLine) (line : RecordedLine) (j : ℕ) → Keeps before line → submits_job j line ≡ true → submits before ≤ j
 next_job before (Submits actor job class pool) j k same = grind (arith, k.numbers, same)
 next_job before line j k same = grind (arith, same)
@@ -105,7 +105,7 @@ pub own_fresh : (lines : List RecordedLine) → KeepsRules lines → (j : ℕ) �
 own_fresh lines kept j past = none_weaker (is_of (Job j)) (names_job j) (own_names j) lines (fresh_job lines kept j past)
 
 -- ---- rounds
--- the line belongs to the round, or begins it
+-- the line belongs to the round, or begins the round
 abbrev names_round : ℕ → RecordedLine → Bool
 names_round r line = is_actor (Round r) (actor_of line) || begins_round r line
 

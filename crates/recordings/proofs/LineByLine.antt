@@ -14,7 +14,7 @@ use Rattle.recordings.specs.WholeLines.{whole_lines}
 use Rattle.recordings.specs.RecordingLine.{line_of, lines_read}
 
 -- ---- the first newline
--- a search returns its index
+-- a search returns the index of the first newline
 pub newline_found : (text : List ℕ) (found : Option ℕ) → IsFirstByte (is_byte 10) text found → position is_newline text ≡ found
 newline_found text None none =
     let at_end : place 10 text ≡ length text = position_or_len_is is_newline text (length text) 0 (omega arith) (λ k below. false_from_ne_true _ (none k (omega arith) below)) (λ past. absurd (omega (arith, past))) in
@@ -34,7 +34,7 @@ fronts_more first parts some =
 some_parts : (text : List ℕ) → 0 < length (slice_split is_newline text)
 some_parts text = omega (arith, length-slice_split is_newline text)
 
--- the first line is complete
+-- if the text has a newline, its first line is complete
 pub whole_more : (text : List ℕ) (newline : ℕ) → position is_newline text ≡ Some newline → whole_lines text ≡ take newline text ∷ whole_lines (drop (newline + 1) text)
 unfolding whole_lines
 whole_more text newline found =
@@ -43,14 +43,14 @@ whole_more text newline found =
     ap (λ (parts : List (List ℕ)). take (length parts - 1) parts) split ∙ fronts_more (first_line text) (slice_split is_newline (after_line text)) (some_parts (after_line text))
     ∙ ap₂ (λ (line rest : List ℕ). line ∷ take (length (slice_split is_newline rest) - 1) (slice_split is_newline rest)) (sym (first_there text newline found)) (sym (after_there text newline found))
 
--- the text begins with a line and its newline
+-- a text that begins with a line and its newline has this line as its first line
 pub whole_first : (line rest : List ℕ) → has_no 10 line ≡ true → whole_lines (line ++ 10 ∷ rest) ≡ line ∷ whole_lines rest
 unfolding whole_lines
 whole_first line rest none =
     ap (λ (parts : List (List ℕ)). take (length parts - 1) parts) (cut_first 10 line rest none)
     ∙ fronts_more line (slice_split is_newline rest) (some_parts rest)
 
--- no line is complete
+-- if the text has no newline, no line is complete
 pub whole_none : (text : List ℕ) → position is_newline text ≡ None → whole_lines text ≡ []
 unfolding whole_lines
 whole_none text none =
@@ -62,7 +62,7 @@ whole_none text none =
     in
     ap (λ (parts : List (List ℕ)). take (length parts - 1) parts) (slice_split_none is_newline text (λ k d inside. fails_before_first is_newline text k d (omega arith)))
 
--- there are at most as many lines as bytes
+-- a text has at most as many lines as bytes
 pub lines_few : (text : List ℕ) → length (lines_read text) ≤ length text
 unfolding whole_lines
 lines_few text =

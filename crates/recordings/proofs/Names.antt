@@ -9,7 +9,7 @@ use Rattle.job_bodies.specs.WellFormed.{is_name_byte, is_valid_name}
 use Rattle.line_words.proofs.Splits.{has_no}
 use Rattle.recordings.specs.Words.{name_of}
 
--- no byte below the digits is a name byte
+-- a name byte is never below the digits
 no_other : (c b : ℕ) → c < 48 → is_name_byte b ≡ true → not (b == c) ≡ true
 no_other c b low h = grind (arith, nat_tests)
 
@@ -34,7 +34,7 @@ name_bytes name valid = (and_parts _ (list_all is_name_byte name) valid).1
 pub name_has_no : (c : ℕ) (name : List ℕ) → c < 48 → is_valid_name name ≡ true → has_no c name ≡ true
 name_has_no c name low valid = no_others c name low (name_bytes name valid)
 
--- the bytes of a name are UTF-8
+-- name bytes are UTF-8
 pub bytes_are_text : (bytes : List ℕ) → list_all is_name_byte bytes ≡ true → IsUtf8 bytes
 bytes_are_text bytes all = IsUtf8-from_ascii bytes (all_ascii bytes all)
 
@@ -42,7 +42,7 @@ bytes_are_text bytes all = IsUtf8-from_ascii bytes (all_ascii bytes all)
 pub name_is_text : (name : List ℕ) → is_valid_name name ≡ true → IsUtf8 name
 name_is_text name valid = bytes_are_text name (name_bytes name valid)
 
--- bytes that are not UTF-8 are not a name
+-- bytes that are not UTF-8 do not parse as a name
 pub no_name : (word : List ℕ) → ¬ (IsUtf8 word) → None ≡ name_of word
 unfolding name_of
 no_name word no_text =

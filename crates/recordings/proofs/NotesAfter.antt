@@ -1,4 +1,4 @@
--- The notes after one more line, and before the first one.
+-- The notes are correct before the first line, and after one more line.
 use Rattle.std.proofs.Common.{◌≡◌, ℕ, ◌+◌, List, [], ◌∷◌, ◌++◌, length, None, ap, sym, subst, ◌∙◌, arith}
 use Rattle.recordings.specs.RecordingLine.{RecordedLine}
 use Rattle.recordings.specs.PathsOfLines.{KeepsRules}

@@ -27,11 +27,11 @@ path_none actor lines none = ap with_places (steps_none actor lines none) ∙ pl
 pub path_same : (before : List RecordedLine) (line : RecordedLine) (actor : RecordedActor) → ((j : ℕ) → refuses_job j line ≡ false) → step_by_line actor before line ≡ None → path_of (before ++ line ∷ []) actor ≡ path_of before actor
 path_same before line actor unrefusing nothing = ap with_places (steps_same before line actor unrefusing nothing)
 
--- a line of another actor without a refusal
+-- the path is unchanged after a line of another actor that is not `refused`
 pub path_other : (before : List RecordedLine) (line : RecordedLine) (actor : RecordedActor) → ((j : ℕ) → refuses_job j line ≡ false) → is_of actor line ≡ false → path_of (before ++ line ∷ []) actor ≡ path_of before actor
 path_other before line actor unrefusing other = path_same before line actor unrefusing (other_by_line actor before line other)
 
--- ---- a submit
+-- ---- the path after a submit
 places_if : (b : Bool) (steps : List JobStep) → ValidSteps steps → (job : ℕ) → with_places (if b then steps ++ SubmitOf job ∷ [] else steps) ≡ (if b then with_places steps ++ step.Submits job ∷ [] else with_places steps)
 places_if true steps l job = places_submit steps l job
 places_if false steps l job = refl
@@ -41,7 +41,7 @@ pub path_submit : (before : List RecordedLine) (submitter actor : RecordedActor)
 path_submit before submitter actor job class pool kept past =
     ap with_places (steps_submit before submitter actor job class pool (refused_fresh before kept job past)) ∙ places_if (is_same_actor submitter actor) (steps_of before actor) (lawful_steps actor before kept) job
 
--- ---- a get
+-- ---- the path after a get
 get_step : (steps : List JobStep) → ValidSteps steps → (job : ℕ) → (submitted : Bool) → list_any (is_submit_of job) steps ≡ submitted → (got : Bool) → list_any (is_get_of job) steps ≡ got
     → with_places (if submitted && not got then steps ++ GetOf job ∷ [] else steps) ≡ with_get_at (if submitted then Some (position_or_len (is_submit_of job) steps) else None) (with_places steps)
 get_step steps l job true h true g = sym (ap (λ (b : Bool). if b then with_places steps else with_places steps ++ step.Gets (position_or_len (is_submit_of job) steps) ∷ []) (got_there steps l job h ∙ g))
@@ -69,14 +69,14 @@ pub path_get : (before : List RecordedLine) (getter actor : RecordedActor) (job 
     → path_of (before ++ Got getter job ∷ []) actor ≡ (if is_same_actor getter actor then with_get job (path_of before actor) else path_of before actor)
 path_get before getter actor job kept = get_if before getter actor job kept (is_same_actor getter actor) refl
 
--- ---- a refusal
+-- ---- the path after a `refused` line
 other_way : (a b : ℕ) → not (a == b) ≡ not (b == a)
 other_way a b = grind arith
 
 nothing_dropped : (j : ℕ) (steps : List JobStep) → list_any (is_step_of j) steps ≡ false → filter (λ step. not (j == job_of_step step)) steps ≡ steps
 nothing_dropped j steps none = filter_all (λ step. not (j == job_of_step step)) (is_step_of j) (λ step. other_way j (job_of_step step)) steps none
 
--- the actor has no submit of the job
+-- the path is unchanged if it has no submit of the job
 unsubmitted_path : (before : List RecordedLine) (who actor : RecordedActor) (j : ℕ) → KeepsRules before → list_any (is_submit_of j) (steps_of before actor) ≡ false → path_of (before ++ Refused who j ∷ []) actor ≡ path_of before actor
 unsubmitted_path before who actor j kept none =
     ap with_places (steps_refused before who actor j ∙ nothing_dropped j (steps_of before actor) (unsubmitted_none (steps_of before actor) (lawful_steps actor before kept) j none))
@@ -84,7 +84,7 @@ unsubmitted_path before who actor j kept none =
 unsubmitted_stays : (before : List RecordedLine) (actor : RecordedActor) (j : ℕ) → list_any (is_submit_of j) (steps_of before actor) ≡ false → without_submit j (path_of before actor) ≡ path_of before actor
 unsubmitted_stays before actor j none = without_none j (path_of before actor) (any_with_places j (steps_of before actor) ∙ none)
 
--- the submit of the job is the actor's last action
+-- the path loses its last action if that is the submit of the job
 unnamed_step : (q : JobStep → Bool) (step : JobStep) (steps : List JobStep) (b : Bool) → q step ≡ false → list_any q steps ≡ false → list_any q (if b then step ∷ steps else steps) ≡ false
 unnamed_step q step steps true here rest = neither (q step) (list_any q steps) here rest
 unnamed_step q step steps false here rest = rest
@@ -129,7 +129,7 @@ either : (b : Bool) {changed same : List RecordedStep} → changed ≡ same → 
 either true h = sym h
 either false h = refl
 
--- the path of the submitter changes, and no other path has the job
+-- only the path of the submitter changes, since no other path has the job
 refused_step : (before : List RecordedLine) (who actor : RecordedActor) (j : ℕ) → KeepsRules (before ++ Refused who j ∷ []) → just_submitted before who j ≡ true
     → (refused : Bool) → is_refused before j ≡ refused → (same : Bool) → is_same_actor who actor ≡ same
     → path_of (before ++ Refused who j ∷ []) actor ≡ (if same then without_submit j (path_of before actor) else path_of before actor)

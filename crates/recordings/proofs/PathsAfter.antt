@@ -1,4 +1,4 @@
--- The stored paths are correct after one more line, or unchanged.
+-- The stored paths are correct after one more line, and after a line that failed for lack of memory.
 use Rattle.std.proofs.Common.{◌≡◌, ℕ, ◌==◌, ◌&&◌, ◌||◌, not, Bool, true, false, if◌then◌else◌, List, [], ◌∷◌, ◌++◌, Some, None, refl, ap, sym, ◌∙◌, arith}
 use Rattle.std.specs.Option.{option_map}
 use Rattle.std.specs.List.{list_any}
@@ -36,7 +36,7 @@ round_live : (before : List RecordedLine) (line : RecordedLine) (r : ℕ) → is
 round_live before line r =
     and_not (is_begun (before ++ line ∷ []) r) (is_ended (before ++ line ∷ []) r) (is_begun before r || begins_round r line) (is_ended before r || ends_round r line) (is_begun_more before line r) (is_ended_more before line r)
 
--- the line adds the actor, or removes it
+-- the line adds the actor
 abbrev comes : RecordedActor → RecordedLine → Bool
 comes (Job j) line = submits_job j line
 comes (Round r) line = begins_round r line
@@ -66,24 +66,24 @@ come a b c d f h g = grind (arith, f, h, g)
 shown : (live live_then : Bool) (path path_then : List RecordedStep) → live_then ≡ live → path_then ≡ path → (if live_then then Some path_then else None) ≡ (if live then Some path else None)
 shown live live_then path path_then h g = ap (λ (b : Bool). if b then Some path_then else None) h ∙ ap (λ p. if live then Some p else None) g
 
--- the change if the line is a line of this actor
+-- the path of a live actor after a line that changes only the path of one actor
 done_if : (same live live_then : Bool) (change_path : List RecordedStep → List RecordedStep) (path path_then : List RecordedStep) → live_then ≡ live → path_then ≡ (if same then change_path path else path)
     → (if same then option_map change_path (if live then Some path else None) else (if live then Some path else None)) ≡ (if live_then then Some path_then else None)
 done_if true true live_then change_path path path_then h g = sym (shown true live_then (change_path path) path_then h g)
 done_if true false live_then change_path path path_then h g = sym (shown false live_then (change_path path) path_then h g)
 done_if false live live_then change_path path path_then h g = sym (shown live live_then path path_then h g)
 
--- no change
+-- the path is unchanged if the line neither adds nor ends the actor and has no action of the actor
 stays : (before : List RecordedLine) (line : RecordedLine) (actor : RecordedActor) → comes actor line ≡ false → goes actor line ≡ false → ((j : ℕ) → refuses_job j line ≡ false) → step_by_line actor before line ≡ None
     → live_path_of before actor ≡ live_path_of (before ++ line ∷ []) actor
 stays before line actor h g unrefusing nothing =
     sym (shown (is_live before actor) (is_live (before ++ line ∷ []) actor) (path_of before actor) (path_of (before ++ line ∷ []) actor) (still_live before line actor h g) (path_same before line actor unrefusing nothing))
 
--- the actor ends
+-- no path is live after the line that ends the actor
 leaves : (before : List RecordedLine) (line : RecordedLine) (actor : RecordedActor) → goes actor line ≡ true → None ≡ live_path_of (before ++ line ∷ []) actor
 leaves before line actor g = sym (ap (λ (b : Bool). if b then Some (path_of (before ++ line ∷ []) actor) else None) (gone_live before line actor g))
 
--- the actor begins
+-- the path is empty after the line that adds the actor
 enters : (before : List RecordedLine) (line : RecordedLine) (actor : RecordedActor) → is_live (before ++ line ∷ []) actor ≡ true → is_of actor line ≡ false → list_any (is_of actor) before ≡ false → Some [] ≡ live_path_of (before ++ line ∷ []) actor
 enters before line actor h other none =
     sym (shown true (is_live (before ++ line ∷ []) actor) [] (path_of (before ++ line ∷ []) actor) h (path_none actor (before ++ line ∷ []) (other_more before line actor other ∙ by_lines_none actor before none)))
@@ -108,7 +108,7 @@ job_throws : (before : List RecordedLine) (job j : ℕ) (same : Bool) → (job =
 job_throws before job j true same = leaves before (JobThrew job) (Job j) same
 job_throws before job j false same = stays before (JobThrew job) (Job j) refl same (λ i. refl) refl
 
--- a submit, by the actor or by another one
+-- the path after a submit, by the actor or by another actor
 submitted : (before : List RecordedLine) (submitter actor : RecordedActor) (job : ℕ) (class pool : List ℕ) → KeepsRules before → Keeps before (Submits submitter job class pool) → comes actor (Submits submitter job class pool) ≡ false
     → goes actor (Submits submitter job class pool) ≡ false
     → at_actor submitter (with_step (step.Submits job)) actor (live_path_of before actor) ≡ live_path_of (before ++ Submits submitter job class pool ∷ []) actor
@@ -138,7 +138,7 @@ at_got before getter actor job kept h g =
     done_if (is_same_actor getter actor) (is_live before actor) (is_live (before ++ Got getter job ∷ []) actor) (with_get job) (path_of before actor) (path_of (before ++ Got getter job ∷ []) actor)
     (still_live before (Got getter job) actor h g) (path_get before getter actor job kept)
 
--- ---- each line
+-- ---- the path of an actor after any line
 path_after : (before : List RecordedLine) (line : RecordedLine) (actor : RecordedActor) → KeepsRules (before ++ line ∷ []) → KeepsRules before → Keeps before line → change_of line actor (live_path_of before actor) ≡ live_path_of (before ++ line ∷ []) actor
 path_after before (RoundBegins round kind) (Round r) all kept k = round_begins before round r kind kept k (round == r) refl
 path_after before (RoundEnds round) (Round r) all kept k = round_ends before round r (round == r) refl

@@ -1,4 +1,4 @@
--- A job that is refused is the last one that its actor submitted.
+-- A job that is refused is the last job that its actor submitted.
 use Rattle.std.proofs.Common.{◌≡◌, ℕ, ◌==◌, ◌&&◌, ◌||◌, not, Bool, true, false, if◌then◌else◌, List, [], ◌∷◌, ◌++◌, Some, refl, ap, sym, subst, ◌∙◌, arith}
 use Rattle.std.specs.List.{list_any}
 use Rattle.std.specs.Option.{option_to_list}
@@ -82,8 +82,8 @@ one_submitter a b j =
     (λ before line kept k known h g.
     one_step a b j before line kept k known (sym (has_submitted_more before line a j) ∙ h) (sym (has_submitted_more before line b j) ∙ g) (submits_job j line) refl)
 
--- ---- the last action
--- the submit of the job comes after the other actions, none of which names the job
+-- ---- the last action of an actor
+-- the last action is the submit of the job, and no other action submits or gets the job
 pub record EndsBySubmit (steps : List JobStep) (j : ℕ) : Type 0 where
   pub front : List JobStep
   pub whole : steps ≡ front ++ SubmitOf j ∷ []

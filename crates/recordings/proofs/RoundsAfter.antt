@@ -1,4 +1,4 @@
--- The state of the rounds is correct after one more line.
+-- The stored rounds are correct after one more line.
 use Rattle.std.proofs.Common.{◌≡◌, ℕ, ◌≤◌, ◌&&◌, not, false, List, [], ◌∷◌, ◌++◌, is_some, arith}
 use Rattle.recordings.specs.RecordingLine.{RecordedLine, Head, Pool, RoundBegins, RoundEnds, Submits, Refused, JobStarts, JobEnds, JobThrew, Got, TimedOut, Interrupted, Cancels, InvokesAny, Removed, ShutDown, Unseen, End}
 use Rattle.recordings.specs.declared.trace_validator.TraceValidator.{TraceValidator}

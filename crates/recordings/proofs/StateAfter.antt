@@ -1,4 +1,4 @@
--- The state is correct after one more line, accepted or not.
+-- The state of the rule check is correct after one more line, whether or not the line breaks a rule.
 use Rattle.std.proofs.Common.{◌≡◌, ℕ, ◌+◌, ◌||◌, false, refl, if◌then◌else◌, List, [], ◌∷◌, ◌++◌, is_some, None, sym, ap, ◌∙◌, arith}
 use Rattle.recordings.specs.declared.recording_line.RecordedActor.{RecordedActor}
 use Rattle.recordings.specs.declared.recording_line.RecordedActor.TheVariants.{Job, Round}

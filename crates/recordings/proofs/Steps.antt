@@ -12,7 +12,7 @@ use Rattle.recordings.proofs.Tests.{filter_more, filter_same, filter_filter}
 use Rattle.recordings.proofs.ValidSteps.{ValidSteps, any_kept, submit_job, get_job, lawful_kept}
 use Rattle.recordings.proofs.StepsByLine.{refused_more, by_lines_more, nothing_more, submits_by_lines, gets_by_lines, lawful_by_lines}
 
--- ---- their properties
+-- ---- the actions are valid
 pub lawful_steps : (actor : RecordedActor) (lines : List RecordedLine) → KeepsRules lines → ValidSteps (steps_of lines actor)
 unfolding steps_of
 lawful_steps actor lines kept = lawful_kept (λ job. not (is_refused lines job)) (steps_by_lines lines actor) (lawful_by_lines actor lines kept)
@@ -31,7 +31,7 @@ pub steps_none : (actor : RecordedActor) (lines : List RecordedLine) → steps_b
 unfolding steps_of
 steps_none actor lines none = ap (filter (λ step. not (is_refused lines (job_of_step step)))) none
 
--- ---- a line without a refusal
+-- ---- a line that is not `refused`
 or_none : (a b : Bool) → b ≡ false → (a || b) ≡ a
 or_none true b h = refl
 or_none false b h = h
@@ -52,7 +52,7 @@ filter_option : (p : JobStep → Bool) (before : List JobStep) (b : Bool) (one :
 filter_option p before true one = filter_more p before one
 filter_option p before false one = ap (filter p) (append-nil before)
 
--- the line can add this action
+-- the line appends this action if the condition `b` holds and the job was not refused
 steps_option : (before : List RecordedLine) (line : RecordedLine) (actor : RecordedActor) (b : Bool) (step : JobStep) → ((j : ℕ) → refuses_job j line ≡ false) → step_by_line actor before line ≡ (if b then Some step else None)
     → steps_of (before ++ line ∷ []) actor ≡ (if b && not (is_refused before (job_of_step step)) then steps_of before actor ++ step ∷ [] else steps_of before actor)
 unfolding steps_of
@@ -71,7 +71,7 @@ steps_submit before submitter actor job class pool unrefused =
     steps_option before (Submits submitter job class pool) actor (is_same_actor submitter actor) (SubmitOf job) (λ j. refl) refl
     ∙ ap (λ (b : Bool). if b then steps_of before actor ++ SubmitOf job ∷ [] else steps_of before actor) (and_true (is_same_actor submitter actor) (is_refused before job) unrefused)
 
--- the condition on a get, by the lines and by the actions
+-- the condition for a get is the same in terms of the lines and in terms of the actions
 counts_so : (same submitted got refused : Bool) → same ≡ true → ((same && submitted && not got) && not refused) ≡ ((submitted && not refused) && not ((submitted && got) && not refused))
 counts_so same submitted got refused h = grind (arith, h)
 
@@ -87,7 +87,7 @@ steps_get before getter actor job kept same =
     ∙ (ap (λ b. b && not ((has_submitted before actor job && has_got before actor job) && not (is_refused before job))) (sym submitted)
     ∙ ap (λ b. list_any (is_submit_of job) (steps_of before actor) && not b) (sym got)))
 
--- ---- a refusal
+-- ---- a `refused` line
 neither_refused : (a b : Bool) → not (a || b) ≡ (not a && not b)
 neither_refused true b = refl
 neither_refused false b = refl

@@ -1,4 +1,4 @@
--- The actions from an actor's lines after one more line.
+-- The actions of an actor in the lines, after one more line.
 use Rattle.std.proofs.Common.{◌≡◌, ℕ, ◌==◌, ◌&&◌, ◌||◌, not, Bool, true, false, if◌then◌else◌, List, [], ◌∷◌, ◌++◌, map, Option, Some, None, refl, ap, sym, subst, ◌∙◌, append-nil, arith}
 use Rattle.std.specs.List.{list_any, filter_map}
 use Rattle.std.specs.Option.{option_to_list}
@@ -60,7 +60,7 @@ by_no_lines : (actor : RecordedActor) → steps_by_lines [] actor ≡ []
 unfolding steps_by_lines
 by_no_lines actor = refl
 
--- an actor without a line has no action
+-- an actor to which no line belongs has no action
 pub by_lines_none : (actor : RecordedActor) (lines : List RecordedLine) → list_any (is_of actor) lines ≡ false → steps_by_lines lines actor ≡ []
 by_lines_none actor =
     by_last (λ lines. list_any (is_of actor) lines ≡ false → steps_by_lines lines actor ≡ []) (λ h. by_no_lines actor)
@@ -135,7 +135,7 @@ gets_by_lines actor j =
     ∙ (ap (λ b. (has_submitted before actor j || submits_by actor j line) && b) (sym (has_got_more before line actor j))
     ∙ ap (λ b. b && has_got (before ++ line ∷ []) actor j) (sym (has_submitted_more before line actor j)))))))
 
--- ---- they are valid
+-- ---- the actions are valid
 same_self : (n : ℕ) → (n == n) ≡ true
 same_self n = grind arith
 

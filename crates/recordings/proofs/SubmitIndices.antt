@@ -1,4 +1,4 @@
--- Valid actions with the indices of their submits, after a change at the end.
+-- Valid actions whose gets have the indices of their submits, after an action is appended or removed at the end.
 use Rattle.std.proofs.Common.{◌≡◌, ℕ, suc, ◌<◌, ◌==◌, ◌||◌, Bool, true, false, if◌then◌else◌, List, [], ◌∷◌, ◌++◌, map, length, Option, Some, None, refl, ap, sym, subst, ◌∙◌, add-one, arith}
 use Rattle.std.specs.List.{list_any, position_or_len, slice_get}
 use Rattle.std.proofs.lemmas.List.{map-append, length-map}
@@ -29,7 +29,7 @@ pub place_within : (p : JobStep → Bool) (steps : List JobStep) → list_any p 
 place_within p [] h = grind (arith, h)
 place_within p (first ∷ steps) h = grind (arith, h, place_within p steps)
 
--- the action at that index passes
+-- the action at the index of the first action that passes the test passes it
 there_step : (p : JobStep → Bool) (first : JobStep) (steps : List JobStep) → (list_any p steps ≡ true → passes p (slice_get steps (position_or_len p steps)) ≡ true)
     → (p first || list_any p steps) ≡ true → (here : Bool) → p first ≡ here → passes p (slice_get (first ∷ steps) (position_or_len p (first ∷ steps))) ≡ true
 there_step p first steps rest h true here =
@@ -115,7 +115,8 @@ pub submit_place_more : (j : ℕ) (path : List RecordedStep) (step : RecordedSte
 submit_place_more j [] step = place_on_none (submits j step)
 submit_place_more j (first ∷ path) step = ap (place_on (submits j first)) (submit_place_more j path step) ∙ place_on_if (submits j first) (submits j step) (length path) (submit_place j path)
 
--- after one more action that is not a submit of the job
+-- ---- the index after one more action
+-- the index of the submit of the job among the actions, if there is one
 unfoldable pub place_by_steps : ℕ → List JobStep → Option ℕ
 place_by_steps j steps = if list_any (is_submit_of j) steps then Some (position_or_len (is_submit_of j) steps) else None
 

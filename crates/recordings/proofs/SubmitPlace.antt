@@ -5,7 +5,7 @@ use Rattle.recordings.specs.declared.step.RecordedStep.{RecordedStep}
 use Rattle.recordings.specs.ActorPath.{submits, submit_place}
 use Rattle.recordings.proofs.SubmitIndices.{submit_place_more}
 
--- the search before the next index
+-- the search among the actions before index i + 1 checks the action at index i, and then the actions before index i
 place_before : (job : ℕ) (path : List RecordedStep) (i : ℕ) (step : RecordedStep) → i < length path → submit_place job (take (i + 1) path) ≡ (if submits job (get_or path i step) then Some i else submit_place job (take i path))
 place_before job path i step within =
     let inside : i ≤ length path = omega arith in

@@ -1,4 +1,4 @@
--- Tests of the elements of a list and of one more element.
+-- Tests of the elements of a list to which one element is appended.
 use Rattle.std.proofs.Common.{◌≡◌, ℕ, ◌&&◌, ◌||◌, not, Bool, true, false, if◌then◌else◌, List, [], ◌∷◌, ◌++◌, zero, suc, Option, Some, None, refl, ap, ◌∙◌, sym, append-nil, arith}
 use Rattle.std.specs.List.{list_any, filter, filter_map, cons_option, slice_get}
 use Rattle.std.specs.Option.{option_to_list}

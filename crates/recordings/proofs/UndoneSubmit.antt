@@ -1,4 +1,4 @@
--- A failed submit that is undone leaves the paths unchanged.
+-- The paths are unchanged after a submit that was appended and removed again.
 use Rattle.std.proofs.Common.{◌≡◌, ℕ, Bool, true, false, if◌then◌else◌, List, Option, Some, None, refl, ap, ◌∙◌}
 use Rattle.std.specs.Option.{option_map}
 use Rattle.recordings.specs.declared.recording_line.RecordedActor.{RecordedActor}

@@ -41,11 +41,11 @@ both_live j (GetOf job ∷ steps) h g = grind (arith, h, g, both_live j steps)
 pub unsubmitted_unclaimed : (steps : List JobStep) → ValidSteps steps → (j : ℕ) → list_any (is_submit_of j) steps ≡ false → list_any (is_get_of j) steps ≡ false
 unsubmitted_unclaimed steps l j h = not_weaker (list_any (is_get_of j) steps) (list_any (is_submit_of j) steps) (got_submitted steps l j) h
 
--- a job that was not submitted has no action
+-- a job that was not submitted was not got
 pub unsubmitted_none : (steps : List JobStep) → ValidSteps steps → (j : ℕ) → list_any (is_submit_of j) steps ≡ false → list_any (is_step_of j) steps ≡ false
 unsubmitted_none steps l j h = both_live j steps h (unsubmitted_unclaimed steps l j h)
 
--- ---- without some jobs
+-- ---- the actions without those of some jobs
 once : (a b : Bool) → ((a && true) || (b && a)) ≡ a
 once true b = refl
 once false true = refl

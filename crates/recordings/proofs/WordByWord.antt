@@ -1,4 +1,4 @@
--- The start of a text that was parsed, and the parsed value of a written text.
+-- Each parser of words: a text that parses begins with the words of its value, and the words of a value parse as the value.
 use Rattle.std.proofs.Common.{◌≡◌, ℕ, Bool, true, false, cond, List, ◌∷◌, ◌++◌, decimal, bytes_eq, Option, Some, None, refl, ap, ap₂, subst, ◌∙◌, arith}
 use Rattle.std.proofs.lemmas.Option.{none-some, same_Some, cond_some}
 use Rattle.std.proofs.lemmas.Bool.{cond-true}
@@ -20,7 +20,7 @@ bind_some (Some x) f y e = (x, refl, e)
 pub bind_written : {X Y : Type 0} (o : Option X) (f : X → Option Y) (x : X) (y : Y) → o ≡ Some x → f x ≡ Some y → (o >>= f) ≡ Some y
 bind_written o f x y first second = ap (λ o. o >>= f) first ∙ second
 
--- the result for this word, or that for other words
+-- a result is that for this word, or that for other words
 pub by_word : {Y P : Type 0} (text word : List ℕ) (here others : Option Y) (y : Y) → cond (bytes_eq text word) here others ≡ Some y → (text ≡ word → here ≡ Some y → P) → (others ≡ Some y → P) → P
 by_word {Y} {P} text word here others y e is_it is_not = by_test (bytes_eq text word) refl e
   where
@@ -72,7 +72,7 @@ name_then_written name rest valid =
     ap (λ o. o >>= λ words. name_of words.0 >>= λ m. Some (m, words.1)) (splits name rest (name_has_no 32 name (omega arith) valid))
     ∙ ap (λ o. o >>= λ m. Some (m, rest)) (name_written name valid)
 
--- ---- after a word
+-- ---- the words after a given word
 pub after_read : (word text rest : List ℕ) → strip_word word text ≡ Some rest → text ≡ word ++ 32 ∷ rest
 unfolding strip_word
 after_read word text rest e =

@@ -1,4 +1,4 @@
--- Paths of short examples, computed.
+-- The paths in a short example, computed.
 use Rattle.std.proofs.Common.{◌≡◌, List, [], ◌∷◌, refl}
 use Rattle.recordings.specs.declared.recording_line.RecordedActor.TheVariants.{Job, Round}
 use Rattle.recordings.specs.RecordingLine.{RecordedLine, RoundBegins, RoundEnds, Submits, Refused, JobStarts, JobEnds, Got, TimedOut}
@@ -6,9 +6,9 @@ use Rattle.recordings.specs.declared.step.RecordedStep.TheVariants as step
 use Rattle.recordings.specs.LineSteps.{is_refused, has_submitted, has_got, steps_by_lines}
 use Rattle.recordings.specs.Path.{steps_of, with_places, path_of}
 
--- Round 0 submits two jobs, and a third one that is refused and that its handler runs. It gets the second job, times out on
--- the first one, and then gets it. Later gets of the same jobs, a get of the refused job, and a get of a job of the other
--- round do not count.
+-- Round 0 submits two jobs, and a third job that is refused and that the handler runs. The round gets the second job. A get
+-- of the first job times out, and then the round gets it. Later gets of these jobs, a get of the refused job, and a get of
+-- a job that the other round submitted are no actions.
 lines : List RecordedLine
 lines =
     RoundBegins 0 [] ∷ RoundBegins 1 [] ∷ Submits (Round 0) 0 [] [] ∷ Submits (Round 1) 1 [] [] ∷ Submits (Round 0) 2 [] [] ∷ JobStarts 2 ∷ JobEnds 2 ∷ Submits (Round 0) 3 [] [] ∷ Refused (Round 0) 3 ∷ JobStarts 3 ∷ JobEnds 3

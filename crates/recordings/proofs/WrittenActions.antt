@@ -1,4 +1,4 @@
--- The lines of actors: the parsed line has this text.
+-- If a text parses as a line of an actor, it is the text of the line.
 use Rattle.std.proofs.Common.{◌≡◌, ℕ, true, List, [], ◌∷◌, ◌++◌, codes, decimal, Some, refl, ap, ap₂, subst, ◌∙◌}
 use Rattle.std.specs.List.{join_with_byte}
 use Rattle.std.proofs.lemmas.Bool.{and_from}
@@ -14,12 +14,12 @@ use Rattle.recordings.specs.RecordingLine.{RecordedLine, RoundBegins, RoundEnds,
 use Rattle.recordings.specs.LineText.{actor_words, after_actor, line_text, is_valid_actor, is_valid_line}
 use Rattle.recordings.proofs.WordByWord.{bind_some, by_word, name_read, number_then_read, name_then_read}
 
--- the text is that of the valid line
+-- the line is valid, and the text is the line's text
 abbrev pub IsLine : List ℕ → RecordedLine → Type 0
 IsLine text line = (is_valid_line line ≡ true) × (text ≡ line_text line)
 
--- ---- after an actor
--- words after the two words of the actor
+-- ---- the words after an actor
+-- the text of an actor and further words is the two words of the actor followed by these words
 pub after_is : (actor : RecordedActor) (word : List ℕ) (words : List (List ℕ)) → after_actor actor (join_with_byte 32 (word ∷ words)) ≡ join_with_byte 32 (actor_words actor (word ∷ words))
 after_is (Job n) word words = refl
 after_is (Round n) word words = refl
@@ -79,12 +79,12 @@ act_read actor word rest line whose read =
         subst (λ (l : RecordedLine). IsLine (after_actor actor (codes "any" ++ 32 ∷ rest)) l) (same_Some _ line pool.2)
         (and_from _ _ whose name.0, ap (λ (r : List ℕ). after_actor actor (codes "any" ++ 32 ∷ r)) name.1 ∙ after_is actor (codes "any") (pool.0 ∷ []))
 
--- one word after an actor
+-- a line of one word after an actor has this text
 alone : (actor : RecordedActor) (text key : List ℕ) (one line : RecordedLine) → is_valid_line one ≡ true → after_actor actor key ≡ line_text one → text ≡ key → Some one ≡ Some line → IsLine (after_actor actor text) line
 alone actor text key one line good written is same =
     subst (λ (l : RecordedLine). IsLine (after_actor actor text) l) (same_Some one line same) (good, ap (after_actor actor) is ∙ written)
 
--- several words after an actor
+-- a line of several words after an actor has this text
 more : (actor : RecordedActor) (text : List ℕ) (words : List ℕ × List ℕ) (line : RecordedLine) → split_space text ≡ Some words → IsLine (after_actor actor (words.0 ++ 32 ∷ words.1)) line → IsLine (after_actor actor text) line
 more actor text words line split found = (found.0, ap (after_actor actor) (split_parts text words split) ∙ found.1)
 

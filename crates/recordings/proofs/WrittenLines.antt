@@ -1,4 +1,4 @@
--- A text parses as a line if and only if the line is valid and has this text.
+-- A text parses as a line if and only if the line is valid and the text is the line's text.
 use Rattle.std.proofs.Common.{◌≡◌, ◌&&◌, ℕ, true, false, cond, List, [], ◌∷◌, ◌++◌, codes, decimal, bytes_eq, Some, None, refl, sym, ap, subst, ◌∙◌}
 use Rattle.std.specs.List.{join_with_byte}
 use Rattle.std.proofs.lemmas.Bool.{and_parts, and_from}
@@ -57,7 +57,7 @@ unseen_read rest line read =
     subst (λ (l : RecordedLine). IsLine (codes "unseen" ++ 32 ∷ rest) l) (same_Some _ line jobs.2)
     (and_from _ _ front.0 back.0, ap (λ (r : List ℕ). codes "unseen" ++ 32 ∷ r) (front.1 ∙ ap (λ (r : List ℕ). pool.0.0 ++ 32 ∷ r) back.1))
 
--- a line whose first word is this one
+-- a line parses correctly if its first word is `key`
 at_word : (word key rest : List ℕ) (line : RecordedLine) → word ≡ key → IsLine (key ++ 32 ∷ rest) line → IsLine (word ++ 32 ∷ rest) line
 at_word word key rest line is found = (found.0, ap (λ (w : List ℕ). w ++ 32 ∷ rest) is ∙ found.1)
 
@@ -101,7 +101,7 @@ read_line_is_text text line read =
     (found.0, split_parts text words.0 words.1 ∙ found.1))
 
 -- ---- the written line
--- a line of several words, of which the first has no space
+-- a line of several words parses by its first word, which has no space
 by_first : (word rest : List ℕ) → has_no 32 word ≡ true → bytes_eq (word ++ 32 ∷ rest) (codes "end") ≡ false → line_of (word ++ 32 ∷ rest) ≡ line_of_words word rest
 unfolding line_of
 by_first word rest none other =
@@ -121,7 +121,7 @@ other_first : (word rest : List ℕ) → has_no 32 word ≡ true → bytes_eq (w
 unfolding line_of_words
 other_first word rest none other no_job no_round = by_first word rest none other ∙ rw (no_job, no_round) refl
 
--- the word is none of those with a form of their own after an actor
+-- the words after an actor do not have one of the forms without a job's number
 abbrev IsAct : List ℕ → List ℕ → Type 0
 IsAct word rest =
     (has_no 32 word ≡ true) × (bytes_eq (word ++ 32 ∷ rest) (codes "start") ≡ false) × (bytes_eq (word ++ 32 ∷ rest) (codes "end") ≡ false) × (bytes_eq (word ++ 32 ∷ rest) (codes "threw") ≡ false)
@@ -139,7 +139,7 @@ by_actor : (actor : RecordedActor) (line said : RecordedLine) (word : List ℕ) 
     → line_of (after_actor actor (join_with_byte 32 (word ∷ words))) ≡ Some said → line_of (line_text line) ≡ Some said
 by_actor actor line said word words is read = ap line_of (is ∙ sym (after_is actor word words)) ∙ read
 
--- an action on a job
+-- the text of an action on a job parses as the action
 step_written : (actor : RecordedActor) (word : List ℕ) (job : ℕ) → is_valid_actor actor && is_valid_number job ≡ true → IsAct word (decimal job) → bytes_eq word (codes "submit") ≡ false → bytes_eq word (codes "any") ≡ false
     → line_of (after_actor actor (word ++ 32 ∷ decimal job)) ≡ job_action_of actor word job
 unfolding action_of

@@ -1,4 +1,4 @@
--- The description of a pool: the parsed value has this text.
+-- The settings of a pool in a `pool` line parse as a value if and only if they are the text of the value.
 use Rattle.std.proofs.Common.{◌≡◌, ◌&&◌, ℕ, Bool, true, false, List, ◌∷◌, ◌++◌, codes, decimal, Some, refl, ap, subst, ◌∙◌}
 use Rattle.std.specs.List.{join_with_byte}
 use Rattle.std.proofs.lemmas.Bool.{and_parts, and_from}
@@ -17,7 +17,7 @@ use Rattle.recordings.specs.PoolSizes.{queue_kind_of, handler_kind_of, yes_or_no
 use Rattle.recordings.specs.LineText.{queue_word, handler_word, yes_no_word, sizes_words, has_valid_numbers}
 use Rattle.recordings.proofs.WordByWord.{bind_some, bind_written, by_word, after_read, after_written, number_then_read, number_then_written, number_after_read, number_after_written}
 
--- ---- one word
+-- ---- single words
 queue_kind_read : (word : List ℕ) (kind : QueueKind) → queue_kind_of word ≡ Some kind → word ≡ queue_word kind
 unfolding queue_kind_of
 queue_kind_read word kind read =
@@ -76,7 +76,7 @@ yes_no_word_has_no_space : (b : Bool) → has_no 32 (yes_no_word b) ≡ true
 yes_no_word_has_no_space true = refl
 yes_no_word_has_no_space false = refl
 
--- ---- two words
+-- ---- pairs of words
 queue_then_read : (text : List ℕ) (read : QueueKind × List ℕ) → parse_queue text ≡ Some read → text ≡ codes "queue" ++ 32 ∷ (queue_word read.0 ++ 32 ∷ read.1)
 unfolding parse_queue
 queue_then_read text read e =
@@ -123,7 +123,7 @@ handler_written : (kind : HandlerKind) → handler_of (codes "handler" ++ 32 ∷
 unfolding handler_of
 handler_written kind = ap (λ o. o >>= λ w. handler_kind_of w) (after_written (codes "handler") (handler_word kind) refl) ∙ handler_kind_written kind
 
--- ---- all of it
+-- ---- all settings
 pub pool_sizes_read : (text : List ℕ) (sizes : PoolSizes) → pool_sizes_of text ≡ Some sizes → (has_valid_numbers sizes ≡ true) × (text ≡ join_with_byte 32 (sizes_words sizes))
 unfolding pool_sizes_of
 pool_sizes_read text sizes e =

@@ -4,34 +4,34 @@ use Rattle.std.specs.List.{list_any}
 use Rattle.recordings.specs.declared.step.RecordedStep.{RecordedStep}
 use Rattle.recordings.specs.declared.step.RecordedStep.TheVariants.{Submits, Gets}
 
--- a submit of this job
+-- the action is a submit of this job
 abbrev pub submits : ℕ → RecordedStep → Bool
 submits job (Submits one) = one == job
 submits job (Gets place) = false
 
--- a get of the job of the submit at this index of the same path
+-- the action is a get of the job that the submit at this index of the same path submits
 abbrev pub gets : ℕ → RecordedStep → Bool
 gets place (Gets got) = got == place
 gets place (Submits job) = false
 
--- ---- the submit of a job
--- the index found in the rest of the path, plus one; otherwise 0 if the first action is the submit
+-- ---- the index of a submit
+-- the index of the last submit in a path, from whether the first action is one and from the index in the rest of the path
 abbrev pub place_on : Bool → Option ℕ → Option ℕ
 place_on here (Some place) = Some (place + 1)
 place_on true None = Some 0
 place_on false None = None
 
--- the index of the last submit of the job
+-- the index of the last submit of the job in the path
 abbrev pub submit_place : ℕ → List RecordedStep → Option ℕ
 submit_place job [] = None
 submit_place job (step ∷ path) = place_on (submits job step) (submit_place job path)
 
 -- ---- a get
--- whether a later action gets the job of the submit at this index
+-- some action after this index gets the job that the submit at this index submits
 abbrev pub is_got : ℕ → List RecordedStep → Bool
 is_got place path = list_any (gets place) (drop (place + 1) path)
 
--- the path after a get of the job of the submit at this index, which is appended only once
+-- the path with a get of the job that the submit at this index submits, if it has none yet
 abbrev pub with_get_at : Option ℕ → List RecordedStep → List RecordedStep
 with_get_at None path = path
 with_get_at (Some place) path = if is_got place path then path else path ++ Gets place ∷ []
@@ -44,10 +44,10 @@ abbrev pub is_submit_there : ℕ → Option RecordedStep → Bool
 is_submit_there job None = false
 is_submit_there job (Some step) = submits job step
 
--- whether the submit of the job is the last action
+-- the last action of the path is a submit of the job
 unfoldable pub ends_with_submit : ℕ → List RecordedStep → Bool
 ends_with_submit job path = is_submit_there job (slice_get path (length path - 1))
 
--- the path without the submit of the job, if that is the last action
+-- the path without its last action if that is a submit of the job; otherwise the whole path
 abbrev pub without_submit : ℕ → List RecordedStep → List RecordedStep
 without_submit job path = if ends_with_submit job path then take (length path - 1) path else path

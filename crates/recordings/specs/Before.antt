@@ -1,4 +1,4 @@
--- The properties of the lines before a line.
+-- Properties of the lines before a line.
 use Rattle.std.specs.Prelude.{ℕ, ◌&&◌, not, Bool, true, false, List, [], ◌∷◌, Option, Some, None, count_by, filter}
 use Rattle.std.specs.List.{list_any}
 use Rattle.recordings.specs.declared.recording_line.RecordedActor.{RecordedActor}
@@ -20,7 +20,7 @@ has_pool before pool = list_any (declares pool) before
 unfoldable pub submits : List RecordedLine → ℕ
 submits before = count_by is_submit before
 
--- the number of rounds begun
+-- the number of rounds that began
 unfoldable pub begins : List RecordedLine → ℕ
 begins before = count_by is_begin before
 
@@ -51,6 +51,6 @@ abbrev pub is_submit_of : ℕ → Option RecordedLine → Bool
 is_submit_of job None = false
 is_submit_of job (Some line) = submits_job job line
 
--- the last line of the actor submits the job, not counting a line that the job was refused
+-- the last line of the actor, other than a `refused` line of the job, submits the job
 unfoldable pub just_submitted : List RecordedLine → RecordedActor → ℕ → Bool
 just_submitted before actor job = is_submit_of job (last_of (filter (λ line. is_of actor line && not (refuses_job job line)) before))

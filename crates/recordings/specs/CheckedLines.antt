@@ -9,7 +9,7 @@ use Rattle.recordings.specs.Rules.{first_broken_rule}
 use Rattle.recordings.specs.StateOfLines.{Represents}
 use Rattle.recordings.specs.Faults.{lines_before, reason_at, IsFirstFault}
 
--- no line breaks a rule, given the lines before it
+-- no line breaks a rule O1 to O7, given the lines before it
 abbrev pub AreUnbroken : List RecordedLine → Type 0
 AreUnbroken lines = (before : List RecordedLine) (line : RecordedLine) (after : List RecordedLine) → lines ≡ before ++ line ∷ after → first_broken_rule before line ≡ None
 
@@ -17,7 +17,7 @@ AreUnbroken lines = (before : List RecordedLine) (line : RecordedLine) (after : 
 abbrev pub lines_left : CheckedLines → ℕ
 lines_left checked = length checked.lines
 
--- the first `number` lines were accepted, and none of them is bad
+-- the iterator has returned the first `number` lines, and none of them is bad
 pub record IsCheckerState (all : List (Option RecordedLine)) (checked : CheckedLines) : Type 0 where
   pub few : length all < 2 ^ 64
   pub within : checked.number ≤ length all
@@ -28,7 +28,7 @@ pub record IsCheckerState (all : List (Option RecordedLine)) (checked : CheckedL
   pub good : (k : ℕ) → k < checked.number → reason_at all k ≡ None
 
 -- ---- the next line
--- this line breaks no rule and is accepted
+-- the iterator returns this line, which breaks no rule, as the next line
 pub record IsAcceptedNext (all : List (Option RecordedLine)) (old : CheckedLines) (line : RecordedLine) (new : CheckedLines) : Type 0 where
   pub number : new.number ≡ old.number + 1
   pub there : slice_get all old.number ≡ Some (Some line)
@@ -37,7 +37,7 @@ pub record IsAcceptedNext (all : List (Option RecordedLine)) (old : CheckedLines
   pub fewer : lines_left new < lines_left old
   pub checked : IsCheckerState all new
 
--- there is no next line, each line was accepted, and none is bad
+-- the iterator has returned all lines, and none of them is bad
 pub record AreAllAccepted (all : List (Option RecordedLine)) (old new : CheckedLines) : Type 0 where
   pub none : IsFirstFault all None
   pub taken : lines_before all old.number ≡ filter_map (λ line. line) all

@@ -3,7 +3,7 @@ use Rattle.std.specs.Prelude.{ℕ, ◌++◌, List, codes, decimal}
 use Rattle.recordings.specs.declared.invalidation.InvalidatingEvent.{InvalidatingEvent}
 use Rattle.recordings.specs.declared.invalidation.InvalidatingEvent.TheVariants as event
 
--- The text has no line number and no newline.
+-- The text of an event, without a line number and without a newline.
 abbrev pub event_text : InvalidatingEvent → List ℕ
 event_text (event.Refused actor job) = codes "job " ++ decimal job ++ codes " was refused"
 event_text (event.TimedOut actor job) = codes "a get of job " ++ decimal job ++ codes " timed out"

@@ -1,4 +1,4 @@
--- The text of a bad line's fault.
+-- The text of the fault of a bad line.
 use Rattle.std.specs.Prelude.{ℕ, List, ◌++◌, codes, decimal}
 use Rattle.recordings.specs.declared.fault.FaultReason.{FaultReason}
 use Rattle.recordings.specs.declared.fault.FaultReason.TheVariants as reason

@@ -1,4 +1,4 @@
--- The gets of jobs by actors that did not submit them.
+-- Foreign gets: the gets of jobs by actors that did not submit them.
 use Rattle.std.specs.Prelude.{ℕ, ◌+◌, ◌==◌, ◌&&◌, not, Bool, false, if◌then◌else◌, List, length, Option, Some, None}
 use Rattle.std.specs.List.{list_any, filter_map, slice_get}
 use Rattle.recordings.specs.declared.recording_line.RecordedActor.{RecordedActor}
@@ -7,12 +7,12 @@ use Rattle.recordings.specs.LineParts.{is_same_actor, is_actor}
 use Rattle.recordings.specs.LineSteps.{with_lines_before}
 use Rattle.recordings.specs.declared.foreign_get.ForeignGet.{ForeignGet}
 
--- The actor that submits the job with this line.
+-- The actor that submits the job in this line, if the line is a submit of the job.
 abbrev pub submitter_by : ℕ → RecordedLine → Option RecordedActor
 submitter_by job (Submits actor one class pool) = if one == job then Some actor else None
 submitter_by job line = None
 
--- The actor that submitted the job.
+-- The actor that submitted the job in these lines, if any.
 unfoldable pub submitter_of : List RecordedLine → ℕ → Option RecordedActor
 submitter_of lines job = slice_get (filter_map (submitter_by job) lines) 0
 
@@ -29,7 +29,7 @@ abbrev pub is_foreign : Option RecordedActor → RecordedActor → Bool
 is_foreign None actor = false
 is_foreign (Some submitter) actor = not (is_same_actor submitter actor)
 
--- The get by this line, if another actor submitted the job and has not got it.
+-- The foreign get in this line: a get of a job that another actor submitted and has not got.
 abbrev pub foreign_get_of : List RecordedLine → RecordedLine → Option ForeignGet
 foreign_get_of before (Got actor job) =
     if is_foreign (submitter_of before job) actor && not (is_got_by_own before job) then Some (record { line = length before + 1; actor = actor; job = job }) else None

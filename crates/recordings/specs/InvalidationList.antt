@@ -11,8 +11,8 @@ use Rattle.recordings.specs.declared.invalidation.InvalidatingEvent.{Invalidatin
 use Rattle.recordings.specs.declared.invalidation.InvalidatingEvent.TheVariants as event
 use Rattle.recordings.specs.Invalidations.{keyword_of, is_same_type, has_type, repeats_get, next_of, event_of, is_excused}
 
--- ---- by all lines
--- The next line of the actor may excuse the event, and is not there yet.
+-- ---- the entries, from all lines read
+-- The next line of the event's actor can discard the event, and has not been read yet.
 abbrev pub is_pending : InvalidatingEvent → List RecordedLine → Bool
 is_pending (event.TimedOut actor job) after = is_none (next_of actor after)
 is_pending (event.Interrupted actor job) after = is_none (next_of actor after)
@@ -21,7 +21,7 @@ is_pending event after = false
 abbrev pub entry_unless_excused : ℕ → List RecordedLine → InvalidatingEvent → Option InvalidationEntry
 entry_unless_excused number after event = if is_excused event after then None else Some (record { invalidation = record { line = number; event = event }; pending = is_pending event after })
 
--- The event of the line with this number, by that line and the lines after it.
+-- The entry for the event of the line with this number, from that line and the lines after it.
 abbrev pub entry_at : ℕ → RecordedLine → List RecordedLine → Option InvalidationEntry
 entry_at number line after = option_and_then (entry_unless_excused number after) (event_of line)
 
@@ -33,8 +33,8 @@ entries_from number (line ∷ after) = cons_option (entry_at number line after) 
 abbrev pub closed_with : (List ℕ → Bool) → InvalidationEntry → List ℕ → Bool
 closed_with closed one word = closed word || (not one.pending && bytes_eq (keyword_of one.invalidation.event) word)
 
--- `kept` may omit an event after one of its type that is not pending, because it can never be the first of its type.
--- `closed` tells which types already have such an event.
+-- `kept` is the list `all` of events without some that can never be the first of their type, because an event of the same
+-- type that is not pending comes before them. `closed` says which types have such an event before this list.
 pub data IsEnough : (List ℕ → Bool) → List InvalidationEntry → List InvalidationEntry → Type 0 where
   none : (closed : List ℕ → Bool) → IsEnough closed [] []
   keep : (closed : List ℕ → Bool) (kept all : List InvalidationEntry) (one : InvalidationEntry) → IsEnough (closed_with closed one) kept all
@@ -44,11 +44,11 @@ pub data IsEnough : (List ℕ → Bool) → List InvalidationEntry → List Inva
 abbrev pub invalidations_in : List InvalidationEntry → List Invalidation
 invalidations_in stored = map (λ one. one.invalidation) stored
 
--- The event is appended, unless the list has one of its type.
+-- The list with the event appended, unless the list has an event of the same type.
 abbrev pub with_new_type : Invalidation → List Invalidation → List Invalidation
 with_new_type one firsts = if list_any (has_type one.event) firsts then firsts else firsts ++ one ∷ []
 
--- ---- one more line
+-- ---- the change by one more line
 abbrev pub can_be_excused : InvalidatingEvent → Bool
 can_be_excused (event.TimedOut actor job) = true
 can_be_excused (event.Interrupted actor job) = true
@@ -67,13 +67,13 @@ abbrev pub with_entry : Option InvalidationEntry → List InvalidationEntry → 
 with_entry None kept = kept
 with_entry (Some one) kept = with_first one kept
 
--- The line repeats the get.
+-- The line repeats the get of the event, and so discards the event.
 abbrev pub excuses : RecordedLine → InvalidatingEvent → Bool
 excuses line (event.TimedOut actor job) = repeats_get actor job line
 excuses line (event.Interrupted actor job) = repeats_get actor job line
 excuses line event = false
 
--- The line is of the actor of the get.
+-- The line belongs to the actor of the get.
 abbrev pub ends_pending : RecordedLine → InvalidatingEvent → Bool
 ends_pending line (event.TimedOut actor job) = is_of actor line
 ends_pending line (event.Interrupted actor job) = is_of actor line

@@ -24,19 +24,19 @@ keyword_of (event.Unseen jobs) = codes "unseen"
 abbrev pub is_same_type : InvalidatingEvent → InvalidatingEvent → Bool
 is_same_type one other = bytes_eq (keyword_of one) (keyword_of other)
 
--- The line has the keyword of this event.
+-- The invalidation has the same type as this event.
 abbrev pub has_type : InvalidatingEvent → Invalidation → Bool
 has_type event invalidation = is_same_type invalidation.event event
 
 -- ---- repeated gets
--- The line is a further get of the same job by the actor, whatever its result.
+-- The line is a get of the job by the actor, which may return, time out or be interrupted.
 abbrev pub repeats_get : RecordedActor → ℕ → RecordedLine → Bool
 repeats_get actor job (Got who one) = is_same_actor who actor && (one == job)
 repeats_get actor job (TimedOut who one) = is_same_actor who actor && (one == job)
 repeats_get actor job (Interrupted who one) = is_same_actor who actor && (one == job)
 repeats_get actor job line = false
 
--- The actor's next line, of the lines after one.
+-- The first line that belongs to the actor.
 unfoldable pub next_of : RecordedActor → List RecordedLine → Option RecordedLine
 next_of actor after = slice_get (filter (is_of actor) after) 0
 
@@ -45,7 +45,7 @@ is_repeated_next actor job None = false
 is_repeated_next actor job (Some line) = repeats_get actor job line
 
 -- ---- invalidating events
--- The event of the line, if it is one that invalidates a SAFE answer.
+-- The invalidating event that the line reports, if any.
 abbrev pub event_of : RecordedLine → Option InvalidatingEvent
 event_of (Refused actor job) = Some (event.Refused actor job)
 event_of (TimedOut actor job) = Some (event.TimedOut actor job)
@@ -57,17 +57,17 @@ event_of (JobThrew job) = Some (event.Threw job)
 event_of (Unseen pool jobs) = Some (event.Unseen jobs)
 event_of line = None
 
--- A get that timed out or was interrupted does not count if the actor's next line repeats it.
+-- The event does not count: it is a get that timed out or was interrupted, and the actor's next line repeats the get.
 abbrev pub is_excused : InvalidatingEvent → List RecordedLine → Bool
 is_excused (event.TimedOut actor job) after = is_repeated_next actor job (next_of actor after)
 is_excused (event.Interrupted actor job) after = is_repeated_next actor job (next_of actor after)
 is_excused event after = false
 
--- The event of the line with this number, by that line and the lines after it.
+-- The invalidating event of the line with this number, if it counts, from that line and the lines after it.
 abbrev pub invalidation_of : ℕ → RecordedLine → List RecordedLine → Option Invalidation
 invalidation_of number line after = option_and_then (λ event. if is_excused event after then None else Some (record { line = number; event = event })) (event_of line)
 
--- All events of the lines. The first line has this number.
+-- All invalidating events of the lines that count. The first line has this number.
 abbrev pub invalidations_from : ℕ → List RecordedLine → List Invalidation
 invalidations_from number [] = []
 invalidations_from number (line ∷ after) = cons_option (invalidation_of number line after) (invalidations_from (number + 1) after)

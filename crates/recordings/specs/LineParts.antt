@@ -1,11 +1,11 @@
--- The parts of a line of a recording, and its effect on each.
+-- The actor, the job and the pool of a line, and the effect of a line on a pool, a round, a job and an actor.
 use Rattle.std.specs.Prelude.{ℕ, ◌==◌, Bool, true, false, List, Option, Some, None}
 use Rattle.std.specs.Str.{bytes_eq}
 use Rattle.recordings.specs.declared.recording_line.RecordedActor.{RecordedActor}
 use Rattle.recordings.specs.declared.recording_line.RecordedActor.TheVariants.{Job, Round}
 use Rattle.recordings.specs.RecordingLine.{RecordedLine, Head, Pool, RoundBegins, RoundEnds, Submits, Refused, JobStarts, JobEnds, JobThrew, Got, TimedOut, Interrupted, Cancels, InvokesAny, Removed, ShutDown, Unseen, End}
 
--- the actor whose line this is; None for the line that begins a round or starts a job, and for a line without an actor
+-- the actor to which the line belongs; None for a line that begins a round or starts a job, and for a line without an actor
 abbrev pub actor_of : RecordedLine → Option RecordedActor
 actor_of (RoundEnds round) = Some (Round round)
 actor_of (Submits actor job class pool) = Some actor
@@ -30,7 +30,7 @@ job_of (Cancels actor job) = Some job
 job_of (Removed job) = Some job
 job_of line = None
 
--- the pool that the line names, unless it is a `pool` line
+-- the pool that the line names, unless the line is a `pool` line
 abbrev pub pool_of : RecordedLine → Option (List ℕ)
 pool_of (Submits actor job class pool) = Some pool
 pool_of (InvokesAny actor pool) = Some pool
@@ -72,7 +72,7 @@ abbrev pub starts_job : ℕ → RecordedLine → Bool
 starts_job j (JobStarts job) = job == j
 starts_job j line = false
 
--- with a value or with an exception
+-- the line ends the job, with a value or with an exception
 abbrev pub finishes_job : ℕ → RecordedLine → Bool
 finishes_job j (JobEnds job) = job == j
 finishes_job j (JobThrew job) = job == j

@@ -1,4 +1,4 @@
--- The actions of an actor, from its lines.
+-- The actions of an actor, from the lines of the recording.
 use Rattle.std.specs.Prelude.{ℕ, ◌==◌, ◌&&◌, not, Bool, false, if◌then◌else◌, List, [], ◌∷◌, map, Option, Some, None}
 use Rattle.std.specs.List.{list_any, filter_map}
 use Rattle.recordings.specs.declared.recording_line.RecordedActor.{RecordedActor}
@@ -17,7 +17,7 @@ gets_by actor job line = false
 unfoldable pub is_submitted : List RecordedLine → ℕ → Bool
 is_submitted lines job = list_any (submits_job job) lines
 
--- whether the job was refused, for any actor
+-- some line says that the job was refused, whichever actor submitted it
 unfoldable pub is_refused : List RecordedLine → ℕ → Bool
 is_refused lines job = list_any (refuses_job job) lines
 
@@ -27,7 +27,7 @@ has_submitted lines actor job = list_any (submits_by actor job) lines
 unfoldable pub has_got : List RecordedLine → RecordedActor → ℕ → Bool
 has_got lines actor job = list_any (gets_by actor job) lines
 
--- ---- the actions of an actor, by the numbers of jobs
+-- ---- the actions of an actor, with the numbers of jobs
 pub data JobStep : Type 0 where
   SubmitOf : ℕ → JobStep
   GetOf : ℕ → JobStep
@@ -44,14 +44,14 @@ abbrev pub is_get_of : ℕ → JobStep → Bool
 is_get_of job (GetOf one) = one == job
 is_get_of job (SubmitOf one) = false
 
--- Each submit of the actor is a submit. The first get of a job that the actor had submitted is a get. Other lines give no
--- action.
+-- The action of the actor in a line. A submit by the actor is a submit, and the actor's first get of a job that it submitted
+-- before is a get. Any other line has no action of the actor.
 abbrev pub step_by_line : RecordedActor → List RecordedLine → RecordedLine → Option JobStep
 step_by_line actor before (Submits submitter job class pool) = if is_same_actor submitter actor then Some (SubmitOf job) else None
 step_by_line actor before (Got getter job) = if is_same_actor getter actor && has_submitted before actor job && not (has_got before actor job) then Some (GetOf job) else None
 step_by_line actor before line = None
 
--- each line, with the lines before it
+-- each line together with the lines before it
 abbrev pub with_lines_before : List RecordedLine → List (List RecordedLine × RecordedLine)
 with_lines_before [] = []
 with_lines_before (line ∷ lines) = ([], line) ∷ map (λ (before, one). (line ∷ before, one)) (with_lines_before lines)

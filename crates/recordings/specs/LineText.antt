@@ -36,12 +36,12 @@ sizes_words sizes =
     codes "core" ∷ decimal sizes.core ∷ codes "max" ∷ decimal sizes.max ∷ codes "queue" ∷ queue_word sizes.queue ∷ decimal sizes.capacity ∷ codes "timeout" ∷ yes_no_word sizes.timeout
     ∷ codes "prestarted" ∷ decimal sizes.prestarted ∷ codes "handler" ∷ handler_word sizes.handler ∷ []
 
--- the two words of an actor, followed by other words
+-- the two words of an actor, followed by these words
 abbrev pub actor_words : RecordedActor → List (List ℕ) → List (List ℕ)
 actor_words (Job n) words = codes "job" ∷ decimal n ∷ words
 actor_words (Round n) words = codes "round" ∷ decimal n ∷ words
 
--- an actor, followed by a text
+-- the text of an actor, followed by a space and this text
 abbrev pub after_actor : RecordedActor → List ℕ → List ℕ
 after_actor (Job n) text = codes "job" ++ 32 ∷ (decimal n ++ 32 ∷ text)
 after_actor (Round n) text = codes "round" ++ 32 ∷ (decimal n ++ 32 ∷ text)
@@ -78,7 +78,7 @@ is_valid_actor (Round n) = is_valid_number n
 abbrev pub has_valid_numbers : PoolSizes → Bool
 has_valid_numbers sizes = is_valid_number sizes.core && is_valid_number sizes.max && is_valid_number sizes.capacity && is_valid_number sizes.prestarted
 
--- each number is within the limit, and each name is valid
+-- each number in the line is within the limit, and each name is valid
 abbrev pub is_valid_line : RecordedLine → Bool
 is_valid_line Head = true
 is_valid_line (Pool name sizes) = is_valid_name name && has_valid_numbers sizes

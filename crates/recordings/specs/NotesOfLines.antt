@@ -1,4 +1,4 @@
--- The state of the notes, as a function of the lines read.
+-- The notes after these lines were read.
 use Rattle.std.specs.Prelude.{◌≡◌, ℕ, false, if◌then◌else◌, List, None}
 use Rattle.recordings.specs.RecordingLine.{RecordedLine}
 use Rattle.recordings.specs.declared.notes.RecordedNotes.{RecordedNotes}

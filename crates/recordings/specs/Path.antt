@@ -7,11 +7,11 @@ use Rattle.recordings.specs.declared.step.RecordedStep.{RecordedStep}
 use Rattle.recordings.specs.declared.step.RecordedStep.TheVariants.{Submits, Gets}
 use Rattle.recordings.specs.LineSteps.{JobStep, SubmitOf, GetOf, job_of_step, is_submit_of, is_refused, steps_by_lines}
 
--- the actions from the actor's lines, without those of refused jobs
+-- the actions of the actor in the lines, without the submits and gets of refused jobs
 unfoldable pub steps_of : List RecordedLine → RecordedActor → List JobStep
 steps_of lines actor = filter (λ step. not (is_refused lines (job_of_step step))) (steps_by_lines lines actor)
 
--- replaces the job of a get by the index of its submit, which is the number of actions before that
+-- the action with the job of a get replaced by the index of the job's submit among the actions
 abbrev pub with_place : List JobStep → JobStep → RecordedStep
 with_place steps (SubmitOf job) = Submits job
 with_place steps (GetOf job) = Gets (position_or_len (is_submit_of job) steps)

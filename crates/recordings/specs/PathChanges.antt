@@ -11,11 +11,11 @@ use Rattle.recordings.specs.declared.paths.Paths.{Paths}
 use Rattle.recordings.specs.ActorPath.{with_get, without_submit}
 use Rattle.recordings.specs.StoredPaths.{path_in}
 
--- the path of an actor, or None, as a function of the actor and its old path
+-- a change of all stored paths: the new path of an actor, or None, as a function of the actor and its old path
 abbrev pub Change : Type 0
 Change = RecordedActor → Option (List RecordedStep) → Option (List RecordedStep)
 
--- each path of new is the changed path of old
+-- each path in `new` is the changed path in `old`
 pub record Changes (old : Paths) (change : Change) (new : Paths) : Type 0 where
   pub rounds : (round : ℕ) → path_in new.rounds round ≡ change (Round round) (path_in old.rounds round)
   pub jobs : (job : ℕ) → path_in new.jobs job ≡ change (Job job) (path_in old.jobs job)
@@ -23,21 +23,22 @@ pub record Changes (old : Paths) (change : Change) (new : Paths) : Type 0 where
 abbrev pub no_change : Change
 no_change one there = there
 
--- applies a function to the path of this actor, if it is live
+-- the change that applies a function to the path of this actor, if the actor is live
 abbrev pub at_actor : RecordedActor → (List RecordedStep → List RecordedStep) → Change
 at_actor actor change_path one there = if is_same_actor actor one then option_map change_path there else there
 
--- adds the actor with an empty path, or removes it
+-- the change that adds the actor with an empty path
 abbrev pub adds_actor : RecordedActor → Change
 adds_actor actor one there = if is_same_actor actor one then Some [] else there
 
+-- the change that removes the actor
 abbrev pub removes_actor : RecordedActor → Change
 removes_actor actor one there = if is_same_actor actor one then None else there
 
 abbrev pub with_step : RecordedStep → List RecordedStep → List RecordedStep
 with_step step path = path ++ step ∷ []
 
--- appends the submit to the path of its actor, and adds the job
+-- the change that appends the submit of the job to the path of the actor, and adds the job
 abbrev pub actor_submits : RecordedActor → ℕ → Change
 actor_submits actor job one there = adds_actor (Job job) one (at_actor actor (with_step (step.Submits job)) one there)
 

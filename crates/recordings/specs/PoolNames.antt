@@ -2,7 +2,7 @@
 use Rattle.std.specs.Prelude.{ℕ, ◌+◌, ◌*◌, ◌-◌, Bool, false, List, length, slice_index, Option, Some, None, String, string_bytes}
 use Rattle.std.specs.Str.{bytes_eq}
 
--- from the first and the last byte
+-- the number of a name, computed from its first and last byte
 abbrev pub number_of : List ℕ → ℕ
 number_of name = slice_index name 0 + 8 * slice_index name (length name - 1)
 

@@ -1,4 +1,4 @@
--- The description of a pool in a line: its sizes, its queue and its handler.
+-- The settings of a pool in a `pool` line: its sizes, its queue and its handler.
 use Rattle.std.specs.Prelude.{ℕ, Bool, true, false, if◌then◌else◌, List, Option, Some, None, codes}
 use Rattle.std.specs.Str.{bytes_eq}
 use Rattle.line_words.specs.Pieces.{split_space}
@@ -9,7 +9,7 @@ use Rattle.recordings.specs.declared.pool_sizes.HandlerKind.{HandlerKind}
 use Rattle.recordings.specs.declared.pool_sizes.HandlerKind.TheVariants as handler
 use Rattle.recordings.specs.Words.{◌>>=◌, parse_number, strip_word, parse_word_and_number}
 
--- the kind of queue with this name
+-- the kind of queue that the word names
 unfoldable pub queue_kind_of : List ℕ → Option QueueKind
 queue_kind_of word =
     if bytes_eq word (codes "array") then Some queue.Array
@@ -19,7 +19,7 @@ queue_kind_of word =
     else (if bytes_eq word (codes "other") then Some queue.Other
     else None))))
 
--- the kind of handler with this name
+-- the kind of handler that the word names
 unfoldable pub handler_kind_of : List ℕ → Option HandlerKind
 handler_kind_of word =
     if bytes_eq word (codes "abort") then Some handler.Abort
@@ -29,23 +29,23 @@ handler_kind_of word =
     else (if bytes_eq word (codes "other") then Some handler.Other
     else None))))
 
--- yes or no
+-- the flag that the word `yes` or `no` stands for
 unfoldable pub yes_or_no : List ℕ → Option Bool
 yes_or_no word = if bytes_eq word (codes "yes") then Some true else (if bytes_eq word (codes "no") then Some false else None)
 
--- `queue KIND`, and the other words
+-- the parser for `queue KIND`, which returns the kind and the other words
 unfoldable pub parse_queue : List ℕ → Option (QueueKind × List ℕ)
 parse_queue text = strip_word (codes "queue") text >>= λ rest. split_space rest >>= λ words. queue_kind_of words.0 >>= λ kind. Some (kind, words.1)
 
--- `timeout WORD`, and the other words
+-- the parser for `timeout WORD`, which returns the flag of the word and the other words
 unfoldable pub parse_timeout : List ℕ → Option (Bool × List ℕ)
 parse_timeout text = strip_word (codes "timeout") text >>= λ rest. split_space rest >>= λ words. yes_or_no words.0 >>= λ timeout. Some (timeout, words.1)
 
--- `handler KIND`
+-- the parser for `handler KIND`
 unfoldable pub handler_of : List ℕ → Option HandlerKind
 handler_of text = strip_word (codes "handler") text >>= λ word. handler_kind_of word
 
--- `core C max C queue KIND C timeout WORD prestarted C handler KIND`
+-- the parser for `core C max C queue KIND C timeout WORD prestarted C handler KIND`
 unfoldable pub pool_sizes_of : List ℕ → Option PoolSizes
 pool_sizes_of text =
     parse_word_and_number (codes "core") text >>= λ core. parse_word_and_number (codes "max") core.1 >>= λ max. parse_queue max.1 >>= λ queue.

@@ -1,4 +1,4 @@
--- The names of the pools that have a line.
+-- The stored names of the pools that have a `pool` line.
 use Rattle.std.specs.Prelude.{ℕ, ◌||◌, Bool, List}
 use Rattle.std.specs.HashSet.{contains_text}
 use Rattle.support.specs.Numbered.{value_at}

@@ -13,7 +13,7 @@ use Rattle.recordings.specs.Words.{◌>>=◌, name_of, parse_number, parse_name}
 use Rattle.recordings.specs.PoolSizes.{pool_sizes_of}
 use Rattle.recordings.specs.WholeLines.{whole_lines}
 
--- a line, with its names as lists of bytes
+-- a well-formed line, with its names as lists of bytes
 pub data RecordedLine : Type 0 where
   Head : RecordedLine
   Pool : List ℕ → PoolSizes → RecordedLine
@@ -34,7 +34,7 @@ pub data RecordedLine : Type 0 where
   Unseen : List ℕ → ℕ → RecordedLine
   End : RecordedLine
 
--- the specification's view of a line
+-- the line of the specification that corresponds to a line of the code
 abbrev pub line_view : Line → RecordedLine
 line_view code.Head = Head
 line_view (code.Pool name sizes) = Pool name.now sizes
@@ -56,7 +56,7 @@ line_view (code.Unseen pool jobs) = Unseen pool.now jobs
 line_view code.End = End
 
 -- ---- lines of actors
--- an action on a job, from the word before the job's number
+-- the line of an action on a job, from the word before the job's number
 unfoldable pub job_action_of : RecordedActor → List ℕ → ℕ → Option RecordedLine
 job_action_of actor word job =
     if bytes_eq word (codes "got") then Some (Got actor job)
@@ -66,18 +66,18 @@ job_action_of actor word job =
     else (if bytes_eq word (codes "cancel") then Some (Cancels actor job)
     else None))))
 
--- `J CLASS POOL` after `submit`
+-- the line of a submit, from `J CLASS POOL` after `submit`
 unfoldable pub submit_of : RecordedActor → List ℕ → Option RecordedLine
 submit_of actor text = parse_number text >>= λ job. parse_name job.1 >>= λ class. name_of class.1 >>= λ pool. Some (Submits actor job.0 class.0 pool)
 
--- an action of an actor, from the first word after its number and the rest
+-- the line of an action of an actor, from the first word after the actor and the other words
 unfoldable pub action_of : RecordedActor → List ℕ → List ℕ → Option RecordedLine
 action_of actor word rest =
     if bytes_eq word (codes "submit") then submit_of actor rest
     else (if bytes_eq word (codes "any") then (name_of rest >>= λ pool. Some (InvokesAny actor pool))
     else (number_of rest >>= λ job. job_action_of actor word job))
 
--- the words after `job N`
+-- the line that begins with `job N`, from the words after that
 unfoldable pub job_line_of : ℕ → List ℕ → Option RecordedLine
 job_line_of job text =
     if bytes_eq text (codes "start") then Some (JobStarts job)
@@ -85,7 +85,7 @@ job_line_of job text =
     else (if bytes_eq text (codes "threw") then Some (JobThrew job)
     else (split_space text >>= λ words. action_of (actor.Job job) words.0 words.1)))
 
--- the words after `round N`
+-- the line that begins with `round N`, from the words after that
 unfoldable pub round_line_of : ℕ → List ℕ → Option RecordedLine
 round_line_of round text =
     if bytes_eq text (codes "end") then Some (RoundEnds round)
@@ -93,7 +93,7 @@ round_line_of round text =
     if bytes_eq words.0 (codes "begin") then (name_of words.1 >>= λ kind. Some (RoundBegins round kind)) else action_of (actor.Round round) words.0 words.1)
 
 -- ---- lines
--- a line without an actor
+-- the line without an actor, from its first word and the other words
 unfoldable pub other_line_of : List ℕ → List ℕ → Option RecordedLine
 other_line_of word rest =
     if bytes_eq word (codes "pool") then (parse_name rest >>= λ name. pool_sizes_of name.1 >>= λ sizes. Some (Pool name.0 sizes))
@@ -103,23 +103,23 @@ other_line_of word rest =
     else (if bytes_eq word (codes "unseen") then (parse_name rest >>= λ pool. number_of pool.1 >>= λ jobs. Some (Unseen pool.0 jobs))
     else None))))
 
--- a line of several words, from the first word and the rest
+-- the line of several words, from its first word and the other words
 unfoldable pub line_of_words : List ℕ → List ℕ → Option RecordedLine
 line_of_words word rest =
     if bytes_eq word (codes "job") then (parse_number rest >>= λ job. job_line_of job.0 job.1)
     else (if bytes_eq word (codes "round") then (parse_number rest >>= λ round. round_line_of round.0 round.1)
     else other_line_of word rest)
 
--- the line of a text
+-- the line with this text, without its newline; None if the text has none of the forms of a line
 unfoldable pub line_of : List ℕ → Option RecordedLine
 line_of text = if bytes_eq text (codes "end") then Some End else (split_space text >>= λ words. line_of_words words.0 words.1)
 
 -- ---- the lines of a text
--- the specification's view of a parsed line, None for a bad line
+-- the line of the specification that corresponds to a result of the parser; None for a line with none of the forms
 abbrev pub line_read : Result Line BadLine → Option RecordedLine
 line_read (Ok line) = Some (line_view line)
 line_read (Err bad) = None
 
--- the parsed lines of a text, None for a bad line
+-- the lines of a text in order; None for a line with none of the forms
 abbrev pub lines_read : List ℕ → List (Option RecordedLine)
 lines_read text = map line_of (whole_lines text)

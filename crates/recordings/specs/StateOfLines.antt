@@ -1,4 +1,4 @@
--- The meaning of the state of the rule check.
+-- The meaning of the state of the rule check, in terms of the lines read.
 use Rattle.std.specs.Prelude.{◌≡◌, ◌≤◌, ℕ, ◌==◌, ◌&&◌, ◌||◌, not, Bool, false, List, [], ◌∷◌, ◌++◌, is_some, Option, Some, None, Result, Ok, Err}
 use Rattle.recordings.specs.declared.recording_line.RecordedActor.{RecordedActor}
 use Rattle.recordings.specs.declared.recording_line.RecordedActor.TheVariants.{Job, Round}
@@ -10,7 +10,7 @@ use Rattle.recordings.specs.Rules.{first_broken_rule}
 use Rattle.recordings.specs.Pools.{has_name}
 use Rattle.recordings.specs.StoredState.{round_at, last_submit_of_round, job_at, last_submit_in, has_started, is_done, is_settled}
 
--- the job that the actor submitted in its last line
+-- the stored job that the actor submitted in its last line, if any
 abbrev pub last_submit_of : TraceValidator → RecordedActor → Option ℕ
 last_submit_of lines (Job j) = last_submit_in (job_at lines.jobs j)
 last_submit_of lines (Round r) = last_submit_of_round (round_at lines.rounds r)
@@ -19,7 +19,7 @@ abbrev pub is_at : ℕ → Option ℕ → Bool
 is_at j None = false
 is_at j (Some last_submit) = last_submit == j
 
--- the state of each pool, round and job is what the lines say
+-- the state of the rule check is right for these lines
 pub record Represents (lines : TraceValidator) (before : List RecordedLine) : Type 0 where
   pub begun : lines.begun ≡ said.has_begun before
   pub closed : lines.closed ≡ said.is_closed before
@@ -35,7 +35,7 @@ pub record Represents (lines : TraceValidator) (before : List RecordedLine) : Ty
   pub last_submit : (actor : RecordedActor) (job : ℕ) → is_at job (last_submit_of lines actor) ≡ said.just_submitted before actor job
   pub unsubmitted : (job : ℕ) → lines.jobs.submitted ≤ job → job_at lines.jobs job ≡ None
 
--- the lines so far, with the line appended if it breaks no rule
+-- the lines read so far, with this line appended if it breaks no rule
 abbrev pub with_line : Option LineRule → List RecordedLine → RecordedLine → List RecordedLine
 with_line None before line = before ++ line ∷ []
 with_line (Some rule) before line = before

@@ -3,6 +3,6 @@ use Rattle.std.specs.Prelude.{ℕ, ◌-◌, List, length, take}
 use Rattle.std.specs.List.{slice_split}
 use Rattle.line_words.specs.Pieces.{is_newline}
 
--- the parts of a text that end with a newline, without it; the text after the last newline is ignored
+-- the lines of a text without their newlines; the text after the last newline is ignored
 unfoldable pub whole_lines : List ℕ → List (List ℕ)
 whole_lines text = let parts = slice_split is_newline text in take (length parts - 1) parts

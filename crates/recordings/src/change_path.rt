@@ -7,7 +7,7 @@ ghost use Rattle.recordings.specs.ActorPath as spec;
 use crate::step::RecordedStep;
 use std::alloc::AllocError;
 
-/// Appends a get of the job if the path has the submit of the job and no get of it.
+/// Appends a get of the job if the path has the submit of the job but no get of it.
 ///
 /// # Errors
 ///
@@ -24,7 +24,7 @@ pub(crate) fn push_get(path: &mut Vec<RecordedStep>, job: usize) -> Result<(), A
     Ok(())
 }
 
-/// Removes the submit of a refused job if it is the last action of the path.
+/// Removes the submit of this job, which was refused, if it is the last action of the path.
 pub(crate) fn drop_submit(path: &mut Vec<RecordedStep>, job: usize)
     ensures { path.new.items ≡ spec.without_submit job path.old.items }
 {
@@ -33,7 +33,8 @@ pub(crate) fn drop_submit(path: &mut Vec<RecordedStep>, job: usize)
     }
 }
 
-// Most gets wait for a recent submit, so search backwards.
+// Returns the index of the last submit of the job. Most gets wait for a recent submit, so the
+// search goes backwards.
 fn place_of_submit(path: &[RecordedStep], job: usize) -> Option<usize>
     ensures place { result ≡ spec.submit_place job path.now }
     ensures within { IfSome result (λ place. place < length path.now) }
@@ -48,7 +49,8 @@ fn place_of_submit(path: &[RecordedStep], job: usize) -> Option<usize>
     None
 }
 
-// A get comes after the submit of its job.
+// Returns whether the path has a get of the job of the submit at this index. A get comes after the
+// submit of its job.
 fn is_got(path: &[RecordedStep], place: usize) -> bool
     requires { place < length path.now }
     ensures { result ≡ spec.is_got place path.now }

@@ -1,4 +1,4 @@
-//! An iterator over the lines of a text that checks the rules.
+//! An iterator over the lines of a recording that checks the rules of recordings.
 
 ghost use Rattle.std.specs.Prelude.{◌≡◌, ◌≤◌, length, List, Option, IfOk};
 ghost use Rattle.recordings.specs.RecordingLine.{RecordedLine, lines_read};
@@ -10,9 +10,9 @@ use crate::trace_validator::TraceValidator;
 use crate::{BadLine, Line, RecordingLines};
 use std::alloc::{AllocError, Global};
 
-/// An iterator over the lines of a text that checks each line against the lines before it.
+/// An iterator over the lines of a recording that checks each line against the lines before it.
 ///
-/// Reads each line once. Its size is that of [`TraceValidator`].
+/// It reads each line once. Its size is that of [`TraceValidator`].
 #[derive(Drop)]
 pub struct CheckedLines<'a> {
     lines: RecordingLines<'a>,
@@ -34,23 +34,23 @@ impl<'a> CheckedLines<'a> {
         }
     }
 
-    /// Returns the number of accepted lines. This is also the number of the last one, counted from
-    /// 1.
+    /// Returns the number of valid lines that [`next`](CheckedLines::next) has returned. This is
+    /// also the line number, from 1, of the last of them.
     pub fn number(&self) -> usize
         ensures { result ≡ self.now.number }
     {
         self.number
     }
 
-    /// Returns the next line if it is valid, and the first bad line otherwise. Returns `None` after
-    /// the last line of a valid recording. If the text has no complete line, the first line breaks
-    /// [`LineRule::Frame`].
+    /// Returns the next line if it is valid, and its fault if it is bad. Returns `None` after the
+    /// last line of a valid recording. If the text has no complete line, returns the fault that
+    /// line 1 breaks [`LineRule::Frame`].
     ///
-    /// Do not call this method again after a bad line.
+    /// Do not call this method again after a fault.
     ///
     /// # Errors
     ///
-    /// Returns `AllocError` if memory runs out. Do not call this method again in this case either.
+    /// Returns `AllocError` if memory runs out. Do not call this method again after this error.
     pub fn next(&mut self) -> Result<Option<Result<Line<'a>, RecordingFault>>, AllocError>
         ensures { (all : List (Option RecordedLine))
             → IsCheckerState all self.old

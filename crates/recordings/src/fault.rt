@@ -11,11 +11,11 @@ use std::fmt;
 pub enum FaultReason {
     /// The line has none of the forms of a line.
     Form,
-    /// The line has a form, and breaks this rule.
+    /// The line is well-formed, and breaks this rule.
     LineRule(LineRule),
 }
 
-/// Formats what the line should be.
+/// Formats the fault as a phrase, such as `it has none of the forms of a line`.
 impl fmt::Display for FaultReason {
     ghost output = { λ reason. Some (reason_text reason) };
 
@@ -35,8 +35,7 @@ pub struct RecordingFault {
     pub reason: FaultReason,
 }
 
-/// Formats the line number and what the line should be, such as `line 3: O2: a pool that a line
-/// names has ..`.
+/// Formats the line number and the reason, such as `line 3: O2: a pool that a line names has ..`.
 impl fmt::Display for RecordingFault {
     ghost output = { λ fault. Some (fault_text fault) };
 

@@ -1,8 +1,8 @@
 //! A fast parser for the most frequent forms of line.
 //!
-//! It reads a line from left to right and ends with the last word, so it never searches for the
-//! newline. If it returns `None`, the line may be bad, have another form, or contain a number that
-//! is 0 or above 999,999,999.
+//! The parser reads the words of a line from left to right, so it never searches for the newline.
+//! If it returns `None`, the line may be bad, have another form, or contain a number that is 0 or
+//! above 999,999,999.
 
 ghost use Rattle.std.specs.Prelude.{◌≡◌, ◌≤◌, ◌<◌, ◌+◌, ◌++◌, ◌∷◌, true, length, take, codes, decimal, Some, IfSome};
 ghost use Rattle.std.specs.List.{list_all};
@@ -15,11 +15,11 @@ ghost use Rattle.recordings.specs.declared.recording_line.RecordedActor.TheVaria
 use crate::recording_line::{Line, RecordedActor};
 use job_bodies::MAX_NAME_BYTES;
 
-/// The maximum number of digits for which a number is always within the limit, so that its value
-/// needs no check.
+/// The maximum number of digits of a number that the parser accepts. A number with so few digits is
+/// always within the limit, and needs no check.
 const MOST_DIGITS: usize = 9;
 
-/// Parses the first line, and returns it with the rest of the text.
+/// Parses the first line of a text, and returns it with the text after its newline.
 #[inline(always)]
 pub(crate) fn split_frequent_line(text: &[u8]) -> Option<(Line<'_>, &[u8])>
     ensures { IfSome result
@@ -38,7 +38,7 @@ pub(crate) fn split_frequent_line(text: &[u8]) -> Option<(Line<'_>, &[u8])>
     }
 }
 
-/// Parses the rest of a line after `job N`.
+/// Parses the rest of a line after `job N`, and returns the line with the text after its newline.
 #[inline(always)]
 fn split_job_line(job: usize, words: &[u8]) -> Option<(Line<'_>, &[u8])>
     requires { is_valid_number job ≡ true }
@@ -55,7 +55,7 @@ fn split_job_line(job: usize, words: &[u8]) -> Option<(Line<'_>, &[u8])>
     split_action(RecordedActor::Job(job), words)
 }
 
-/// Parses the rest of a line after `round N`.
+/// Parses the rest of a line after `round N`, and returns the line with the text after its newline.
 #[inline(always)]
 fn split_round_line(round: usize, words: &[u8]) -> Option<(Line<'_>, &[u8])>
     requires { is_valid_number round ≡ true }
@@ -73,7 +73,7 @@ fn split_round_line(round: usize, words: &[u8]) -> Option<(Line<'_>, &[u8])>
     split_action(RecordedActor::Round(round), words)
 }
 
-/// Parses the rest of a line after an actor.
+/// Parses `got J` or `submit J CLASS POOL` after an actor.
 #[inline(always)]
 fn split_action(actor: RecordedActor, words: &[u8]) -> Option<(Line<'_>, &[u8])>
     requires { is_valid_actor actor ≡ true }
@@ -91,7 +91,7 @@ fn split_action(actor: RecordedActor, words: &[u8]) -> Option<(Line<'_>, &[u8])>
     split_submit(actor, words)
 }
 
-/// Parses the rest of a line after `submit`: `J CLASS POOL`.
+/// Parses `J CLASS POOL` after `submit`.
 #[inline(always)]
 fn split_submit(actor: RecordedActor, words: &[u8]) -> Option<(Line<'_>, &[u8])>
     requires { is_valid_actor actor ≡ true }
@@ -134,7 +134,7 @@ fn split_number(text: &[u8], end: u8) -> Option<(usize, &[u8])>
     Some((number, strip_byte(&text[count..], end)?))
 }
 
-/// Returns the value of a digit, and a value above 9 for any other byte.
+/// Returns the value of a digit, or a value above 9 for any other byte.
 #[inline(always)]
 fn digit_of(byte: u8) -> usize
     ensures digit { 48 ≤ byte → result + 48 ≡ byte }
@@ -159,7 +159,7 @@ fn split_name(text: &[u8], end: u8) -> Option<(&str, &[u8])>
     Some((name_text(name), strip_byte(after, end)?))
 }
 
-/// Returns the length of the longest prefix of name bytes.
+/// Returns the length of the longest prefix that consists of name bytes.
 #[inline(always)]
 fn count_name_bytes(text: &[u8]) -> usize
     ensures inside { result ≤ length text.now }
@@ -179,7 +179,7 @@ fn is_name_byte(byte: u8) -> bool
     byte.is_ascii_lowercase() || byte.is_ascii_digit() || byte == b'_'
 }
 
-/// Converts the bytes of a name to a string. They are ASCII, so this always succeeds.
+/// Converts the bytes of a name to a string without a check, since name bytes are ASCII.
 #[inline(always)]
 fn name_text(name: &[u8]) -> &str
     requires { list_all is_name_byte name.now ≡ true }
@@ -188,7 +188,7 @@ fn name_text(name: &[u8]) -> &str
     unsafe { std::str::from_utf8_unchecked(name) }
 }
 
-/// Strips the first byte if it is `byte`, and returns the rest.
+/// Strips the first byte if it is `byte`, and returns the rest. Otherwise returns `None`.
 #[inline(always)]
 fn strip_byte(text: &[u8], byte: u8) -> Option<&[u8]>
     ensures { IfSome result (λ after. text.now ≡ byte ∷ after.now) }

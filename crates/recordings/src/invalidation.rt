@@ -1,4 +1,4 @@
-//! The events that invalidate a SAFE answer, and their texts.
+//! The events of a recording that invalidate a SAFE answer, and their texts.
 
 ghost use Rattle.std.specs.Prelude.{◌≡◌, Some};
 ghost use Rattle.recordings.specs.EventText as spec;
@@ -7,12 +7,12 @@ ghost use Rattle.recordings.specs.Invalidations.{keyword_of};
 use crate::RecordedActor;
 use std::fmt;
 
-/// An event that invalidates a SAFE answer, from its line on.
+/// An event that invalidates a SAFE answer for everything after its line.
 ///
 /// It formats as a short phrase without the line number, such as `job 4 was refused`.
 #[derive(Clone, Copy, PartialEq, Eq)]
 pub enum InvalidatingEvent {
-    /// A pool refused the job that this actor submitted, for example because it was full.
+    /// A pool refused the job that this actor submitted.
     Refused { actor: RecordedActor, job: usize },
     /// A get of the job by this actor timed out.
     TimedOut { actor: RecordedActor, job: usize },
@@ -26,20 +26,20 @@ pub enum InvalidatingEvent {
     Removed { job: usize },
     /// The job's exception ended its thread.
     Threw { job: usize },
-    /// This many jobs ran without a line in the recording.
+    /// A pool ran this number of jobs that have no line in the recording.
     Unseen { jobs: usize },
 }
 
 /// A line with an event that invalidates a SAFE answer.
 #[derive(Clone, Copy, PartialEq, Eq)]
 pub struct Invalidation {
-    /// The number of the line, from 1.
+    /// The line number, from 1.
     pub line: usize,
     pub event: InvalidatingEvent,
 }
 
 impl InvalidatingEvent {
-    /// Returns the keyword of its line.
+    /// Returns the keyword of the lines that report such an event.
     pub fn word(self) -> &'static str
         ensures { result.now ≡ keyword_of self }
     {

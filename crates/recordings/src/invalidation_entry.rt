@@ -1,4 +1,4 @@
-//! The event of a single line.
+//! One entry in the list of events that invalidate a SAFE answer.
 
 ghost use Rattle.std.specs.Prelude.{◌≡◌};
 ghost use Rattle.recordings.specs.RecordingLine.{line_view};
@@ -9,30 +9,31 @@ ghost use Rattle.recordings.specs.InvalidationList as stored;
 use crate::invalidation::{InvalidatingEvent, Invalidation};
 use crate::{Line, RecordedActor};
 
-/// An event that invalidates a SAFE answer, by the lines so far.
+/// An event that invalidates a SAFE answer, as far as the lines read so far show.
 #[derive(Clone, Copy)]
 pub(crate) struct InvalidationEntry {
     pub(crate) invalidation: Invalidation,
-    /// True if it is the last line of its actor so far. The actor's next line can then excuse it.
+    /// True if the actor's next line can discard the event and has not been read yet.
     pub(crate) pending: bool,
 }
 
 impl InvalidationEntry {
-    /// Returns true if it is not pending, and of the same event type.
+    /// Returns true if the entry is not pending and has the type of this event.
     pub(crate) fn is_certain_first(self, event: InvalidatingEvent) -> bool
         ensures { result ≡ stored.is_certain_first event self }
     {
         !self.pending && is_same_type(self.invalidation.event, event)
     }
 
-    /// Returns true if the line excuses the event.
+    /// Returns true if this line discards the pending event, because it repeats the actor's get.
     pub(crate) fn is_excused_by(self, line: &Line<'_>) -> bool
         ensures { result ≡ stored.is_excused_by (line_view line.now) self }
     {
         self.pending && excuses(self.invalidation.event, line)
     }
 
-    /// Returns the event after this line, no longer pending if the line is its actor's.
+    /// Returns the entry after this line. The entry is no longer pending if the line belongs to its
+    /// actor.
     pub(crate) fn after(self, line: &Line<'_>) -> InvalidationEntry
         ensures { result ≡ stored.with_pending_ended (line_view line.now) self }
     {
@@ -43,8 +44,8 @@ impl InvalidationEntry {
     }
 }
 
-/// Returns the event of the line that invalidates a SAFE answer, unless its actor's next line
-/// excuses it.
+/// Returns the invalidating event that the line reports, if any. The actor's next line may discard
+/// the event.
 pub(crate) fn event_of(line: &Line<'_>) -> Option<InvalidatingEvent>
     ensures { result ≡ spec.event_of (line_view line.now) }
 {
@@ -61,7 +62,7 @@ pub(crate) fn event_of(line: &Line<'_>) -> Option<InvalidatingEvent>
     }
 }
 
-/// Returns true if the next line of the actor can excuse the event.
+/// Returns true if the next line of the event's actor can discard the event.
 pub(crate) fn can_be_excused(event: InvalidatingEvent) -> bool
     ensures { result ≡ stored.can_be_excused event }
 {
@@ -71,7 +72,7 @@ pub(crate) fn can_be_excused(event: InvalidatingEvent) -> bool
     )
 }
 
-/// Returns true if both are of the same event type.
+/// Returns true if both events have the same type.
 pub(crate) fn is_same_type(one: InvalidatingEvent, other: InvalidatingEvent) -> bool
     ensures { result ≡ spec.is_same_type one other }
 {
@@ -118,7 +119,7 @@ fn repeats_get(actor: RecordedActor, job: usize, line: &Line<'_>) -> bool
     }
 }
 
-/// Returns true if the actor is the subject of the line.
+/// Returns true if the line belongs to the actor.
 fn is_line_of(actor: RecordedActor, line: &Line<'_>) -> bool
     ensures { result ≡ is_of actor (line_view line.now) }
 {

@@ -1,4 +1,4 @@
-//! The events that invalidate a SAFE answer, by the lines so far.
+//! The events that invalidate a SAFE answer, as far as the lines read so far show.
 
 ghost use Rattle.std.specs.Prelude.{◌≡◌, [], OnOk, IfOk, map};
 ghost use Rattle.std.specs.List.{list_any, filter};
@@ -11,7 +11,8 @@ use crate::invalidation::{InvalidatingEvent, Invalidation};
 use crate::invalidation_entry::{InvalidationEntry, can_be_excused, event_of, is_same_type};
 use std::alloc::{AllocError, Global};
 
-/// The first line of each invalidating event type, and the pending lines that may precede it.
+/// The invalidating events that may be the first of their type: for each type the first event that
+/// no later line can discard, and the pending events before it.
 #[derive(Drop)]
 pub(crate) struct InvalidationList {
     kept: Vec<InvalidationEntry>,
@@ -27,7 +28,7 @@ impl InvalidationList {
         }
     }
 
-    /// Reads line `number`.
+    /// Processes line `number`.
     ///
     /// # Errors
     ///
@@ -55,7 +56,7 @@ impl InvalidationList {
         }
     }
 
-    /// Returns the first line of each event type, in the order of the lines.
+    /// Returns the first event of each type, in the order of their lines.
     ///
     /// # Errors
     ///
@@ -68,14 +69,14 @@ impl InvalidationList {
     }
 }
 
-/// Removes the events that the line excuses.
+/// Removes the pending events that this line discards.
 fn excuse(kept: &mut Vec<InvalidationEntry>, line: &Line<'_>)
     ensures { kept.new.items ≡ filter (stored.remains_after (line_view line.now)) kept.old.items }
 {
     kept.retain(|one| !one.is_excused_by(line));
 }
 
-/// Marks the events of the line's actor as no longer pending.
+/// Marks the pending events of the line's actor as no longer pending.
 fn end_pending(kept: &mut [InvalidationEntry], line: &Line<'_>)
     ensures { kept.new ≡ map (stored.with_pending_ended (line_view line.now)) kept.old }
 {
@@ -84,7 +85,7 @@ fn end_pending(kept: &mut [InvalidationEntry], line: &Line<'_>)
     }
 }
 
-/// Appends the event, unless an earlier one of its type is certain to remain.
+/// Appends the event, unless the list has an event of the same type that is not pending.
 fn push_first(kept: &mut Vec<InvalidationEntry>, one: InvalidationEntry) -> Result<(), AllocError>
     ensures { OnOk result (kept.new.items ≡ stored.with_first one kept.old.items) }
 {
@@ -110,7 +111,7 @@ fn firsts_of(alloc: Global, kept: &[InvalidationEntry]) -> Result<Vec<Invalidati
     Ok(firsts)
 }
 
-/// Appends the event, unless there is one of its type.
+/// Appends the event, unless the list has an event of the same type.
 fn push_new_type(
     invalidations: &mut Vec<Invalidation>,
     invalidation: Invalidation,

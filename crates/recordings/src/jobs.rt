@@ -1,4 +1,4 @@
-//! The jobs of a recording.
+//! The jobs of a recording, as the rule check stores them.
 
 ghost use Rattle.std.specs.Prelude.{◌≡◌, ◌+◌, ◌&&◌, not, ℕ, OnOk, OnErr, None, Some, is_some, if◌then◌else◌, ◌==◌};
 ghost use Rattle.std.specs.Option.{option_map};
@@ -16,8 +16,8 @@ pub(crate) struct JobState {
     last_submit: Option<usize>,
 }
 
-/// The jobs of the lines so far: the number of submitted jobs, and the state of each job that is
-/// not done.
+/// The jobs in the lines read so far: the number of submitted jobs, and the state of each submitted
+/// job that is not done.
 #[derive(Drop)]
 pub(crate) struct Jobs {
     pub(crate) submitted: usize,
@@ -62,14 +62,14 @@ impl Jobs {
         job < self.submitted && self.get(job).is_none_or(|state| state.cancelled)
     }
 
-    /// Returns the job that this job submitted in its last line.
+    /// Returns the job that this job submitted in its last line, if that line is a submit.
     pub(crate) fn last_submit(&self, job: usize) -> Option<usize>
         ensures { result ≡ last_submit_in (job_at self.now job) }
     {
         self.get(job)?.last_submit
     }
 
-    /// Adds a submitted job.
+    /// Adds a job, which was submitted.
     ///
     /// # Errors
     ///
@@ -117,8 +117,8 @@ impl Jobs {
         }
     }
 
-    /// Sets the job that this job submitted in its last line, if any. Has no effect if this job is
-    /// done.
+    /// Stores the job that `job` submitted in its last line, or `None` if that line is not a
+    /// submit. Has no effect if `job` is done.
     pub(crate) fn set_last_submit(&mut self, job: usize, last_submit: Option<usize>)
         ensures submitted { self.new.submitted ≡ self.old.submitted }
         ensures unfinished { (j : ℕ)

@@ -1,7 +1,7 @@
-//! Recordings of test runs: their lines, the rules that the lines keep, and the path of each job and client.
+//! Recordings of test runs: their lines, the rules O1 to O7 for the lines, and the path of each job and round.
 //!
-//! [`CheckedLines`] reads the lines and stops at the first that breaks a rule. [`Paths`] and [`RecordedNotes`] keep what the
-//! later comparison with a plan needs.
+//! [`CheckedLines`] reads the lines and stops at the first bad line. [`Paths`] and [`RecordedNotes`] store what a comparison
+//! with a plan needs.
 #![tactic(auto)]
 
 mod change_path;

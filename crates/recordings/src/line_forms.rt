@@ -1,4 +1,4 @@
-//! The forms of the lines of a recording.
+//! The parser for all forms of the lines of a recording.
 
 ghost use Rattle.std.specs.Prelude.{◌≡◌, option_map};
 ghost use Rattle.recordings.specs.RecordingLine.{line_view};
@@ -9,8 +9,8 @@ use crate::recording_line::{Line, RecordedActor};
 use crate::words::{is_word, name_of, parse_name, parse_number};
 use line_words::{number_of, split_space};
 
-/// Parses any line. Most lines never get here, since [`split_frequent_line`](crate::frequent_lines)
-/// parses them.
+/// Parses a line of any form, without its newline. It is called only for the few lines that
+/// [`split_frequent_line`](crate::frequent_lines) does not parse.
 #[cold]
 #[inline(never)]
 #[tactic(auto, unfolding(crate::specs::RecordingLine::line_of, crate::specs::RecordingLine::line_of_words))]
@@ -68,7 +68,7 @@ fn round_line_of(round: usize, text: &[u8]) -> Option<Line<'_>>
     action_of(RecordedActor::Round(round), word, rest)
 }
 
-/// Parses an action of an actor, from the first word after its number and the rest.
+/// Parses an action of an actor, from the first word after the actor and the other words.
 #[tactic(auto, unfolding(crate::specs::RecordingLine::action_of))]
 fn action_of<'a>(actor: RecordedActor, word: &[u8], rest: &'a [u8]) -> Option<Line<'a>>
     ensures { option_map line_view result ≡ spec.action_of actor word.now rest.now }
@@ -122,7 +122,7 @@ fn job_action_of<'a>(actor: RecordedActor, word: &[u8], job: usize) -> Option<Li
 
 // ---- other lines
 
-/// Parses a line without an actor.
+/// Parses a line without an actor, from its first word and the other words.
 #[tactic(auto, unfolding(crate::specs::RecordingLine::other_line_of))]
 fn other_line_of<'a>(word: &[u8], rest: &'a [u8]) -> Option<Line<'a>>
     ensures { option_map line_view result ≡ spec.other_line_of word.now rest.now }

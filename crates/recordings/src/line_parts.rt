@@ -1,4 +1,4 @@
-//! The parts of a line.
+//! The actor, the job and the pool that a line names.
 
 ghost use Rattle.std.specs.Prelude.{◌≡◌};
 ghost use Rattle.std.specs.Option.{option_map};
@@ -7,8 +7,8 @@ ghost use Rattle.recordings.specs.LineParts as spec;
 
 use crate::{Line, RecordedActor};
 
-/// Returns the actor whose line this is. Returns `None` for the line that begins a round or starts
-/// a job, and for a line without an actor.
+/// Returns the actor to which this line belongs. Returns `None` for a line that begins a round or
+/// starts a job, and for a line without an actor.
 pub(crate) fn actor_of(line: &Line<'_>) -> Option<RecordedActor>
     ensures { result ≡ spec.actor_of (line_view line.now) }
 {
@@ -49,7 +49,7 @@ pub(crate) fn job_of(line: &Line<'_>) -> Option<usize>
     }
 }
 
-/// Returns the pool that the line names, unless it is a `pool` line.
+/// Returns the pool that the line names, unless the line is a `pool` line.
 pub(crate) fn pool_of<'a>(line: &Line<'a>) -> Option<&'a str>
     ensures { option_map (λ pool. pool.now) result ≡ spec.pool_of (line_view line.now) }
 {

@@ -10,8 +10,8 @@ use crate::recording_line::Line;
 use memchr::memchr;
 use std::marker::Model;
 
-/// An iterator over the lines of a recording. [`next`](RecordingLines::next) parses each line once,
-/// so the iterator stores no lines.
+/// An iterator over the lines of a recording. [`next`](RecordingLines::next) parses one line, and
+/// the iterator stores none.
 #[derive(Drop)]
 pub struct RecordingLines<'a> {
     rest: &'a [u8],
@@ -31,9 +31,10 @@ impl<'a> Model for RecordingLines<'a> {
 }
 
 impl<'a> RecordingLines<'a> {
-    /// Creates an iterator over the lines of a text. Ignores the text after the last newline. A
-    /// number is at most [`MAX_LINE_NUMBER`](job_bodies::MAX_LINE_NUMBER) and has no leading zero.
-    /// A name follows the rules for names in plans.
+    /// Creates an iterator over the lines of a text. Ignores the text after the last newline.
+    ///
+    /// A number in a line is at most [`MAX_LINE_NUMBER`](job_bodies::MAX_LINE_NUMBER) and has no
+    /// leading zero. A name follows the rules for names in plans.
     pub fn new(text: &'a [u8]) -> RecordingLines<'a>
         ensures lines { result ≡ lines_read text.now }
         ensures few { length result ≤ length text.now }
@@ -41,12 +42,12 @@ impl<'a> RecordingLines<'a> {
         RecordingLines { rest: text }
     }
 
-    /// Returns the next line, or `None` after the last one.
+    /// Returns the next line, or `None` after the last line.
     ///
     /// # Errors
     ///
-    /// Returns [`BadLine`] if the line has none of the forms. The caller can continue with the
-    /// lines after it.
+    /// Returns [`BadLine`] if the line has none of the forms. A further call returns the line after
+    /// it.
     #[inline(always)]
     pub fn next(&mut self) -> Option<Result<Line<'a>, BadLine>>
         ensures { MatchOption result ((self.old ≡ []) × (self.new ≡ []))
@@ -61,11 +62,11 @@ impl<'a> RecordingLines<'a> {
     }
 }
 
-/// Parses the first line in any form, and returns it with the rest of the text. Returns `None` if
-/// no line is complete.
+/// Parses the first line of any form, and returns it with the text after its newline. Returns
+/// `None` if the text has no newline.
 ///
-/// Inlined because a call would clear the space for all return values on entry, which the fast path
-/// does not need.
+/// This function is inlined because a call would first clear the space for the return value, which
+/// costs time that the frequent lines do not need.
 #[inline(always)]
 fn split_line(text: &[u8]) -> Option<(Result<Line<'_>, BadLine>, &[u8])>
     ensures { MatchOption result (lines_read text.now ≡ [])
@@ -78,7 +79,8 @@ fn split_line(text: &[u8]) -> Option<(Result<Line<'_>, BadLine>, &[u8])>
     }
 }
 
-/// Splits off the first line without its newline. Returns `None` if no line is complete.
+/// Splits a text at its first newline, and returns the line and the text after the newline. Returns
+/// `None` if the text has no newline.
 #[cold]
 #[inline(never)]
 fn split_whole_line(text: &[u8]) -> Option<(&[u8], &[u8])>

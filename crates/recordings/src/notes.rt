@@ -1,4 +1,4 @@
-//! Notes on the lines of a recording.
+//! Notes on a recording: what invalidates a SAFE answer, and the first foreign get.
 
 ghost use Rattle.std.specs.Prelude.{◌≡◌, ◌+◌, ◌++◌, ◌∷◌, [], List, OnOk, IfOk, length};
 ghost use Rattle.recordings.specs.RecordingLine.{RecordedLine, line_view};
@@ -18,10 +18,10 @@ use std::alloc::{AllocError, Global};
 /// The events that invalidate a SAFE answer, and the first get of a job by an actor that did not
 /// submit it, for the lines read so far.
 ///
-/// Stores a line for each event type, a line for each actor whose last line is a `timeout` or
-/// `interrupted`, and the submitter of each job that this submitter has not got. So the size grows
-/// with the jobs that are never got. A line takes one look-up in a table and a scan of the stored
-/// lines. No contract states the size or the time.
+/// The notes store an entry for each event type, an entry for each actor whose last line is a
+/// `timeout` or `interrupted`, and the submitter of each job that its submitter has not got. So the
+/// size grows with the jobs that are never got. Processing a line takes one look-up in a table and
+/// a scan of the stored entries. No contract states the size or the time.
 #[derive(Drop)]
 pub struct RecordedNotes {
     pub(crate) invalidations: InvalidationList,
@@ -30,7 +30,7 @@ pub struct RecordedNotes {
 }
 
 impl RecordedNotes {
-    /// Creates the notes, before the first line.
+    /// Creates empty notes, for a recording of which no line was read.
     pub fn new(alloc: Global) -> RecordedNotes
         ensures { IsNotesOf result [] }
     {
@@ -41,7 +41,7 @@ impl RecordedNotes {
         }
     }
 
-    /// Reads line `number` of a valid recording. Lines are numbered from 1.
+    /// Processes line `number` of a valid recording. Lines are numbered from 1.
     ///
     /// # Errors
     ///
@@ -58,9 +58,9 @@ impl RecordedNotes {
         self.unclaimed.take(line)
     }
 
-    /// Returns the first line of each invalidating event type, in the order of the lines. A
-    /// `timeout` or `interrupted` counts if it is the last line of its actor so far, or if the next
-    /// one is no `timeout`, `interrupted` or `got` of the same job.
+    /// Returns the first event of each invalidating type, in the order of their lines. A `timeout`
+    /// or `interrupted` line counts unless the next line of its actor is a `timeout`, `interrupted`
+    /// or `got` of the same job.
     ///
     /// # Errors
     ///
@@ -73,8 +73,8 @@ impl RecordedNotes {
         self.invalidations.firsts(alloc)
     }
 
-    /// Returns the first get of a job by an actor that did not submit it, before its submitter got
-    /// it.
+    /// Returns the first get of a job by an actor that did not submit the job, before the submitter
+    /// got it.
     pub fn foreign_get(&self) -> Option<ForeignGet>
         ensures { (lines : List RecordedLine)
             → IsNotesOf self.now lines

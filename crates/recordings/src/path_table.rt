@@ -1,4 +1,4 @@
-//! The paths of rounds or of jobs.
+//! A table of paths, either of rounds or of jobs.
 
 ghost use Rattle.std.specs.Prelude.{◌≡◌, ℕ, [], OnOk, OnErr, None, Some, if◌then◌else◌, ◌==◌};
 ghost use Rattle.std.specs.Option.{option_map};
@@ -38,7 +38,7 @@ impl PathTable {
         }
     }
 
-    /// Adds an actor with an empty path.
+    /// Adds the actor with this number, with an empty path.
     ///
     /// # Errors
     ///
@@ -51,7 +51,7 @@ impl PathTable {
         self.paths.insert(number, Vec::new(self.alloc))
     }
 
-    /// Removes an actor and returns its path.
+    /// Removes the actor with this number, and returns its path.
     pub(crate) fn end(&mut self, number: usize) -> Option<Vec<RecordedStep>>
         ensures path { option_map (λ path. path.items) result ≡ path_in self.old number }
         ensures gone { (n : ℕ)
@@ -60,7 +60,7 @@ impl PathTable {
         self.paths.remove(number)
     }
 
-    /// Appends an action to the path of this actor, if it is live.
+    /// Appends an action to the path of this actor. Has no effect if the actor is not live.
     ///
     /// # Errors
     ///
@@ -79,7 +79,8 @@ impl PathTable {
         Ok(())
     }
 
-    /// Records a get of the job by this actor, if it is live.
+    /// Appends a get of the job to the path of this actor, if the path has the job's submit but no
+    /// get of it. Has no effect if the actor is not live.
     ///
     /// # Errors
     ///
@@ -98,7 +99,8 @@ impl PathTable {
         Ok(())
     }
 
-    /// Records that this actor was refused the job, if the actor is live.
+    /// Removes the submit of the job, which was refused, from the path of this actor if it is the
+    /// last action. Has no effect if the actor is not live.
     pub(crate) fn drop_submit(&mut self, number: usize, job: usize)
         ensures { (n : ℕ)
             → path_in self.new n

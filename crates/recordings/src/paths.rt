@@ -1,4 +1,4 @@
-//! The paths of the actors of a recording.
+//! The paths of the actors of a recording: the submits and gets of each actor.
 
 ghost use Rattle.std.specs.Prelude.{◌≡◌, ◌++◌, ◌∷◌, [], List, OnOk, OnErr, IfOk};
 ghost use Rattle.std.specs.Option.{option_map};
@@ -13,12 +13,12 @@ use crate::step::RecordedStep;
 use crate::{Line, RecordedActor};
 use std::alloc::{AllocError, Global};
 
-/// The paths of the live actors after the lines so far: of the rounds that began and have not
-/// ended, and of the jobs that were submitted and are not done.
+/// The paths of the live actors after the lines read so far. The live actors are the rounds that
+/// began and have not ended, and the jobs that were submitted and are not done.
 ///
-/// A job that was refused, cancelled or removed and never ran stays live, with an empty path. A
-/// line takes one look-up in a table. A `got` line also searches the path of its actor backwards
-/// for the submit of the job. No contract states the size or the time.
+/// A job that was refused, cancelled or removed and never ran remains live, with an empty path.
+/// Processing a line takes one look-up in a table. For a `got` line, it also searches the path of
+/// the actor backwards for the submit of the job. No contract states the size or the time.
 #[derive(Drop)]
 pub struct Paths {
     rounds: PathTable,
@@ -26,7 +26,7 @@ pub struct Paths {
 }
 
 impl Paths {
-    /// Creates the paths before the first line.
+    /// Creates the paths of a recording of which no line was read.
     pub fn new(alloc: Global) -> Paths
         ensures { IsPathsOf result [] }
     {
@@ -36,7 +36,7 @@ impl Paths {
         }
     }
 
-    /// Processes the next line of a recording that keeps the rules.
+    /// Processes the next line of a valid recording.
     ///
     /// # Errors
     ///
@@ -54,8 +54,8 @@ impl Paths {
         Ok(())
     }
 
-    /// Processes the next line of a recording that keeps the rules, as [`take`](Paths::take) does.
-    /// If the line ends an actor, removes the actor and returns its path. Otherwise returns `None`.
+    /// Processes the next line of a valid recording, as [`take`](Paths::take) does. Returns the
+    /// path of the actor that the line ends, if it ends one.
     ///
     /// # Errors
     ///
@@ -91,7 +91,7 @@ impl Paths {
         }
     }
 
-    // Returns the path of the actor that the line ends.
+    // Processes the line. If the line ends an actor, returns the actor's path.
     fn apply_line(&mut self, line: &Line<'_>) -> Result<Option<Vec<RecordedStep>>, AllocError>
         ensures stored { OnOk result (Changes self.old (change_of (line_view line.now)) self.new) }
         ensures path { IfOk result (λ given.

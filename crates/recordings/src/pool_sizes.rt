@@ -1,4 +1,4 @@
-//! The description of a pool in a line: its sizes, its queue and its handler.
+//! The settings of a pool in a `pool` line: its sizes, its queue and its handler.
 
 ghost use Rattle.std.specs.Prelude.{◌≡◌, option_map};
 ghost use Rattle.recordings.specs.PoolSizes as spec;
@@ -6,8 +6,8 @@ ghost use Rattle.recordings.specs.PoolSizes as spec;
 use crate::words::{is_word, parse_number, parse_word_and_number, strip_word};
 use line_words::split_space;
 
-/// The configuration of a pool. A value above the maximum of a line's number is stored as that
-/// maximum.
+/// The settings of a pool. A larger value of the pool than a line can contain is written as
+/// [`MAX_LINE_NUMBER`](job_bodies::MAX_LINE_NUMBER).
 #[derive(Clone, Copy, PartialEq, Eq)]
 pub struct PoolSizes {
     pub core: usize,
@@ -22,7 +22,8 @@ pub struct PoolSizes {
     pub handler: HandlerKind,
 }
 
-/// The kind of a pool's queue. Subclasses of the first two kinds are [`Other`](QueueKind::Other).
+/// The kind of a pool's queue. A subclass of `ArrayBlockingQueue` or `LinkedBlockingQueue` is
+/// [`Other`](QueueKind::Other).
 #[derive(Clone, Copy, PartialEq, Eq)]
 pub enum QueueKind {
     Array,
@@ -32,7 +33,7 @@ pub enum QueueKind {
     Other,
 }
 
-/// The handler for rejected jobs.
+/// The kind of a pool's handler for jobs that it refuses.
 #[derive(Clone, Copy, PartialEq, Eq)]
 pub enum HandlerKind {
     Abort,
@@ -93,7 +94,7 @@ fn yes_or_no(word: &[u8]) -> Option<bool>
     }
 }
 
-/// Parses `queue KIND`, and returns the kind with the rest.
+/// Parses `queue KIND`, and returns the kind with the other words.
 #[tactic(auto, unfolding(crate::specs::PoolSizes::parse_queue))]
 fn parse_queue(text: &[u8]) -> Option<(QueueKind, &[u8])>
     ensures { option_map (λ read. (read.0, read.1.now)) result ≡ spec.parse_queue text.now }
@@ -102,7 +103,7 @@ fn parse_queue(text: &[u8]) -> Option<(QueueKind, &[u8])>
     Some((queue_kind_of(word)?, rest))
 }
 
-/// Parses `timeout WORD`, and returns whether the word is `yes` with the rest.
+/// Parses `timeout WORD`, and returns the other words with a flag that is `true` if WORD is `yes`.
 #[tactic(auto, unfolding(crate::specs::PoolSizes::parse_timeout))]
 fn parse_timeout(text: &[u8]) -> Option<(bool, &[u8])>
     ensures { option_map (λ read. (read.0, read.1.now)) result ≡ spec.parse_timeout text.now }

@@ -1,4 +1,4 @@
-//! The pools of a recording.
+//! The names of the pools of a recording.
 
 ghost use Rattle.std.specs.Prelude.{◌≡◌, ◌||◌, ℕ, List, OnOk, OnErr, false};
 ghost use Rattle.std.specs.Str.{bytes_eq};
@@ -11,10 +11,10 @@ use std::alloc::{AllocError, Global};
 use std::collections::HashSet;
 use support::IdMap;
 
-/// The names of the pools that have a line.
+/// The names of the pools that have a `pool` line.
 ///
-/// Names are looked up by a number that is cheap to compute. Names whose number is already taken
-/// are in a set.
+/// A name is looked up by a number that is cheap to compute. If several names have the same number,
+/// `firsts` has the first of them, and `others` has the rest.
 #[derive(Drop)]
 pub(crate) struct Pools {
     firsts: IdMap<String>,
@@ -70,7 +70,7 @@ fn contains_other(others: &HashSet<String>, name: &str) -> bool
     others.contains(name)
 }
 
-// Returns whether the stored name is this one.
+// Returns whether there is a stored name and it equals `name`.
 fn is_name(kept: Option<&String>, name: &str) -> bool
     ensures { result ≡ is_name name.now (option_copied kept.entry) }
 {
@@ -80,7 +80,7 @@ fn is_name(kept: Option<&String>, name: &str) -> bool
     }
 }
 
-// Computes a number that few names share.
+// Computes the number of a name, from its first and last byte. Few names have the same number.
 fn number_of(name: &str) -> usize
     ensures { result ≡ number_of name.now }
 {

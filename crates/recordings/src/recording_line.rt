@@ -2,24 +2,25 @@
 
 use crate::pool_sizes::PoolSizes;
 
-/// A submitter of jobs: a running job, or a round of a thread outside the pools.
+/// An actor, which submits jobs and gets them: a running job, or a round of a thread outside the
+/// pools.
 #[derive(Clone, Copy, PartialEq, Eq)]
 pub enum RecordedActor {
     Job(usize),
     Round(usize),
 }
 
-/// A parsed line. It borrows its names from the text.
+/// A parsed line. Its names are slices of the text.
 #[derive(Clone, Copy)]
 pub enum Line<'a> {
     /// The first line.
     Head,
-    /// The recording of the pool begins here, or the configuration of the pool has changed to this.
+    /// The recording of the pool began, or the settings of the pool changed to these.
     Pool {
         name: &'a str,
         sizes: PoolSizes,
     },
-    /// A thread outside the pools began this round.
+    /// A thread outside the pools began this round, which has this client kind.
     RoundBegins {
         round: usize,
         kind: &'a str,
@@ -35,7 +36,7 @@ pub enum Line<'a> {
         class: &'a str,
         pool: &'a str,
     },
-    /// The pool had no room for the job.
+    /// The pool refused the job that this actor submitted.
     Refused {
         actor: RecordedActor,
         job: usize,
@@ -72,7 +73,7 @@ pub enum Line<'a> {
         actor: RecordedActor,
         job: usize,
     },
-    /// The actor calls `invokeAny`.
+    /// The actor calls `invokeAny` on this pool.
     InvokesAny {
         actor: RecordedActor,
         pool: &'a str,
@@ -85,7 +86,7 @@ pub enum Line<'a> {
     ShutDown {
         pool: &'a str,
     },
-    /// The pool ran this number of jobs that have no lines.
+    /// The pool ran this number of jobs that have no line in the recording.
     Unseen {
         pool: &'a str,
         jobs: usize,

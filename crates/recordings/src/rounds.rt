@@ -1,4 +1,4 @@
-//! The rounds of a recording.
+//! The rounds of a recording, as the rule check stores them.
 
 ghost use Rattle.std.specs.Prelude.{◌≡◌, ◌+◌, ℕ, OnOk, OnErr, None, Some, is_some, if◌then◌else◌, ◌==◌};
 ghost use Rattle.std.specs.Option.{option_map};
@@ -7,8 +7,9 @@ ghost use Rattle.recordings.specs.StoredState.{round_at, last_submit_of_round};
 use std::alloc::{AllocError, Global};
 use support::IdMap;
 
-/// The rounds of the lines so far: the number of rounds begun, and for each open round the job that
-/// it submitted in its last line.
+/// The rounds in the lines read so far: the number of rounds that began, and for each open round
+/// the job that it submitted in its last line, if any. A round that began and has not ended is
+/// open.
 #[derive(Drop)]
 pub(crate) struct Rounds {
     pub(crate) begun: usize,
@@ -34,14 +35,14 @@ impl Rounds {
         self.open.contains(round)
     }
 
-    /// Returns the job that the round submitted in its last line.
+    /// Returns the job that the round submitted in its last line, if that line is a submit.
     pub(crate) fn last_submit(&self, round: usize) -> Option<usize>
         ensures { result ≡ last_submit_of_round (round_at self.now round) }
     {
         *self.open.get(round)?
     }
 
-    /// Adds a round.
+    /// Adds a round, which began.
     ///
     /// # Errors
     ///
@@ -70,8 +71,8 @@ impl Rounds {
         self.open.remove(round);
     }
 
-    /// Sets the job that this round submitted in its last line, if any. Has no effect if the round
-    /// is not open.
+    /// Stores the job that this round submitted in its last line, or `None` if that line is not a
+    /// submit. Has no effect if the round is not open.
     pub(crate) fn set_last_submit(&mut self, round: usize, last_submit: Option<usize>)
         ensures begun { self.new.begun ≡ self.old.begun }
         ensures going { (r : ℕ)

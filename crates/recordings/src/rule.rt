@@ -1,4 +1,4 @@
-//! The rules of a recording.
+//! The rules O1 to O7 for the lines of a recording.
 
 ghost use Rattle.std.specs.Prelude.{Some};
 ghost use Rattle.recordings.specs.RuleText.{rule_text};
@@ -10,15 +10,15 @@ use std::fmt;
 pub enum LineRule {
     /// O1: the first line is `recording 1`, and no other line is. No line comes after `end`.
     Frame,
-    /// O2: a pool that a line names has an earlier `pool` line.
+    /// O2: a pool that a line names has a `pool` line before that line.
     Pools,
-    /// O3: jobs are numbered in the order of their `submit` lines, and rounds in the order of their
-    /// `begin` lines. Any other line that names a job comes after its `submit` line.
+    /// O3: jobs are numbered from 0 in the order of their `submit` lines, and rounds in the order
+    /// of their `begin` lines. Any other line that names a job comes after the job's `submit` line.
     Numbers,
     /// O4: the lines of a round come between its `begin` line and its `end` line.
     Rounds,
-    /// O5: a job has at most one `start` line. Its lines as an actor come after that, and the last
-    /// of them is `end` or `threw`.
+    /// O5: a job has at most one `start` line. Its lines as an actor come after its `start` line,
+    /// and the last of them is `end` or `threw`.
     Jobs,
     /// O6: `refused` comes after the `submit` line of the same job by the same actor, with no other
     /// line of the actor between them, and before the job's `start` line.

@@ -1,4 +1,4 @@
-//! The check of a line against the lines so far.
+//! The check of a line against the rules, given the lines before it.
 
 ghost use Rattle.std.specs.Prelude.{◌≡◌, List};
 ghost use Rattle.recordings.specs.RecordingLine.{RecordedLine, line_view};
@@ -11,7 +11,7 @@ use crate::rule::LineRule;
 use crate::trace_validator::TraceValidator;
 use crate::{Line, RecordedActor};
 
-/// Returns the first rule that the line breaks.
+/// Returns the first rule that the line breaks, if any, given the state after the lines before it.
 pub(crate) fn first_broken_rule(lines: &TraceValidator, line: &Line<'_>) -> Option<LineRule>
     ensures { (before : List RecordedLine)
         → Represents lines.now before

@@ -1,4 +1,4 @@
-//! The effect of a line on the state.
+//! The effect of a line on the state of the rule check.
 
 ghost use Rattle.std.specs.Prelude.{OnOk, OnErr};
 ghost use Rattle.recordings.specs.RecordingLine.{line_view};
@@ -9,7 +9,7 @@ use crate::trace_validator::TraceValidator;
 use crate::{Line, RecordedActor};
 use std::alloc::AllocError;
 
-/// Updates the state with a line that keeps the rules.
+/// Updates the state with a line that breaks no rule.
 ///
 /// # Errors
 ///
@@ -24,8 +24,8 @@ pub(crate) fn apply_line(lines: &mut TraceValidator, line: &Line<'_>) -> Result<
     Ok(())
 }
 
-// Applies the line's three changes: a new pool, round or job; the last action of its actor; and the
-// progress of the round or the job.
+// Applies the changes that the line makes: it adds a pool, round or job, changes what the last
+// action of its actor is, or changes the progress of a round or a job.
 fn apply_changes(lines: &mut TraceValidator, line: &Line<'_>) -> Result<(), AllocError>
     ensures stored { OnOk result (AppliesChanges lines.old (line_view line.now) lines.new) }
     ensures same { OnErr result (IsSame lines.old lines.new) }

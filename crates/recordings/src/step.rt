@@ -1,19 +1,19 @@
-//! The actions of the actors of a recording.
+//! The actions in the paths of a recording.
 
 ghost use Rattle.std.specs.Prelude.{◌≡◌};
 ghost use Rattle.recordings.specs.ActorPath as spec;
 
-/// An action of an actor, as it appears in a body.
+/// An action in the path of an actor, which corresponds to an action of a body.
 #[derive(Clone, Copy, PartialEq, Eq)]
 pub enum RecordedStep {
     /// The actor submitted the job with this number.
     Submits(usize),
-    /// The actor got the job of the submit at this index of the same path.
+    /// The actor got the job that the submit at this index of the same path submitted.
     Gets(usize),
 }
 
 impl RecordedStep {
-    /// Returns whether this is a submit of this job.
+    /// Returns whether this action is a submit of this job.
     pub fn submits(self, job: usize) -> bool
         ensures { result ≡ spec.submits job self }
     {
@@ -23,7 +23,7 @@ impl RecordedStep {
         }
     }
 
-    /// Returns whether this is a get of the job of the submit at this index of its path.
+    /// Returns whether this action is a get of the job that the submit at this index submitted.
     pub fn gets(self, place: usize) -> bool
         ensures { result ≡ spec.gets place self }
     {

@@ -1,4 +1,4 @@
-//! The state of the rule check.
+//! The check of the lines of a recording against the rules O1 to O7.
 
 ghost use Rattle.std.specs.Prelude.{[], List};
 ghost use Rattle.recordings.specs.RecordingLine.{RecordedLine, line_view};
@@ -13,12 +13,12 @@ use crate::rule_check::first_broken_rule;
 use crate::state_update::apply_line;
 use std::alloc::{AllocError, Global};
 
-/// The state of the rule check: everything that the rules need to know about the lines so far.
+/// The state of the rule check: what the rules need to know about the lines read so far.
 ///
-/// Its size grows with the names of the pools, the rounds that have not ended and the jobs that are
-/// not done. A job that was refused, cancelled or removed and never ran is not done. A line takes a
-/// few look-ups in tables, whatever the lines before it are. No contract states the size or the
-/// time.
+/// Its size grows with the number of pools, of rounds that have not ended and of jobs that are not
+/// done. A job that was refused, cancelled or removed and never ran is not done. Checking a line
+/// takes a few look-ups in tables, whatever the lines before it are. No contract states the size or
+/// the time.
 #[derive(Drop)]
 pub struct TraceValidator {
     pub(crate) begun: bool,
@@ -29,7 +29,7 @@ pub struct TraceValidator {
 }
 
 impl TraceValidator {
-    /// Creates the state before the first line.
+    /// Creates the state of a recording of which no line was read.
     pub fn new(alloc: Global) -> TraceValidator
         ensures { Represents result [] }
     {
@@ -42,12 +42,12 @@ impl TraceValidator {
         }
     }
 
-    /// Accepts the next line if it keeps the rules. Otherwise returns the first rule that it
-    /// breaks, and leaves the state unchanged.
+    /// Accepts the next line and returns `None` if the line breaks no rule. Otherwise returns the
+    /// first rule that it breaks, and leaves the state unchanged.
     ///
     /// # Errors
     ///
-    /// Returns `AllocError` if the line keeps the rules but memory runs out. The state is then
+    /// Returns `AllocError` if the line breaks no rule but memory runs out. The state is then
     /// unchanged.
     pub fn take(&mut self, line: &Line<'_>) -> Result<Option<LineRule>, AllocError>
         ensures { (before : List RecordedLine)

@@ -1,4 +1,4 @@
-//! The jobs that their submitters have not got.
+//! Unclaimed jobs: the jobs that their submitters have not got.
 
 ghost use Rattle.std.specs.Prelude.{◌≡◌, ℕ, ◌==◌, OnOk, None, Some, if◌then◌else◌};
 ghost use Rattle.recordings.specs.RecordingLine.{line_view};
@@ -26,7 +26,7 @@ impl UnclaimedJobs {
         }
     }
 
-    /// Returns true if another actor submitted the job and has not got it.
+    /// Returns true if an actor other than this one submitted the job and has not got it.
     pub(crate) fn is_foreign(&self, job: usize, actor: RecordedActor) -> bool
         ensures { result ≡ spec.is_foreign (submitter_in self.now job) actor }
     {
@@ -36,7 +36,7 @@ impl UnclaimedJobs {
         }
     }
 
-    /// Reads the next line.
+    /// Processes the next line.
     ///
     /// # Errors
     ///
@@ -60,7 +60,7 @@ impl UnclaimedJobs {
         }
     }
 
-    // Removes the job, if the actor is its submitter.
+    // Removes the job, which the actor got, if the actor is its submitter.
     fn remove_own(&mut self, actor: RecordedActor, job: usize)
         ensures { (one : ℕ)
             → submitter_in self.new one
