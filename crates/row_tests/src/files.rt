@@ -1,23 +1,30 @@
-//! Test cases in files of rows, in place of tables in code.
+//! Test cases in files of rows: inputs, each with its expected answer.
 //!
-//! A row begins with a line `== NAME`, and a part of it with a line `-- HEAD`. Text before the
-//! first row, and between a row's name and its first part, is a comment. Newlines at the end of a
-//! part are ignored.
+//! A row begins with a line `== NAME`. Each part of a row begins with a line `-- HEAD`. Text before
+//! the first row is a comment, and so is text between a row's name and its first part. Newlines at
+//! the end of a part are ignored.
 //!
 //! A part with the head `KIND` or `KIND at PLACE` is an input of that kind. A row may have any
-//! number of inputs. A part `answer` is the expected answer to each input. A part `answers` is a
-//! table. Its line `ONE | TWO => ANSWER` gives the expected answer to each input with `ONE` in
-//! place of its `$1` and `TWO` in place of its `$2`. A part `lines` is a table too: the left sides
-//! of its lines are appended to the input, and the right sides are the lines of the answer. In an
-//! answer, `*` is replaced by the place of the input.
+//! number of inputs. Three other parts have expected answers:
 //!
-//! - `$(NAME)` is replaced by the row's part `let NAME`, and `$(one_pool 1 1 2 2)` by a sample plan
-//!   with these sizes. `$(standing_cert)` is replaced by a sample certificate, and `$(standing_cert
-//!   OLD NEW)` by the same one with `NEW` in place of its first `OLD`.
-//! - `^<64 TEXT^>` repeats the text 64 times. In it, `^#` is the number of earlier repetitions, and
-//!   `^+` is one more. `^<to 64 TEXT^>` repeats the text until the output has 64 bytes.
-//! - `^n`, `^r`, `^t` and `^s` are a newline, a carriage return, a tab and a space; `^xff` is the
-//!   byte `ff`.
+//! - A part `answer` is the expected answer to each input of the row.
+//! - A part `answers` is a table. Its line `ONE | TWO => ANSWER` has the expected answer to each
+//!   input in which `ONE` replaces `$1` and `TWO` replaces `$2`.
+//! - A part `lines` is a table, too. The left sides of its lines are appended to each input, and
+//!   the right sides are the lines of the expected answer.
+//!
+//! In an expected answer, the first `*` stands for the place of the input. Inputs and answers may
+//! contain:
+//!
+//! - `$(NAME)`: the text of the row's part `let NAME`.
+//! - `$(one_pool 1 1 2 2)`: a sample plan with these sizes.
+//! - `$(standing_cert)`: a sample certificate. `$(standing_cert OLD NEW)` is the same certificate
+//!   with `NEW` in place of its first `OLD`.
+//! - `^<64 TEXT^>`: the text 64 times. In it, `^#` is the number of the repetition, from 0, and
+//!   `^+` is that number plus 1. `^<to 64 X^>` is the byte X as often as needed for an output of 64
+//!   bytes.
+//! - `^n`, `^r`, `^t` and `^s`, only in inputs: a newline, a carriage return, a tab and a space.
+//!   `^xff` is the byte `ff`.
 mod certs;
 mod fill;
 mod plans;

@@ -1,10 +1,11 @@
-//! The sizes that the search for sizes finds.
+//! The answers of the search for sizes.
 
 mod sizes;
 
 use std::alloc::{AllocError, Global};
 
-/// Returns the lines of the sizes that the search finds for a plan's text.
+/// Returns the lines of the sizes that the search finds for the plan with this text, or of the
+/// reason why it finds none.
 pub fn sizes_for(alloc: Global, plan: &[u8]) -> Result<String, AllocError> {
     let plan = String::from_utf8_lossy(alloc, plan)?;
     let lines = sizes::answer(alloc, plan.as_str())?;

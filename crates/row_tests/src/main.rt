@@ -1,4 +1,4 @@
-//! Tests in rows of files: the inputs in `data/`, with answers written by hand.
+//! Tests in files of rows: the inputs in `data/`, with answers written by hand.
 #![tactic(auto)]
 
 mod files;

@@ -1,4 +1,4 @@
-//! Calls of the program that use threads: inputs, with answers written by hand.
+//! The answers of the commands that use threads, and of the search for sizes.
 
 mod ask;
 mod certify;
@@ -24,33 +24,33 @@ use std::alloc::{AllocError, Global};
 use std::sync::Wait;
 use std::thread::Threads;
 
-/// Returns the answer to an input of a kind.
+/// Returns the answer to an input of this kind. If the answer contains the output of a command, the
+/// exit status follows on the last line. An input is the text of a plan, unless a kind says
+/// otherwise.
 ///
-/// - `certify` is a plan's text. The answer is the output of the command, with the exit status on a
-///   last line. The test repeats it with 64 workers. If the text is short, it also repeats it with
-///   two workers, byte by byte, and with a failing source and sink.
-/// - `certify and check` is the same, but a bundle is replaced by the first line and the status of
-///   `check` for it.
-/// - `check` is a bundle. The answer is the verdict or the fault of the check on threads, with each
-///   number of workers.
-/// - `fit` and `fit bundle` are a plan's text. The answer is the output of the command for the
-///   sizes and for a bundle, with the exit status on a last line. The test repeats it byte by byte
-///   and, if the text is short, with a failing source and sink.
-/// - `fit and check` is the same for a bundle, but the bundle is replaced by the first line and the
-///   status of `check` for it, followed by the answer of `fit` to its plan.
-/// - `run` is a line with a number of rounds, and a bundle to run for that many rounds. The answer
-///   is the output of the command, with the exit status on a last line. If there are few rounds,
-///   the test repeats it byte by byte, and with a failing source and sink.
-/// - `refute`, `refute head` and `refute bundle` are a plan's text. The answer is the output of the
-///   command for a witness, in full or its first line, and for a bundle, with the exit status on a
-///   last line. `refute briefly` is the first line with a limit of one state. `refute and replay`
-///   is the answer of `replay` to the bundle.
-/// - `ask` and `ask strict` are a plan's text, and `ask with` and `ask with strict` are a bundle of
-///   one with a certificate. The answer is the output of the command, with the exit status on a
-///   last line. `ask head` is the first line. `ask json`, `ask json strict`, `ask json with` and
-///   `ask dot` are the same in another format.
-/// - `sizes` is a plan's text. The answer is the lines of the sizes that the search finds, without
-///   a search for a certificate first.
+/// - `certify`: the output of `certify` with one worker. The test repeats the command with 64
+///   workers. If the text is short, it also repeats it with two workers, with single bytes, and
+///   with a source and a sink that fail.
+/// - `certify and check`: the same, but if `certify` writes a bundle, the answer is the first line
+///   of the output of `check` for this bundle.
+/// - `check`: the verdict or the fault of the check. The input is a bundle. The test repeats the
+///   check on threads, with several numbers of workers.
+/// - `fit` and `fit bundle`: the output of `fit` as sizes and as a bundle. If the text is short,
+///   the test repeats the command with single bytes, and with a source and a sink that fail.
+/// - `fit and check`: the same as `fit bundle`, but if `fit` writes a bundle, the answer is the
+///   first line of the output of `check` for this bundle, followed by the output of `fit` for the
+///   plan in it.
+/// - `run`: the output of `run`. The input is a line with the number of rounds, and a bundle. If
+///   there are few rounds, the test repeats the command with single bytes, and with a source and a
+///   sink that fail.
+/// - `refute`, `refute head` and `refute bundle`: the output of `refute` as a description, the
+///   first line of it, and the output as a bundle. `refute briefly` is the first line with a limit
+///   of one state. `refute and replay` is the output of `replay` for the bundle.
+/// - `ask` and `ask strict`: the output of `ask`. `ask head` is the first line of it. For `ask
+///   with` and `ask with strict`, the input is a bundle of a plan and a certificate. `ask json`,
+///   `ask json strict`, `ask json with` and `ask dot` are the same in another format.
+/// - `sizes`: the lines of the sizes that the search finds, without a search for a certificate
+///   first. They have no exit status.
 pub fn answered<R: Threads + Wait + Sync>(
     rt: &R,
     alloc: Global,

@@ -1,4 +1,4 @@
-//! Texts of plans, with answers of one line written by hand.
+//! The answers of the parser and of the writer for texts of plans.
 
 mod answers;
 mod lists;
@@ -8,15 +8,16 @@ use crate::plan_texts::answers::answered;
 use crate::plan_texts::lists::{built, written};
 use std::alloc::{AllocError, Global};
 
-/// A suite for texts of plans.
+/// The suite for texts of plans. The answer to an input is its plan or its fault, in one line,
+/// unless a kind says otherwise.
 ///
-/// - `plan` is a text.
-/// - `spelling` is a text that is also read with a carriage return before each newline, and with a
-///   byte order mark before that. All three have the same answer.
-/// - `lists` are the lists of a plan, a line for each entry.
-/// - `written` are such lists. The answer is the text that is written for their plan.
-/// - `change` is a text, a line `%%`, and a line `OLD -> NEW`: the text is read with NEW in place
-///   of OLD.
+/// - `plan`: the text of a plan.
+/// - `spelling`: the text of a plan. The test also reads it with a carriage return before each
+///   newline, and with a byte order mark in addition. All three have the same answer.
+/// - `lists`: the lists of a plan, with a line for each entry.
+/// - `written`: the lists of a plan. The answer is the text that is written for the plan.
+/// - `change`: the text of a plan, a line `%%`, and a line `OLD -> NEW`. The text is read with NEW
+///   in place of OLD.
 pub struct PlanTexts;
 
 impl Suite for PlanTexts {

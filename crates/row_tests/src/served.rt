@@ -1,4 +1,4 @@
-//! Inputs of the program, from bytes to bytes, with answers written by hand.
+//! The answers of the commands that use no threads, from bytes to bytes.
 
 mod ended;
 mod failing;
@@ -13,23 +13,24 @@ use crate::served::words::asked;
 use sizing_cli::{MemorySink, MemorySource, RecordingCommand, ReviewCommand};
 use std::alloc::{AllocError, Global};
 
-/// A suite for commands that use no threads.
+/// The suite for commands that use no threads.
 ///
-/// - `replay`, `check`, `explain`, `conform` and `learn` are the whole input of the command. The
-///   answer is the output, with the exit status on a last line. The test repeats a short input with
-///   a source and a sink that fail at each call in turn.
-/// - `check and explain` is an input of both commands. The answer is that of the first, followed by
-///   that of the second if it differs.
-/// - `fronts of a replay`, `fronts of a check` and `fronts of an explain` are an input of which
-///   each shorter prefix is answered too. The answer is that to the shortest prefix, followed by
-///   each answer that differs from the one before, with the length of its prefix.
-/// - `words` are the arguments of a command line, each followed by a newline.
+/// - `replay`, `check`, `explain`, `conform` and `learn`: the whole input of the command. The
+///   answer is the output, with the exit status on the last line. The test repeats the command in
+///   pieces and, if the input is short, with a source and a sink that fail at each call in turn.
+/// - `check and explain`: an input of both commands. The answer is that of `check`, followed by
+///   that of `explain` if it differs.
+/// - `fronts of a replay`, `fronts of a check` and `fronts of an explain`: an input. The command
+///   answers each proper prefix of it. The answer of the test is the answer to the empty prefix,
+///   followed by each answer that differs from the one before, with the length of its prefix.
+/// - `words`: the arguments of a command line, each followed by a newline.
 pub struct Served;
 
-// The maximum size of a short input, in bytes.
+// The maximum length of a short input, in bytes.
 const SHORT: usize = 250;
 
-// A larger input is long, in bytes.
+// The maximum length of an input that is repeated with single bytes. A longer input is repeated in
+// larger pieces.
 const LONG: usize = 20_000;
 
 impl Suite for Served {
@@ -71,7 +72,7 @@ fn whole(alloc: Global, query: Query, input: &[u8]) -> Result<Ended, AllocError>
     serve(alloc, query, &mut MemorySource::new(input), sink)
 }
 
-// Returns the answer if each call reads and writes at most `most` bytes.
+// Returns the result of the command if each call reads or writes at most `most` bytes.
 fn in_pieces(alloc: Global, query: Query, input: &[u8], most: usize) -> Result<Ended, AllocError>
     requires { 0 < most }
 {
@@ -88,7 +89,8 @@ fn answered(alloc: Global, query: Query, input: &[u8]) -> Result<String, AllocEr
     Ok(answer)
 }
 
-// Reports if the answer differs in pieces or, for a short input, with a failing call.
+// Appends a note to the answer if the result differs in pieces or, for a short input, is unexpected
+// with a source or a sink that fails.
 fn push_differences(
     alloc: Global,
     query: Query,

@@ -1,4 +1,4 @@
-//! Events of worlds, with the outcome of each and the look-ups after it written by hand.
+//! The outcomes of the events of a world, and the results of its look-ups.
 
 mod facts;
 mod follow;
@@ -10,20 +10,23 @@ use interleaving::World;
 use plan_text::read_plan;
 use std::alloc::{AllocError, Global};
 
-/// A suite for worlds. An input is the text of a plan, a line `%%`, and lines for a world of the
+/// The suite for worlds. An input is the text of a plan, a line `%%`, and lines for a world of the
 /// plan.
 ///
-/// A line is an event, such as `client 0`, `job 0`, `take 0` and `retire 0`; or `start`, which
-/// prints all look-ups of the world; or `stuck 0 1`, which tests whether these jobs are stuck; or
-/// `see client 0` or `see job 0`. Clients, jobs and pools are identified by their numbers. The
-/// answer to an event is its outcome, followed by
+/// A line is an event (`client 0`, `job 0`, `take 0` or `retire 0`) or a look-up: `start` prints
+/// all look-ups of the world; `stuck 0 1` tests whether these jobs wait only for each other; and
+/// `see client 0` and `see job 0` print a client or a job. Clients, jobs and pools are identified
+/// by their numbers.
 ///
-/// - `facts`: each look-up that changed;
-/// - `sets`: the sets of the first six jobs that are stuck;
-/// - `outcomes`: nothing.
+/// The answer has a line for each line of the input. The line for an event is its outcome, and
+/// after it
 ///
-/// `counts` answers all lines with one line: the number of events that happened, and the counts of
-/// the world after the last.
+/// - each look-up that changed, if the kind is `facts`;
+/// - the sets among the first six jobs that wait only for each other, if the kind is `sets`;
+/// - nothing, if the kind is `outcomes`.
+///
+/// The answer to an input of the kind `counts` is one line: the number of events that were
+/// possible, and the counts of the world after the last event.
 pub struct Worlds;
 
 impl Suite for Worlds {

@@ -1,30 +1,32 @@
-//! Sample certificates, each for a sample plan. Their texts have no newlines.
+//! Sample certificates, each for a sample plan. The newlines in them are removed before use.
 
 use std::alloc::{AllocError, Global};
 
-// For a plan without pools, classes and clients.
+// A certificate for a plan without pools, classes and clients.
 const EMPTY: &str = r#"{"version":1,"pools":[],"ranks":{"pools":[],"reach":[],"levels":[]}}"#;
 
-// For one pool: each client has at most one job at a time, whose weight is 1 until its get.
+// A certificate for a plan with one pool. Each client has at most one job at a time, whose weight
+// is 1 until its get.
 const STANDING: &str = r#"{"version":1,"pools":[
 {"standing":{"workers":[0],"classes":[[1,1,1,1]],"clients":[[1,0,1]]},
 "blocked":{"workers":[0],"classes":[[0,0,0,0]],"clients":[[0,0,0]]}}],
 "ranks":{"pools":[0],"reach":[0],"levels":[0]}}"#;
 
-// For a nested pool: the outer job passes its weight to the inner one, and the get returns it.
+// A certificate for the plan `nested`. The outer job passes its weight to the inner job, and the
+// get returns the weight.
 const NESTED: &str = r#"{"version":1,"pools":[
 {"standing":{"workers":[0],"classes":[[1,1,0,1,1],[1,1,1,1]],"clients":[[1,0,1]]},
 "blocked":{"workers":[0],"classes":[[1,1,1,1,1],[0,0,0,0]],"clients":[[1,0,1]]}}],
 "ranks":{"pools":[0],"reach":[0,0],"levels":[1,0]}}"#;
 
-// The same for three inner jobs.
+// A certificate for the plan `fan_out`, in which the outer job submits three inner jobs.
 const FAN_OUT: &str = r#"{"version":1,"pools":[
 {"standing":{"workers":[0],"classes":[[3,3,2,1,0,1,2,3,3],[1,1,1,1]],"clients":[[3,0,3]]},
 "blocked":{"workers":[0],"classes":[[1,1,1,1,1,1,1,1,1],[0,0,0,0]],"clients":[[1,0,1]]}}],
 "ranks":{"pools":[0],"reach":[0,0],"levels":[1,0]}}"#;
 
-// For pools `front` and `back`: in the second vector each worker of `front` passes its weight to
-// its job.
+// A certificate for the plan `front_and_back`. In the standing vector of `back`, each worker of
+// `front` passes its weight to its job.
 const FRONT_AND_BACK: &str = r#"{"version":1,"pools":[
 {"standing":{"workers":[0,0],"classes":[[1,1,1,1,1],[0,0,0,0]],"clients":[[1,0,1]]},
 "blocked":{"workers":[0,0],"classes":[[0,0,0,0,0],[0,0,0,0]],"clients":[[0,0,0]]}},
@@ -32,8 +34,8 @@ const FRONT_AND_BACK: &str = r#"{"version":1,"pools":[
 "blocked":{"workers":[0,0],"classes":[[0,0,0,0,0],[0,0,0,0]],"clients":[[0,0,0]]}}],
 "ranks":{"pools":[1,0],"reach":[1,0],"levels":[1,0]}}"#;
 
-// For two pools with jobs that wait for jobs of the other pool: no get of the first pool is
-// counted.
+// A certificate for the plan `two_pools`, in which jobs of each pool wait for jobs of the other. No
+// get in the first pool is counted.
 const TWO_POOLS: &str = r#"{"version":1,"pools":[
 {"standing":{"workers":[0,0],"classes":[[1,1,1,1,1],[0,0,0,0],[1,1,0,1,1],[1,1,1,1]],
 "clients":[[1,0,1],[1,0,1]]},
@@ -45,8 +47,9 @@ const TWO_POOLS: &str = r#"{"version":1,"pools":[
 "clients":[[0,0,0],[1,0,1]]}}],
 "ranks":{"pools":[1,0],"reach":[1,0,1,1],"levels":[1,0,1,0]}}"#;
 
-// For a job that waits for a job of another pool, which waits for a job of the first pool again:
-// its get is counted, and its weight there is 0.
+// A certificate for the plan `there_and_back`, in which a job waits for a job of another pool,
+// which waits for a job of the first pool again. The get of the first job is counted, but its
+// weight there is 0.
 const THERE_AND_BACK: &str = r#"{"version":1,"pools":[
 {"standing":{"workers":[0,0],"classes":[[1,1,0,1,1],[1,1,0,1,1],[1,1,1,1]],"clients":[[1,0,1]]},
 "blocked":{"workers":[0,0],"classes":[[0,0,0,0,0],[0,0,0,0,0],[0,0,0,0]],"clients":[[0,0,0]]}},
@@ -54,20 +57,22 @@ const THERE_AND_BACK: &str = r#"{"version":1,"pools":[
 "blocked":{"workers":[0,0],"classes":[[1,1,0,1,1],[1,1,1,1,1],[0,0,0,0]],"clients":[[1,0,1]]}}],
 "ranks":{"pools":[1,0],"reach":[1,1,1],"levels":[2,1,0]}}"#;
 
-// For one pool and clients that submit a job and never get it.
+// A certificate for a plan with one pool and clients that submit a job and never get it.
 const ONE_SHOT: &str = r#"{"version":1,"pools":[
 {"standing":{"workers":[0],"classes":[[1,1,1,0]],"clients":[[1,0]]},
 "blocked":{"workers":[0],"classes":[[0,0,0,0]],"clients":[[0,0]]}}],
 "ranks":{"pools":[0],"reach":[0],"levels":[0]}}"#;
 
-// For one pool and clients that each submit one job in total.
+// A certificate for a plan with one pool and clients that run their bodies once, and so submit one
+// job each.
 const LIFETIME: &str = r#"{"version":2,"pools":[
 {"lifetime":{"workers":[0],"classes":[[1,1,1,1]],"clients":[[1,0,0]]},
 "blocked":{"workers":[0],"classes":[[0,0,0,0]],"clients":[[0,0,0]]}}],
 "ranks":{"pools":[0],"reach":[0],"levels":[0]}}"#;
 
-/// Returns the text of the certificate with this name. The words after the name are pairs of an old
-/// and a new text: the first occurrence of each old text is replaced by the new one.
+/// Returns the text of the sample certificate that the first word names, or `None` if there is
+/// none. The other words are pairs of an old and a new text. The first occurrence of each old text
+/// is replaced by the new text.
 pub fn sample_cert(alloc: Global, words: &str) -> Result<Option<String>, AllocError> {
     let (name, changes) = words.split_once(' ').unwrap_or((words, ""));
     let Some(template) = template(name) else {
@@ -86,7 +91,7 @@ pub fn sample_cert(alloc: Global, words: &str) -> Result<Option<String>, AllocEr
     Ok(Some(text))
 }
 
-// Replaces the first occurrence of `old`, if there is one.
+// Returns the text with `new` in place of the first occurrence of `old`, if there is one.
 fn changed(alloc: Global, text: &str, old: &str, new: &str) -> Result<String, AllocError> {
     let (before, behind) = match text.split_once(old) {
         Some(around) => around,

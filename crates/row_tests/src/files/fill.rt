@@ -1,4 +1,4 @@
-//! Substitution in texts.
+//! The replacement of `$1` and `$(NAME)` in the texts of rows.
 
 use crate::files::certs::sample_cert;
 use crate::files::plans::sample_plan;
@@ -6,10 +6,10 @@ use crate::files::repeat::repeated;
 use crate::files::rows::Row;
 use std::alloc::{AllocError, Global};
 
-// The names of the columns.
+// The names of the columns, one character each.
 const COLUMNS: &str = "123456789";
 
-/// Replaces `$1`, `$2` and so on by these columns.
+/// Returns the text with the columns in place of `$1`, `$2` and so on.
 pub fn with_columns(alloc: Global, text: &str, columns: &[&str]) -> Result<String, AllocError> {
     let mut filled = String::new(alloc);
     for (number, piece) in text.split('$').enumerate() {
@@ -22,7 +22,8 @@ pub fn with_columns(alloc: Global, text: &str, columns: &[&str]) -> Result<Strin
     Ok(filled)
 }
 
-// Appends the text after a `$`, with the column in place of its name if it begins with one.
+// Appends `piece`, which is the text after a `$`. If it begins with the name of a column, appends
+// the column in place of the `$` and the name.
 fn push_column(filled: &mut String, piece: &str, columns: &[&str]) -> Result<(), AllocError> {
     for (name, column) in COLUMNS.chars().zip(columns) {
         if let Some(behind) = piece.strip_prefix(name) {
@@ -34,7 +35,7 @@ fn push_column(filled: &mut String, piece: &str, columns: &[&str]) -> Result<(),
     filled.push_str(piece)
 }
 
-/// Replaces `$(NAME)` by the text that the name stands for.
+/// Returns the text with each `$(NAME)` replaced by the text that the name stands for.
 pub fn with_names(alloc: Global, text: &str, row: &Row) -> Result<String, AllocError> {
     let mut filled = String::new(alloc);
     for (number, piece) in text.split("$(").enumerate() {
@@ -49,7 +50,8 @@ pub fn with_names(alloc: Global, text: &str, row: &Row) -> Result<String, AllocE
     Ok(filled)
 }
 
-// Returns the row's own part with this name, or otherwise the sample certificate or plan.
+// Returns the text of the row's part `let NAME`. If there is none, returns the sample certificate
+// or the sample plan with this name.
 fn named(alloc: Global, name: &str, row: &Row) -> Result<String, AllocError> {
     let head = format!(in alloc; "let {name}")?;
     if let Some(text) = row.part(&head) {

@@ -1,10 +1,10 @@
-//! Sample plans.
+//! Sample plans, in which `$1`, `$2` and so on stand for sizes.
 
 use crate::files::fill::with_columns;
 use std::alloc::{AllocError, Global};
 
-// A pool of these sizes (core, maximum, queue) and `$4` looping clients that each submit one job
-// and wait for it.
+// A plan with one pool, which has these sizes (core, maximum, queue), and `$4` repeating clients,
+// each of which submits one job and waits for it.
 const ONE_POOL: &str = r#"[[pool]]
 name = "p"
 core = $1
@@ -20,7 +20,7 @@ count = $4
 repeat = true
 body = ["submit a as x", "get x"]"#;
 
-// The same with clients that run their bodies once.
+// A plan like `ONE_POOL` whose clients run their bodies once.
 const ONE_POOL_ONCE: &str = r#"[[pool]]
 name = "p"
 core = $1
@@ -35,7 +35,8 @@ name = "c"
 count = $4
 body = ["submit a as x", "get x"]"#;
 
-// A pool of these sizes, whose outer job submits an inner one to the same pool and waits for it.
+// A plan with one pool, which has these sizes (core, maximum, queue). An outer job submits an inner
+// job to the same pool and waits for it.
 const NESTED: &str = r#"[[pool]]
 name = "p"
 core = $1
@@ -55,7 +56,8 @@ count = 1
 repeat = true
 body = ["submit outer as x", "get x"]"#;
 
-// The same with three inner jobs, in a pool of two threads with this queue.
+// A plan with one pool, which has two threads and this queue. An outer job submits three inner jobs
+// to the same pool and waits for them.
 const FAN_OUT: &str = r#"[[pool]]
 name = "p"
 core = 2
@@ -75,7 +77,7 @@ count = 1
 repeat = true
 body = ["submit outer as x", "get x"]"#;
 
-// A pool `front`, whose jobs wait for jobs of a pool `back`.
+// A plan with a pool `front`, whose jobs wait for jobs of a pool `back`.
 const FRONT_AND_BACK: &str = r#"[[pool]]
 name = "front"
 core = 4
@@ -100,8 +102,8 @@ count = 1000
 repeat = true
 body = ["submit f as x", "get x"]"#;
 
-// A pool of one thread and a pool of the given number, each with jobs that wait for jobs of the
-// other.
+// A plan with two pools, the first with one thread and the second with `$1` core threads. Jobs of
+// each pool wait for jobs of the other.
 const TWO_POOLS: &str = r#"[[pool]]
 name = "p"
 core = 1
@@ -139,7 +141,7 @@ count = 1
 repeat = true
 body = ["submit c as x", "get x"]"#;
 
-// A third pool after those two, with a class and a client of its own.
+// The text of a third pool, with a class and a client of its own, to be appended to `TWO_POOLS`.
 const A_THIRD_POOL: &str = r#"
 [[pool]]
 name = "r"
@@ -156,7 +158,8 @@ count = 1
 repeat = true
 body = ["submit e as x", "get x"]"#;
 
-// A job waits for a job of another pool, which waits for a job of the first pool again.
+// A plan in which a job waits for a job of another pool, which waits for a job of the first pool
+// again.
 const THERE_AND_BACK: &str = r#"[[pool]]
 name = "p"
 core = 1
@@ -185,8 +188,9 @@ count = 1
 repeat = true
 body = ["submit a as x", "get x"]"#;
 
-// A pool of these sizes with each action in a class and in a client. The argument after the sizes
-// tells whether that client repeats. Another client only works, and repeats.
+// A plan with one pool, which has these sizes (core, maximum, queue). A class and a client each
+// have a work, a submit and a get. The client repeats if `$4` is `true`. Another client only works,
+// and repeats.
 const EACH_ACTION: &str = r#"[[pool]]
 name = "p"
 core = $1
@@ -211,8 +215,8 @@ count = 1
 repeat = true
 body = ["work 1"]"#;
 
-/// Returns the text of the plan with this name and these sizes. For an unknown name the text is not
-/// a valid plan.
+/// Returns the text of the sample plan that the first word names, with the sizes in the other
+/// words. The text for an unknown name is not a valid plan.
 pub fn sample_plan(alloc: Global, words: &str) -> Result<String, AllocError> {
     let (name, sizes) = words.split_once(' ').unwrap_or((words, ""));
     let columns = sizes.split(' ').collect::<Vec<&str>>(alloc)?;

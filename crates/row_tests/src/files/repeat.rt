@@ -1,9 +1,9 @@
-//! Repetition of texts.
+//! The expansion of `^<N TEXT^>` in the texts of rows.
 
 use crate::files::spelling::spelled;
 use std::alloc::{AllocError, Global};
 
-/// Expands each `^<64 TEXT^>` in the text.
+/// Replaces each `^<N TEXT^>` in the text by TEXT repeated N times.
 pub fn repeated(alloc: Global, text: &str) -> Result<String, AllocError> {
     let mut whole = String::new(alloc);
     for (number, piece) in text.split("^<").enumerate() {
@@ -18,7 +18,8 @@ pub fn repeated(alloc: Global, text: &str) -> Result<String, AllocError> {
     Ok(whole)
 }
 
-// Appends the text after the number, repeated that many times.
+// Appends TEXT N times if `inner` is `N TEXT`. If `inner` is `to N TEXT`, subtracts the bytes that
+// `whole` already has from N.
 fn push_repeated(alloc: Global, whole: &mut String, inner: &str) -> Result<(), AllocError> {
     let (bytes, inner) = match inner.strip_prefix("to ") {
         Some(inner) => (spelled(alloc, whole)?.len(), inner),
@@ -35,7 +36,7 @@ fn push_repeated(alloc: Global, whole: &mut String, inner: &str) -> Result<(), A
     Ok(())
 }
 
-// The number of copies to append at once.
+// The number of copies that are appended in one call.
 const BLOCK: usize = 1_000;
 
 // Appends this number of copies of the piece.
@@ -58,8 +59,7 @@ fn push_copies(
     Ok(())
 }
 
-// Appends the piece with its number, counted from 0, in place of `^#`, and counted from 1 in place
-// of `^+`.
+// Appends the piece with its number in place of `^#`, and its number plus 1 in place of `^+`.
 fn push_numbered(whole: &mut String, piece: &str, number: usize) -> Result<(), AllocError> {
     let next = number.saturating_add(1);
     for (place, part) in piece.split("^#").enumerate() {

@@ -1,15 +1,15 @@
-//! The rows of a file.
+//! The parser for files of rows.
 
 use std::alloc::{AllocError, Global};
 
-/// A row: its name, and its parts in order.
+/// A row of a file: its name, and its parts in order.
 #[derive(Drop)]
 pub struct Row<'a> {
     pub name: &'a str,
     pub parts: Vec<Part<'a>>,
 }
 
-/// A part of a row: the text of its first line, and the lines after it.
+/// A part of a row: the text of its first line after `-- `, and the lines after that line.
 #[derive(Clone, Copy)]
 pub struct Part<'a> {
     pub head: &'a str,
@@ -17,7 +17,7 @@ pub struct Part<'a> {
 }
 
 impl<'a> Row<'a> {
-    /// Returns the text of the part with this head.
+    /// Returns the text of the first part with this head.
     pub fn part(&self, head: &str) -> Option<&'a str> {
         for part in &self.parts {
             if part.head == head {

@@ -1,8 +1,8 @@
-//! Escaped bytes.
+//! The escaped bytes in the texts of rows.
 
 use std::alloc::{AllocError, Global};
 
-/// Returns the bytes of the text, with each `^` escape replaced by its byte.
+/// Returns the bytes of the text, with each escape, such as `^n`, replaced by its byte.
 pub fn spelled(alloc: Global, text: &str) -> Result<Vec<u8>, AllocError> {
     let mut bytes = Vec::new(alloc);
     for (number, piece) in text.split('^').enumerate() {
@@ -15,7 +15,8 @@ pub fn spelled(alloc: Global, text: &str) -> Result<Vec<u8>, AllocError> {
     Ok(bytes)
 }
 
-// Appends the text after a `^`.
+// Appends `piece`, which is the text after a `^`, with the escape at its start replaced by its
+// byte.
 fn push_spelled(bytes: &mut Vec<u8>, piece: &[u8]) -> Result<(), AllocError> {
     let (byte, behind) = match piece {
         [b'n', behind @ ..] => (b'\n', behind),
@@ -29,7 +30,7 @@ fn push_spelled(bytes: &mut Vec<u8>, piece: &[u8]) -> Result<(), AllocError> {
     bytes.extend_from_slice(behind)
 }
 
-// Returns the value of a hexadecimal digit, and 0 for another byte.
+// Returns the value of a hexadecimal digit, or 0 for another byte.
 fn digit(letter: u8) -> u8 {
     match letter {
         b'0'..=b'9' => letter - b'0',

@@ -1,4 +1,4 @@
-//! Running the rows of files.
+//! The run of all rows of the files of a suite.
 
 use crate::files::fill::{with_columns, with_names};
 use crate::files::repeat::repeated;
@@ -8,14 +8,14 @@ use std::alloc::{AllocError, Global};
 use std::rt::Files;
 use std::{fs, io};
 
-/// The code under test, which answers inputs.
+/// A suite: the code under test, which answers inputs.
 pub trait Suite {
     /// Returns the answer to the input of this kind.
     fn answer(&self, alloc: Global, kind: &str, input: &[u8]) -> Result<String, AllocError>;
 }
 
-/// Prints each row of the files with an unexpected answer, and then the numbers of all rows and of
-/// those that differ.
+/// Runs all inputs in the files. Prints each input with an unexpected answer, and then the number
+/// of inputs and the number of unexpected answers.
 pub fn run_files<S: Suite, R: Files + Print + AllocGlobal>(
     rt: &R,
     suite: &S,
@@ -35,7 +35,7 @@ pub fn run_files<S: Suite, R: Files + Print + AllocGlobal>(
     println!(rt; "{rows} rows, {differing} differ")
 }
 
-// The number of inputs, and how many of their answers were unexpected.
+// The number of inputs that were run, and the number of unexpected answers.
 #[derive(Drop)]
 struct Count {
     rows: u64,
@@ -73,13 +73,13 @@ fn is_input(part: &Part) -> bool {
     !matches!(word, "answer" | "answers" | "lines" | "let")
 }
 
-// Splits a line at its last arrow.
+// Splits a line at its last `=> `. Without an arrow, the right side is empty.
 fn sides(line: &str) -> (&str, &str) {
     let (left, right) = line.rsplit_once("=> ").unwrap_or((line, ""));
     (left.strip_suffix(' ').unwrap_or(left), right)
 }
 
-// Returns the text with the left sides of the lines appended, and the right sides.
+// Returns the text followed by the left sides of the lines, and the right sides of the lines.
 fn in_columns(alloc: Global, text: &str, lines: &str) -> Result<(String, String), AllocError> {
     let mut left = String::from_str(alloc, text)?;
     let mut right = String::new(alloc);
@@ -92,7 +92,7 @@ fn in_columns(alloc: Global, text: &str, lines: &str) -> Result<(String, String)
     Ok((left, right))
 }
 
-// Prints the row if the answer to its input is unexpected.
+// Runs an input of the row, and prints it if the answer is unexpected.
 fn run_input<S: Suite>(
     rt: &(impl Print + AllocGlobal),
     suite: &S,
@@ -116,7 +116,7 @@ fn run_input<S: Suite>(
     Ok(())
 }
 
-// Returns the bytes of an input from its text.
+// Returns the bytes of an input from its text in the row.
 fn written(alloc: Global, row: &Row, text: &str, columns: &[&str]) -> Result<Vec<u8>, AllocError> {
     let text = with_columns(alloc, text, columns)?;
     let text = with_names(alloc, &text, row)?;
@@ -124,7 +124,7 @@ fn written(alloc: Global, row: &Row, text: &str, columns: &[&str]) -> Result<Vec
     spelled(alloc, &text)
 }
 
-// Returns the expected answer to an input at this place.
+// Returns the expected answer to an input at this place from its text in the row.
 fn wanted_at(alloc: Global, row: &Row, place: &str, text: &str) -> Result<String, AllocError> {
     let text = with_names(alloc, text, row)?;
     let text = repeated(alloc, &text)?;

@@ -6,7 +6,8 @@ use report::{push_no_sizes, push_sizes};
 use size_search::{SizesFound, search_sizes};
 use std::alloc::{AllocError, Global};
 
-/// Returns the lines of the sizes for the plan with this text, or of the reason why there are none.
+/// Returns the lines of the sizes that the search finds for the plan with this text, or of the
+/// reason why it finds none, or the fault of the text.
 pub fn answer(alloc: Global, text: &str) -> Result<String, AllocError> {
     let mut lines = String::new(alloc);
     match read_plan(alloc, text.as_bytes()) {
@@ -16,7 +17,8 @@ pub fn answer(alloc: Global, text: &str) -> Result<String, AllocError> {
     Ok(lines)
 }
 
-// Unlike `fit`, it does not search for a certificate first.
+// Appends the lines of the sizes, or of the reason why there are none. Unlike the command `fit`,
+// this function does not search for a certificate first.
 fn push_found(alloc: Global, text: &mut String, plan: &Plan) -> Result<(), AllocError> {
     match search_sizes(alloc, plan, None)? {
         SizesFound::Found { plan: fit, .. } => {

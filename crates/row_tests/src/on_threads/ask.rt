@@ -9,7 +9,8 @@ use std::alloc::{AllocError, Global};
 use std::sync::Wait;
 use std::thread::Threads;
 
-/// Returns the command for a plan alone, or for a plan with a certificate.
+/// Returns the command `ask` for this input (a plan alone, or a plan with a certificate) and with
+/// these options.
 fn question(given: AskInput, strict: bool, form: Form) -> Command
     ensures { IsInRange result }
 {
@@ -19,7 +20,7 @@ fn question(given: AskInput, strict: bool, form: Form) -> Command
     })
 }
 
-/// Returns the answer of `ask` to an input of this kind, if it is one.
+/// Returns the answer to an input of one of the kinds that begin with `ask`.
 pub fn asked<R: Threads + Wait + Sync>(
     rt: &R,
     alloc: Global,

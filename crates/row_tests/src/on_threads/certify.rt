@@ -7,12 +7,12 @@ use std::alloc::{AllocError, Global};
 use std::sync::Wait;
 use std::thread::Threads;
 
-// The maximum size of a short input, in bytes.
+// The maximum length of a short input, in bytes.
 const SHORT: usize = 250;
 
 const ONE_WORKER: Command = Command::OnThreads(Task::Certify { workers: 1 });
 
-/// Returns the answer of `certify` to a plan's text.
+/// Returns the output of `certify` for a plan's text.
 pub fn certified<R: Threads + Wait + Sync>(
     rt: &R,
     alloc: Global,
@@ -24,7 +24,8 @@ pub fn certified<R: Threads + Wait + Sync>(
     Ok(answer)
 }
 
-/// Returns the answer of `certify` to a plan's text, or the answer of `check` if it is a bundle.
+/// Returns the output of `certify` for a plan's text or, if that is a bundle, the first line of the
+/// output of `check` for the bundle.
 pub fn certified_and_checked<R: Threads + Wait + Sync>(
     rt: &R,
     alloc: Global,
@@ -36,7 +37,8 @@ pub fn certified_and_checked<R: Threads + Wait + Sync>(
     Ok(answer)
 }
 
-// Returns the answer to the plan, or the answer of `check` if it is a bundle.
+// Returns the output of `certify` or, if that is a bundle, the first line of the output of `check`
+// for the bundle.
 fn checked(alloc: Global, plan: &[u8], ended: &Ended) -> Result<String, AllocError> {
     if ended.outcome != Ok(Status::Done) {
         return ended.to_text(alloc);
@@ -48,7 +50,8 @@ fn checked(alloc: Global, plan: &[u8], ended: &Ended) -> Result<String, AllocErr
     Ok(answer)
 }
 
-// Returns whether the bundle begins with the plan, a newline and the separator line.
+// Returns whether the bundle begins with the plan's text, a newline if the text does not end with
+// one, and the separator line.
 fn is_bundle_of(plan: &[u8], bundle: &[u8]) -> bool {
     let Some(mut rest) = bundle.strip_prefix(plan) else {
         return false;
@@ -62,8 +65,8 @@ fn is_bundle_of(plan: &[u8], bundle: &[u8]) -> bool {
     rest.starts_with(b"%%\n")
 }
 
-// Reports if the answer differs from that of one worker: with 64 workers and, if the plan is short,
-// with two workers, byte by byte or with failing calls.
+// Appends a note to the answer if the result with 64 workers differs from that of one worker. If
+// the plan is short, does the same for two workers with single bytes and with calls that fail.
 fn push_differences<R: Threads + Wait + Sync>(
     rt: &R,
     alloc: Global,

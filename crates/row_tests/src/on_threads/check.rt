@@ -1,4 +1,4 @@
-//! Bundles that are checked on threads.
+//! Inputs of the kind `check`: bundles that are checked on threads.
 
 use cert_check::{CheckFault, PoolGate, Verdict, check, check_on, push_verdict};
 use job_bodies::{Plan, PlanFault};
@@ -16,8 +16,8 @@ impl PoolGate for Open {
     }
 }
 
-/// Returns the answer of `check` to a bundle, and reports if the check on threads answers
-/// differently.
+/// Returns the result of the check of a bundle without threads. Appends the result on threads if it
+/// differs.
 pub fn checked<R: Threads + Sync>(
     rt: &R,
     alloc: Global,
@@ -30,7 +30,7 @@ pub fn checked<R: Threads + Sync>(
     }
 }
 
-// Formats the result for the two texts.
+// Returns the result for the text of a plan and the text of a certificate.
 fn check_texts<R: Threads + Sync>(
     rt: &R,
     alloc: Global,
@@ -54,7 +54,8 @@ struct Texts<'a> {
 }
 
 impl Texts<'_> {
-    // Reports if some number of workers answers differently from the check without threads.
+    // Returns a line for each number of workers with which the result differs from `alone`, the
+    // result without threads.
     fn differences<R: Threads + Sync>(
         &self,
         rt: &R,

@@ -1,4 +1,4 @@
-//! The result of a served command.
+//! The result of a command.
 
 ghost use Rattle.command_line.specs.Command.{IsInRange};
 
@@ -10,7 +10,7 @@ use std::alloc::{AllocError, Global};
 use std::sync::Wait;
 use std::thread::Threads;
 
-/// The output of a command, and its outcome.
+/// The result of a command: its output, and its exit status or fault.
 #[derive(PartialEq, Drop)]
 pub struct Ended {
     pub written: Vec<u8>,
@@ -18,7 +18,7 @@ pub struct Ended {
 }
 
 impl Ended {
-    /// Serves a whole input to the command.
+    /// Runs the command on this input.
     pub fn of_input<R: Threads + Wait + Sync>(
         rt: &R,
         alloc: Global,
@@ -31,7 +31,7 @@ impl Ended {
         Ended::of_source(rt, alloc, command, &mut MemorySource::new(input), sink)
     }
 
-    /// Serves the input from the source to the command.
+    /// Runs the command on the input that the source provides, with this sink.
     pub fn of_source<R: Threads + Wait + Sync, S: Source>(
         rt: &R,
         alloc: Global,
@@ -47,7 +47,7 @@ impl Ended {
         Ok(Ended { written, outcome })
     }
 
-    /// Serves a bundle to `check`.
+    /// Runs `check` on a bundle.
     pub fn of_bundle(alloc: Global, bundle: &[u8]) -> Result<Ended, AllocError> {
         let mut sink = MemorySink::new(alloc);
         let outcome = serve_alone(
@@ -60,14 +60,14 @@ impl Ended {
         Ok(Ended { written, outcome })
     }
 
-    /// Returns the output, followed by the outcome.
+    /// Returns the output, followed by the exit status or the fault.
     pub fn to_text(&self, alloc: Global) -> Result<String, AllocError> {
         let mut text = String::from_utf8_lossy(alloc, &self.written)?;
         self.push_outcome(&mut text)?;
         Ok(text)
     }
 
-    /// Returns the first line of the output, followed by the outcome.
+    /// Returns the first line of the output, followed by the exit status or the fault.
     pub fn first_line(&self, alloc: Global) -> Result<String, AllocError> {
         let written = String::from_utf8_lossy(alloc, &self.written)?;
         let mut text = String::new(alloc);

@@ -1,4 +1,4 @@
-//! Sources and sinks that handle one byte in each call, or fail at one call.
+//! Commands whose source and sink handle one byte in each call, or fail at one call.
 
 ghost use Rattle.command_line.specs.Command.{IsInRange};
 
@@ -12,11 +12,11 @@ const READ_FAILED: ServeFault = ServeFault { number: 60 };
 
 const WRITE_FAILED: ServeFault = ServeFault { number: 61 };
 
-// The number of bytes that a call reads or writes.
+// The maximum number of bytes that a call of a failing source or sink reads or writes.
 const PIECE: usize = 250;
 
-/// Returns the answer of the command, and reports if it differs byte by byte, or with a failing
-/// source or sink.
+/// Returns the output of the command. Appends a note if the result differs with single bytes, or is
+/// unexpected with a source or a sink that fails.
 pub fn run_with_failures<R: Threads + Wait + Sync>(
     rt: &R,
     alloc: Global,
@@ -31,7 +31,8 @@ pub fn run_with_failures<R: Threads + Wait + Sync>(
     Ok(answer)
 }
 
-/// Reports if the outcome differs byte by byte or with a failing call.
+/// Appends a note to the answer if the result of the command differs from `ended` with single
+/// bytes, or is unexpected with a source or a sink that fails.
 pub fn push_differences<R: Threads + Wait + Sync>(
     rt: &R,
     alloc: Global,
@@ -49,7 +50,7 @@ pub fn push_differences<R: Threads + Wait + Sync>(
     push_failing_writes(rt, alloc, command, input, ended, answer)
 }
 
-// Returns the answer if each call reads and writes one byte.
+// Returns the result of the command if each call reads or writes one byte.
 fn in_bytes<R: Threads + Wait + Sync>(
     rt: &R,
     alloc: Global,
@@ -63,8 +64,9 @@ fn in_bytes<R: Threads + Wait + Sync>(
     Ended::of_source(rt, alloc, command, &mut source, sink)
 }
 
-// Reports if a failing source does not result in fault 60 and no output. The program makes one call
-// more than those that return bytes, to find the end of the input. It never makes a later call.
+// Appends a note for each call of the source whose failure does not result in fault 60 and no
+// output. The program makes one call more than those that return bytes, to find the end of the
+// input. It never makes a later call, so its failure changes nothing.
 fn push_failing_reads<R: Threads + Wait + Sync>(
     rt: &R,
     alloc: Global,
@@ -91,8 +93,8 @@ fn push_failing_reads<R: Threads + Wait + Sync>(
     Ok(())
 }
 
-// Reports if a failing sink does not result in fault 61 and a prefix of the answer. The program
-// makes no call after those that write the answer.
+// Appends a note for each call of the sink whose failure does not result in fault 61 and a prefix
+// of the output. The program makes no call after those that write the output.
 fn push_failing_writes<R: Threads + Wait + Sync>(
     rt: &R,
     alloc: Global,
@@ -116,8 +118,8 @@ fn push_failing_writes<R: Threads + Wait + Sync>(
     Ok(())
 }
 
-// Returns whether `length` bytes were written and the call failed. If the answer has only that many
-// bytes, returns whether the call succeeded.
+// Returns whether `failed` has the first `length` bytes of the output and fault 61. If the whole
+// output has no more bytes than that, returns whether `failed` equals `ended`.
 fn is_prefix_of(failed: &Ended, ended: &Ended, length: usize) -> bool {
     let whole = ended.written.len();
     let outcome = if length < whole {

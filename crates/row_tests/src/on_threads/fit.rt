@@ -9,7 +9,7 @@ use std::alloc::{AllocError, Global};
 use std::sync::Wait;
 use std::thread::Threads;
 
-// The maximum size of a short input, in bytes.
+// The maximum length of a short input, in bytes.
 const SHORT: usize = 250;
 
 const SIZES: Command = Command::OnThreads(Task::Fit {
@@ -20,7 +20,7 @@ const BUNDLE: Command = Command::OnThreads(Task::Fit {
     sizes_form: SizesForm::Bundle,
 });
 
-/// Returns the answer of `fit` to a plan's text.
+/// Returns the output of `fit` for a plan's text, as sizes.
 pub fn fitted<R: Threads + Wait + Sync>(
     rt: &R,
     alloc: Global,
@@ -29,7 +29,7 @@ pub fn fitted<R: Threads + Wait + Sync>(
     served(rt, alloc, SIZES, plan)
 }
 
-/// Returns the bundle that `fit` writes for a plan's text.
+/// Returns the output of `fit` for a plan's text, as a bundle.
 pub fn fitted_bundle<R: Threads + Wait + Sync>(
     rt: &R,
     alloc: Global,
@@ -38,8 +38,8 @@ pub fn fitted_bundle<R: Threads + Wait + Sync>(
     served(rt, alloc, BUNDLE, plan)
 }
 
-/// Returns the answer of `check` to the bundle that `fit` writes for a plan's text, followed by the
-/// answer of `fit` to its plan.
+/// Returns the first line of the output of `check` for the bundle that `fit` writes for a plan's
+/// text, followed by the output of `fit` for the plan in the bundle.
 pub fn fitted_and_checked<R: Threads + Wait + Sync>(
     rt: &R,
     alloc: Global,
@@ -54,7 +54,7 @@ pub fn fitted_and_checked<R: Threads + Wait + Sync>(
     Ok(answer)
 }
 
-// Returns the answer of `fit` to the plan in a bundle.
+// Returns the output of `fit` for the plan in a bundle.
 fn fitted_again<R: Threads + Wait + Sync>(
     rt: &R,
     alloc: Global,
@@ -67,8 +67,8 @@ fn fitted_again<R: Threads + Wait + Sync>(
     }
 }
 
-// Returns the answer of the command. If the plan is short, reports if it differs byte by byte, or
-// with a failing source or sink.
+// Returns the output of the command. If the plan is short, appends a note if the result differs
+// with single bytes, or is unexpected with a source or a sink that fails.
 pub(crate) fn served<R: Threads + Wait + Sync>(
     rt: &R,
     alloc: Global,

@@ -22,7 +22,7 @@ const BUNDLE: Command = Command::OnThreads(Task::Refute {
     refute_format: RefuteFormat::Bundle,
 });
 
-/// Returns the answer of `refute` to a plan's text.
+/// Returns the output of `refute` for a plan's text.
 pub fn refuted<R: Threads + Wait + Sync>(
     rt: &R,
     alloc: Global,
@@ -31,7 +31,7 @@ pub fn refuted<R: Threads + Wait + Sync>(
     served(rt, alloc, STORY, plan)
 }
 
-/// Returns the first line of the answer of `refute` to a plan's text.
+/// Returns the first line of the output of `refute` for a plan's text.
 pub fn refuted_head<R: Threads + Wait + Sync>(
     rt: &R,
     alloc: Global,
@@ -40,7 +40,7 @@ pub fn refuted_head<R: Threads + Wait + Sync>(
     Ended::of_input(rt, alloc, STORY, plan)?.first_line(alloc)
 }
 
-/// Returns the first line of the answer of `refute` to a plan's text, with a limit of one state.
+/// Returns the first line of the output of `refute` for a plan's text, with a limit of one state.
 pub fn refuted_briefly<R: Threads + Wait + Sync>(
     rt: &R,
     alloc: Global,
@@ -58,7 +58,7 @@ pub fn refuted_bundle<R: Threads + Wait + Sync>(
     served(rt, alloc, BUNDLE, plan)
 }
 
-/// Returns the answer of `replay` to the bundle that `refute` writes for a plan's text.
+/// Returns the output of `replay` for the bundle that `refute` writes for a plan's text.
 pub fn refuted_and_replayed<R: Threads + Wait + Sync>(
     rt: &R,
     alloc: Global,

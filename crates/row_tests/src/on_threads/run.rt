@@ -12,7 +12,7 @@ use std::thread::Threads;
 // The maximum number of rounds of a short run.
 const SHORT: u64 = 3;
 
-/// Returns the answer of `run` to a bundle for this number of rounds.
+/// Returns the output of `run` for a bundle and this number of rounds.
 pub fn ran<R: Threads + Wait + Sync>(
     rt: &R,
     alloc: Global,
@@ -29,7 +29,8 @@ pub fn ran<R: Threads + Wait + Sync>(
     Ended::of_input(rt, alloc, command, bundle)?.to_text(alloc)
 }
 
-/// Returns the answer of `run` to a bundle after a line with the number of rounds, 1 to 1,000,000.
+/// Returns the output of `run` for an input that is a line with the number of rounds, from 1 to
+/// 1,000,000, and a bundle.
 pub fn ran_for<R: Threads + Wait + Sync>(
     rt: &R,
     alloc: Global,

@@ -1,13 +1,13 @@
-//! A suite whose answers use threads.
+//! The suite of the commands that use threads.
 
 use crate::files::Suite;
 use std::alloc::{AllocError, Global};
 
-/// A function that answers an input of a kind.
+/// A function that returns the answer to an input of a kind.
 pub type Answer = Box<dyn Fn(Global, &str, &[u8]) -> Result<String, AllocError> + Drop>;
 
-/// A suite that calls a function. The method of a suite gets no handle that can start threads, but
-/// the function has one.
+/// A suite that calls a function for each answer. The method of a suite gets no handle that can
+/// start threads, but the function has one.
 #[derive(Drop)]
 pub struct OnThreads {
     answer: Answer,

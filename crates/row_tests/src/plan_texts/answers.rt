@@ -1,10 +1,10 @@
-//! The answer to a text, in one line.
+//! The answer to the text of a plan, in one line.
 
 use job_bodies::{Action, Plan, PlanFault};
 use plan_text::read_plan;
 use std::alloc::{AllocError, Global};
 
-/// Returns the plan of the text in one line, or its fault.
+/// Returns the plan of the text or the fault of the text, in one line.
 pub fn answered(alloc: Global, text: &[u8]) -> Result<String, AllocError> {
     line_of(alloc, read_plan(alloc, text))
 }

@@ -5,13 +5,13 @@ use job_bodies::{Action, Class, Client, Plan, PlanFault, Pool};
 use plan_text::{read_plan, write_plan};
 use std::alloc::{AllocError, Global};
 
-/// Returns the plan of the lists or their fault, in one line.
+/// Returns the plan of the lists or the fault of the lists, in one line.
 pub fn built(alloc: Global, lines: &[u8]) -> Result<String, AllocError> {
     line_of(alloc, plan_of(alloc, lines)?)
 }
 
-/// Returns the text that is written for the plan of the lists, if that text reads as a plan that
-/// writes the same text. Otherwise returns the fault of reading it.
+/// Returns the text that is written for the plan of the lists. Reads this text again, and reports
+/// if that fails or if the plan that is read has another text.
 pub fn written(alloc: Global, lines: &[u8]) -> Result<String, AllocError> {
     let text = match plan_of(alloc, lines)? {
         Ok(plan) => write_plan(alloc, &plan)?,
@@ -27,9 +27,9 @@ pub fn written(alloc: Global, lines: &[u8]) -> Result<String, AllocError> {
     Ok(text)
 }
 
-// Parses the plan of the lists, a line for each entry: pools by name, core, maximum, queue and
-// `prestarted`; classes by name, pool and body; looping clients by name, count and body, and other
-// clients by the same.
+// Parses the plan of the lists. Each entry has a line: `pool NAME CORE MAX QUEUE` or `pool NAME
+// CORE MAX QUEUE prestarted`; `class NAME POOL BODY`; `client NAME COUNT BODY` for clients that
+// repeat; and another first word with `NAME COUNT BODY` for clients that do not.
 fn plan_of(alloc: Global, lines: &[u8]) -> Result<Result<Plan, PlanFault>, AllocError> {
     let lines = String::from_utf8_lossy(alloc, lines)?;
     let mut pools = Vec::new(alloc);

@@ -1,4 +1,4 @@
-//! Serving inputs from and to memory.
+//! The run of a command from memory and to memory.
 
 use sizing_cli::{
     MemorySink, RecordingCommand, ReviewCommand, ServeFault, Sink, Source, Status, serve_alone,
@@ -14,7 +14,7 @@ pub enum Query {
 }
 
 impl Query {
-    /// Serves one input to the command.
+    /// Runs the command on the input that the source provides.
     pub fn serve<S: Source, K: Sink>(
         self,
         alloc: Global,
@@ -28,7 +28,7 @@ impl Query {
     }
 }
 
-/// The output of a command, and its outcome.
+/// The result of a command: its output, and its exit status or fault.
 #[derive(PartialEq, Drop)]
 pub struct Ended {
     pub written: Vec<u8>,
@@ -36,7 +36,7 @@ pub struct Ended {
 }
 
 impl Ended {
-    /// Returns the output, followed by the outcome.
+    /// Returns the output, followed by the exit status or the fault.
     pub fn to_text(&self, alloc: Global) -> Result<String, AllocError> {
         let mut text = String::from_utf8_lossy(alloc, &self.written)?;
         match self.outcome {
@@ -50,7 +50,7 @@ impl Ended {
     }
 }
 
-/// Serves the input from the source.
+/// Runs the command on the input that the source provides, and returns its result.
 pub fn serve<S: Source>(
     alloc: Global,
     query: Query,

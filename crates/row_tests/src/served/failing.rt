@@ -1,4 +1,4 @@
-//! Sources and sinks that fail at one call.
+//! Commands whose source or sink fails at one call.
 
 ghost use Rattle.std.specs.Prelude.{◌<◌};
 
@@ -12,10 +12,10 @@ const READ_FAILED: ServeFault = ServeFault { number: 60 };
 
 const WRITE_FAILED: ServeFault = ServeFault { number: 61 };
 
-// The number of bytes that a stalling writer accepts in a call before it accepts none.
+// The maximum number of bytes that a stalling writer accepts in a call, before it accepts none.
 const STALLING_PIECE: usize = 60;
 
-/// An input, and the answer of a command to it without a failing call.
+/// An input, and the result of a command on it if no call fails.
 #[derive(Drop)]
 pub struct Case<'a> {
     pub input: &'a [u8],
@@ -23,7 +23,7 @@ pub struct Case<'a> {
 }
 
 impl Case<'_> {
-    /// Reports if a failing call has an unexpected outcome.
+    /// Appends a note to the answer for each failing call with an unexpected result.
     pub fn push_differences(
         &self,
         alloc: Global,
@@ -35,8 +35,9 @@ impl Case<'_> {
         self.push_stalling_writes(alloc, query, answer)
     }
 
-    // A failing source results in fault 60, and no output. The program makes one call more than
-    // those that return bytes, to find the end of the input. It never makes a later call.
+    // Appends a note for each call of the source whose failure does not result in fault 60 and no
+    // output. The program makes one call more than those that return bytes, to find the end of the
+    // input. It never makes a later call, so its failure changes nothing.
     fn push_failing_reads(
         &self,
         alloc: Global,
@@ -67,8 +68,8 @@ impl Case<'_> {
         Ok(())
     }
 
-    // A failing sink results in fault 61, and its content is a prefix of the answer. The program
-    // makes no call after those that write the answer.
+    // Appends a note for each call of the sink whose failure does not result in fault 61 and a
+    // prefix of the output. The program makes no call after those that write the output.
     fn push_failing_writes(
         &self,
         alloc: Global,
@@ -94,8 +95,9 @@ impl Case<'_> {
         Ok(())
     }
 
-    // A writer that accepts no byte has failed. A sink cannot do so itself: its contract requires a
-    // byte or a fault.
+    // Appends a note for each call of a writer that accepts no byte if the result is not fault 61.
+    // The sinks of these tests cannot accept no byte, since their contract requires a byte or a
+    // fault.
     fn push_stalling_writes(
         &self,
         alloc: Global,
@@ -125,8 +127,8 @@ impl Case<'_> {
     }
 }
 
-// Returns whether `length` bytes were written and the call failed. If the answer has only that many
-// bytes, returns whether the call succeeded.
+// Returns whether `failed` has the first `length` bytes of the output and fault 61. If the whole
+// output has no more bytes than that, returns whether `failed` equals `ended`.
 fn is_prefix_of(failed: &Ended, ended: &Ended, length: usize) -> bool {
     let whole = ended.written.len();
     let outcome = if length < whole {
@@ -139,7 +141,7 @@ fn is_prefix_of(failed: &Ended, ended: &Ended, length: usize) -> bool {
         && ended.written.starts_with(&failed.written)
 }
 
-// A writer that accepts a piece in each of `calls` calls, and then none.
+// A writer that accepts a piece in each of its first `calls` calls, and no byte in later calls.
 #[derive(Drop)]
 struct Stalling {
     taken: Vec<u8>,

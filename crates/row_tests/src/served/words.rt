@@ -1,9 +1,10 @@
-//! The arguments of the command line.
+//! Inputs of the kind `words`: the arguments of a command line.
 
 use command_line::{Cli, Command, read_words};
 use std::alloc::{AllocError, Global};
 
-/// Returns the command of the arguments, each followed by a newline, with its files, or the error.
+/// Returns the command and the files that the arguments name, or the kind of their error. Each
+/// argument is followed by a newline.
 pub fn asked(alloc: Global, lines: &[u8]) -> Result<String, AllocError> {
     let lines = String::from_utf8_lossy(alloc, lines)?;
     let words = lines.lines().collect::<Vec<&str>>(alloc)?;
@@ -31,7 +32,7 @@ fn push_asked(text: &mut String, asked: &Cli<'_>) -> Result<(), AllocError> {
     push_file(text, "certificate", asked.certificate)
 }
 
-// Appends the name of the file, if there is one.
+// Appends the role and the name of the file, if there is one.
 fn push_file(text: &mut String, name: &str, file: Option<&str>) -> Result<(), AllocError> {
     match file {
         Some(file) => write!(text, ", {name} {file}"),

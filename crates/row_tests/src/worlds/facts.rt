@@ -1,4 +1,4 @@
-//! The look-ups of a world.
+//! The results of all look-ups of a world, as texts.
 
 ghost use Rattle.interleaving.specs.OfPlan.{IsReachableView};
 
@@ -7,11 +7,12 @@ use job_bodies::Plan;
 use pool_machine::PoolState;
 use std::alloc::{AllocError, Global};
 
-// No plan of these tests has more than three clients, so the last number here never exists.
+// The number of clients that are looked up. No plan of these tests has more than three clients, so
+// the last of them does not exist.
 const CLIENTS_SHOWN: usize = 4;
 
-/// Returns all look-ups of the world: the counts, the pools, the clients, and the jobs with two
-/// numbers after the last, which do not exist.
+/// Returns the results of all look-ups of the world: the counts, the pools, the clients, and the
+/// jobs, including two numbers after the last job, which do not exist.
 pub fn facts(alloc: Global, plan: &Plan, world: &World) -> Result<Vec<String>, AllocError>
     requires { IsReachableView plan.now world.now.view }
 {
@@ -32,7 +33,7 @@ pub fn facts(alloc: Global, plan: &Plan, world: &World) -> Result<Vec<String>, A
     Ok(facts)
 }
 
-/// Returns the counts of the world: rejected submits, jobs and places.
+/// Returns the counts of the world: its refused submits, created jobs, unfinished jobs and places.
 pub fn counts(alloc: Global, world: &World) -> Result<Vec<String>, AllocError> {
     let mut facts = Vec::new(alloc);
     facts.push(format!(in alloc; "refusals {}", world.refusals())?)?;
@@ -58,7 +59,7 @@ fn push_pool(
     Ok(())
 }
 
-/// Appends a number, or `none`.
+/// Appends a number, or `none` if there is none.
 pub fn push_number(text: &mut String, number: Option<usize>) -> Result<(), AllocError> {
     match number {
         Some(number) => write!(text, "{number}"),
@@ -66,7 +67,7 @@ pub fn push_number(text: &mut String, number: Option<usize>) -> Result<(), Alloc
     }
 }
 
-/// Appends a job's class, parent, slot and phase, or `none`.
+/// Appends a job's class, parent, slot and phase, or `none` if there is no job.
 pub fn push_job(text: &mut String, job: Option<JobView>) -> Result<(), AllocError> {
     let Some(job) = job else {
         return text.push_str("none");
@@ -86,7 +87,8 @@ pub fn push_job(text: &mut String, job: Option<JobView>) -> Result<(), AllocErro
     }
 }
 
-/// Appends each look-up that changed. A new number did not exist before.
+/// Appends each result of a look-up that changed. If `before` is empty, all results changed. A
+/// number that was not looked up before had no client or job.
 pub fn push_changed(
     said: &mut String,
     before: &[String],
@@ -104,7 +106,7 @@ pub fn push_changed(
     Ok(())
 }
 
-/// Appends a fact to the others.
+/// Appends a fact, after a separator if it is not the first.
 pub fn push_fact(said: &mut String, fact: &str) -> Result<(), AllocError> {
     if !said.is_empty() {
         said.push_str("; ")?;

@@ -1,4 +1,4 @@
-//! Lines, and the answers of a world.
+//! The lines of an input for a world, and the answers to them.
 
 ghost use Rattle.interleaving.specs.OfPlan.{IsReachableView};
 
@@ -8,7 +8,7 @@ use interleaving::{Event, Outcome, World};
 use job_bodies::Plan;
 use std::alloc::{AllocError, Global};
 
-/// Returns the answer to each of the lines, a line for each.
+/// Returns the answers to the lines, on one line each.
 pub fn followed(
     alloc: Global,
     kind: &str,
@@ -29,8 +29,8 @@ pub fn followed(
     Ok(answer)
 }
 
-/// Returns the number of the lines that are possible events, and the counts of the world after the
-/// last.
+/// Returns the number of lines that are possible events, and the counts of the world after the last
+/// line.
 pub fn counted(
     alloc: Global,
     plan: &Plan,
@@ -52,7 +52,7 @@ pub fn counted(
     Ok(said)
 }
 
-// Applies the event of the line if it is possible, and returns whether it is.
+// Performs the event of the line if it is possible, and returns whether it is.
 fn happens(plan: &Plan, world: &mut World, line: &str) -> Result<bool, AllocError>
     requires { IsReachableView plan.now world.old.view }
     ensures { IsReachableView plan.now world.new.view }
@@ -63,7 +63,8 @@ fn happens(plan: &Plan, world: &mut World, line: &str) -> Result<bool, AllocErro
     }
 }
 
-// Returns the outcome of the line's event, or the look-up if it is not an event.
+// Performs the event of the line, and returns its outcome. If the line is a look-up, returns its
+// result.
 fn said_to(alloc: Global, plan: &Plan, world: &mut World, line: &str) -> Result<String, AllocError>
     requires { IsReachableView plan.now world.old.view }
     ensures { IsReachableView plan.now world.new.view }
@@ -75,7 +76,7 @@ fn said_to(alloc: Global, plan: &Plan, world: &mut World, line: &str) -> Result<
     looked_up(alloc, plan, world, line)
 }
 
-// Appends the look-ups that this kind of row shows after each line.
+// Appends the results of the look-ups that this kind of input shows after each line.
 fn push_view(
     said: &mut String,
     alloc: Global,
@@ -125,7 +126,7 @@ fn outcome_text(alloc: Global, outcome: Option<Outcome>) -> Result<String, Alloc
     }
 }
 
-// Returns the look-up of a line that is not an event.
+// Returns the result of the look-up in this line, which is not an event.
 fn looked_up(alloc: Global, plan: &Plan, world: &World, line: &str) -> Result<String, AllocError>
     requires { IsReachableView plan.now world.now.view }
 {

@@ -1,4 +1,4 @@
-//! Sets of jobs that wait only for their own members.
+//! The sets of jobs of a world that wait only for each other.
 
 ghost use Rattle.interleaving.specs.OfPlan.{IsReachableView};
 
@@ -7,10 +7,11 @@ use interleaving::World;
 use job_bodies::Plan;
 use std::alloc::{AllocError, Global};
 
-// No world of these tests creates more jobs, so the last number never exists.
+// The number of jobs that may be members of the sets. No world of these tests creates so many jobs,
+// so the last of them does not exist.
 const JOBS_SHOWN: u32 = 6;
 
-/// Appends the sets of the first numbers that are stuck.
+/// Appends each set of the first [`JOBS_SHOWN`] jobs that wait only for each other.
 pub fn push_stuck_sets(
     said: &mut String,
     alloc: Global,
