@@ -1,4 +1,4 @@
-//! Inputs that are read whole and answers that are written whole, with each kind of source and
+//! Tests that whole inputs are read and whole outputs are written, with each kind of source and
 //! sink.
 
 use byte_streams::{
@@ -9,13 +9,15 @@ use std::io;
 use std::io::{ErrorKind, Read, Write};
 use std::test::Fail;
 
-/// A limit, the bytes that are read of `one two three` up to it, and the rest.
+/// Cases: a limit, the bytes that are read of `one two three` with this limit, and the remaining
+/// bytes.
 const LIMITED: &[(usize, &[u8], &[u8])] = &[
     (100, b"one two three", b""),
     (7, b"one two", b" three"),
 ];
 
-/// Reads all bytes up to the limit in pieces, and none past it. Reports a fault in the middle.
+/// `read_up_to` reads all bytes up to the limit in pieces, and no byte after the limit. It returns
+/// the fault of a source that fails before the end.
 #[test]
 fn inputs_of_memory(rt: HostRuntime) -> Result<(), Fail> {
     for (limit, read, left) in LIMITED.iter().copied() {
@@ -36,7 +38,8 @@ fn inputs_of_memory(rt: HostRuntime) -> Result<(), Fail> {
     Ok(())
 }
 
-/// Writes all bytes in pieces, up to the first call that fails. A sink that accepts no byte fails.
+/// `write_all` writes all bytes in pieces, up to the first call that fails. A sink that accepts no
+/// byte fails.
 #[test]
 fn outputs_of_memory(rt: HostRuntime) -> Result<(), Fail> {
     let mut sink = MemorySink::new(rt.alloc()).at_most(3);
@@ -54,7 +57,7 @@ fn outputs_of_memory(rt: HostRuntime) -> Result<(), Fail> {
     Ok(())
 }
 
-/// A reader that is interrupted before each byte, and fails after `left` bytes.
+/// A reader that is interrupted before each byte, and fails after it has returned `left` bytes.
 struct Interrupted {
     is_next: bool,
     left: u8,
@@ -78,7 +81,7 @@ impl Read for Interrupted {
     }
 }
 
-/// Reads a std reader to its end, and retries interrupted calls.
+/// `StdSource` reads a std reader to its end, and retries interrupted calls.
 #[test]
 fn std_readers(rt: HostRuntime) -> Result<(), Fail> {
     let mut source = StdSource::new(b"one two three".as_slice());
@@ -98,7 +101,7 @@ fn std_readers(rt: HostRuntime) -> Result<(), Fail> {
     Ok(())
 }
 
-/// A writer that accepts no byte.
+/// A std writer that accepts no byte.
 struct Full;
 
 impl Write for Full {
@@ -111,7 +114,7 @@ impl Write for Full {
     }
 }
 
-/// Writes all bytes to a std writer. A writer that accepts none fails.
+/// `StdSink` writes all bytes to a std writer. A writer that accepts no byte fails.
 #[test]
 fn std_writers(rt: HostRuntime) -> Result<(), Fail> {
     let mut sink = StdSink::new(Vec::new(rt.alloc()));

@@ -1,4 +1,5 @@
-//! Texts of certificates that are read and written back, and one that is rejected.
+//! Tests that the text of a certificate is read and written back, and that a bad text has its
+//! fault.
 
 use cert_text::{CertFault, read_cert, write_cert};
 use job_bodies::{Action, Class, Client, Plan, Pool};
@@ -11,7 +12,7 @@ const STANDING: &str =
 const LIFETIME: &str =
     "{\"pools\":[{\"blocked\":{\"classes\":[[0,0,0,0]],\"clients\":[[0,0,0]],\"workers\":[0]},\"lifetime\":{\"classes\":[[1,1,1,1]],\"clients\":[[1,0,0]],\"workers\":[0]}}],\"ranks\":{\"levels\":[0],\"pools\":[0],\"reach\":[0]},\"version\":2}";
 
-/// Returns a plan with one pool, one class and one kind of client.
+/// Returns a plan with one pool, one class and one client kind.
 fn plan(alloc: Global) -> Result<Plan, Fail> {
     let pool = Pool {
         name: String::from_str(alloc, "p")?,

@@ -1,4 +1,4 @@
-//! Texts of events, and the lines that answer them.
+//! Tests of the parser for lines of events, and of the lines that answer them.
 
 use event_lines::{BadEventLine, EventLine, EventLines, Reply, push_reply, push_summary};
 use job_bodies::{Plan, Pool};
@@ -45,8 +45,8 @@ const EVENTS_READ: &[Event] = &[
     Event::Retire(0),
 ];
 
-/// Each form of line is read. A line with none of the forms is reported at its place, and the lines
-/// around it are read.
+/// Each form of line is parsed. A line with none of the forms is reported in its place, and the
+/// lines before and after it are parsed.
 #[test]
 fn lines_that_are_read(rt: HostRuntime) -> Result<(), Fail> {
     let plan = plan_of_p_and_q(rt.alloc())?;

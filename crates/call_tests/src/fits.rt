@@ -1,4 +1,4 @@
-//! Plans that are fitted to certificates, with sizes computed by hand.
+//! Tests of the sizes that fit a plan to a certificate. The expected sizes are computed by hand.
 
 use cert_check::{Cert, read_cert};
 use job_bodies::Plan;
@@ -8,25 +8,25 @@ use std::alloc::{AllocError, Global};
 use std::process::Abort;
 use std::test::*;
 
-// Clients with at most one job each, whose weight is 1 until its get.
+// A certificate for clients that have at most one job each, whose weight is 1 until its get.
 const STANDING: &str = r#"{"version":1,"pools":[
 {"standing":{"workers":[0],"classes":[[1,1,1,1]],"clients":[[1,0,1]]},
 "blocked":{"workers":[0],"classes":[[0,0,0,0]],"clients":[[0,0,0]]}}],
 "ranks":{"pools":[0],"reach":[0],"levels":[0]}}"#;
 
-// The same, but the weight of a queued job is 0.
+// A certificate like `STANDING` in which all weights are 0.
 const WEIGHTLESS: &str = r#"{"version":1,"pools":[
 {"standing":{"workers":[0],"classes":[[0,0,0,0]],"clients":[[0,0,0]]},
 "blocked":{"workers":[0],"classes":[[0,0,0,0]],"clients":[[0,0,0]]}}],
 "ranks":{"pools":[0],"reach":[0],"levels":[0]}}"#;
 
-// A job that waits for a job of its own pool.
+// A certificate for a plan in which a job waits for a job of its own pool.
 const NESTED: &str = r#"{"version":1,"pools":[
 {"standing":{"workers":[0],"classes":[[1,1,0,1,1],[1,1,1,1]],"clients":[[1,0,1]]},
 "blocked":{"workers":[0],"classes":[[1,1,1,1,1],[0,0,0,0]],"clients":[[1,0,1]]}}],
 "ranks":{"pools":[0],"reach":[0,0],"levels":[1,0]}}"#;
 
-// Core, maximum and queue of the pool, and the number of clients.
+// The core, maximum and queue of the pool, and the number of clients.
 type Sizes = [u64; 4];
 
 fn one_pool(alloc: Global, sizes: Sizes) -> Result<String, AllocError> {
@@ -73,7 +73,7 @@ fn cert_of(rt: &impl Abort, alloc: Global, text: &str, plan: &Plan) -> Cert {
     read_cert(alloc, text.as_bytes(), plan).expect(rt, "the certificate is read")
 }
 
-// Returns core, maximum and queue of the first pool, or zeros if there is none.
+// Returns the core, maximum and queue of the first pool, or zeros if the plan has no pool.
 fn sizes_of(plan: &Plan) -> [u64; 3] {
     match plan.pool_at(0) {
         Some(pool) => [pool.core, pool.max, pool.queue],
@@ -81,7 +81,7 @@ fn sizes_of(plan: &Plan) -> [u64; 3] {
     }
 }
 
-// The result for a plan: the sizes of its pool, or the reason why there are none.
+// The result for a plan: the sizes of its pool, or the reason why no sizes fit.
 #[derive(Clone, Copy, Debug, PartialEq, Eq)]
 enum Answer {
     Sizes([u64; 3]),
@@ -110,13 +110,14 @@ fn widen(alloc: Global, plan: &Plan, cert: &Cert) -> Result<Answer, AllocError> 
     })
 }
 
-// Returns the least sizes for the certificate, independent of the sizes of the plan.
+// Returns the least sizes that the certificate accepts, whatever the sizes of the plan.
 fn fit_smallest(alloc: Global, plan: &Plan, cert: &Cert) -> Result<Answer, AllocError> {
     let small = smallest(alloc, plan)?;
     fit(alloc, small, cert)
 }
 
-// Returns the widened, the fitted and the smallest sizes, and those of a copy.
+// Returns the sizes of the widened plan, of the fitted plan, of the fitted plan from the smallest
+// sizes, and of a copy of the plan.
 fn answers(alloc: Global, plan: Plan, cert: &Cert) -> Result<[Answer; 4], AllocError> {
     let copy = Answer::Sizes(sizes_of(&plan.try_clone(alloc)?));
     let wide = widen(alloc, &plan, cert)?;
@@ -126,7 +127,8 @@ fn answers(alloc: Global, plan: Plan, cert: &Cert) -> Result<[Answer; 4], AllocE
 
 const CORE: Answer = Answer::Unfit(Unfit::Core(0));
 
-// The sizes of a plan, its widened and its fitted sizes, and the least sizes that suffice.
+// The sizes of a plan, of the widened plan and of the fitted plan, and the least sizes that the
+// certificate accepts.
 type Case = (Sizes, Answer, Answer, Answer);
 
 const OF_ONE_POOL: &[Case] = &[
@@ -162,8 +164,8 @@ const OF_NESTED: &[Case] = &[
     ([1, 1, 1, 1_000_000], CORE, CORE, CORE),
 ];
 
-// Asserts the answers for the plan with this text and the certificate, and that a copy of the plan
-// has its sizes.
+// Asserts that the plan with this text and the certificate have the answers of the case, and that a
+// copy of the plan has the plan's sizes.
 fn assert_answers(
     rt: &impl Abort,
     alloc: Global,
@@ -211,7 +213,8 @@ fn a_certificate_whose_conditions_fail_fits_no_sizes(rt: HostRuntime) {
     assert_eq!(rt; fit(alloc, plan, &weightless).ok(), Some(Answer::Condition));
 }
 
-// Returns the result of a search: the sizes of the first pool, and the certificate.
+// Returns the plan and the certificate that the search for sizes finds, starting from the
+// certificate `first` if there is one.
 fn found(
     alloc: Global,
     plan: &Plan,
@@ -226,20 +229,20 @@ fn found(
 #[test]
 fn a_certificate_that_accepts_the_plan_changes_nothing(rt: HostRuntime) {
     let alloc = rt.alloc();
-    // With a certificate in which the weight of each job is 1, a queue of 9 is larger than needed.
+    // The certificate accepts the plan, so its queue of 9 is unchanged, although 2 would be enough.
     let plan = plan_of(&rt, alloc, one_pool(alloc, [1, 1, 9, 2]));
     let first = cert_of(&rt, alloc, STANDING, &plan);
     let (same, cert) = found(alloc, &plan, Some(first))
         .expect(&rt, "there is memory")
         .expect(&rt, "it is accepted");
     assert_eq!(rt; sizes_of(&same), [1, 1, 9]);
-    // For another plan, the search finds another certificate.
+    // The certificate does not fit another plan, so the search finds another certificate.
     let other = plan_of(&rt, alloc, nested(alloc, [1, 1, 5, 1]));
     let (fit, cert) = found(alloc, &other, Some(cert))
         .expect(&rt, "there is memory")
         .expect(&rt, "another one is found");
     assert_eq!(rt; sizes_of(&fit), [2, 2, 5]);
-    // For the plan that the search found, it finds the same certificate.
+    // That certificate accepts the sizes that the search found, so they are unchanged.
     let (same, _cert) = found(alloc, &fit, Some(cert))
         .expect(&rt, "there is memory")
         .expect(&rt, "it is accepted");

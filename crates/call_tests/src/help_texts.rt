@@ -1,9 +1,9 @@
-//! Help texts.
+//! Tests of the help texts of the command line.
 
 use command_line::read_words;
 use std::test::*;
 
-/// Arguments, and texts that their help contains.
+/// Cases: the arguments of a command line, and texts that the help for them contains.
 const TABLE: &[(&[&str], &[&str])] = &[
     (
         &["sizing", "--help"],
@@ -128,7 +128,7 @@ const TABLE: &[(&[&str], &[&str])] = &[
     ),
 ];
 
-/// The help names the first steps, and the help of each command has an example with its answer.
+/// The help says how to begin, and the help of each command has an example with its output.
 #[test]
 fn words_that_ask_for_help(rt: HostRuntime) -> Result<(), Fail> {
     for (words, parts) in TABLE.iter().copied() {

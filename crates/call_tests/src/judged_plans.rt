@@ -1,4 +1,4 @@
-//! Certificates of small plans, and each call that judges one.
+//! Tests of each call that checks a certificate, with small plans.
 
 use cert_check::{Certified, CheckFault, PoolLine, accepts, accepts_standing, check, verdict};
 use cert_text::{Cert, CertFault, read_cert};
@@ -35,7 +35,7 @@ const WITH_CORE_ABOVE_MAX: &str = "
     client = [{ name = 'c', count = 2, repeat = true, body = ['submit a as x', 'get x'] }]
 ";
 
-// Clients that run once: as many as two threads and a queue of 1 have room for.
+// Three clients that run their bodies once. Two threads and a queue of 1 have room for their jobs.
 const ONCE: &str = "
     pool = [{ name = 'p', core = 2, max = 2, queue = 1 }]
     class = [{ name = 'a', pool = 'p', body = ['work 1'] }]
@@ -92,8 +92,8 @@ const FORGETTING_CERT: &str = r#"{"version": 1, "pools": [{
 
 // ---- jobs that wait for jobs
 
-// An outer job submits three inner ones to its own pool, with a queue of 2, and then waits for
-// them.
+// A plan in which an outer job submits three inner jobs to its own pool, which has a queue of 2,
+// and then waits for them.
 const FAN_OUT: &str = "
     pool = [{ name = 'p', core = 2, max = 2, queue = 2 }]
     client = [{ name = 'c', count = 1, repeat = true, body = ['submit outer as x', 'get x'] }]
@@ -112,7 +112,7 @@ const FAN_OUT_CERT: &str = r#"{"version": 1, "pools": [{
     "blocked": {"workers": [0], "classes": [[1, 1, 1, 1, 1, 1, 1, 1, 1], [0, 0, 0, 0]], "clients": [[1, 0, 1]]}}],
     "ranks": {"pools": [0], "reach": [0, 0], "levels": [1, 0]}}"#;
 
-// A job waits for a job of another pool, which waits for a job of the first pool again.
+// A job waits for a job of another pool, and that job waits for a job of the first pool.
 const THERE_AND_BACK: &str = "
     pool = [{ name = 'p', core = 1, max = 1, queue = 2 }, { name = 'q', core = 2, max = 2, queue = 2 }]
     class = [
@@ -136,8 +136,8 @@ fn read(alloc: Global, plan: &str, cert: &str) -> Result<(Plan, Cert), Fail> {
     Ok((plan, cert))
 }
 
-/// The results for the first pool: a total, and the first failing condition of each part of a
-/// certificate.
+/// The results for the first pool: the total of its first vector, and the first failing condition
+/// of each part of the certificate.
 #[derive(Clone, Copy, Debug, PartialEq, Eq)]
 struct Findings {
     total: u64,
@@ -190,7 +190,7 @@ const TOO_HEAVY: Row = Row {
     right: 1,
 };
 
-/// A plan, a certificate for it, and the first failing conditions.
+/// Cases: a plan, a certificate for it, and the first failing conditions.
 const FINDINGS: &[(&str, &str, Findings)] = &[
     (ONE_POOL, ONE_POOL_CERT, NONE_FAILS),
     (
@@ -285,8 +285,8 @@ fn the_first_condition_that_fails(rt: HostRuntime) -> Result<(), Fail> {
     Ok(())
 }
 
-/// Returns whether the get at this position of the class is counted, or `None` if the ranks do not
-/// fit or there is no such get.
+/// Returns whether the get at this position of the class's body is counted. Returns `None` if the
+/// ranks do not have the shape of the plan or the body has no such position.
 fn is_counted(plan: &Plan, ranks: &Ranks, class: usize, position: usize) -> Option<bool> {
     let found = plan.class_at(class)?;
     if position >= found.body.len() || !ranks.fits(plan) {
@@ -295,7 +295,7 @@ fn is_counted(plan: &Plan, ranks: &Ranks, class: usize, position: usize) -> Opti
     Some(RanksOf::new(plan, ranks).counted(class, position))
 }
 
-/// The jobs of class a wait for jobs of class b, those of b for jobs of d, and those of d for none.
+/// Jobs of class `a` wait for jobs of `b`, which wait for jobs of `d`. The ranks decide which count.
 #[test]
 fn gets_that_are_counted(rt: HostRuntime) -> Result<(), Fail> {
     let (plan, cert) = read(rt.alloc(), THERE_AND_BACK, THERE_AND_BACK_CERT)?;
@@ -320,8 +320,8 @@ fn higher(alloc: Global) -> Result<Ranks, AllocError> {
     })
 }
 
-/// A plan, a certificate, whether its standing vectors alone are accepted, and whether all of it
-/// is.
+/// A plan, a certificate, whether the standing vectors of the certificate are accepted, and whether
+/// the whole certificate is.
 type Judged = (&'static str, &'static str, bool, bool);
 
 const JUDGED: &[Judged] = &[
@@ -344,7 +344,7 @@ fn what_is_accepted(rt: HostRuntime) -> Result<(), Fail> {
     Ok(())
 }
 
-/// A plan and a certificate are returned unchanged, whether certified or not.
+/// `Certified::check` returns the plan and the certificate unchanged, accepted or not.
 #[test]
 fn what_is_certified(rt: HostRuntime) -> Result<(), Fail> {
     for (plan, cert, _, is_accepted) in JUDGED.iter().copied() {
@@ -357,7 +357,7 @@ fn what_is_certified(rt: HostRuntime) -> Result<(), Fail> {
     Ok(())
 }
 
-// Returns whether the plan is certified, and the returned plan and certificate.
+// Returns whether the certificate accepts the plan, and the text of the plan and the certificate.
 fn certified(alloc: Global, plan: Plan, cert: Cert) -> Result<(bool, String), AllocError> {
     match Certified::check(plan, cert) {
         Ok(both) => Ok((true, debug_text(alloc, both.plan(), both.cert())?)),
@@ -369,7 +369,7 @@ fn debug_text(alloc: Global, plan: &Plan, cert: &Cert) -> Result<String, AllocEr
     format!(in alloc; "{plan:?} {cert:?}")
 }
 
-/// The totals and limits of each pool, in plan order.
+/// The verdict has the totals and limits of each pool, in plan order.
 #[test]
 fn verdicts(rt: HostRuntime) -> Result<(), Fail> {
     let (plan, cert) = read(rt.alloc(), THERE_AND_BACK, THERE_AND_BACK_CERT)?;
@@ -393,7 +393,7 @@ fn verdicts(rt: HostRuntime) -> Result<(), Fail> {
     Ok(())
 }
 
-/// From bytes to a verdict, or to the first fault: that of the plan before that of the certificate.
+/// `check` returns a verdict for two texts, or the plan's fault, or the certificate's fault.
 #[test]
 fn what_is_checked(rt: HostRuntime) -> Result<(), Fail> {
     let line = PoolLine {

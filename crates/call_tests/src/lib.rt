@@ -1,4 +1,4 @@
-//! Tests of calls that a row of a file cannot express.
+//! Tests of calls that the rows of `row_tests` cannot express.
 #![tactic(auto)]
 
 #[cfg(test)]

@@ -1,11 +1,11 @@
-//! A source that fails at the end of the longest input.
+//! A test of a source that fails at the limit of an input's length.
 
 ghost use Rattle.std.specs.Prelude.{None, if◌then◌else◌};
 
 use sizing_cli::{IoFault, MemorySink, ReviewCommand, ServeFault, Source, Status, serve_alone};
 use std::test::Fail;
 
-/// A source that returns one byte in each call, and fails once after the last.
+/// A source that returns one byte in each call, and then fails in one call.
 #[derive(Drop)]
 struct Failing {
     left: usize,
@@ -31,7 +31,8 @@ impl Source for Failing {
     }
 }
 
-/// After 2,097,156 bytes the program makes no further call, so it never meets a failure there.
+/// After 2,097,156 bytes the program makes no further call, so a failure of that call would not
+/// occur.
 #[test]
 fn a_source_that_fails_at_the_limit(rt: HostRuntime) -> Result<(), Fail> {
     for (left, ended, written) in [

@@ -1,4 +1,4 @@
-//! The line of a note for each section of a certificate and each place.
+//! Tests of the line of a note, for each section of a certificate and each place.
 
 use plan_text::read_plan;
 use refusal_notes::{Note, Section, line};
@@ -14,7 +14,7 @@ const TWO_POOLS: &str = "
     client = [{ name = 'caller', count = 1, repeat = true, body = ['submit ask as x', 'get x'] }]
 ";
 
-/// The parts of a note, and its line.
+/// The parts of a note, and the line of the note.
 type Case = (Section, Place, Rule, u64, u64, &'static str);
 
 const LINES: &[Case] = &[

@@ -1,4 +1,4 @@
-//! A pool without a plan.
+//! Tests of a pool without a plan.
 
 ghost use Rattle.std.specs.Prelude.{◌≡◌, [], false};
 
@@ -7,7 +7,7 @@ use pool_machine::{Offer, PoolState};
 use std::alloc::Global;
 use std::test::Fail;
 
-// Returns a pool with these sizes. Its name does not matter here.
+// Returns a pool with these sizes. Its name is empty, since no test uses it.
 fn described(alloc: Global, core: u64, max: u64, queue: u64) -> Pool
     ensures { result
         ≡ record { name = []; core = core; max = max; queue = queue; prestart = false } }

@@ -1,4 +1,4 @@
-//! A plan in which each pool that gets more threads makes another pool need more.
+//! A test of the search for sizes, in which more threads of a pool make the next pool need more.
 
 use crate::fits::plan_of;
 use job_bodies::Plan;
@@ -6,11 +6,12 @@ use size_search::{SizesFound, search_sizes};
 use std::alloc::{AllocError, Global};
 use std::test::*;
 
-// The number of pools.
+// The number of pools of the plan.
 const STEPS: u64 = 12;
 
-// In each pool jobs `a` wait for a leaf there, and jobs `x` wait for the `a` of the pool before.
-// Clients have many `x` of each pool, and 3 `a` of the last one.
+// Returns the text of the plan. In each pool, a job of class `a` waits for a leaf job of the same
+// pool, and a job of class `x` waits for an `a` of the pool before. Clients submit many `x` of each
+// pool, and 3 `a` of the last pool.
 fn stairs(alloc: Global) -> Result<String, AllocError> {
     let mut text = String::new(alloc);
     for step in 0..STEPS {
@@ -50,7 +51,8 @@ fn stairs(alloc: Global) -> Result<String, AllocError> {
     Ok(text)
 }
 
-// Returns core and maximum of each pool of the found plan, or nothing if the search finds no sizes.
+// Returns the core and maximum of each pool of the plan that the search finds, or an empty list if
+// it finds no sizes.
 fn threads_found(alloc: Global, plan: &Plan) -> Result<Vec<[u64; 2]>, AllocError> {
     let mut threads = Vec::new(alloc);
     if let SizesFound::Found { plan: fit, .. } = search_sizes(alloc, plan, None)? {
@@ -67,7 +69,8 @@ fn pools_that_widen_one_another_are_soon_wide_enough(rt: HostRuntime) {
     let plan = plan_of(&rt, alloc, stairs(alloc));
     let threads = threads_found(alloc, &plan).expect(&rt, "there is memory");
     assert_eq!(rt; threads.len() as u64, STEPS);
-    // In the last pool 3 jobs wait, and in each other pool as many as the next pool has threads.
+    // In the last pool 3 jobs wait, and in each other pool as many jobs as the next pool has
+    // threads. Each pool needs one more thread than that.
     let mut enough = 3u64;
     for threads in threads.iter().rev() {
         enough = enough.saturating_add(1);

@@ -1,4 +1,4 @@
-//! Lists of events that are witnesses, and their ends.
+//! Tests of the call that confirms witnesses.
 
 use counterexample::{Event, Vector, Witness, confirmed};
 use plan_text::read_plan;
@@ -11,7 +11,7 @@ const TWO_CLIENTS: &str = "
     client = [{ name = 'c', count = 2, repeat = true, body = ['submit a as x', 'get x'] }]
 ";
 
-// A job that waits for another job of its own pool, which has one thread.
+// A plan in which a job waits for another job of its own pool, which has one thread.
 const NESTED: &str = "
     pool = [{ name = 'p', core = 1, max = 1, queue = 5 }]
     class = [
@@ -21,7 +21,7 @@ const NESTED: &str = "
     client = [{ name = 'c', count = 1, repeat = true, body = ['submit outer as x', 'get x'] }]
 ";
 
-// The same in a pool with a maximum of eight threads.
+// A plan like `NESTED` whose pool has a maximum of eight threads.
 const UNUSED_MAX: &str = "
     pool = [{ name = 'p', core = 1, max = 8, queue = 5 }]
     class = [
@@ -31,7 +31,7 @@ const UNUSED_MAX: &str = "
     client = [{ name = 'c', count = 1, repeat = true, body = ['submit outer as x', 'get x'] }]
 ";
 
-// The same with this number of clients.
+// Returns a plan like `UNUSED_MAX` with this number of clients.
 fn unused_max(alloc: Global, count: u64) -> Result<String, AllocError> {
     format!(in alloc;
         "
@@ -45,8 +45,8 @@ fn unused_max(alloc: Global, count: u64) -> Result<String, AllocError> {
     )
 }
 
-// A round of client 0, its next submit, which is queued, and the submit of client 1, which is
-// rejected while the thread is idle.
+// The events of a whole round of client 0, its next submit, which is queued, and the submit of
+// client 1, which is refused although the thread is idle.
 const REFUSED: [Event; 7] = [
     Event::Client(0),
     Event::Job(0),
@@ -57,7 +57,7 @@ const REFUSED: [Event; 7] = [
     Event::Client(1),
 ];
 
-// The same without the last event, and without the first.
+// The events of `REFUSED` without the last one.
 const NOT_YET_REFUSED: [Event; 6] = [
     Event::Client(0),
     Event::Job(0),
@@ -67,6 +67,7 @@ const NOT_YET_REFUSED: [Event; 6] = [
     Event::Client(0),
 ];
 
+// The events of `REFUSED` without the first one.
 const WITHOUT_A_BEGIN: [Event; 6] = [
     Event::Job(0),
     Event::Job(0),
@@ -76,12 +77,13 @@ const WITHOUT_A_BEGIN: [Event; 6] = [
     Event::Client(1),
 ];
 
-// The outer job starts, and submits the inner one, which is queued.
+// The events in which the outer job starts, and submits the inner job, which is queued.
 const STUCK: [Event; 2] = [Event::Client(0), Event::Job(0)];
 
 const NOT_YET_STUCK: [Event; 1] = [Event::Client(0)];
 
-// The weights of a standing vector of the nested plans, with a total of 2 for a queue of 5.
+// Returns a standing vector of the nested plans, in which each client has this weight. If it is 2,
+// the vector's total for one client is 2, and the queue of 5 has room for it.
 fn standing(alloc: Global, client: u64) -> Result<Vector, AllocError> {
     let mut classes = Vec::new(alloc);
     classes.push(Vec::from_slice(alloc, &[2, 2, 1, 2, 2])?)?;
@@ -105,7 +107,7 @@ fn witness_text(alloc: Global, found: Option<Witness>) -> Result<String, AllocEr
     }
 }
 
-/// A plan, events, the named jobs, and the result.
+/// A plan, events, the jobs that should wait only for each other, and the expected result.
 type Case = (
     &'static str,
     &'static [Event],
@@ -131,9 +133,9 @@ const CASES: &[Case] = &[
     (UNUSED_MAX, &STUCK, &[0, 1], "StuckNow([0, 1]) after 2"),
 ];
 
-/// A list is a witness if its last event is a rejection, or if the named jobs, in ascending order,
-/// wait only for each other after it. They wait forever if the pool has all its threads, or if a
-/// standing vector shows that it stays at core.
+/// A list of events is a witness if its last event is a refused submit, or if the given jobs, in
+/// ascending order, wait only for each other after the last event. They wait permanently if the
+/// pool has all its threads.
 #[test]
 fn lists_that_are_witnesses(rt: HostRuntime) -> Result<(), Fail> {
     let alloc = rt.alloc();
@@ -147,7 +149,7 @@ fn lists_that_are_witnesses(rt: HostRuntime) -> Result<(), Fail> {
     Ok(())
 }
 
-/// Events after the first rejection are ignored.
+/// A witness ends at the first refused submit, and later events are ignored.
 #[test]
 fn a_witness_ends_at_its_first_refusal(rt: HostRuntime) -> Result<(), Fail> {
     let plan = read_plan(rt.alloc(), TWO_CLIENTS.as_bytes())?;
@@ -162,9 +164,9 @@ fn a_witness_ends_at_its_first_refusal(rt: HostRuntime) -> Result<(), Fail> {
     Ok(())
 }
 
-/// A vector whose conditions hold shows that the pool never has more than its one core thread. A
-/// vector whose total exceeds the queue of 5, such as three clients of weight 2, or that breaks a
-/// rule, shows nothing.
+/// A vector whose conditions hold shows that the pool never has more than its one core thread, and
+/// so that the jobs wait permanently. A vector shows nothing if its total exceeds the queue of 5,
+/// as for three clients of weight 2, or if it breaks a rule.
 #[test]
 fn a_standing_vector_shows_that_jobs_wait_for_ever(rt: HostRuntime) -> Result<(), Fail> {
     let alloc = rt.alloc();

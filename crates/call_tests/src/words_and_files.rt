@@ -1,4 +1,4 @@
-//! The arguments of a command line, the files that they name, and the answers.
+//! Tests of whole command lines: the arguments, the files that they name, and the output.
 
 ghost use Rattle.std.specs.Prelude.{None};
 
@@ -11,7 +11,7 @@ const PLAN: &str = "pool = [{ name = 'p', core = 1, max = 1, queue = 2 }]
 class = [{ name = 'a', pool = 'p', body = ['work 1'] }]
 client = [{ name = 'c', count = 2, repeat = true, body = ['submit a as x', 'get x'] }]";
 
-// The same with a queue one smaller than its clients need.
+// A plan like `PLAN` whose queue is smaller by one than its clients need.
 const SMALL_QUEUE: &str = "pool = [{ name = 'p', core = 1, max = 1, queue = 1 }]
 class = [{ name = 'a', pool = 'p', body = ['work 1'] }]
 client = [{ name = 'c', count = 2, repeat = true, body = ['submit a as x', 'get x'] }]";
@@ -23,7 +23,8 @@ const CERT: &str = r#"{"version": 1, "pools": [
 
 const EVENTS: &str = "client 0\nclient 0\n";
 
-// The plan has no newline at its end, so a newline is inserted before the line `%%`.
+// The bundle of the plan and the events. The plan has no newline at its end, so a newline is
+// inserted before the line `%%`.
 const PLAN_AND_EVENTS: &str = "pool = [{ name = 'p', core = 1, max = 1, queue = 2 }]
 class = [{ name = 'a', pool = 'p', body = ['work 1'] }]
 client = [{ name = 'c', count = 2, repeat = true, body = ['submit a as x', 'get x'] }]
@@ -32,7 +33,7 @@ client 0
 client 0
 ";
 
-/// Files, by name.
+/// Files in memory, which are found by name.
 #[derive(Clone, Copy)]
 struct FakeFiles;
 
@@ -76,7 +77,7 @@ impl TextFiles for FakeFiles {
     }
 }
 
-/// The text of the certificate that is given and found.
+/// The text of the certificate `CERT`, as the program writes it.
 const CERT_FOUND: &str =
     "{\"pools\":[{\"blocked\":{\"classes\":[[0,0,0,0]],\"clients\":[[0,0,0]],\"workers\":[0]},\"standing\":{\"classes\":[[1,1,1,1]],\"clients\":[[1,0,1]],\"workers\":[0]}}],\"ranks\":{\"levels\":[0],\"pools\":[0],\"reach\":[0]},\"version\":1}\n";
 
@@ -93,7 +94,7 @@ const NO_CHANGE: &str = "pool p: core 1, max 1, queue 2\nchanges 0\n";
 
 const RUN: &str = "jobs 4, units 4, refused 0\n";
 
-/// Arguments after the program's name, standard input, the exit status and the output.
+/// The arguments with the program's name, the standard input, the exit status and the output.
 type Case = (&'static [&'static str], &'static str, Status, &'static str);
 
 const ANSWERS: &[Case] = &[
@@ -181,7 +182,8 @@ const ANSWERS: &[Case] = &[
     ),
 ];
 
-/// Texts come from the named files, and from standard input if no file is named, or `-`.
+/// Texts are read from the named files, and from standard input if the file is `-` or no file is
+/// named.
 #[test]
 fn texts_come_from_files(rt: HostRuntime) -> Result<(), Fail> {
     for (words, given, status, written) in ANSWERS.iter().copied() {
@@ -195,7 +197,7 @@ fn texts_come_from_files(rt: HostRuntime) -> Result<(), Fail> {
     Ok(())
 }
 
-/// Arguments that get no answer, the message, and the exit status.
+/// Cases without an answer: the arguments, the message and the exit status.
 const NO_ANSWERS: &[(&[&str], &str, u8)] = &[
     (
         &["sizing", "check", "none.toml", "cert.json"],
@@ -211,7 +213,7 @@ const NO_ANSWERS: &[(&[&str], &str, u8)] = &[
     (&["sizing", "check", "-", "-"], "input twice", 2),
     (&["sizing", "fit", "--bundle", "--", "-x"], "unread -x", 3),
     (&["sizing"], "no command", 2),
-    // a missing or misplaced argument never overwrites an existing file with a certificate
+    // If an argument is missing or misplaced, no existing file is overwritten with a certificate.
     (
         &["sizing", "ask", "--certificate", "plan.toml", "plan.toml"],
         "occupied plan.toml",
@@ -245,7 +247,7 @@ const NO_ANSWERS: &[(&[&str], &str, u8)] = &[
     (&["sizing", "--help"], "words DisplayHelp", 2),
 ];
 
-/// The message and the exit status without an answer.
+/// Arguments without an answer result in the right message and exit status.
 #[test]
 fn words_without_an_answer(rt: HostRuntime) -> Result<(), Fail> {
     for (words, wanted, code) in NO_ANSWERS.iter().copied() {
@@ -271,8 +273,8 @@ fn words_without_an_answer(rt: HostRuntime) -> Result<(), Fail> {
     Ok(())
 }
 
-/// If the certificate cannot be written, the call writes the whole answer and returns the error,
-/// for a missing folder and for an existing certificate.
+/// If the certificate cannot be written, because its folder is missing or its file exists, the call
+/// writes the whole answer and returns the error.
 #[test]
 fn an_unwritten_certificate(rt: HostRuntime) -> Result<(), Fail> {
     for name in ["none/kept.json", "cert.json"] {

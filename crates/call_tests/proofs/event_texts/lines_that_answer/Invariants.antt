@@ -1,4 +1,4 @@
--- The number of lines counted is the number of replies pushed.
+-- The counter has the number of replies that were appended.
 use Rattle.std.proofs.Common.{◌≡◌, length}
 use Rattle.call_tests.proofs.event_texts.lines_that_answer.Given as goal
 
