@@ -1,4 +1,4 @@
--- A counter from 0 to a maximum.
+-- A counter that is always between 0 and its maximum.
 use Rattle.std.specs.Prelude.{ℕ, ◌+◌, ◌-◌, ◌==◌, Option, Some, None, nat_lt, if◌then◌else◌}
 use Rattle.thread_tests.specs.declared.counter.Change.{Change}
 use Rattle.thread_tests.specs.declared.counter.Change.TheVariants.{Up, Down}

@@ -1,11 +1,11 @@
-//! The actors for whose work a gate is called, and the units of their work.
+//! Tests that a run calls its gate for each actor with the units of that actor's work.
 
 use crate::gates::Shares;
 use crate::plans::totals;
 use std::test::Fail;
 
-// Two clients that repeat, and a third one. Each job belongs to the one class, so its work is the
-// same for each submitter.
+// Two clients that repeat, and a third client. All jobs have the same class, so a job's work does
+// not depend on its submitter.
 const DIFFERENT_WORK: &str = "
     pool = [{ name = 'p', core = 2, max = 2, queue = 4 }]
     class = [{ name = 'a', pool = 'p', body = ['work 3', 'work 4'] }]

@@ -1,4 +1,4 @@
-//! Gates of a check on threads.
+//! Tests of the calls of a check on threads to its gate.
 
 use cert_check::{CheckFault, PoolGate, check_on};
 use cert_search::{SearchFault, search};
@@ -9,7 +9,7 @@ use std::test::*;
 use std::thread;
 use std::time::{Clock, Duration};
 
-// Two pools, each with jobs that wait for jobs of the other.
+// A plan with two pools, each with jobs that wait for jobs of the other.
 const TWO_POOLS: &str = "
     pool = [
         { name = 'p', core = 1, max = 1, queue = 2 },
@@ -42,8 +42,8 @@ const TWO_POOLS_CERT: &str = r#"{"version": 1, "pools": [
         "clients": [[0, 0, 0], [1, 0, 1]]}}],
     "ranks": {"pools": [1, 0], "reach": [1, 0, 1, 1], "levels": [1, 0, 1, 0]}}"#;
 
-/// A gate that holds the first pool until another has begun, for at most 10,000 turns of a
-/// millisecond.
+/// A gate that holds the first call until there is another call, for at most 10,000 waits of a
+/// millisecond. It then refuses the pool of the first call.
 #[derive(Drop)]
 struct Rendezvous<'a, C> {
     clock: &'a C,
@@ -65,7 +65,7 @@ impl<C: Clock + Sync> PoolGate for Rendezvous<'_, C> {
     }
 }
 
-/// A gate that opens for one pool only.
+/// A gate that opens only for the pool with this number.
 #[derive(Drop)]
 struct Only(usize);
 
@@ -75,7 +75,7 @@ impl PoolGate for Only {
     }
 }
 
-/// Two workers check two pools concurrently: one worker alone would never pass the gate.
+/// Two workers check two pools at the same time. A worker alone would not pass the gate.
 #[test]
 fn two_pools_are_looked_at_at_once(rt: HostRuntime) -> Result<(), Fail> {
     let gate = Rendezvous {
@@ -91,7 +91,7 @@ fn two_pools_are_looked_at_at_once(rt: HostRuntime) -> Result<(), Fail> {
     Ok(())
 }
 
-/// If the gate refuses any pool, the check reports it with any number of workers.
+/// If the gate refuses a pool, the check returns the fault of the gate, with any number of workers.
 #[test]
 fn a_no_of_the_gate(rt: HostRuntime) -> Result<(), Fail> {
     let (plan, cert) = (TWO_POOLS.as_bytes(), TWO_POOLS_CERT.as_bytes());
@@ -106,7 +106,7 @@ fn a_no_of_the_gate(rt: HostRuntime) -> Result<(), Fail> {
     Ok(())
 }
 
-/// A gate that opens for every pool except one.
+/// A gate that opens for every pool except the one with this number.
 #[derive(Drop)]
 struct AllBut(usize);
 
@@ -119,7 +119,7 @@ impl PoolGate for AllBut {
 /// The maximum number of pools of a plan.
 const MANY: usize = 64;
 
-/// Returns a plan with the maximum number of pools, and no client.
+/// Returns the text of a plan with the maximum number of pools, and no client.
 fn many_pools(alloc: Global) -> Result<String, AllocError> {
     let mut text = String::new(alloc);
     for pool in 0..MANY {
@@ -131,7 +131,7 @@ fn many_pools(alloc: Global) -> Result<String, AllocError> {
     Ok(text)
 }
 
-/// Returns that many zeros, separated by commas.
+/// Returns [`MANY`] zeros, separated by commas.
 fn zeros(alloc: Global) -> Result<String, AllocError> {
     let mut text = String::new(alloc);
     text.push_str("0")?;
@@ -141,7 +141,7 @@ fn zeros(alloc: Global) -> Result<String, AllocError> {
     Ok(text)
 }
 
-/// Returns the certificate of those pools, in which all weights are 0.
+/// Returns the text of a certificate for [`many_pools`] in which all weights are 0.
 fn cert_of_many(alloc: Global) -> Result<String, AllocError> {
     let zeros = zeros(alloc)?;
     let nobody = format!(in alloc; "{{\"workers\":[{zeros}],\"classes\":[],\"clients\":[]}}")?;
@@ -158,8 +158,8 @@ fn cert_of_many(alloc: Global) -> Result<String, AllocError> {
     Ok(text)
 }
 
-/// If the gate refuses any of 64 pools, the check and the search report it, also with a worker for
-/// each pool.
+/// If the gate refuses any of 64 pools, the check and the search return the fault of the gate, with
+/// one worker and with a worker for each pool.
 #[test]
 fn a_no_for_each_of_many_pools(rt: HostRuntime) -> Result<(), Fail> {
     let plan = many_pools(rt.alloc()).expect(&rt, "there is memory");

@@ -1,4 +1,4 @@
-//! The counter.
+//! A counter: a machine besides the world of a plan.
 
 ghost use Rattle.std.specs.Prelude.{◌≡◌, ℕ};
 
@@ -12,7 +12,7 @@ pub enum Change {
     Down,
 }
 
-/// A counter that starts at 0 and stays between 0 and its maximum.
+/// A counter that starts at 0 and is always between 0 and its maximum.
 #[derive(Clone, Copy, Debug, Drop)]
 pub struct Tally {
     pub most: u64,

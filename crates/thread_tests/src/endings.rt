@@ -1,4 +1,5 @@
-//! Runs of plans of many kinds, each of which ends.
+//! Tests that runs of plans of many kinds end, with the right numbers of jobs, units and gate
+//! calls.
 
 use crate::gates::{Counting, RandomDelay};
 use crate::plans::{TWO_CLIENTS, totals};
@@ -6,19 +7,19 @@ use std::test::Fail;
 
 const NO_PLAN: &str = "";
 
-// A pool without clients.
+// A plan with a pool and no clients.
 const NO_CLIENTS: &str = "
     pool = [{ name = 'p', core = 2, max = 3, queue = 1, prestart = true }]
     class = [{ name = 'a', pool = 'p', body = ['work 1'] }]
 ";
 
-// Two clients that only work.
+// A plan with two clients that only work.
 const NO_POOLS: &str = "
     client = [{ name = 'c', count = 2, repeat = true, body = ['work 2'] }]
 ";
 
-// A client that ends before its job is done, while other threads of two pools wait for a job: the
-// end of the job ends them all.
+// A plan with a client that ends before its job is done, while other threads of two pools wait for
+// a job. The end of the job ends all these threads.
 const NO_GET: &str = "
     pool = [
         { name = 'p', core = 2, max = 3, queue = 2 },
@@ -28,7 +29,7 @@ const NO_GET: &str = "
     client = [{ name = 'c', count = 1, body = ['submit a'] }]
 ";
 
-// A body without actions, and a job of such a body.
+// A plan in which a client kind and a class have no actions.
 const NOTHING_TO_DO: &str = "
     pool = [{ name = 'p', core = 1, max = 1, queue = 4 }]
     class = [{ name = 'a', pool = 'p', body = [] }]
@@ -38,14 +39,14 @@ const NOTHING_TO_DO: &str = "
     ]
 ";
 
-// Three clients that run their bodies once, however many rounds there are.
+// A plan with three clients that run their bodies once, whatever the number of rounds.
 const ONCE: &str = "
     pool = [{ name = 'p', core = 2, max = 2, queue = 1 }]
     class = [{ name = 'a', pool = 'p', body = ['work 1'] }]
     client = [{ name = 'c', count = 3, body = ['submit a as x', 'get x'] }]
 ";
 
-// A job that waits for three other jobs of its pool.
+// A plan with a job that waits for three other jobs of its pool.
 const FAN_OUT: &str = "
     pool = [{ name = 'p', core = 2, max = 2, queue = 3 }]
     class = [
@@ -57,7 +58,7 @@ const FAN_OUT: &str = "
     client = [{ name = 'c', count = 1, repeat = true, body = ['submit outer as x', 'get x'] }]
 ";
 
-// Two pools, each with jobs that wait for jobs of the other.
+// A plan with two pools, each with jobs that wait for jobs of the other.
 const TWO_POOLS: &str = "
     pool = [
         { name = 'p', core = 1, max = 1, queue = 2 },
@@ -75,7 +76,7 @@ const TWO_POOLS: &str = "
     ]
 ";
 
-// Plans and rounds, the numbers of jobs and units of the run, and the number of its gate calls.
+// Cases: a plan, the number of rounds, and the numbers of jobs, units and gate calls of the run.
 const RUNS: &[(&str, u64, u64, u64, u64)] = &[
     (NO_PLAN, 1, 0, 0, 0),
     (NO_CLIENTS, 2, 0, 0, 0),

@@ -1,4 +1,4 @@
-//! Gates that count, fail, or hold their callers.
+//! Gates that count their calls, fail, or hold their callers.
 
 use locked_runner::{Actor, Gate, GateFault};
 use std::alloc::{AllocError, Global};
@@ -6,7 +6,7 @@ use std::sync::atomic::{AtomicU64, Ordering};
 use std::thread;
 use std::time::{Clock, Duration};
 
-// A gate that fails at one call, and counts its calls and their units.
+// A gate that counts its calls and their units, and fails at one call.
 #[derive(Drop)]
 pub(crate) struct Counting {
     calls: AtomicU64,
@@ -19,7 +19,7 @@ impl Counting {
         Counting::failing_at(u64::MAX)
     }
 
-    // Creates a gate that fails at this call, counted from 1.
+    // Creates a gate that fails at the call with this number, from 1.
     pub(crate) fn failing_at(call: u64) -> Counting {
         Counting {
             calls: AtomicU64::new(0),
@@ -49,15 +49,15 @@ impl Gate for Counting {
     }
 }
 
-// The work of one actor.
+// The work of one actor: the number of its gate calls, and their units.
 #[derive(Drop)]
 struct Share {
     calls: AtomicU64,
     units: AtomicU64,
 }
 
-// A gate that counts the calls and the units of each actor separately. It fails for an unknown
-// actor.
+// A gate that counts the calls and the units of each actor separately. It fails for an actor that
+// it does not know.
 #[derive(Drop)]
 pub(crate) struct Shares {
     clients: Vec<Share>,
@@ -65,7 +65,7 @@ pub(crate) struct Shares {
 }
 
 impl Shares {
-    // Creates a gate that knows this number of clients and of jobs.
+    // Creates a gate that knows the first `clients` clients and the first `jobs` jobs.
     pub(crate) fn new(alloc: Global, clients: usize, jobs: usize) -> Result<Shares, AllocError> {
         Ok(Shares {
             clients: unmade_work(alloc, clients)?,
@@ -73,12 +73,12 @@ impl Shares {
         })
     }
 
-    // Returns the calls and the units of each client.
+    // Returns the number of calls and of units for each client.
     pub(crate) fn of_clients(&self, alloc: Global) -> Result<Vec<(u64, u64)>, AllocError> {
         self.clients.iter().map(counted).collect(alloc)
     }
 
-    // Returns the calls and the units of each job.
+    // Returns the number of calls and of units for each job.
     pub(crate) fn of_jobs(&self, alloc: Global) -> Result<Vec<(u64, u64)>, AllocError> {
         self.jobs.iter().map(counted).collect(alloc)
     }
@@ -117,8 +117,8 @@ fn counted(share: &Share) -> (u64, u64) {
     )
 }
 
-// A gate whose work takes between no time and a third of a millisecond, chosen by a random
-// generator with a seed.
+// A gate whose calls take between no time and a third of a millisecond. A pseudo-random number
+// generator with a seed chooses the time.
 #[derive(Drop)]
 pub(crate) struct RandomDelay<'a, C: Clock + Sync> {
     clock: &'a C,
@@ -146,7 +146,8 @@ impl<C: Clock + Sync> Gate for RandomDelay<'_, C> {
     }
 }
 
-// Returns a pseudorandom number for each number: the mixing function of SplitMix64.
+// Returns a pseudo-random number that depends only on this number, by the mixing function of
+// SplitMix64.
 fn drawn_from(number: u64) -> u64 {
     let mixed = number.wrapping_mul(0x9e37_79b9_7f4a_7c15);
     let mixed = (mixed ^ (mixed >> 30)).wrapping_mul(0xbf58_476d_1ce4_e5b9);
@@ -154,15 +155,15 @@ fn drawn_from(number: u64) -> u64 {
     mixed ^ (mixed >> 31)
 }
 
-// The actors whose work is held.
+// The actors whose work a gate holds.
 #[derive(Clone, Copy, PartialEq, Eq)]
 pub(crate) enum HeldActors {
     Clients,
     Jobs,
 }
 
-// A gate that holds the first work of these actors until a given number of them have begun, each
-// for at most 10,000 turns of a millisecond.
+// A gate that holds the first `enough` calls of these actors until all of them have begun. It holds
+// each of them for at most 10,000 waits of a millisecond, and then fails.
 #[derive(Drop)]
 pub(crate) struct Rendezvous<'a, C: Clock + Sync> {
     clock: &'a C,

@@ -1,4 +1,4 @@
-//! Each call of a held machine.
+//! Tests of each call of a held machine.
 
 use crate::counter::{Change, Tally};
 use held_machines::{Held, Receipt};
@@ -6,7 +6,8 @@ use std::alloc::AllocError;
 use std::process::Abort;
 use std::test::Fail;
 
-// Changes, the number of each receipt, and the count after it, which stays between 0 and 2.
+// Changes, the number of each receipt, if the change is possible, and the count after the change,
+// which is always between 0 and 2.
 const CHANGES: &[(Change, Option<u64>, u64)] = &[
     (Change::Down, None, 0),
     (Change::Up, Some(0), 1),

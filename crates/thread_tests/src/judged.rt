@@ -1,4 +1,5 @@
-//! The answers to histories and receipts that no run returns, written by hand.
+//! Tests of the check of a run's results, with histories and receipts that are written by hand and
+//! that no run returns.
 
 use crate::plans::certified;
 use held_machines::Receipt;
@@ -12,14 +13,15 @@ use std::sync::Wait;
 use std::test::Fail;
 use std::thread::Threads;
 
-// A client that submits a job and waits for it.
+// A plan with a client that submits a job and waits for it.
 const ONE_CLIENT: &str = "
     pool = [{ name = 'p', core = 1, max = 1, queue = 1 }]
     class = [{ name = 'a', pool = 'p', body = ['work 1'] }]
     client = [{ name = 'c', count = 1, body = ['submit a as x', 'get x'] }]
 ";
 
-// Its submit starts job 0; the job's work and its end; its get.
+// A whole run: the client's submit, which starts job 0; the job's work and its end; the client's
+// get.
 const WHOLE: &[Event] = &[
     Event::Client(0),
     Event::Job(0),
@@ -33,7 +35,7 @@ const NUMBERS: RunNumbers = RunNumbers {
     events: 6,
 };
 
-// Returns the receipts of these events at these numbers, which are below 2 to the 32.
+// Returns the receipts with these numbers, which are below 2 to the 32, and these events.
 fn receipts(alloc: Global, list: &[(u64, Event)]) -> Result<Vec<CompactReceipt>, AllocError> {
     let mut receipts = Vec::new(alloc);
     for (number, event) in list {
@@ -48,7 +50,7 @@ fn receipts(alloc: Global, list: &[(u64, Event)]) -> Result<Vec<CompactReceipt>,
     Ok(receipts)
 }
 
-// Builds the results of a client's and a carrier's thread.
+// Builds the results of the threads of a run: a client's thread and a worker thread of a pool.
 fn thread_results(
     alloc: Global,
     history: &[Event],
@@ -68,14 +70,14 @@ fn thread_results(
     })
 }
 
-// The result of a thread: events at their numbers.
+// The receipts that a thread returns: numbers and events.
 type Handed = &'static [(u64, Event)];
 
 const CLIENT: Handed = &[(0, Event::Client(0)), (3, Event::Client(0))];
 
 const CARRIER: Handed = &[(1, Event::Job(0)), (2, Event::Job(0))];
 
-// Returns the answer to these results for the plan with one client.
+// Returns the result of the check of these results, for the plan with one client.
 fn judged<R: Abort + Threads + Wait + Sync>(
     rt: &R,
     alloc: Global,
@@ -116,7 +118,7 @@ const NONE: Handed = &[];
 
 const CUT: &[Event] = &[Event::Client(0), Event::Job(0), Event::Job(0)];
 
-// The job's third step is not possible.
+// A history in which the third step of the job is not possible.
 const AGAIN: &[Event] = &[
     Event::Client(0),
     Event::Job(0),
@@ -125,8 +127,8 @@ const AGAIN: &[Event] = &[
     Event::Client(0),
 ];
 
-// A name, the results (history, receipts of the client and of the carrier, the fault that a thread
-// met), and the expected fault.
+// A name, the results (the history, the receipts of the client and of the worker thread, and the
+// fault that a thread met), and the number and events of the expected fault.
 type Case = (
     &'static str,
     &'static [Event],
@@ -184,8 +186,9 @@ const NO_RUNS: &[Case] = &[
     ),
 ];
 
-// Fault 41 if a receipt is strange, whatever else is wrong. Fault 42 if each receipt fits and the
-// whole is not a run. The fault that a thread met comes before both.
+// The fault that a thread met is returned before any other. Fault 41 follows if a receipt does not
+// match an event of its owner in the history. Fault 42 is returned if each receipt matches and the
+// results are still not those of a run.
 #[test]
 fn what_is_no_run_has_its_fault(rt: HostRuntime) -> Result<(), Fail> {
     let alloc = rt.alloc();

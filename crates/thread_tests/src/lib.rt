@@ -1,7 +1,7 @@
-//! Tests of calls that use threads, of properties that no contract states. A run, a search and a
-//! check end on several threads. They call their gates for the right work, and report the right
-//! faults. Hand-made results of threads get the right answers. A second machine besides the world
-//! of a plan, a counter that cannot go below 0, is held and shared under a lock.
+//! Tests of calls that use threads, for properties that no contract states. A run, a search and a
+//! check on several threads end, call their gates for the right work, and return the right faults.
+//! The check of a run's results is tested with results that are written by hand. A counter, which
+//! is a machine besides the world of a plan, is held and shared under a lock.
 #![tactic(auto)]
 
 mod counter;

@@ -1,13 +1,13 @@
-//! Work that ends only if other threads work at the same time. A run on one thread does not end,
-//! and neither does a run with fewer carriers than the pool has threads, or one that calls the gate
-//! under the lock.
+//! Tests that threads work at the same time. Their gates hold each thread until others work, too. A
+//! run fails if it has one thread, if it has fewer worker threads than the pool has threads, or if
+//! it calls the gate under the lock.
 
 use crate::gates::{HeldActors, Rendezvous};
 use crate::plans::{TWO_CLIENTS, WORKING_CLIENTS, totals};
 use std::test::Fail;
 
-// A plan, the number of threads and clients that replaces two, the actors whose work is held, the
-// number of them to wait for, and the numbers of jobs and units of work.
+// A plan, the number of threads and clients in place of two, the actors whose work is held, the
+// number of such actors that must work at the same time, and the numbers of jobs and units of work.
 type Case = (&'static str, &'static str, HeldActors, u64, (u64, u64));
 
 const CASES: &[Case] = &[
@@ -17,8 +17,7 @@ const CASES: &[Case] = &[
     (WORKING_CLIENTS, "= 3", HeldActors::Clients, 3, (3, 6)),
 ];
 
-// Each plan with its own sizes, with three threads and clients in place of two, and with prestarted
-// threads.
+// Each plan is run with two threads and clients, with three, and with prestarted threads.
 #[test]
 fn all_work_at_once(rt: HostRuntime) -> Result<(), Fail> {
     for (plan, size, held_actors, enough, numbers) in CASES.iter().copied() {

@@ -1,4 +1,4 @@
-//! The plans of the tests.
+//! Plans for the tests, and runs of them.
 
 use cert_check::{Certified, PoolGate};
 use cert_search::search;
@@ -9,9 +9,9 @@ use std::process::Abort;
 use std::sync::Wait;
 use std::thread::Threads;
 
-// A job that submits another one to its own pool and waits for it: each round has 2 jobs and one
-// unit of work. A client's round has 2 events and a loop, the outer job has at most 4 events, and
-// the inner one 3.
+// A plan in which a job submits another job to its own pool and waits for it. Each round has 2 jobs
+// and one unit of work. The client has 2 events in a round, and one more if it begins again. The
+// outer job has at most 4 events, and the inner job at most 3.
 pub(crate) const NESTED: &str = "
     pool = [{ name = 'p', core = 2, max = 2, queue = 5 }]
     class = [
@@ -21,22 +21,22 @@ pub(crate) const NESTED: &str = "
     client = [{ name = 'c', count = 1, repeat = true, body = ['submit outer as x', 'get x'] }]
 ";
 
-// Two clients that each submit a job and wait for it.
+// A plan with two clients that each submit a job and wait for it.
 pub(crate) const TWO_CLIENTS: &str = "
     pool = [{ name = 'p', core = 2, max = 2, queue = 2 }]
     class = [{ name = 'a', pool = 'p', body = ['work 1'] }]
     client = [{ name = 'c', count = 2, repeat = true, body = ['submit a as x', 'get x'] }]
 ";
 
-// The same clients, which first do work of their own.
+// A plan like `TWO_CLIENTS` whose clients work before their submit.
 pub(crate) const WORKING_CLIENTS: &str = "
     pool = [{ name = 'p', core = 2, max = 2, queue = 2 }]
     class = [{ name = 'a', pool = 'p', body = ['work 1'] }]
     client = [{ name = 'c', count = 2, repeat = true, body = ['work 1', 'submit a as x', 'get x'] }]
 ";
 
-// Returns a plan with clients that each submit one job once and wait for it, and a pool with the
-// given number of threads.
+// Returns the text of a plan with this number of clients, each of which submits one job and waits
+// for it, and a pool that may have this number of threads.
 pub(crate) fn many_clients(
     alloc: Global,
     clients: u64,
@@ -61,8 +61,8 @@ impl PoolGate for Open {
     }
 }
 
-// Returns the plan with the certificate that the search finds, or `None` if it finds none or the
-// plan has a fault.
+// Returns the plan with the certificate that the search finds, or `None` if the search finds none
+// or the text of the plan has a fault.
 pub(crate) fn certified<R: Threads + Wait + Sync>(
     rt: &R,
     alloc: Global,
@@ -73,8 +73,8 @@ pub(crate) fn certified<R: Threads + Wait + Sync>(
     Certified::check(plan, cert).ok()
 }
 
-// Returns the numbers of jobs and of units of work of a run of the plan, for these rounds and the
-// certificate that the search finds.
+// Runs the plan for this number of rounds with the certificate that the search finds, and returns
+// the numbers of jobs and of units of work.
 pub(crate) fn totals<R: Abort + Threads + Wait + Sync, G: Gate>(
     rt: &R,
     alloc: Global,

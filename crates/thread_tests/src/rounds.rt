@@ -1,4 +1,4 @@
-//! The number of rounds of a run, and its limits.
+//! Tests of the number of rounds of a run, and of the limits of a run.
 
 use crate::gates::Counting;
 use crate::plans::{NESTED, certified, many_clients, totals};
@@ -8,30 +8,32 @@ use std::sync::Wait;
 use std::test::Fail;
 use std::thread::Threads;
 
-// A limit is exceeded, and nothing was started.
+// The fault of a run that would exceed a limit. No event was made.
 const TOO_LARGE: RunFault = RunFault {
     number: 40,
     events: 0,
 };
 
-// With no rounds, a client that repeats has no event, and is not at the end of its body: the run is
-// not complete.
+// The fault of a run of no rounds, which is not complete: a client that repeats has no event, and
+// is not at the end of its body.
 const NO_RUN: RunFault = RunFault {
     number: 42,
     events: 0,
 };
 
-// Jobs and units of work, or a fault.
+// The numbers of jobs and of units of work of a run, or its fault.
 type Totals = Result<(u64, u64), RunFault>;
 
-// A client that only works: each of its rounds has 2 events, and the last one has 1.
+// A plan with a client that only works. Each of its rounds has 2 events, except that the last round
+// has 1.
 const ALONE: &str = "
     client = [{ name = 'c', count = 1, repeat = true, body = ['work 1'] }]
 ";
 
-// A plan and rounds, the result of its run, and the number of its gate calls. A round of the nested
-// plan has 10 events and the last one 9, so 100,001 rounds would have 1,000,009. 500,000 rounds of
-// the client alone have 999,999 events, and one more has 1,000,001.
+// Cases: a plan, the number of rounds, the result of the run, and the number of its gate calls. A
+// run may have at most 1,000,000 events. A round of the nested plan has 10 events, and the last
+// round 9, so 100,001 rounds would have 1,000,009 events. For the client that only works, 500,000
+// rounds have 999,999 events, and 500,001 rounds would have 1,000,001.
 const ROUNDS: &[(&str, u64, Totals, u64)] = &[
     (NESTED, 0, Err(NO_RUN), 0),
     (NESTED, 3, Ok((6, 3)), 3),
@@ -52,8 +54,8 @@ fn as_many_rounds_as_a_run_may_have(rt: HostRuntime) -> Result<(), Fail> {
     Ok(())
 }
 
-// The numbers of clients and threads, at most 64 each in a run, the result of their run, and the
-// number of its gate calls.
+// Cases: the numbers of clients and of threads, which may be at most 64 each in a run, the result
+// of the run, and the number of its gate calls.
 const CROWDS: &[(u64, u64, Totals, u64)] = &[
     (64, 64, Ok((64, 64)), 64),
     (65, 64, Err(TOO_LARGE), 0),
@@ -72,7 +74,7 @@ fn at_most_64_clients_and_64_threads_of_pools(rt: HostRuntime) -> Result<(), Fai
     Ok(())
 }
 
-// Returns the number of receipt lists that a run returns, the length of the first one, and the
+// Runs the plan, and returns the number of lists of receipts, the length of the first list, and the
 // number of events of the history.
 fn handed_back<R: Threads + Wait + Sync>(
     rt: &R,
@@ -86,8 +88,9 @@ fn handed_back<R: Threads + Wait + Sync>(
     Some((report.receipts.len(), first.len(), report.history.len()))
 }
 
-// A client and two carriers. The client has 8 events in three rounds, and its jobs have 19: 6
-// submits and gets, 3 works, 6 ends, and 4 takes, since the jobs of the first round start threads.
+// The run has the threads of a client and two worker threads, so three lists of receipts. The
+// client has 8 events in three rounds. The jobs have 19: 6 submits and gets, 3 works, 6 ends, and 4
+// takes, since the two jobs of the first round are started by their submits.
 #[test]
 fn three_rounds_have_27_events(rt: HostRuntime) -> Result<(), Fail> {
     let back = handed_back(&rt, rt.alloc(), NESTED, 3);
@@ -95,7 +98,7 @@ fn three_rounds_have_27_events(rt: HostRuntime) -> Result<(), Fail> {
     Ok(())
 }
 
-// Each of 64 clients submits and gets.
+// Each of 64 clients has two events: a submit and a get.
 #[test]
 fn each_thread_hands_back_its_receipts(rt: HostRuntime) -> Result<(), Fail> {
     let plan = many_clients(rt.alloc(), 64, 64)?;

@@ -1,4 +1,4 @@
-//! The calls of a search to its gate.
+//! Tests of the calls of a search to its gate.
 
 use cert_check::{PoolGate, accepts};
 use cert_search::{SearchFault, search};
@@ -12,7 +12,8 @@ use std::test::*;
 use std::thread;
 use std::time::Duration;
 
-// A pool `front`, whose jobs wait for jobs of a pool `back`. It gets its rank in the second round.
+// A plan with a pool `front`, whose jobs wait for jobs of a pool `back`. The pool `front` gets its
+// rank in the second round of the search.
 const FRONT_AND_BACK: &str = "
     pool = [
         { name = 'front', core = 4, max = 4, queue = 1000 },
@@ -29,8 +30,8 @@ fn front_and_back(rt: &impl Abort, alloc: Global) -> Plan {
     read_plan(alloc, FRONT_AND_BACK.as_bytes()).expect(rt, "the plan is read")
 }
 
-// A gate that holds the first pool until a second one has begun, for `turns` turns of a
-// millisecond.
+// A gate that holds the first call until there is a second call, for at most `turns` waits of a
+// millisecond. It then refuses the pool of the first call.
 #[derive(Drop)]
 struct Rendezvous<'a, C> {
     clock: &'a C,
@@ -51,7 +52,7 @@ impl<C: Clock + Sync> PoolGate for Rendezvous<'_, C> {
     }
 }
 
-// A search does not pass this gate if it holds the board while it calls the gate, or if it has one
+// A search fails at this gate if it calls the gate while it has the board locked, or if it has one
 // thread.
 #[test]
 fn two_workers_look_at_two_pools_together(rt: HostRuntime) {
@@ -78,7 +79,7 @@ fn one_worker_looks_at_one_pool_at_a_time(rt: HostRuntime) {
     assert!(rt; matches!(found, Err(SearchFault::Gate)));
 }
 
-// A gate that refuses one pool.
+// A gate that refuses the pool with this number.
 #[derive(Clone, Copy)]
 struct AllBut(usize);
 
@@ -101,7 +102,7 @@ fn a_no_of_the_gate_ends_the_search(rt: HostRuntime) {
     assert!(rt; matches!(other, Ok(Some(_))), "the plan has no such pool");
 }
 
-// A gate that counts the calls for each of two pools.
+// A gate that counts its calls for each of two pools.
 #[derive(Drop)]
 struct Counting {
     front: AtomicU64,

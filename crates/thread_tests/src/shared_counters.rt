@@ -1,4 +1,4 @@
-//! Threads that share a counter under one lock.
+//! A test of two threads that share a counter under one lock.
 
 use crate::counter::{Change, Tally};
 use held_machines::{Held, Locked};
@@ -7,7 +7,7 @@ use std::sync::Wait;
 use std::test::Fail;
 use std::thread;
 
-// Applies the change this many times, and waits whenever it is not possible yet.
+// Applies the change `times` times. Waits while the change is not possible.
 fn change<R: Wait>(
     rt: &R,
     counter: &Locked<Tally>,
