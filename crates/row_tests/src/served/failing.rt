@@ -128,7 +128,7 @@ impl Case<'_> {
 }
 
 // Returns whether `failed` has the first `length` bytes of the output and fault 61. If the whole
-// output has no more bytes than that, returns whether `failed` equals `ended`.
+// output has at most `length` bytes, returns whether `failed` equals `ended`.
 fn is_prefix_of(failed: &Ended, ended: &Ended, length: usize) -> bool {
     let whole = ended.written.len();
     let outcome = if length < whole {

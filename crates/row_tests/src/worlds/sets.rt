@@ -7,7 +7,7 @@ use interleaving::World;
 use job_bodies::Plan;
 use std::alloc::{AllocError, Global};
 
-// The number of jobs that may be members of the sets. No world of these tests creates so many jobs,
+// The number of jobs that may be members of the sets. The worlds of these tests create fewer jobs,
 // so the last of them does not exist.
 const JOBS_SHOWN: u32 = 6;
 
