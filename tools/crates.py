@@ -1,6 +1,6 @@
 """The crates of this repository, as crates.txt lists them, and copies of some of them.
 
-    crates.py CRATE     # the files from which the program of this crate is proved, for make"""
+    crates.py CRATE     # prints the files from which the program of this crate is proved, for make"""
 import os
 import re
 import shutil
@@ -10,14 +10,14 @@ ROOT = os.path.dirname(os.path.dirname(os.path.abspath(__file__)))
 
 
 def lines_of_crates():
-    """Returns the lines of crates.txt by the name of their crate, in order: each crate comes after those below it."""
+    """Returns the lines of crates.txt by the name of their crate, in order: each crate comes after its dependencies."""
     with open(f"{ROOT}/crates.txt", encoding="utf-8") as file:
         lines = [line.split("#")[0].strip() for line in file]
     return {re.split("[: ]", line)[0]: line for line in lines if ":" in line}
 
 
 def with_bench_program(lines, name):
-    """Returns the lines, with that of a program of bench/ if this is its name. Its folder has the line in the file `crate`."""
+    """Returns the lines, and the line of the program of bench/ with this name, if there is one: its folder has it in the file `crate`."""
     path = f"{ROOT}/bench/{name}/crate"
     if name in lines or not os.path.isfile(path):
         return lines
@@ -32,7 +32,7 @@ def folder_of(name):
 
 
 def below(lines, names):
-    """Returns these crates and all crates of this repository that they depend on."""
+    """Returns these crates and all their dependencies in this repository."""
     found, left = set(), list(names)
     while left:
         crate = left.pop()
@@ -43,11 +43,11 @@ def below(lines, names):
 
 
 def copy_crates(lines, names, room, left_out=()):
-    """Copies these crates to the folder, with a crates.txt of their own, and without what is left out."""
+    """Copies these crates to the folder `room`, with a crates.txt that lists only them, and without the names in `left_out`."""
     leave = shutil.ignore_patterns("out", *left_out)
     for name in names:
         shutil.copytree(folder_of(name), f"{room}/crates/{name}", ignore=leave)
-        # a program of bench/ has no .rt file, since those are read only in a crate that crates.txt lists
+        # a program of bench/ has no .rt file in the repository, since rt accepts these only in a crate that crates.txt lists
         if os.path.isfile(f"{room}/crates/{name}/main.rt.in"):
             os.makedirs(f"{room}/crates/{name}/src")
             os.rename(f"{room}/crates/{name}/main.rt.in", f"{room}/crates/{name}/src/main.rt")
@@ -58,7 +58,7 @@ def copy_crates(lines, names, room, left_out=()):
 
 
 def files_of(names):
-    """Yields the files from which these crates are proved, by their paths from the top of the repository."""
+    """Yields the paths, from the top of the repository, of the files from which these crates are proved."""
     for name in sorted(names):
         for folder, folders, files in os.walk(folder_of(name)):
             folders[:] = sorted(set(folders) - {"out", "must-fail", "mutants"})

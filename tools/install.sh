@@ -1,8 +1,8 @@
 #!/bin/sh
-# install.sh [PREFIX]: installs the files of this release below PREFIX, which is /usr/local if absent.
+# install.sh [PREFIX]: installs the files of this release below PREFIX, which is by default /usr/local.
 #
-# It checks the files' checksums and tries the program first. If either fails, it installs nothing. The environment variable
-# DESTDIR names a folder to put before PREFIX, for a package or an image.
+# The script first checks the checksums of the files and runs the program. If either fails, it installs nothing. If the environment
+# variable DESTDIR is set, the files are installed below DESTDIR/PREFIX, for a package or an image.
 set -eu
 
 case ${1-} in

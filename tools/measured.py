@@ -1,9 +1,10 @@
-"""measured.py TIMES WORD..: runs `rt WORD..` by rt's own code, and writes what each check, build and edit took to the file TIMES.
+"""measured.py TIMES WORD..: runs `rt WORD..` through rt's Python modules, and writes the time and memory of each check, build and
+edit to the file TIMES.
 
-A line has the crate, the kind (proofs, tests, build or edit), the edit's name, seconds of processor time, seconds by the clock,
-MiB of the largest process, and when it began, in seconds from the start. The last line is the whole: the number of processors,
-`whole`, the words, and the same numbers. rt starts a process for each check, and the system reports what a process took when it
-ends."""
+A line has the crate, the kind (proofs, tests, build or edit), the name of the edit, the processor time and the elapsed time in
+seconds, the memory of the largest process in MiB, and the time from the start of the run to the beginning of this entry in seconds.
+The last line is the total: the number of processors, `whole`, the words, and the same numbers. rt starts a process for each check,
+and the system reports the time and memory of a process when it ends."""
 import os
 import resource
 import subprocess
@@ -20,12 +21,13 @@ BEGAN = time.monotonic()
 
 
 def word_after(words, word):
-    """Returns the argument after an option, or nothing."""
+    """Returns the argument after an option, or an empty text if the option is absent."""
     return words[words.index(word) + 1] if word in words else ""
 
 
 def kind_of(words):
-    """Returns the crate that a process works on, what it does for it, and the name of an edit; nothing if it is not rattle's."""
+    """Returns the crate that a process checks or builds, the kind of its work, and the name of an edit. The kind is empty if the
+    process is none of rattle's."""
     name = word_after(words, "--crate-name")
     edit = getattr(here, "edit", "")
     if edit:
@@ -59,7 +61,7 @@ def measured_wait(pid, options):
 
 
 def measure(rt):
-    """Has rt's processes write what they took. An edit is known by the thread that tries it."""
+    """Makes rt record the time and memory of its processes. The thread that tries an edit stores the name of the edit."""
     subprocess.Popen, os.waitpid = Popen, measured_wait
     must_fail, checked = rt.must_fail, rt.checked
 
@@ -82,13 +84,13 @@ def measure(rt):
 
 
 def processor_seconds():
-    """Returns the user and system time that this process and those that it waited for took so far."""
+    """Returns the user and system time so far of this process and of the processes that it waited for, in seconds."""
     both = resource.getrusage(resource.RUSAGE_SELF), resource.getrusage(resource.RUSAGE_CHILDREN)
     return sum(it.ru_utime + it.ru_stime for it in both)
 
 
 def main(words, path):
-    """Runs rt with these words and writes the file of times."""
+    """Runs rt with these arguments, and writes the file of times."""
     os.makedirs(os.path.dirname(path), exist_ok=True)
     rt = rt_module()
     realistic_need(rt)

@@ -1,7 +1,7 @@
-"""Checksums of what the results of a crate's mutants depend on, and the file `mutants.lock` that keeps them.
+"""Checksums of what the results of a crate's mutants depend on, and the file `mutants.lock` that stores them.
 
-A mutant changes one crate. Whether the prover refuses it depends on that crate's sources, definitions, proofs and mutants;
-on the definitions and the public contracts of each crate below it; and on the toolchain. Comments and layout do not count.
+A mutant changes one crate. Whether the prover refuses the mutant depends on the sources, definitions, proofs and mutants of that
+crate, on the definitions and public contracts of all its dependencies, and on the toolchain. Comments and layout do not count.
 """
 import hashlib
 import os
@@ -17,7 +17,7 @@ HEAD = """\
 # CRATE: CHECKSUM of what their results depend on, and how many were refused; or untried, if they were not tried yet.
 """
 LINE = re.compile(r"(\w+): (?:([0-9a-f]{16}) (\d+)|untried)")
-# All of a crate's mutants, and those that a plain `rt ci` tries.
+# The folders of a crate's mutants: those that only `make mutants` tries, and those that a plain `rt ci` tries, too.
 FOLDERS = ("mutants", "must-fail")
 
 
@@ -40,7 +40,7 @@ def kit():
 
 
 class Sums:
-    """Computes checksums; what several crates share is read once."""
+    """A computation of checksums, which reads the interface of each crate once."""
 
     def __init__(self):
         self.lines, self.kit, self.interfaces = lines_of_crates(), kit(), {}
@@ -69,7 +69,7 @@ class Sums:
 
 
 def read_lock(text):
-    """Returns the checksum and the count of each crate in the text of a lock file, or None for a crate that is untried."""
+    """Returns the checksum and the count of each crate in the text of a lock file. They are None for a crate that is untried."""
     found = {}
     for line in text.splitlines():
         if line and not line.startswith("#"):
@@ -81,7 +81,7 @@ def read_lock(text):
 
 
 def lock_text():
-    """Returns the text of the lock file, which is empty if there is none."""
+    """Returns the text of the lock file, or an empty text if there is no lock file."""
     try:
         with open(f"{ROOT}/{LOCK}", encoding="utf-8") as file:
             return file.read()

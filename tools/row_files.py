@@ -1,8 +1,8 @@
-"""Rows: inputs, and by hand the answer to each. Those of crates/row_tests/data are asked by the crate row_tests too, and those of
-checks/rows of the built program alone.
+"""Reads rows: inputs, each with an expected answer written by hand. The crate row_tests also runs the rows of crates/row_tests/data.
+Only the built program runs the rows of checks/rows.
 
-crates/row_tests/src/files.rt says how a row is written. This module reads the same form, and takes the sample plans and
-certificates from the sources beside it."""
+crates/row_tests/src/files.rt describes the form of a row. This module reads the same form, and takes the sample plans and
+certificates from the sources of that crate."""
 import functools
 import os
 import re
@@ -18,7 +18,7 @@ SPELLED = {b"n": b"\n", b"r": b"\r", b"t": b"\t", b"s": b" "}
 
 
 class Case(NamedTuple):
-    """An input of a row with the answer that it must get."""
+    """An input of a row, with its expected answer."""
 
     file: str
     row: str
@@ -77,7 +77,7 @@ def case(file, row, columns, kind, place, text, answer):
 
 
 def sides(line):
-    """Returns what is left and right of the last arrow of a line."""
+    """Returns the texts to the left and to the right of the last arrow of a line."""
     left, arrow, right = line.rpartition("=> ")
     if not arrow:
         left, right = line, ""
@@ -90,7 +90,7 @@ def with_columns(text, columns):
 
 
 def with_names(text, row):
-    """Returns the text with what each `$(NAME)` names in its place."""
+    """Returns the text with each `$(NAME)` replaced by the text that the name stands for."""
     first, *pieces = text.split("$(")
     filled = [first]
     for piece in pieces:
@@ -123,14 +123,15 @@ def constants(module):
 
 @functools.cache
 def samples(module):
-    """Returns the sample texts of a source, by the names that rows call them."""
+    """Returns the sample texts of a source, by the names that rows use for them."""
     with open(f"{SOURCES}/{module}.rt", encoding="utf-8") as source:
         templates = TEMPLATE.findall(source.read())
     return {name: constants(module)[constant] for names, constant in templates for name in re.findall(r'"(\w+)"', names)}
 
 
 def repeated(text):
-    """Returns the text with each `^<64 TEXT^>` written out, and each `^<to 64 BYTE^>` until there are 64 bytes before it."""
+    """Returns the text with each `^<64 TEXT^>` replaced by TEXT repeated 64 times, and each `^<to 64 BYTE^>` replaced by as many of
+    this byte as complete 64 bytes."""
     whole, *pieces = text.split("^<")
     for piece in pieces:
         inner, _, rest = piece.partition("^>")
@@ -146,6 +147,6 @@ def repeated(text):
 
 
 def spelled(text):
-    """Returns the bytes that the text spells: `^n`, `^r`, `^t`, `^s` and `^xff` stand for a byte."""
+    """Returns the bytes of the text, with each escape (`^n`, `^r`, `^t`, `^s` or `^xff`) replaced by its byte."""
     data = text.encode()
     return re.sub(rb"\^(?:([nrts])|x([0-9a-f]{2}))", lambda found: SPELLED[found[1]] if found[1] else bytes([int(found[2], 16)]), data)

@@ -1,4 +1,4 @@
-"""The declarations in the sources of a crate: functions with the promises of their contracts, constants, and definitions."""
+"""Finds the declarations in the sources of a crate: functions with the promises of their contracts, constants, and definitions."""
 import os
 import re
 
@@ -13,7 +13,7 @@ DEFINITION = re.compile(rf"(?m)^(?:(?:{KINDS}) )+(?!(?:{KINDS}|mod|use) )(\S+)")
 
 
 class Function:
-    """A function: its name, the names of its promises, and whether it is a law, which has promises and an empty body."""
+    """A function: its name, the names of its promises, and whether it is a law. A law has promises and an empty body."""
 
     def __init__(self, text, found):
         indent, self.is_public, self.name = found[1], bool(found[2]), found[3]
@@ -46,7 +46,7 @@ def definitions_of(text):
 
 
 def declared_before(text, end, is_source):
-    """Returns the function, constant or definition that this position of a text belongs to, in words; None among the imports."""
+    """Returns the function, constant or definition to which this position of a text belongs, in words, or None among the imports."""
     if not is_source:
         found = definitions_of(text[:end])
         return f"definition {found[-1]}" if found else None
@@ -63,12 +63,12 @@ BODY = re.compile(r"(?m)^( *)((?:pub(?:\([a-z]+\))? )?)(?:const )?fn \w+")
 
 
 def code_of(text, path):
-    """Returns a source or a definition file without comments and layout."""
+    """Returns the text of a source or of a definition file without comments and layout."""
     return rust_code(text) if path.endswith(".rt") else definition_code(text)
 
 
 def rust_code(text):
-    """Returns the text without comments, each run of white space as one space."""
+    """Returns the text of a source without comments, with one space in place of each run of white space."""
     parts, at = [], 0
     while at < len(text):
         if text.startswith("//", at):
@@ -85,7 +85,7 @@ def rust_code(text):
 
 
 def definition_code(text):
-    """Returns the text without comments and empty lines."""
+    """Returns the text of a definition file without comments and empty lines."""
     lines = (re.sub(r"(?:^|(?<=[\s({,]))--(?=\s|$).*", "", line).rstrip() for line in text.splitlines())
     return "\n".join(line for line in lines if line)
 
@@ -93,7 +93,7 @@ def definition_code(text):
 def interface_of(text):
     """Returns the interface of a source for other crates: its items without comments, private functions and bodies.
 
-    A function with no `pub` counts in a trait or in an impl of one, where its contract is the trait's."""
+    A function without `pub` is part of the interface in a trait and in an impl of a trait."""
     kept, lines, at = [], text.splitlines(), 0
     in_trait = False
     while at < len(lines):
@@ -121,7 +121,8 @@ def interface_of(text):
 
 
 def header_end(header, indent):
-    """Returns "body" or "nothing" if the last of these lines ends a function's header, and "" if the header continues."""
+    """Returns "body" if the last of these lines ends a function's header and a body follows, "nothing" if no body follows, and "" if
+    the header continues."""
     line = header[-1]
     if line in (f"{indent}{{}}", f"{indent}}}") or line.endswith(";"):
         return "nothing"
@@ -132,7 +133,7 @@ def header_end(header, indent):
 
 
 def texts_below(crate, folders):
-    """Yields each source and definition file in these folders of a crate: its path in the crate, and its text."""
+    """Yields the path in the crate and the text of each source and definition file in these folders of a crate."""
     for folder in folders:
         for inner, inner_folders, files in os.walk(f"{ROOT}/crates/{crate}/{folder}"):
             inner_folders.sort()
@@ -144,7 +145,7 @@ def texts_below(crate, folders):
 
 
 def texts_of(crate, folder, ending):
-    """Yields the files below a folder of this crate whose names end so, with their texts, in the order of their names."""
+    """Yields the name and the text of each file below a folder of this crate whose name has this suffix, in the order of the names."""
     for inner, folders, files in os.walk(f"{ROOT}/crates/{crate}/{folder}"):
         folders.sort()
         for file in sorted(files):

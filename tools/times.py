@@ -1,4 +1,4 @@
-"""Files of times that tools/measured.py wrote: what a run of the gate took, by crate, and its longest chain of crates.
+"""Reads files of times that tools/measured.py wrote: the times of a run of the gate by crate, and its longest chain of crates.
 
     times.py TIMES     # prints the slowest crates and the longest chain of a run"""
 import sys
@@ -9,7 +9,8 @@ from crates import lines_of_crates
 
 
 class Whole(NamedTuple):
-    """A run of the gate: processor seconds, seconds by the clock, processors, GiB of the largest process."""
+    """The totals of a run of the gate: processor time and elapsed time in seconds, the number of processors, and the memory of the
+    largest process in GiB."""
 
     seconds: float
     clock: float
@@ -18,7 +19,7 @@ class Whole(NamedTuple):
 
 
 class Times:
-    """The times of one run."""
+    """The times of one run of the gate."""
 
     def __init__(self, path):
         self.whole, self.seconds, self.edits = None, defaultdict(float), defaultdict(int)
@@ -32,7 +33,7 @@ class Times:
                     self.edits[crate] += bool(name)
 
     def proof(self, crate):
-        """Returns the processor seconds of a crate's proof and of the builds of its program."""
+        """Returns the processor time of a crate's proof and of the builds of its program, in seconds."""
         return self.seconds[crate, "proofs"] + self.seconds[crate, "build"]
 
     def crates(self):
@@ -40,7 +41,7 @@ class Times:
         return sorted({crate for crate, _ in self.seconds}, key=lambda it: -self.proof(it) - self.seconds[it, "edit"])
 
     def chain(self):
-        """Returns the crates of the longest chain that wait for each other, lowest first, and its processor seconds."""
+        """Returns the longest chain of crates, each of which waits for the one before, and its processor time in seconds."""
         lines, best = lines_of_crates(), {}
         for crate in lines:
             below = [it for it in lines[crate].partition(":")[2].split() if it in best]

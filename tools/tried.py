@@ -1,6 +1,6 @@
-"""tried.py WORD..: `rt try WORD..` by rt's own code, without the check that rt makes beside each try for a hint.
+"""tried.py WORD..: runs `rt try WORD..` through rt's Python modules, without the check by which rt finds a hint during each try.
 
-That check takes as much time and memory as the try itself, and the gate makes it of every crate."""
+That check takes as much time and memory as the try itself, and the gate checks every crate anyway."""
 import sys
 
 from kit import rt_module
@@ -8,6 +8,6 @@ from kit import rt_module
 if __name__ == "__main__":
     sys.dont_write_bytecode = True
     rt = rt_module()
-    # it takes any words, and says nothing
+    # the command `true` in place of the prover takes any arguments, and prints nothing
     rt.rtlib.RATTLE = "true"
     sys.exit(rt.main(["try", *sys.argv[1:]]))
