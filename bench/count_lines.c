@@ -1,5 +1,6 @@
-/* Reads standard input, splits it into lines and the lines into words, and prints how many of each there are.
-   It is the yardstick of replay.py and recordings.py: the least that a program could do with the same bytes. */
+/* Reads standard input, splits it into lines and the lines into words, and prints the numbers of lines and of words.
+   replay.py and recordings.py compare `sizing` with this program, which does the least that a program could do with the
+   same bytes. */
 
 #include <errno.h>
 #include <stdio.h>

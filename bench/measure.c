@@ -1,11 +1,12 @@
 /* usage: measure INPUT OUTPUT PROGRAM [WORD..]
 
-   Runs the program with standard input from one file and standard output to another, and prints four numbers: its exit
-   status (128 and the signal's number where one ended it), the microseconds of CPU time that it used, its peak memory in
-   KiB, and the microseconds that went by. A program that uses too much CPU time is ended.
+   Runs the program with standard input from the file INPUT and standard output to the file OUTPUT. Prints four numbers:
+   the exit status (if a signal ended the program, 128 plus the number of the signal), the CPU time in microseconds, the
+   peak memory in KiB, and the elapsed time in microseconds. A program that uses more than 600 seconds of CPU time is
+   ended.
 
-   A new process takes over the peak memory of the one that started it, and python3's own is larger than what is
-   measured here. This one's is small. */
+   The peak memory of a new process begins with that of the process that started it. That of python3 would be larger than
+   the memory that is measured here, but that of this program is small. */
 
 #define _GNU_SOURCE
 #include <fcntl.h>
@@ -24,7 +25,7 @@ static void fail(const char *what)
     exit(2);
 }
 
-/* In the new process: makes the file of this path its descriptor. */
+/* Opens the file at this path as this descriptor. Called in the new process. */
 static void put_at(int descriptor, const char *path, int flags)
 {
     int file = open(path, flags, 0666);
@@ -38,7 +39,7 @@ static long long microseconds(struct timeval time)
     return time.tv_sec * 1000000LL + time.tv_usec;
 }
 
-/* The microseconds of a clock that only runs on. */
+/* Returns the time of a clock that never runs backwards, in microseconds. */
 static long long now(void)
 {
     struct timespec time;

@@ -1,11 +1,11 @@
 /* usage: one_lock CLIENTS CARRIERS ROUNDS NESTED UNITS
 
-   The yardstick of run.py: threads that pass as many events through one mutex and one condition variable as a run of a
-   plan does, and wake all that wait at each event.
+   run.py compares `sizing run` with this program. Its threads make as many events as a run of a plan, under one mutex, and
+   each event wakes all threads that wait at one condition variable.
 
-   In each round a client submits a job and gets it; between two rounds it has one event more. A job is taken and
-   finished, and between them it submits a job and gets it, so many jobs deep (NESTED), and the innermost one has UNITS
-   events of work. What a pool or a plan is, isn't known here, and nothing is kept of an event but the count.
+   In each round a client submits a job and gets it, and between two rounds it has one further event. A job is taken and
+   finished. Between these two events it submits a job and gets it, and so does that job, to a depth of NESTED jobs. The
+   innermost job has UNITS events of work. The program has no pools and no plan, and stores only the number of events.
 
    Prints the number of events. */
 
@@ -16,7 +16,7 @@
 
 enum { MOST_THREADS = 128 };
 
-/* A job is with who waits for it. */
+/* A job, which the thread that submits it owns. */
 struct job {
     long nested;
     bool is_done;
@@ -27,7 +27,7 @@ static long clients, carriers, rounds, nested, units;
 
 static pthread_mutex_t lock = PTHREAD_MUTEX_INITIALIZER;
 static pthread_cond_t changed = PTHREAD_COND_INITIALIZER;
-/* All below is touched under the lock alone. */
+/* The variables below are read and written only under the lock. */
 static struct job *first, **last = &first;
 static long clients_left;
 static long long events;
@@ -87,7 +87,7 @@ static void *client(void *unused)
     return unused;
 }
 
-/* The next job, or NULL where none will come. */
+/* Takes the next job. Waits for one if there is none, and returns NULL if no client is left that may submit one. */
 static struct job *take(void)
 {
     begin();

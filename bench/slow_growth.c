@@ -1,12 +1,12 @@
-/* A shared object that LD_PRELOAD puts before a program, and that has each growth of its memory take some time: where a
-   thread calls malloc or realloc it sleeps first, SLOW_MICROSECONDS of them. A program whose threads wait for one
-   another then mostly waits, and run.py sees how much processor time it uses meanwhile. */
+/* A shared object that is loaded into a program with LD_PRELOAD, and that slows down each growth of the program's memory:
+   a thread that calls malloc or realloc first sleeps for SLOW_MICROSECONDS. A program whose threads wait for each other
+   then mostly waits, and run.py measures the processor time that it uses meanwhile. */
 
 #define _GNU_SOURCE
 #include <stdlib.h>
 #include <time.h>
 
-/* The C library's own, by the names that nobody takes from it. */
+/* The C library's own functions, under names that this object does not replace. */
 extern void *__libc_malloc(size_t);
 extern void *__libc_realloc(void *, size_t);
 

@@ -1,13 +1,16 @@
 /* usage: walk_states STATES < PLAN
 
-Walks through the states of a plan as the search of `sizing refute` does where no vector misses its bound, and prints how many
-states it came to: 48 walks in fixed orders, and then walks in orders by chance. It proves nothing and looks at no memory
-error but the want of it, and is there to be timed beside that search.
+Walks through the states of a plan like the search of `sizing refute` on a plan in which no vector exceeds its bound: 48 walks in
+fixed orders, and then walks in random orders. Prints the number of visited states. refute.py compares the time of that search with
+the time of this program, which proves nothing and checks for no memory error except running out of memory.
 
-PLAN is numbers with white space between them: how many pools there are, and for each its core, maximum, queue and whether it
-is prestarted; how many kinds of clients, and for each how many there are, whether they repeat, how many actions they have, and
-these; how many classes, and for each its pool, how many actions it has, and these. An action is two numbers: 0 0 for work, 1
-and the class for a submit, 2 and the position of the submit for a get. */
+PLAN is a sequence of numbers with white space between them:
+
+- the number of pools, and for each pool its core, maximum, queue, and 1 if it is prestarted;
+- the number of client kinds, and for each its count, 1 if it repeats, the number of its actions, and the actions;
+- the number of classes, and for each its pool, the number of its actions, and the actions.
+
+An action is two numbers: 0 0 for work, 1 and the class for a submit, or 2 and the position of the submit for a get. */
 
 #include <stdbool.h>
 #include <stdint.h>
@@ -48,7 +51,7 @@ struct event { struct actor actor; size_t made; };
 static struct { enum choice kind; size_t of; } *choices;
 static size_t choice_count;
 
-/* the walk so far */
+/* the state of the current walk */
 static struct pool_now *now;
 static struct job *jobs;
 static size_t job_count, job_room;
@@ -478,7 +481,8 @@ static void shuffle(uint64_t *keys)
         keys[c] = next_chance();
 }
 
-/* How many states the walk comes to, and whether it finds what is bad. */
+/* Performs a walk, and returns the number of visited states. Sets `bad` to whether the walk ends in a refused submit or in jobs that
+   wait only for each other. */
 static size_t walk(uint64_t *keys, size_t most_movers, size_t most_states, bool changing, bool *bad)
 {
     size_t states = 1, due = 8;

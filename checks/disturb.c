@@ -1,9 +1,12 @@
-/* A shared object that LD_PRELOAD puts before a program with threads, and that disturbs how they meet. Now and then, by
-   chance: a thread that calls the system to wait for another one comes back at once, as if it had been woken; one that
-   is about to wait, or to wake another one, sleeps a little first; and one that asks for memory lets others go first.
-   All of that may happen on any system, so nothing may depend on it.
+/* A shared object that is loaded into a program with LD_PRELOAD, and that disturbs the program's threads at random:
 
-   DISTURB_SEED   where chance begins */
+   - A thread that waits with the system call futex sometimes returns at once, as if another thread had woken it.
+   - A thread that is about to wait, or to wake another thread, sometimes sleeps for up to 0.2 ms first.
+   - A thread that allocates memory sometimes yields its processor to other threads first.
+
+   All of this may happen on any system, so no program may depend on its absence.
+
+   DISTURB_SEED   the seed of the pseudo-random numbers */
 
 #define _GNU_SOURCE
 #include <dlfcn.h>
@@ -18,7 +21,7 @@
 
 enum { COMES_BACK = 8, SLEEPS = 16, YIELDS = 4, MOST_NANOSECONDS = 200000 };
 
-/* The C library's own, by the names that nobody takes from it. */
+/* The C library's own functions, under names that this object does not replace. */
 extern void *__libc_malloc(size_t);
 extern void *__libc_realloc(void *, size_t);
 
@@ -36,7 +39,7 @@ __attribute__((constructor)) static void start(void)
         abort();
 }
 
-/* A number below this one, by chance. Each thread has a row of its own. */
+/* Returns a pseudo-random number below this bound. Each thread has a separate sequence of numbers. */
 static unsigned below(unsigned bound)
 {
     if (state == 0)

@@ -1,11 +1,11 @@
-/* A shared object that LD_PRELOAD puts before a program, and that refuses one growth of its memory or one start of a
-   thread: it has one call of malloc, calloc, realloc, reallocarray, posix_memalign, aligned_alloc or mmap fail as it does
-   where memory ran out, or one of pthread_create as it does where no thread is to be had. The calls are counted from 1,
-   all in one row, and only those behind this object's constructor, which the loader calls when the C library has
-   started, right before main.
+/* A shared object that is loaded into a program with LD_PRELOAD, and that refuses one growth of the program's memory or
+   one start of a thread. One call of malloc, calloc, realloc, reallocarray, posix_memalign, aligned_alloc or mmap fails as
+   if memory had run out, or one call of pthread_create fails as if the system had no thread left. The calls of all these
+   functions are counted together, from 1. The count begins after this object's constructor, which the loader calls right
+   before main, when the C library has started.
 
-   REFUSE_AT     the number of the call to refuse; none is refused if it is 0 or too large
-   REFUSE_TOLD   a file, to which are added a line "counting" at the start, and a line with the refused call's name */
+   REFUSE_AT     the number of the call to refuse; no call is refused if it is 0 or too large
+   REFUSE_TOLD   a file; a line "counting" is appended to it at the start, and a line with the name of the refused call */
 
 #define _GNU_SOURCE
 #include <dlfcn.h>
@@ -20,7 +20,7 @@
 #include <sys/syscall.h>
 #include <unistd.h>
 
-/* The C library's own, by the names that nobody takes from it. */
+/* The C library's own functions, under names that this object does not replace. */
 extern void *__libc_malloc(size_t);
 extern void *__libc_calloc(size_t, size_t);
 extern void *__libc_realloc(void *, size_t);
@@ -33,7 +33,7 @@ static atomic_bool counting;
 static atomic_ullong calls;
 static unsigned long long refused_call;
 
-/* Adds to the file of what is told. It takes no memory. Where that is impossible, the program ends. */
+/* Appends a line to the file REFUSE_TOLD, without allocating memory. Aborts the program if that fails. */
 static void tell(const char *line)
 {
     const char *path = getenv("REFUSE_TOLD");
@@ -54,7 +54,7 @@ __attribute__((constructor)) static void start(void)
     counting = true;
 }
 
-/* Counts a call, and says whether it is the one to refuse. */
+/* Counts a call, and returns whether this call is to be refused. If it is, appends the line with its name to the file. */
 static bool refused(const char *line)
 {
     if (!counting || ++calls != refused_call)

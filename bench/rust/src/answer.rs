@@ -1,8 +1,8 @@
-//! What a command answers.
+//! The answer of a command.
 
 const MOST_DIGITS: usize = 20;
 
-/// What is written, and whether it says no.
+/// The output of a command, and whether its answer is a no.
 #[derive(Default)]
 pub struct Answer {
     pub text: Vec<u8>,
@@ -18,13 +18,14 @@ impl Answer {
         self.text.extend_from_slice(words.as_bytes());
     }
 
-    /// Pushes words that say no.
+    /// Appends a text, and marks the answer as a no.
     pub fn push_no(&mut self, words: &str) {
         self.is_no = true;
         self.push(words);
     }
 
-    /// Pushes the digits of a number, without the formatting machinery: a replay has two numbers in each line.
+    /// Appends the digits of a number. It does not use `write!`, which is slower: a replay has two numbers in each
+    /// line.
     pub fn push_number(&mut self, mut number: u64) {
         let mut digits = [0; MOST_DIGITS];
         let mut first = MOST_DIGITS;

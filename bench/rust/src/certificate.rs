@@ -1,4 +1,5 @@
-//! A certificate: for each pool two vectors of weights, and one set of ranks. Its text is a JSON object.
+//! Certificates: for each pool two vectors of weights, and one set of ranks. The text of a certificate is a JSON
+//! object.
 
 use crate::faults::{Fault, Kind};
 use crate::object::{object, Object};
@@ -9,11 +10,14 @@ use serde_json::Value;
 
 pub const MOST_BYTES: usize = 1_048_576;
 pub const MOST_WEIGHT: u64 = 1_000_000_000;
-/// A row of a class has a number for queued, for done, and for one position more than its body has actions.
+/// The number of weights in the row of a class beyond one for each action: one for a queued job, one for the position
+/// at the end of the body, and one for a done job.
 const CLASS_POINTS: usize = 3;
+/// The number of weights in the row of a client kind beyond one for each action: one for the position at the end of the
+/// body.
 const CLIENT_POINTS: usize = 1;
 
-// The keys of each object stand in the order of their bytes, as they are to be written.
+// The fields of each struct are in the alphabetical order of their keys, which is the order in which they are written.
 
 #[derive(Deserialize, Serialize)]
 #[serde(deny_unknown_fields)]
@@ -31,7 +35,7 @@ pub struct PoolCertificate {
     pub bound: Bound,
 }
 
-/// The vector that bounds a pool's queue, or the jobs that it is ever given.
+/// The vector that bounds a pool's queue, or the number of jobs that the pool is ever given.
 #[derive(Serialize)]
 #[serde(rename_all = "lowercase")]
 pub enum Bound {
@@ -61,7 +65,7 @@ impl Certificate {
         Certificate { pools, ranks, version }
     }
 
-    /// The certificate of a text, or its first fault.
+    /// Parses a certificate, or returns the first fault of the text.
     pub fn read(bytes: &[u8], plan: &Plan) -> Result<Certificate, Fault> {
         if bytes.len() > MOST_BYTES {
             return Err(Kind::CertTooLong.into());
@@ -85,7 +89,7 @@ impl Certificate {
         Ok(())
     }
 
-    /// Whether each list is as long as the plan wants.
+    /// Returns whether each list has the length that the plan requires.
     fn fits(&self, plan: &Plan) -> bool {
         let Ranks { levels, pools, reach } = &self.ranks;
         self.pools.len() == plan.pools.len()
@@ -102,7 +106,7 @@ impl Certificate {
     }
 }
 
-/// Reads the certificate as a value first, to find the first fault of its shape.
+/// Parses the certificate as a JSON value first, to find the first fault of its shape.
 fn read_slowly(bytes: &[u8]) -> Result<Certificate, Kind> {
     let value: Value = serde_json::from_slice(bytes).map_err(|_| Kind::NotJson)?;
     check_version(value.get("version").and_then(Value::as_u64).ok_or(Kind::WrongShape)?)?;
@@ -155,7 +159,7 @@ impl<'de> Deserialize<'de> for PoolCertificate {
         struct Text {
             #[serde(deserialize_with = "object")]
             blocked: Vector,
-            // Null is no vector, so these are not read as options.
+            // A plain `Option` would accept `null` as a missing vector.
             #[serde(default, deserialize_with = "some_object")]
             standing: Option<Vector>,
             #[serde(default, deserialize_with = "some_object")]

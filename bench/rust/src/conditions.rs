@@ -27,7 +27,7 @@ enum Rule {
     B2,
 }
 
-/// A point of a plan, by names.
+/// The place of a condition in a plan, with the names of its pool, class or client kind.
 #[derive(Clone, Copy)]
 enum Place<'a> {
     Workers(&'a str),
@@ -38,7 +38,8 @@ enum Place<'a> {
     Total,
 }
 
-/// A rule at its place, in its section: the left number is to be at most the right one.
+/// A condition: a rule at its place in a section of the certificate. It holds if the left number is at most the right
+/// number.
 #[derive(Clone, Copy)]
 struct Condition<'a> {
     section: &'a str,
@@ -99,7 +100,7 @@ pub fn explain(plan: &Plan, certificate: &Certificate) -> Answer {
     Answer { text: text.into_bytes(), is_no: failing > 0 }
 }
 
-/// Whether each condition holds.
+/// Returns whether each condition of the certificate holds.
 pub fn accepts(plan: &Plan, certificate: &Certificate) -> bool {
     let looked = each_condition(plan, certificate, &mut |condition| match condition.fails() {
         true => ControlFlow::Break(()),
@@ -108,14 +109,15 @@ pub fn accepts(plan: &Plan, certificate: &Certificate) -> bool {
     looked.is_continue()
 }
 
-/// What the start weighs: each client at its first position, and each pool's most workers.
+/// Returns the weight of the start: that of each client at its first position, and of the maximum number of workers of
+/// each pool.
 fn total(plan: &Plan, vector: &Vector) -> u64 {
     let clients: u64 = plan.clients.iter().zip(&vector.clients).map(|(client, row)| client.count * row[0]).sum();
     let workers: u64 = plan.pools.iter().zip(&vector.workers).map(|(pool, weight)| pool.max * weight).sum();
     clients + workers
 }
 
-/// Looks at each condition in order, until the visitor breaks off.
+/// Visits each condition in order, until the visitor returns `Break`.
 fn each_condition(
     plan: &Plan,
     certificate: &Certificate,
@@ -210,7 +212,7 @@ fn each_of_blocked(
     visit(Condition { section, place: Place::Total, rule: Rule::B2, left: total(plan, vector), right: pool.core - 1 })
 }
 
-/// The rows of a vector: V2 to V7, or L5 in place of V5 where a get gives nothing back.
+/// Visits the rows of a vector: V2 to V7, with L5 in place of V5 if a get returns no weight.
 fn each_of_vector(
     plan: &Plan,
     section: &str,
@@ -242,7 +244,8 @@ fn each_of_vector(
     ControlFlow::Continue(())
 }
 
-/// The rule of each action of a body, with both its sides, for what the actor weighs at each position.
+/// Returns the rule and the two numbers of the condition for each action of a body, from the actor's weight at each
+/// position.
 fn body_rows<'a>(
     body: &'a Body,
     vector: &'a Vector,

@@ -1,8 +1,8 @@
-//! What is wrong with an input, and where.
+//! The faults of an input, with their places.
 
 use std::fmt;
 
-/// The kinds of faults, by their numbers.
+/// The kind of a fault, with its number.
 #[derive(Clone, Copy, Debug)]
 pub enum Kind {
     NotToml = 1,
@@ -28,7 +28,7 @@ pub enum Kind {
     InputTooLong = 52,
 }
 
-/// An entry of a plan: in which list it stands, and where there.
+/// An entry of a plan: the list that has it, and its index in that list.
 #[derive(Clone, Copy, Debug)]
 pub enum Entry {
     Pool(usize),
@@ -60,7 +60,7 @@ impl Kind {
         Fault { kind: self, place: Place::Action(entry, action) }
     }
 
-    /// At a line, counted from 1.
+    /// Returns a fault of this kind at a line, which is counted from 1.
     pub fn at_line(self, line: usize) -> Fault {
         Fault { kind: self, place: Place::Line(line) }
     }

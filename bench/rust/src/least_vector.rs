@@ -1,4 +1,5 @@
-//! The least vector of a pool: backwards through each body, from the lowest level up, and with workers that lend.
+//! The least vector of a pool. It is computed backwards through each body, for the classes from the lowest level up.
+//! Workers lend weight if that reduces the total.
 
 use crate::certificate::{Vector, MOST_WEIGHT};
 use crate::plan::{Action, Body, Class, Client, Plan};
@@ -7,18 +8,18 @@ use indexmap::IndexMap;
 const MOST_LOANS: usize = 256;
 const TOO_HEAVY: u64 = u64::MAX;
 
-/// Where the jobs of the pool are to weigh at least 1.
+/// The points at which the jobs of the pool must weigh at least 1.
 #[derive(Clone, Copy)]
 pub enum Need<'a> {
-    /// While they are queued, as in a standing vector.
+    /// While the jobs are queued, as in a standing vector.
     WhileQueued,
-    /// At each get of a job of a class that reaches this rank, as in a blocked vector.
+    /// At each get of a job of a class whose reach is at least this rank, as in a blocked vector.
     AtGets { reach: &'a [u64], rank: u64 },
-    /// Everywhere, as in a lifetime vector, in which a get gives nothing back and no worker weighs anything.
+    /// At every point, as in a lifetime vector, in which a get returns no weight and all workers weigh 0.
     Everywhere,
 }
 
-/// A vector of a pool that is looked for: its total is to be at most the limit.
+/// The vector of a pool that is searched for. Its total must be at most the limit.
 #[derive(Clone, Copy)]
 pub struct Target<'a> {
     pub pool: usize,
@@ -57,13 +58,15 @@ impl Target<'_> {
         !matches!(self.need, Need::Everywhere)
     }
 
-    /// Workers that weigh something weigh more than a limit of 0.
+    /// Returns whether workers may have weight. With a limit of 0 they may not, since their weight alone would exceed
+    /// it.
     fn may_lend(&self) -> bool {
         self.gives_back() && self.limit > 0
     }
 }
 
-/// The least that an actor may weigh at a point of its body, and how much more the end may weigh at the same price.
+/// The least weight of an actor at a point of its body, and the amount by which the weight at the end may grow without
+/// increasing it.
 #[derive(Clone, Copy)]
 struct Weight {
     number: u64,
@@ -90,7 +93,7 @@ impl Weight {
     }
 }
 
-/// What a vector comes to for some weights of the workers.
+/// The weights of a vector for some weights of the workers, without the weights inside bodies.
 struct Sketch {
     queued: Vec<u64>,
     done: Vec<u64>,
@@ -101,7 +104,7 @@ struct Sketch {
 }
 
 impl Sketch {
-    /// The classes stand in the order of their levels.
+    /// Computes the sketch. `order` has the classes in the order of their levels.
     fn new(plan: &Plan, order: &[usize], target: &Target, workers: &[u64]) -> Sketch {
         let mut sketch = Sketch {
             queued: vec![0; plan.classes.len()],
@@ -150,7 +153,7 @@ impl Sketch {
         self.starts.push(weight.number);
     }
 
-    /// What an actor weighs before an action, from what it weighs behind it.
+    /// Returns the weight of an actor before an action, from its weight after the action.
     fn before(&self, target: &Target, action: Action, behind: Weight) -> Weight {
         match action {
             Action::Submit { class, .. } => behind.plus(self.queued[class]),
@@ -159,7 +162,7 @@ impl Sketch {
         }
     }
 
-    /// The vector of these weights of the workers; None where a number is too large.
+    /// Returns the vector with these weights of the workers, or `None` if a number is too large.
     fn vector(&self, plan: &Plan, target: &Target, workers: Vec<u64>) -> Option<Vector> {
         let classes = plan
             .classes
@@ -187,7 +190,8 @@ impl Sketch {
         row
     }
 
-    /// Pushes what an actor weighs at each position of its body, the end first; the weight at its first position.
+    /// Appends the weight of an actor at each position of its body, from the end to the start, and returns the weight
+    /// at the start.
     fn push_body(
         &self,
         target: &Target,
@@ -210,7 +214,7 @@ fn workers_weigh(plan: &Plan, workers: &[u64]) -> u64 {
     weights.fold(0, u64::saturating_add)
 }
 
-/// The sketches for the weights of workers that were tried, which come again.
+/// A cache of the sketches for the weights of workers that were tried.
 struct Tried<'a> {
     plan: &'a Plan,
     order: &'a [usize],
@@ -219,7 +223,7 @@ struct Tried<'a> {
 }
 
 impl Tried<'_> {
-    /// The place of the sketch for these weights.
+    /// Returns the index of the sketch for these weights of the workers.
     fn place(&mut self, workers: &[u64]) -> usize {
         if let Some(place) = self.sketches.get_index_of(workers) {
             return place;
@@ -228,7 +232,8 @@ impl Tried<'_> {
         self.sketches.insert_full(workers.to_vec(), sketch).0
     }
 
-    /// The loan of one pool that gives the least total, if one lowers it: the pool, its weight, and the sketch's place.
+    /// Returns the pool whose loan gives the least total, with the weight of its workers and the index of the sketch.
+    /// Returns `None` if no loan lowers the total.
     fn best_loan(&mut self, workers: &mut [u64], place: usize) -> Option<(usize, u64, usize)> {
         let mut best = None;
         let mut least = self.sketches[place].total;
@@ -249,7 +254,7 @@ impl Tried<'_> {
         best
     }
 
-    /// The greatest weight of a job of the pool where its own workers weigh nothing.
+    /// Returns the greatest weight of a job of the pool if the pool's own workers weigh 0.
     fn peak(&mut self, workers: &mut [u64], pool: usize, place: usize) -> u64 {
         let before = workers[pool];
         if before == 0 {
@@ -262,8 +267,8 @@ impl Tried<'_> {
     }
 }
 
-/// The least vector whose total is at most the target's limit. While it is above, that pool lends whose workers, as heavy as
-/// its heaviest job, lower it most.
+/// Returns the least vector whose total is at most the target's limit, if one is found. While the total exceeds the
+/// limit, the pool whose loan lowers the total most lends: its workers get the greatest weight of its jobs.
 pub fn least_vector(plan: &Plan, order: &[usize], target: &Target) -> Option<Vector> {
     let mut workers = vec![0; plan.pools.len()];
     let mut tried = Tried { plan, order, target, sketches: IndexMap::new() };

@@ -1,4 +1,4 @@
-//! The machine of a plan: its pools, clients and jobs, and what each event does to them.
+//! The machine of a plan: its pools, clients and jobs, and the effect of each event on them.
 
 use crate::plan::{Action, Body, Plan};
 use std::collections::{HashMap, VecDeque};
@@ -11,7 +11,7 @@ pub enum Event {
     Retire(usize),
 }
 
-/// What came of an event. Jobs and pools are told by number.
+/// The outcome of an event. Jobs and pools are identified by their numbers.
 pub enum Outcome {
     Started(usize),
     Queued(usize),
@@ -26,14 +26,14 @@ pub enum Outcome {
 
 pub struct Machine<'a> {
     plan: &'a Plan,
-    /// The number of the first client of each kind, and last that of all clients.
+    /// The number of the first client of each client kind. The last entry is the number of all clients.
     first_clients: Vec<usize>,
-    /// The clients that an event has named.
+    /// The clients that have moved, by their numbers.
     clients: HashMap<usize, Actor>,
     state: State,
 }
 
-/// What the actors change.
+/// The part of the machine that actors change: the pools, the jobs, and the number of refused submits.
 struct State {
     pools: Vec<PoolState>,
     jobs: Vec<Job>,
@@ -47,7 +47,7 @@ struct PoolState {
     queue: VecDeque<usize>,
 }
 
-/// Where a client or a job stands in its body, and the latest job that it made for each slot.
+/// The position of a client or a job in its body, and the latest job that it created for each slot.
 #[derive(Default)]
 struct Actor {
     position: usize,
@@ -100,7 +100,7 @@ impl<'a> Machine<'a> {
         self.state.unfinished
     }
 
-    /// Lets the event happen, and says what came of it; None where it is not possible, and then nothing changes.
+    /// Performs the event, and returns its outcome. Returns `None` and changes nothing if the event is not possible.
     pub fn step(&mut self, event: Event) -> Option<Outcome> {
         match event {
             Event::Client(number) => self.client(number),
@@ -160,7 +160,7 @@ impl<'a> Machine<'a> {
         Some(Outcome::Retired)
     }
 
-    /// Whether there are such jobs, and each of them is unfinished and waits for others of them alone.
+    /// Returns whether these jobs exist, and each of them is unfinished and waits only for others of them.
     pub fn is_stuck(&self, members: &[usize]) -> bool {
         let mut members = members.to_vec();
         members.sort_unstable();
@@ -178,7 +178,7 @@ impl<'a> Machine<'a> {
         members.iter().all(|member| self.waits(&self.state.jobs[*member], &members, &at_work))
     }
 
-    /// Whether the job waits for these alone, so many of which are at work in each pool.
+    /// Returns whether the job waits only for these members. `at_work` is the number of members that run in each pool.
     fn waits(&self, job: &Job, members: &[usize], at_work: &[u64]) -> bool {
         let class = &self.plan.classes[job.class];
         match job.phase {

@@ -1,4 +1,5 @@
-//! A plain Rust program that gives the answers of `sizing replay`, `check`, `explain` and `certify`, for the benchmarks.
+//! A plain Rust program that gives the answers of `sizing replay`, `check`, `explain` and `certify`, for the
+//! benchmarks.
 
 mod answer;
 mod certificate;
@@ -36,9 +37,9 @@ enum Command {
     Replay,
     /// Checks a certificate of a plan
     Check,
-    /// Tells each condition of a certificate that fails
+    /// Lists each condition of a certificate that fails
     Explain,
-    /// Looks for a certificate of a plan
+    /// Searches for a certificate of a plan
     Certify,
 }
 
@@ -53,7 +54,8 @@ fn main() -> ExitCode {
     }
 }
 
-/// Answers the standard input. As of `sizing`, the whole answer is made before any of it is written.
+/// Answers standard input, and returns the exit status. As in `sizing`, the whole answer is computed before any of it
+/// is written.
 fn serve(command: Command) -> io::Result<u8> {
     let mut input = Vec::new();
     io::stdin().lock().take(MOST_BYTES as u64 + 1).read_to_end(&mut input)?;
@@ -81,7 +83,8 @@ fn answer(command: Command, input: Vec<u8>) -> Result<Answer, Fault> {
     }
 }
 
-/// What stands before and behind the last line that is exactly `%%`. The end of the input may stand for its newline.
+/// Returns the texts before and after the last line that is exactly `%%`. This line may end at the end of the input,
+/// without a newline.
 fn split(input: &[u8]) -> Option<(&[u8], &[u8])> {
     let mut front = input;
     loop {

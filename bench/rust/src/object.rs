@@ -1,16 +1,16 @@
-//! Structs that are read from objects alone: derived ones are read from lists too.
+//! Structs that are read only from objects. A derived `Deserialize` would read them from lists, too.
 
 use serde::de::value::MapAccessDeserializer;
 use serde::de::{Deserialize, Deserializer, MapAccess, Visitor};
 use std::fmt;
 use std::marker::PhantomData;
 
-/// Reads a struct whose text is an object.
+/// Reads a struct from an object, and fails on anything else.
 pub fn object<'de, T: Deserialize<'de>, D: Deserializer<'de>>(from: D) -> Result<T, D::Error> {
     from.deserialize_map(ObjectVisitor(PhantomData))
 }
 
-/// A struct whose text is an object.
+/// A struct that is read only from an object.
 pub struct Object<T>(pub T);
 
 impl<'de, T: Deserialize<'de>> Deserialize<'de> for Object<T> {

@@ -1,4 +1,4 @@
-//! A plan: pools, classes of jobs and kinds of clients, with names as numbers.
+//! Plans: pools, classes of jobs and client kinds, with numbers in place of names.
 
 use crate::faults::{Entry, Fault, Kind};
 use crate::object::Object;
@@ -42,7 +42,7 @@ pub struct Client {
 
 pub struct Body {
     pub actions: Vec<Action>,
-    /// How many names of slots the body has.
+    /// The number of different slots of the body.
     pub slots: usize,
 }
 
@@ -53,7 +53,7 @@ pub enum Action {
         class: usize,
         slot: Option<usize>,
     },
-    /// The class is that of the job in the slot.
+    /// A get of the job in this slot, which has this class.
     Get {
         slot: usize,
         class: usize,
@@ -61,7 +61,7 @@ pub enum Action {
 }
 
 impl Pool {
-    /// How many threads it begins with.
+    /// Returns the number of threads of the pool at the start.
     pub fn first_threads(&self) -> u64 {
         if self.prestart {
             self.core
@@ -72,7 +72,7 @@ impl Pool {
 }
 
 impl Plan {
-    /// The plan of a text, or its first fault.
+    /// Parses a plan, or returns the first fault of the text.
     pub fn read(bytes: &[u8]) -> Result<Plan, Fault> {
         let PlanText { pools, classes, clients } = plan_text::read(bytes)?;
         let pool_names = check_pools(&pools)?;
@@ -158,7 +158,7 @@ fn pool(Object(text): Object<PoolText>) -> Pool {
     }
 }
 
-/// An action as its text gives it.
+/// A parsed action, with the names of its class and slot.
 enum Words<'a> {
     Work(u32),
     Submit(&'a str),
@@ -194,7 +194,7 @@ fn units(text: &str) -> Option<u32> {
 
 impl Body {
     fn read(classes: &IndexSet<&str>, entry: Entry, texts: &[String]) -> Result<Body, Fault> {
-        // The names of the slots so far, each with the class of the job that it holds.
+        // The names of the slots that were submitted to so far, each with the class of the job in the slot.
         let mut slots = IndexMap::new();
         let mut actions = Vec::with_capacity(texts.len());
         for (position, text) in texts.iter().enumerate() {

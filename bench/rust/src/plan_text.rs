@@ -1,4 +1,4 @@
-//! A plan's text: a TOML document with tables of pools, classes and clients.
+//! The text of a plan: a TOML document with tables of pools, classes and clients.
 
 use crate::faults::{Entry, Fault, Kind};
 use crate::object::Object;
@@ -49,7 +49,7 @@ pub struct ClientText {
     pub body: Vec<String>,
 }
 
-/// Reads the tables of a plan's text. Names, numbers and actions are as they stand there.
+/// Parses the tables of a plan's text. Does not check the names, numbers and actions.
 pub fn read(bytes: &[u8]) -> Result<PlanText, Fault> {
     if bytes.len() > MOST_BYTES {
         return Err(Kind::TooMany.into());
@@ -85,7 +85,7 @@ fn check_actions(entry: Entry, count: usize) -> Result<(), Fault> {
     Ok(())
 }
 
-/// Reads the document as a value first, to find the first fault of its shape.
+/// Parses the document as a TOML value first, to find the first fault of its shape.
 fn read_slowly(text: &str) -> Result<PlanText, Fault> {
     let mut document: Table = toml::from_str(text).map_err(|_| Kind::NotToml)?;
     if document.keys().any(|key| !["pool", "class", "client"].contains(&key.as_str())) {
@@ -136,7 +136,7 @@ fn client(index: usize, value: Value) -> Result<ClientText, Fault> {
     })
 }
 
-/// The keys of an entry, each of which is taken once.
+/// The keys of an entry that have not been read yet.
 struct Keys {
     table: Table,
     entry: Entry,

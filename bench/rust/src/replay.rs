@@ -1,4 +1,4 @@
-//! The replay of a text of event lines.
+//! The replay of the lines of an event file.
 
 use crate::answer::Answer;
 use crate::faults::{Fault, Kind};
@@ -14,7 +14,7 @@ enum Line {
     Stuck(Vec<usize>),
 }
 
-/// Reads all lines, and then replays them up to the first event that is not possible.
+/// Parses all lines, and then replays their events up to the first event that is not possible.
 pub fn replay(plan: &Plan, text: &[u8]) -> Result<Answer, Fault> {
     if text.len() > MOST_BYTES {
         return Err(Kind::InputTooLong.into());
@@ -41,7 +41,7 @@ pub fn replay(plan: &Plan, text: &[u8]) -> Result<Answer, Fault> {
     Ok(answer)
 }
 
-/// Tells what came of the event of a line.
+/// Appends the outcome of the event of a line.
 fn tell(answer: &mut Answer, plan: &Plan, outcome: Outcome) {
     match outcome {
         Outcome::Started(job) => push_numbered(answer, ": started job ", job as u64),

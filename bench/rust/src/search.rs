@@ -28,7 +28,7 @@ pub fn certify(mut input: Vec<u8>) -> Result<Answer, Fault> {
     Ok(answer)
 }
 
-/// A certificate that is accepted, if one is found. None says nothing of the plan.
+/// Searches for a certificate that accepts the plan. If none is found, the plan may be safe or not.
 fn search(plan: &Plan) -> Option<Certificate> {
     let levels = levels(plan)?;
     let mut order: Vec<usize> = (0..plan.classes.len()).collect();
@@ -42,7 +42,7 @@ fn search(plan: &Plan) -> Option<Certificate> {
     Some(certificate).filter(|certificate| accepts(plan, certificate))
 }
 
-/// A standing vector of the pool, or else a lifetime vector.
+/// Returns a standing vector of the pool or, if none is found, a lifetime vector.
 fn bound(plan: &Plan, order: &[usize], number: usize) -> Option<Bound> {
     let pool = &plan.pools[number];
     let standing = Target { pool: number, need: Need::WhileQueued, limit: pool.queue };
@@ -54,8 +54,9 @@ fn bound(plan: &Plan, order: &[usize], number: usize) -> Option<Bound> {
     least_vector(plan, order, &lifetime).map(Bound::Lifetime)
 }
 
-/// The rank and the blocked vector of each pool. They are found in rounds: a pool whose vector is found gets the round's
-/// number as its rank, and in the next round gets are not counted that wait only for pools with a rank.
+/// Returns the rank and the blocked vector of each pool. They are found in rounds. A pool whose vector is found in a
+/// round gets the number of the round as its rank. In later rounds a get is not counted if it depends only on pools
+/// with a rank.
 fn ranked(plan: &Plan, order: &[usize]) -> Option<Vec<(u64, Vector)>> {
     let mut found: Vec<Option<(u64, Vector)>> = plan.pools.iter().map(|_| None).collect();
     for rank in 0..plan.pools.len() as u64 {
@@ -78,7 +79,8 @@ fn ranked(plan: &Plan, order: &[usize]) -> Option<Vec<(u64, Vector)>> {
     found.into_iter().collect()
 }
 
-/// The highest rank that a job of each class waits for, with that of its own pool.
+/// Returns the reach of each class: the highest rank among its own pool and the pools of the jobs for which its jobs
+/// wait, directly or through other jobs.
 fn reach(plan: &Plan, order: &[usize], ranks: &[u64]) -> Vec<u64> {
     let mut reach = vec![0; plan.classes.len()];
     for number in order {
@@ -94,12 +96,13 @@ fn reach(plan: &Plan, order: &[usize], ranks: &[u64]) -> Vec<u64> {
 #[derive(Clone, Copy)]
 enum Level {
     Unknown,
-    /// It is being found: who submits this class again goes round in a circle.
+    /// The level is being computed. A class that submits this class now closes a cycle of submits.
     Open,
     Known(u64),
 }
 
-/// The level of each class, above those of all classes that it submits; None where a class submits itself.
+/// Returns the level of each class, which is above the levels of all classes that it submits. Returns `None` if there
+/// is a cycle of submits.
 fn levels(plan: &Plan) -> Option<Vec<u64>> {
     let mut levels = vec![Level::Unknown; plan.classes.len()];
     (0..plan.classes.len()).map(|class| level(plan, class, &mut levels)).collect()
