@@ -1,7 +1,6 @@
-"""The inputs of the benchmark of check and explain: plans with their certificates, of several shapes.
+"""The inputs of the benchmark of `sizing check` and `sizing explain`: plans with their certificates, of several shapes.
 
-A filled certificate has as many numbers as fit into its bytes, nearly all of one digit, followed by white space up to the last
-byte.
+A filled certificate has as many numbers as fit into the requested size, nearly all of one digit. White space follows up to that size.
 """
 
 from dataclasses import dataclass
@@ -15,7 +14,7 @@ SEPARATOR = "%%\n"
 MOST_POOLS = 64
 MOST_SIZE = 1_000_000
 FEW_CLIENTS = 2
-# The number of classes in `long_names` that only work, and that the others submit.
+# The number of classes in `long_names` that only work. The other classes submit them.
 INNER_CLASSES = 32
 
 
@@ -34,7 +33,7 @@ class Bundle:
 
 
 def bundle(name, certificate, size, is_plan_filled=False):
-    """Returns a certificate filled to this size, and its plan, filled to the same size or unchanged."""
+    """Returns a bundle of a certificate that is filled to this size and its plan, which is filled to the same size or unchanged."""
     plan_text = certificate.plan.text()
     return Bundle(
         name,
@@ -45,7 +44,7 @@ def bundle(name, certificate, size, is_plan_filled=False):
 
 
 def long_names(size):
-    """Returns a bundle with names of 32 bytes, and bodies that submit and get jobs in order. Plan and certificate are filled."""
+    """Returns a bundle with names of 32 bytes, and bodies that get each job before they submit the next. Both texts are filled."""
     names = [f"class_{number:026}" for number in range(MOST_CLASSES)]
     slots = [f"slot_{number:027}" for number in range(MOST_ACTIONS // 2)]
     outer, inner = names[:-INNER_CLASSES], names[-INNER_CLASSES:]
@@ -64,7 +63,7 @@ def long_names(size):
 
 
 def full_bodies(size):
-    """Returns a bundle with short names and 256 actions in each body, all submits first. Plan and certificate are filled."""
+    """Returns a bundle with short names, and bodies of 256 actions that begin with all submits. Both texts are filled."""
     slots = [first + second for first in LETTERS for second in LETTERS][:MOST_ACTIONS // 2]
     body = [f"submit a as {slot}" for slot in slots] + [f"get {slot}" for slot in slots]
     names = [*LETTERS, *(first + second for first in LETTERS for second in LETTERS)]
@@ -80,13 +79,13 @@ def full_bodies(size):
 
 
 def of_most_pools(name, plan, size):
-    """Returns the bundle of the plan with the most pools whose certificate is not too long."""
+    """Returns the bundle of the plan with the largest number of pools whose certificate has at most this size."""
     most = largest(lambda pools: accepted(plan(max(pools, 1))), MOST_POOLS, size)
     return bundle(name, most, size, is_plan_filled=True)
 
 
 def long_rows(size, clients=FEW_CLIENTS):
-    """Returns a bundle with 64 pools and full bodies: few rows of 259 numbers in each vector. It has one kind of clients."""
+    """Returns a bundle with 64 pools, one client kind, and bodies of 256 actions. Each vector has few rows, of 259 numbers each."""
     pair = ["submit a as x", "get x"]
 
     def certificate(outer):
@@ -98,7 +97,7 @@ def long_rows(size, clients=FEW_CLIENTS):
 
 
 def short_rows(size):
-    """Returns a bundle with 64 pools, 256 classes and 256 kinds of clients: many short rows in each vector."""
+    """Returns a bundle with 64 pools, 256 classes and 256 client kinds. Each vector has many short rows."""
     bodies = MOST_CLASSES + MOST_CLIENTS
 
     def certificate(works):
@@ -112,7 +111,7 @@ def short_rows(size):
 
 
 def every_condition_fails(size):
-    """Returns a bundle with 64 pools, and bodies that only submit the first class: each rule fails at each of its places."""
+    """Returns a bundle with 64 pools, and bodies that only submit the first class. Each rule fails at each of its places."""
     target = "job_00"
     body = [f"submit {target}"] * MOST_ACTIONS
 
@@ -129,10 +128,11 @@ def every_condition_fails(size):
 
 
 def accepted(plan):
-    """Returns a certificate that is accepted, for a plan whose classes submit only classes that submit nothing.
+    """Returns a certificate that accepts a plan whose classes submit only classes that submit nothing.
 
-    Each vector gives each body the weight that its submits take before its gets return it, and at least 1 to each class of its
-    pool, or to each class with a get.
+    In each vector, the weight of each body covers the weight that its submits take before its gets return it. Each class of the
+    vector's pool has at least weight 1 in a standing vector. Each class of the pool with a get has at least weight 1 in a blocked
+    vector.
     """
     bodies = [actions(plan, of_class.body) for of_class in plan.classes]
     of_clients = [actions(plan, client.body) for client in plan.clients]
@@ -152,7 +152,7 @@ def has(body, word):
 
 
 def balanced(plan, bodies, of_clients, least):
-    """Returns the least vector that gives each class at least these weights, and each actor the weight that its submits take."""
+    """Returns the least vector in which each class has at least these weights, and the weight of each actor covers its submits."""
 
     @cache
     def first(number):
@@ -173,10 +173,11 @@ def balanced(plan, bodies, of_clients, least):
 
 
 def refused(plan):
-    """Returns a certificate of which each condition fails, for a plan whose bodies only submit its first class.
+    """Returns a certificate each of whose conditions fails, for a plan whose bodies only submit its first class.
 
-    A submitted job weighs 2 and its actor keeps 2, except that in a class's own pool nothing may be left to the queue: in the
-    first class's own pool, the weight of its actors grows at each submit instead.
+    A submit fails since the submitted job weighs 2 and its actor still weighs 2 afterwards. In the standing vector of a class's own
+    pool, a queued job of the class must weigh 0, so that its condition fails. In that of the first class's pool, the weight of each
+    actor therefore grows at each submit.
     """
     standing = [weighty(plan, pool) for pool in plan.pools]
     standing[0] = growing(plan)

@@ -1,7 +1,7 @@
-"""Certificates for plans: their text, and the answers that `sizing check` and `sizing explain` must give.
+"""Certificates for plans: their texts, and the expected answers of `sizing check` and `sizing explain`.
 
-Each condition is derived from the plan and the certificate alone, so that the programs' answers are compared with those of an
-independent implementation of the rules. Certificates have version 1.
+This module is an independent implementation of the rules: it derives each condition from the plan and the certificate alone.
+Certificates have version 1.
 """
 
 import json
@@ -10,7 +10,7 @@ from dataclasses import dataclass
 
 @dataclass
 class Vector:
-    """A number for each pool's workers, for each point of each class, and for each position of each client."""
+    """A vector: a weight for the workers of each pool, for each point of each class, and for each position of each client kind."""
 
     workers: list
     classes: list
@@ -19,7 +19,7 @@ class Vector:
 
 @dataclass
 class Certificate:
-    """A certificate for a plan: for each pool its standing and its blocked vector, and the ranks."""
+    """A certificate for a plan: a standing and a blocked vector for each pool, and the ranks."""
 
     plan: object
     standing: list
@@ -29,7 +29,7 @@ class Certificate:
     levels: list
 
     def text(self):
-        """Returns the certificate as JSON, as `sizing` writes it: without spaces, and with the keys of each object in order."""
+        """Returns the certificate as JSON, as `sizing` writes it: without spaces, and with keys in alphabetical order."""
         pools = [{"standing": vars(standing), "blocked": vars(blocked)}
                  for standing, blocked in zip(self.standing, self.blocked)]
         ranks = {"pools": self.pools, "reach": self.reach, "levels": self.levels}
@@ -38,7 +38,7 @@ class Certificate:
 
 @dataclass
 class Condition:
-    """A rule at its place, in its section: the left number must be at most the right one."""
+    """A condition: a rule at its place in a section. It holds if the left number is at most the right number."""
 
     section: str
     place: str
@@ -54,7 +54,7 @@ class Condition:
 
 
 def checked(certificate):
-    """Returns the answer of `sizing check`, and its status."""
+    """Returns the expected answer of `sizing check` and its exit status."""
     plan = certificate.plan
     is_accepted = not any(condition.fails() for condition in conditions(certificate))
     lines = ["yes\n" if is_accepted else "no\n"]
@@ -65,13 +65,13 @@ def checked(certificate):
 
 
 def explained(certificate):
-    """Returns the answer of `sizing explain`, and its status."""
+    """Returns the expected answer of `sizing explain` and its exit status."""
     lines = [condition.line() for condition in conditions(certificate) if condition.fails()]
     return "".join([*lines, f"failing {len(lines)}\n"]).encode(), 1 if lines else 0
 
 
 def total(plan, vector):
-    """Returns the weight of the start: each client at its first position, and the maximum number of workers of each pool."""
+    """Returns the weight of the start: that of each client at its first position, and of the maximum number of workers of each pool."""
     clients = sum(client.count * weights[0] for client, weights in zip(plan.clients, vector.clients))
     return clients + sum(pool.max * weight for pool, weight in zip(plan.pools, vector.workers))
 
@@ -139,7 +139,7 @@ def body_conditions(section, place, vector, weights, body):
 
 
 def actions(plan, body):
-    """Returns each action's word, and the number of the class that it submits or gets, None for work."""
+    """Returns, for each action, its word and the number of the class of the job that it submits or gets, or None for work."""
     numbers = {of_class.name: number for number, of_class in enumerate(plan.classes)}
     made, found = {}, []
     for action in body:

@@ -1,14 +1,13 @@
 #!/usr/bin/env python3
 """usage: certify.py
 
-Times `sizing certify` beside the reading of its plan alone, and its peak memory beside that of `sizing check` on the
-bundle that it writes. README.md says what is measured, and what the bars are.
+Compares the time of `sizing certify` with that of only reading its plan, and its peak memory with that of `sizing check` on the
+bundle that it writes. README.md describes the measurements and the bars.
 
 The programs are crates/sizing/out/sizing and bench/plan_reader/out/plan_reader, or those that the environment
 variables SIZING and PLAN_READER name.
 
-Exit status: 0 where a certificate is found for each plan and no bar is exceeded, 1 where not, 2 where the benchmark
-can't be run.
+Exit status: 0 if a certificate is found for each plan and no bar is exceeded, 1 if not, 2 if the benchmark cannot be run.
 """
 
 import subprocess
@@ -54,7 +53,7 @@ class Bench:
         self.bars.end()
 
     def measured(self, name, text, bar):
-        """Prints a row for the plan of this text, and compares its ratios with their bars."""
+        """Prints a row for the plan with this text, and compares its ratios with their bars."""
         (self.folder / "plan").write_text(text)
         bundle = self.certified(name, text)
         (self.folder / "bundle").write_bytes(bundle)
@@ -94,7 +93,8 @@ class Bench:
 
 
 def two_pools(size):
-    """Returns 256 classes: those of `front` submit and get jobs of `back` in order. The text has nearly this size."""
+    """Returns a plan with 256 classes, whose text has nearly this size. Jobs of `front` submit jobs of `back`, and get each before they
+    submit the next."""
     slots = [f"slot_{number:027}" for number in range(MOST_ACTIONS // 2)]
     names = [f"class_{number:026}" for number in range(MOST_CLASSES)]
     inner = names[-1]
@@ -109,7 +109,8 @@ def two_pools(size):
 
 
 def pools_that_lend():
-    """Returns a chain: each pool's job submits one to the next pool, whose queue has a place for each worker, and gets it."""
+    """Returns the text of a plan with a chain of pools. Each job submits a job to the next pool and gets it. The next pool's queue has
+    one place for each worker of the pool."""
     pools = [Pool(f"p{number}", 2, 2, 2 if number else CLIENTS) for number in range(MOST_POOLS)]
     classes = [
         Class(f"a{number}", pools[number].name, [f"submit a{number + 1} as x", "get x"] if number + 1 < MOST_POOLS else ["work 1"])

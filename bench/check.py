@@ -1,15 +1,13 @@
 #!/usr/bin/env python3
 """usage: check.py
 
-Times `sizing check` and `sizing explain` beside the reading of the same two texts alone, a plan's TOML and a
-certificate's JSON, and counts the instructions of both where valgrind is there. README.md says what is measured, and
-what the bars are.
+Compares the time of `sizing check` and `sizing explain` with that of only reading the same two texts, a plan's TOML and a
+certificate's JSON. If valgrind is installed, counts the instructions of both. README.md describes the measurements and the bars.
 
 The programs are crates/sizing/out/sizing and bench/plan_reader/out/plan_reader, or those that the environment
 variables SIZING and PLAN_READER name.
 
-Exit status: 0 where all answers are right and no bar is exceeded, 1 where one is wrong or exceeded, 2 where the
-benchmark can't be run.
+Exit status: 0 if all answers are right and no bar is exceeded, 1 if not, 2 if the benchmark cannot be run.
 """
 
 import sys
@@ -56,12 +54,12 @@ class Bench:
         self.bars.end()
 
     def check(self, bundle):
-        """Measures a check and the reading of its texts alone. Returns the check's peak memory in MiB."""
+        """Compares `check` with only reading its texts. Returns the peak memory of `check` in MiB."""
         check = Program([self.sizing, "check"], *checked(bundle.certificate))
         return self.beside_texts(bundle, check, CHECK_BAR)
 
     def explain(self, bundle):
-        """Measures an explain and the reading of its texts alone, and compares its peak with its answer and a check."""
+        """Compares `explain` with only reading its texts, and its peak memory with a bar that depends on its answer and on `check`."""
         of_check = self.check(bundle)
         explain = Program([self.sizing, "explain"], *explained(bundle.certificate))
         (self.folder / explain.given).write_bytes(bundle.input())
@@ -73,7 +71,7 @@ class Bench:
         self.bars.hold(f"explain, {bundle.name}: MiB", peak, most)
 
     def counts(self, many, few):
-        """Measures a check of many clients and one of few."""
+        """Compares `check` on a plan with many clients with `check` on a plan with few."""
         programs = []
         for name, bundle in (("many", many), ("few", few)):
             (self.folder / name).write_bytes(bundle.input())
@@ -86,7 +84,7 @@ class Bench:
         return self.compare(f"{program.words[1]}, {bundle.name}", "the texts alone", [program, texts], bar)
 
     def compare(self, name, other, programs, bar):
-        """Prints a row for two programs, holds the ratio of their times to its bar, and returns the first one's peak in MiB."""
+        """Prints a row for two programs, and compares the ratio of their times with the bar. Returns the first one's peak memory in MiB."""
         first, second = costs(self.folder, self.measure, programs, RUNS)
         ratio = first.milliseconds / second.milliseconds
         self.table.row(

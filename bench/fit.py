@@ -1,12 +1,12 @@
 #!/usr/bin/env python3
 """usage: fit.py
 
-Times `sizing fit`, without and with `--bundle`, beside `sizing certify` on the same plan with the sizes that `fit` finds.
-README.md says what is measured, and what the bars are.
+Compares the time of `sizing fit`, without and with `--bundle`, with that of `sizing certify` on the same plan with the sizes that
+`fit` finds. README.md describes the measurements and the bars.
 
 The program is crates/sizing/out/sizing, or the one that the environment variable SIZING names.
 
-Exit status: 0 where sizes are found for each plan and no bar is exceeded, 1 where not, 2 where the benchmark can't be run.
+Exit status: 0 if sizes are found for each plan and no bar is exceeded, 1 if not, 2 if the benchmark cannot be run.
 """
 
 import re
@@ -54,7 +54,7 @@ class Bench:
         self.bars.end()
 
     def measured(self, name, plan, size, bar):
-        """Prints a row for the plan, whose text is padded to this size, and compares its ratios with the bar."""
+        """Prints a row for the plan, whose text is padded to this size, and compares the row's ratios with the bar."""
         fit = self.program(name, text_of(plan, size), "plan", 1, "fit")
         bundle = self.program(name, text_of(plan, size), "plan", 0, "fit", "--bundle")
         certify = self.program(name, text_of(sized(plan, fit.answer), size), "sized", 0, "certify")
@@ -76,7 +76,7 @@ class Bench:
         self.bars.hold(f"{name}: the greater ratio", max(ratios), bar)
 
     def program(self, name, text, given, status, *words):
-        """Writes a text into the folder, and returns the program with these arguments on it and with its answer."""
+        """Writes a text into the folder as the input of the program with these arguments. Returns the program with its answer."""
         (self.folder / given).write_text(text)
         done = subprocess.run([self.sizing, *words], input=text.encode(), stdout=subprocess.PIPE, check=False)
         if done.returncode != status:
@@ -119,7 +119,8 @@ def calls_of_all(count):
 
 
 def calls_round(count, times):
-    """Returns a plan with a chain of jobs that passes through all pools this often. Each job submits the next one and gets it."""
+    """Returns a plan with a chain of jobs, each of which submits the next job and gets it. The chain passes through all pools `times`
+    times."""
     last = count * times - 1
     classes = [
         Class(f"a{number}", f"p{number % count}", [f"submit a{number + 1} as x", "get x"] if number < last else ["work 1"])

@@ -1,20 +1,20 @@
-"""The inputs of the benchmark. The model of machine.py makes each event as it is added, so all are possible."""
+"""The inputs of the benchmark of `sizing replay`. The model in machine.py performs each event when it is added, so each is possible."""
 
 from machine import Class, Client, Machine, Plan, Pool
 
 SEPARATOR = "%%\n"
-# The maximum number of clients of a wave in `nested_jobs`, and the number of threads. Each client of a wave takes one thread, so
-# the others are left for the inner jobs.
+# The maximum number of clients of a wave in `nested_jobs`, and the number of threads. Each client of a wave takes one thread, and the
+# other threads are free for inner jobs.
 WAVE = 4000
 THREADS = 5000
-# The bytes in a line `stuck` for each job that waits for another.
+# The number of bytes of event lines for each pair of jobs of which one waits for the other.
 ROOM_FOR_WAITING = 512
-# The maximum number of kinds of clients in a plan.
+# The maximum number of client kinds in a plan.
 KINDS = 256
 
 
 class Script:
-    """A replay's input and its answer, built event by event."""
+    """The input of a replay and its expected answer, built event by event."""
 
     def __init__(self, name, plan, room):
         self.name = name
@@ -26,7 +26,7 @@ class Script:
         self.most_unfinished = 0
 
     def do(self, event):
-        """Adds an event."""
+        """Performs an event on the model, and adds its line and its answer."""
         outcome = self.machine.happen(event)
         if outcome is None or outcome.startswith("refused"):
             raise AssertionError(f"{event} at {len(self.events) + 1}: {outcome}")
@@ -51,7 +51,7 @@ class Script:
 
 
 def one_looping_client(room):
-    """Returns rounds of one client that submits a job to a pool of one thread and waits for it, as many as there is room for."""
+    """Returns as many rounds as there is room for, of one client that submits a job to a pool of one thread and waits for the job."""
     plan = Plan(
         pools=[Pool("p", 1, 1, 1)],
         classes=[Class("a", "p", ["work 1"])],
@@ -72,9 +72,9 @@ def one_looping_client(room):
 
 
 def nested_jobs(room):
-    """Returns waves of clients, each of which submits an outer job that submits an inner one to the same pool and waits for it.
+    """Returns waves of clients, each of which submits an outer job that submits an inner job to the same pool and waits for it.
 
-    All the outer jobs of a wave run before the first inner one is done.
+    All outer jobs of a wave run before the first inner job is done.
     """
     plan = Plan(
         pools=[Pool("p", THREADS, THREADS, 1000000)],
@@ -111,17 +111,17 @@ def wave(script, clients):
 
 
 def take_queued(script, jobs):
-    """Lets idle workers take those of these jobs that are queued."""
+    """Adds an event `take` for each of these jobs that is queued."""
     for job in jobs:
         if script.machine.jobs[job].phase == "queued":
             script.do("take p")
 
 
 def stuck_lines(room):
-    """Returns three replays of jobs that each wait for a queued job of their own.
+    """Returns three replays with jobs each of which waits for a queued job that it submitted.
 
-    The first one asks about all of them in falling order, and repeats the last number as long as there is room; the second one
-    asks in rising order, with each number once; the third one asks nothing.
+    The last line of the first replay is a line `stuck` with the numbers of all jobs in descending order, followed by zeros as long as
+    there is room. That of the second has each number once, in ascending order. The third replay has no such line.
     """
     falling, rising, silent = [waiting_jobs(name, room) for name in ("one stuck line", "rising", "silent")]
     jobs = range(len(falling.machine.jobs))
@@ -136,7 +136,7 @@ def stuck_line(jobs):
 
 
 def waiting_jobs(name, room):
-    """Returns a replay with jobs that hold all threads of a pool, and wait for as many jobs in its queue."""
+    """Returns a replay in which jobs occupy all threads of a pool, and each of them waits for a job in the pool's queue."""
     count = max(1, room // ROOM_FOR_WAITING)
     plan = Plan(
         pools=[Pool("p", count, count, count)],
@@ -152,9 +152,9 @@ def waiting_jobs(name, room):
 
 
 def one_event(count):
-    """Returns a replay's input and its answer: one event on a plan with `count` clients of each kind.
+    """Returns the input and the answer of a replay of one event, on a plan with `count` clients of each client kind.
 
-    The answer is written out, since the model has an object for each client.
+    The model does not compute the answer, since it would create an object for each client.
     """
     plan = Plan(
         pools=[Pool("p", 1, 1, 1)],

@@ -1,6 +1,6 @@
 """A small model of the machine: the effect of each event on the pools, the clients and the jobs of a plan.
 
-It is written for the inputs of this folder, and expects valid plans.
+The model requires a valid plan, as the inputs of this folder have it.
 """
 
 from collections import Counter, deque
@@ -20,7 +20,7 @@ class Pool:
     waiting: deque = field(default_factory=deque)
 
     def offer(self, number):
-        """Returns whether the job of this number is started, queued or refused."""
+        """Offers the job with this number to the pool, and returns whether it is started, queued or refused."""
         if self.threads < self.core:
             self.threads += 1
             return "started"
@@ -44,7 +44,7 @@ class Class:
 
 @dataclass
 class Client:
-    """A kind of clients, each of which runs this body."""
+    """A client kind: the number of its clients, and the body that each of them runs."""
 
     name: str
     count: int
@@ -89,7 +89,7 @@ class Actor:
 
 
 class Machine:
-    """The state of a plan's machine. It starts with no threads and no jobs."""
+    """The state of the machine of a plan, which has no threads and no jobs at the start."""
 
     def __init__(self, plan):
         self.pools = {pool.name: pool for pool in plan.pools}
@@ -105,7 +105,7 @@ class Machine:
         self.unfinished = 0
 
     def happen(self, line):
-        """Performs the event of this line, and returns its outcome, or None if it is not possible. `stuck` changes nothing."""
+        """Performs the event of this line, and returns its outcome, or None if it is not possible. A line `stuck` changes nothing."""
         word, which = line.split(" ", 1)
         if word == "stuck":
             return f"stuck {'yes' if self.stuck({int(number) for number in which.split()}) else 'no'}"
@@ -119,7 +119,7 @@ class Machine:
         return self.job(number)
 
     def stuck(self, members):
-        """Returns whether these jobs exist, and each is unfinished and waits only for others of them."""
+        """Returns whether these jobs exist, and each of them is unfinished and waits only for others of them."""
         if not members or max(members) >= len(self.jobs):
             return False
         members = {number: self.jobs[number] for number in members}
@@ -205,7 +205,7 @@ class Machine:
 
 
 def waits(job, members, at_work):
-    """Returns whether the job waits only for these members; `at_work` counts those that run, by pool."""
+    """Returns whether the job waits only for these members. `at_work` has the number of members that run in each pool."""
     if job.phase == "queued":
         return job.pool.idle == 0 and job.pool.threads == at_work[job.pool.name]
     if job.phase != "at work" or job.at_end():

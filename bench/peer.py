@@ -2,9 +2,9 @@
 """usage: peer.py
 
 Builds the plain Rust program of bench/rust, and compares its answers to the examples with the stored answers of `sizing`.
-PLAIN in the environment names a program to use instead of bench/rust/target/release/plain, which is then not built.
+The environment variable PLAIN names a program to use instead of bench/rust/target/release/plain, which is then not built.
 
-Exit status: 0 if all answers are right or the program can't be built here, 1 if one is wrong.
+Exit status: 0 if all answers are right or the program cannot be built here, 1 if an answer is wrong.
 """
 
 import os
@@ -33,7 +33,7 @@ def tell(peer):
 
 
 def built_peer():
-    """Returns the path of the program, or None, after a line that says so, if it can't be built here."""
+    """Returns the path of the plain program. If it cannot be built here, prints a line that says so and returns None."""
     named = os.environ.get("PLAIN")
     if named:
         return Path(named).resolve()
@@ -43,7 +43,7 @@ def built_peer():
 
 
 def compared_with_examples(peer):
-    """Returns the number of stored answers to its commands. Raises Wrong if an answer of the program differs."""
+    """Returns the number of stored answers to the commands of the plain program. Raises Wrong if an answer of the program differs."""
     compare = examples_check().compare
     answers = sorted(path for path in EXAMPLES.iterdir() if path.suffix[1:] in COMMANDS)
     for answer in answers:
@@ -56,7 +56,7 @@ def compared_with_examples(peer):
 
 
 def examples_check():
-    """Returns the module examples/check.py, which imports modules of its folder. This folder has another module of that name."""
+    """Returns the module examples/check.py, which imports modules of its folder. This folder, too, has a module named check."""
     sys.path.append(str(EXAMPLES))
     spec = spec_from_file_location("examples_check", EXAMPLES / "check.py")
     module = module_from_spec(spec)

@@ -1,14 +1,13 @@
 #!/usr/bin/env python3
 """usage: plain.py
 
-Measures `sizing replay`, `check`, `explain` and `certify` beside a plain Rust program that gives the same answers, in one
-table: counted instructions, where valgrind is there, peak memory and time. README.md says what is compared.
+Compares `sizing replay`, `check`, `explain` and `certify` with a plain Rust program that gives the same answers, in one table:
+the peak memory, the time and, if valgrind is installed, the counted instructions. README.md describes the comparison.
 
-The program is crates/sizing/out/sizing, or the one that the environment variable SIZING names. The plain one is that of
-rust/, which is built first; where it can't be built, a line says so, and nothing is measured.
+The program is crates/sizing/out/sizing, or the one that the environment variable SIZING names. The plain program is that of
+rust/, which is built first. If it cannot be built, prints a line that says so, and measures nothing.
 
-Exit status: 0 where all answers are the same and no bar is exceeded, 1 where one differs or is exceeded, 2 where the
-benchmark can't be run.
+Exit status: 0 if all answers are the same and no bar is exceeded, 1 if not, 2 if the benchmark cannot be run.
 """
 
 import subprocess
@@ -35,7 +34,7 @@ SIZE = 1024 * 1024
 
 @dataclass
 class Input:
-    """The input of a command, with the right answer and its status. The answer is None if only the programs can compute it."""
+    """The input of a command, with the right answer and its exit status. The answer is None if only the programs can compute it."""
 
     name: str
     command: str
@@ -74,14 +73,14 @@ class Bench:
         self.bars.end()
 
     def compared_on_certify(self):
-        """Returns the number of example plans. Raises Wrong if the programs differ on one of them."""
+        """Compares the answers of `certify` to the plans of the examples, and returns their number. Raises Wrong if an answer differs."""
         plans = example_plans()
         for name, text in plans.items():
             self.answered(Input(f"certify of {name}.toml", "certify", text))
         return len(plans)
 
     def answered(self, what):
-        """Returns the answer and the status of `sizing` for an input. Raises Wrong if those of the plain program differ."""
+        """Returns the answer and the exit status of `sizing` for an input. Raises Wrong if those of the plain program differ."""
         answers = []
         for program in (self.sizing, self.plain):
             ended = subprocess.run([program, what.command], input=what.given, stdout=subprocess.PIPE)

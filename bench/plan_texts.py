@@ -1,4 +1,4 @@
-"""The texts of the benchmark of reading: plans of several shapes, each of exactly the requested size in bytes."""
+"""The inputs of the benchmark of the parser for plans: texts of several shapes, each of exactly the requested size in bytes."""
 
 from dataclasses import dataclass
 
@@ -13,7 +13,7 @@ READ = "ok"
 
 @dataclass
 class Text:
-    """A text, and the output of a reader of plans for it. A reader of TOML prints `ok` for each text."""
+    """A text, and the expected output of a reader of plans for it. A reader of TOML prints `ok` for each text."""
 
     name: str
     text: str
@@ -21,28 +21,28 @@ class Text:
 
 
 def all_texts(size):
-    """Returns a text of this size of each shape."""
+    """Returns one text of each shape, all of this size."""
     return [long_names(size), half_a_comment(size), refused_at_the_end(size), full_bodies(size), no_entries(size)]
 
 
 def long_names(size):
-    """Returns 256 classes with names of 32 bytes, and bodies of submits and gets as long as there is room for."""
+    """Returns a plan with 256 classes, names of 32 bytes, and bodies of submits and gets that are as long as the size allows."""
     return Text("long names", filled(plan_of_long_names(size, True), size), READ)
 
 
 def half_a_comment(size):
-    """Returns the same plan in the first half, followed by one comment."""
+    """Returns a text whose first half is a plan as in `long_names`, and whose second half is one comment."""
     return Text("half a comment", filled(plan_of_long_names(size // 2, True), size), READ)
 
 
 def refused_at_the_end(size):
-    """Returns the first plan, whose last action is replaced by a get of an empty slot."""
+    """Returns a plan as in `long_names`, except that the last action is a get of an empty slot, which is a fault."""
     text = filled(plan_of_long_names(size, False), size)
     return Text("refused at the end", text, "fault 13 SlotEmpty at client 0 action 1")
 
 
 def full_bodies(size):
-    """Returns short names and 256 actions in each body, all submits before all gets: the most actions for the bytes."""
+    """Returns a plan with short names and 256 actions in each body, all submits before all gets. It has the most actions for its size."""
     slots = [first + second for first in LETTERS for second in LETTERS][:MOST_ACTIONS // 2]
     body = [f"submit a as {slot}" for slot in slots] + [f"get {slot}" for slot in slots]
     names = [*LETTERS, *(first + second for first in LETTERS for second in LETTERS)]
@@ -56,7 +56,7 @@ def full_bodies(size):
 
 
 def no_entries(size):
-    """Returns one comment and nothing else."""
+    """Returns a text that is one comment."""
     return Text("a comment alone", filled("", size), READ)
 
 
@@ -77,9 +77,9 @@ def plan_of_long_names(size, is_lawful):
 
 
 def largest(make, most, size):
-    """Returns `make(n)` for the largest n from 0 to `most` with a text of at most this size.
+    """Returns `make(n)` for the largest n from 0 to `most` for which the text of `make(n)` has at most this size.
 
-    Calls `make` with at most twice that number.
+    Calls `make` with at most twice this n.
     """
     high = 1
     while high <= most and len(make(high).text()) <= size:

@@ -1,13 +1,12 @@
 #!/usr/bin/env python3
 """usage: read.py [KIB..]
 
-Times the reading of a plan and the reading of its TOML alone, on texts of these sizes in KiB (64 to 1024; default: 64, 256 and
-1024). README.md describes the measurement.
+Compares the time of reading a plan with that of reading only its TOML, on texts of these sizes in KiB (64 to 1024; default: 64, 256
+and 1024). README.md describes the measurement.
 
 The program is bench/plan_reader/out/plan_reader, or the one that the environment variable PLAN_READER names.
 
-Exit status: 0 if all answers are right and no ratio at 1024 KiB is above 2, 1 if one is wrong or above, 2 if the benchmark can't
-be run.
+Exit status: 0 if all answers are right and no ratio at 1024 KiB exceeds 2, 1 if not, 2 if the benchmark cannot be run.
 """
 
 import sys

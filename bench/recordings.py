@@ -1,14 +1,13 @@
 #!/usr/bin/env python3
 """usage: recordings.py [KIB]
 
-Measures `sizing conform` and `sizing learn` on a recording of nearly KIB KiB (8 to 65536; absent: 8192), beside a plain C
-program that only splits the same bytes into lines and words and counts them: counted instructions, where valgrind is
-there, peak memory and time. README.md says what is measured, and what the bars are.
+Compares `sizing conform` and `sizing learn`, on a recording of nearly KIB KiB (8 to 65536; default: 8192), with a plain C program
+that only splits the same bytes into lines and words and counts them: the peak memory, the time and, if valgrind is installed, the
+counted instructions. README.md describes the measurements and the bars.
 
 The program is crates/sizing/out/sizing, or the one that the environment variable SIZING names.
 
-Exit status: 0 where all answers are right and no bar is exceeded, 1 where one is wrong or exceeded, 2 where the
-benchmark can't be run.
+Exit status: 0 if all answers are right and no bar is exceeded, 1 if not, 2 if the benchmark cannot be run.
 """
 
 import sys
@@ -20,9 +19,9 @@ from timing import has_callgrind, in_folder, instructions, tell_if_uncounted
 
 RUNS = 3
 KIB = 8192
-# The maximum ratio of the instructions to those of the counting program.
+# The maximum ratio of the instructions of `sizing` to those of the C program.
 MOST_RATIO = 6
-# The maximum memory for the actors that are live at once, in addition to the text.
+# The maximum memory for the actors that are live at the same time, in MiB, in addition to the text.
 MOST_MEBIBYTES_BESIDE = 2
 VISITORS = 20
 
@@ -61,7 +60,7 @@ queue = 20
 
 
 def turn(first, number):
-    """Returns the lines of one concurrent round of all visitors, whose rounds and jobs are numbered from these."""
+    """Returns the lines of one round of each visitor, all at the same time. Rounds are numbered from `first`, and jobs from `number`."""
     rounds = range(first, first + VISITORS)
     requests = range(number, number + VISITORS)
     queries = range(number + VISITORS, number + 2 * VISITORS)
@@ -81,7 +80,7 @@ def turn(first, number):
 
 
 def recording(room):
-    """Returns the text of a recording of at most this many bytes, with its numbers of rounds and of jobs."""
+    """Returns the text of a recording of at most `room` bytes, and the numbers of its rounds and jobs."""
     parts, length, turns = [HEAD], len(HEAD), 0
     while length + len(part := turn(turns * VISITORS, turns * 2 * VISITORS)) + 4 <= room:
         parts.append(part)

@@ -1,13 +1,13 @@
 #!/usr/bin/env python3
 """usage: refute.py
 
-Times `sizing refute` on plans that have a witness, and replays what `--bundle` writes on the machine of machine.py. On one plan
-that has neither a witness nor a certificate, it counts the instructions for each state that is searched, beside walk_states.c, a
-plain program that walks through the same ones. README.md says what is measured, and what the bars are.
+Measures the time of `sizing refute` on plans that have a witness, and replays the output of `--bundle` on the machine of machine.py.
+On one plan that has neither a witness nor a certificate, compares the instructions for each visited state with those of
+walk_states.c, a plain program that walks through the same states. README.md describes the measurements and the bars.
 
 The program is crates/sizing/out/sizing, or the one that the environment variable SIZING names.
 
-Exit status: 0 if each witness is one and no bar is exceeded, 1 if not, 2 if the benchmark can't be run.
+Exit status: 0 if each witness is right and no bar is exceeded, 1 if not, 2 if the benchmark cannot be run.
 """
 
 import re
@@ -23,10 +23,10 @@ RUNS = 3
 CLIENTS = 200
 BAR = 1_000
 LONG_BAR = 10_000
-# A limit that the walks do not reach, and the maximum ratio of the instructions for a state to those of the plain program.
+# A limit of states that the walks do not reach, and the maximum ratio of the instructions for a state to those of the plain program.
 STATES = 10_000_000
 RATIO_BAR = 2
-# The maximum number of states in the last search of `refute`, which the plain program lacks, in percent of those of the walks.
+# The maximum number of states in the best-first search of `refute`, which the plain program lacks, in percent of those of the walks.
 OTHERS = 1
 
 
@@ -54,7 +54,7 @@ class Bench:
         self.bars.end()
 
     def beside_plain_walks(self):
-        """Prints how many instructions a state takes, and compares their ratio with the bar."""
+        """Prints the instructions for a state of `refute` and of the plain program, and compares their ratio with the bar."""
         plan = never_decided()
         (self.folder / "plan").write_text(plan.text())
         (self.folder / "numbers").write_text(numbers(plan))
@@ -100,7 +100,7 @@ class Bench:
 
 
 def ended(name, plan, bundle):
-    """Returns how the witness ends, and how many events it has."""
+    """Returns how the witness ends (`refused` or `stuck`), and the number of its events."""
     lines = bundle.partition("\n%%\n")[2].split("\n")
     lines = [line for line in lines if line]
     machine = Machine(plan)
@@ -117,14 +117,14 @@ def ended(name, plan, bundle):
 
 
 def web_and_database(queue):
-    """Returns a plan in which each request of a web pool gets a job of a database pool."""
+    """Returns a plan in which each job of a web pool gets a job of a database pool, whose queue has this capacity."""
     classes = [Class("request", "web", ["submit query as q", "get q"]), Class("query", "db", ["work 1"])]
     client = Client("user", CLIENTS, True, ["submit request as r", "get r"])
     return Plan([Pool("web", CLIENTS, CLIENTS, CLIENTS), Pool("db", 10, 10, queue)], classes, [client])
 
 
 def there_and_back(size):
-    """Returns a plan with two pools whose jobs get jobs of the other one."""
+    """Returns a plan with two pools of this size, in which jobs of each pool get jobs of the other pool."""
     pools = [Pool("p", size, size, 2 * size), Pool("q", size, size, 2 * size)]
     classes = [
         Class("there", "p", ["submit low as x", "get x"]),
@@ -140,7 +140,7 @@ def there_and_back(size):
 
 
 def fork_join(parts):
-    """Returns a plan whose jobs submit this many parts to their own pool, and get them all."""
+    """Returns a plan in which each report submits `parts` jobs to its own pool, and then gets all of them."""
     body = [f"submit part as s{number}" for number in range(parts)] + [f"get s{number}" for number in range(parts)]
     classes = [Class("part", "p", ["work 1"]), Class("report", "p", body)]
     client = Client("user", parts, True, ["submit report as r", "get r"])
@@ -148,7 +148,7 @@ def fork_join(parts):
 
 
 def never_decided():
-    """Returns a safe plan without a certificate: a class submits itself, but has no jobs. No vector misses its bound."""
+    """Returns a safe plan without a certificate: a class submits itself, but no client submits the class. No vector exceeds its bound."""
     classes = [
         Class("request", "web", ["submit query as q", "get q"]),
         Class("query", "db", ["work 1"]),
@@ -159,7 +159,7 @@ def never_decided():
 
 
 def numbers(plan):
-    """Returns the plan as walk_states.c reads it."""
+    """Returns the text of the plan for walk_states.c."""
     pools = [pool.name for pool in plan.pools]
     classes = [of_class.name for of_class in plan.classes]
     lines = [[len(plan.pools)], *([pool.core, pool.max, pool.queue, 0] for pool in plan.pools), [len(plan.clients)]]
@@ -170,7 +170,8 @@ def numbers(plan):
 
 
 def body_numbers(classes, body):
-    """Returns the number of actions, and two numbers for each: 0 0 for work, 1 and the class, or 2 and the submit's position."""
+    """Returns the number of actions, and two numbers for each action: 0 0 for work, 1 and the class for a submit, or 2 and the position
+    of the submit for a get."""
     given, slots = [len(body)], {}
     for position, action in enumerate(body):
         word, operand, *rest = action.split()
@@ -183,7 +184,7 @@ def body_numbers(classes, body):
 
 
 def database(threads, queue, clients):
-    """Returns a plan with clients of one pool."""
+    """Returns a plan with one pool, which has these sizes, and this number of clients."""
     client = Client("user", clients, True, ["submit query as q", "get q"])
     return Plan([Pool("db", threads, threads, queue)], [Class("query", "db", ["work 1"])], [client])
 

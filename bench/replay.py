@@ -1,16 +1,15 @@
 #!/usr/bin/env python3
 """usage: replay.py [KIB]
 
-Times `sizing replay` on three inputs with nearly KIB KiB of event lines (1 to 1024; absent: 1024), beside a plain C
-program that only splits the same bytes into lines and words and counts them; and a replay of one event on a plan of
-many clients beside the same plan with few. Where valgrind is there, it counts the instructions of the replays, and
-holds those of a long line `stuck`, byte by byte, to those of one whose numbers rise. README.md says what is measured,
-and what the bars are.
+Compares the time of `sizing replay`, on three inputs with nearly KIB KiB of event lines (1 to 1024; default: 1024), with that of a
+plain C program that only splits the same bytes into lines and words and counts them. Also compares a replay of one event on a plan
+of many clients with one on a plan of few. If valgrind is installed, counts the instructions of the replays, and compares those for
+a byte of a long line `stuck` with descending numbers with those for one with ascending numbers. README.md describes the
+measurements and the bars.
 
 The program is crates/sizing/out/sizing, or the one that the environment variable SIZING names.
 
-Exit status: 0 where all answers are right and no bar is exceeded, 1 where one is wrong or exceeded, 2 where the
-benchmark can't be run.
+Exit status: 0 if all answers are right and no bar is exceeded, 1 if not, 2 if the benchmark cannot be run.
 """
 
 import sys
@@ -23,14 +22,14 @@ from timing import has_callgrind, in_folder, instructions, tell_if_uncounted
 
 RUNS = 3
 MOST_KIB = 1024
-# The bar for an input of MOST_KIB KiB, and so for any.
+# The bar for the peak memory in MiB. It holds for an input of MOST_KIB KiB, and so for any input.
 MOST_MEBIBYTES = 11
-# The bar for such an input of many events, in millions.
+# The bar for the instructions on an input of MOST_KIB KiB with many events, in millions.
 MOST_INSTRUCTIONS = 71.5
-# The bar for the instructions for a byte of a line `stuck` with falling numbers, of which the last one is repeated, relative to
-# those of a line with each number once, in rising order.
+# The bar for the ratio of the instructions for a byte of two lines `stuck`: one with descending numbers, of which the last is repeated,
+# and one with each number once, in ascending order.
 STUCK_RATIO = 3
-# The bars for one event on a plan with the maximum number of clients, alone and relative to a plan with one client of each kind.
+# The bars for one event on a plan with the maximum number of clients: in total, and relative to a plan with one client of each kind.
 MANY = 1_000_000
 FEW = 1
 MANY_MEBIBYTES = 10
@@ -72,7 +71,8 @@ class Bench:
         self.bars.end()
 
     def lines(self, script, most=None):
-        """Measures a long replay and the counting of its lines. Returns its millions of instructions, or None if uncounted."""
+        """Compares a long replay with counting its lines. Returns the instructions of the replay in millions, or None if they are not
+        counted."""
         replay = self.replay(script)
         given = (self.folder / replay.given).read_bytes()
         lines = f"lines {given.count(10)}, words {len(given.split())}\n".encode()
@@ -99,16 +99,16 @@ class Bench:
         return counted
 
     def replay(self, script):
-        """Writes the input of a script into the folder, and returns its replay."""
+        """Writes the input of a script into the folder, and returns the program that replays it."""
         (self.folder / script.name).write_bytes(script.input())
         return Program([self.sizing, "replay"], script.answer(), script.status(), given=script.name)
 
     def counted(self, program):
-        """Returns how many millions of instructions the program runs, or None if they are not counted."""
+        """Returns the instructions that the program executes in millions, or None if they are not counted."""
         return instructions(self.folder, program) if self.is_counted else None
 
     def stuck(self, falling, rising, silent):
-        """Measures a line `stuck` with falling numbers, and compares its instructions for a byte with those for rising numbers."""
+        """Compares the instructions for a byte of a line `stuck` with descending numbers with those for ascending numbers."""
         of_falling = self.lines(falling)
         if not self.is_counted:
             return
@@ -122,7 +122,7 @@ class Bench:
         self.bars.hold(f"{falling.name}: ratio of instructions a byte", first / second, STUCK_RATIO)
 
     def clients(self):
-        """Measures a replay of one event on a plan of many clients and on a plan of few."""
+        """Compares a replay of one event on a plan with many clients with one on a plan with few."""
         programs = []
         for name, count in (("many", MANY), ("few", FEW)):
             given, answer = one_event(count)

@@ -1,14 +1,13 @@
 #!/usr/bin/env python3
 """usage: run.py
 
-Times `sizing run` beside a plain threaded program that passes as many events through one mutex and one condition
-variable, on as many threads, and looks at the processor time of a run whose threads mostly wait. README.md says what is
-measured, and what the bars are.
+Compares the processor time of `sizing run` with that of one_lock.c, a plain program whose threads, as many as in the run, make as
+many events under one mutex. Also measures the processor time of a run whose threads mostly wait. README.md describes the
+measurements and the bars.
 
 The program is crates/sizing/out/sizing, or the one that the environment variable SIZING names.
 
-Exit status: 0 where all answers are right and no bar is exceeded, 1 where one is wrong or exceeded, 2 where the
-benchmark can't be run.
+Exit status: 0 if all answers are right and no bar is exceeded, 1 if not, 2 if the benchmark cannot be run.
 """
 
 import subprocess
@@ -22,9 +21,9 @@ from timing import Bars, Program, Table, Wrong, built, compiled, costs, without_
 
 RUNS = 5
 TIME_BAR = 1.2
-# The bar for the peak of a run of nearly a million events: 30 bytes for each, and the memory of its threads.
+# The bar for the peak memory in MiB of a run of nearly a million events: 30 bytes for each event, and the memory of the threads.
 MEBIBYTES_BAR = 35
-# The idle run: the sleep at each growth of memory, and the maximum share of CPU time in the elapsed time.
+# The run whose threads mostly wait: the sleep at each growth of memory, and the maximum ratio of the CPU time to the elapsed time.
 SLEEP_MICROSECONDS = 20_000
 IDLE_BAR = 0.05
 IDLE_ROUNDS = 3
@@ -33,7 +32,8 @@ IDLE_RUNS = 2
 
 @dataclass
 class Row:
-    """A plan and its rounds, in which each client's job submits a job of its own and gets it, `nested` jobs deep."""
+    """A plan and the number of rounds of its run. Each client submits a job, which submits a job and gets it, and so on, to a depth of
+    `nested` jobs. The innermost job has `units` events of work."""
 
     name: str
     plan: Plan
@@ -51,7 +51,8 @@ class Row:
         return self.clients() * self.rounds * (self.nested + 1)
 
     def events(self):
-        """Returns the bound on the events: a job is taken and finished, and a client loops between two rounds."""
+        """Returns an upper bound on the number of events, which include the take and the end of each job and a client's event between
+        two rounds."""
         of_jobs = self.nested * (2 + 2) + 2 + self.units
         return self.clients() * (self.rounds * (2 + of_jobs) + self.rounds - 1)
 
@@ -59,7 +60,7 @@ class Row:
         return f"jobs {self.jobs()}, units {self.clients() * self.rounds * self.units}, refused 0\n".encode()
 
     def words(self):
-        """Returns the arguments of the plain program."""
+        """Returns the arguments of one_lock.c."""
         return [str(number) for number in (self.clients(), self.carriers(), self.rounds, self.nested, self.units)]
 
 
@@ -111,7 +112,7 @@ class Bench:
         self.bars.hold(f"{row.name}: peak in MiB", first.mebibytes, MEBIBYTES_BAR)
 
     def idle(self, row):
-        """Measures a run in which each growth sleeps, so that all threads mostly wait."""
+        """Measures a run in which each growth of memory sleeps, so that all threads mostly wait."""
         run = self.of_row(row)
         words = ["/usr/bin/env", f"LD_PRELOAD={self.slow_growth}", f"SLOW_MICROSECONDS={SLEEP_MICROSECONDS}", *run.words]
         slowed = Program(words, run.answer, given="bundle")
@@ -121,7 +122,7 @@ class Bench:
         self.bars.hold(f"{row.name}, idle: the share of the CPU time", idle.milliseconds / idle.elapsed, IDLE_BAR)
 
     def of_row(self, row):
-        """Returns a run of the row, and writes the bundle of its plan into the folder."""
+        """Writes the bundle of the row's plan into the folder, and returns the program that runs it."""
         certify = [self.sizing, "certify"]
         certified = subprocess.run(certify, input=row.plan.text().encode(), stdout=subprocess.PIPE, check=False)
         if certified.returncode != 0:
@@ -131,13 +132,13 @@ class Bench:
 
 
 def many_clients(rounds):
-    """Returns 64 clients that each submit a job and get it, in a pool of 64 threads. A job does nothing."""
+    """Returns a row with 64 clients, each of which submits a job and gets it, and a pool of 64 threads. The jobs do nothing."""
     clients = [Client("c", 64, True, ["submit a as x", "get x"])]
     return Row("64 clients, 64 carriers", Plan([Pool("p", 64, 64, 64)], [Class("a", "p", [])], clients), rounds, 0, 0)
 
 
 def nested_jobs(rounds):
-    """Returns one client, whose job submits a job to the same pool of two threads and waits for it."""
+    """Returns a row with one client, whose job submits a job to the same pool and waits for it. The pool has two threads."""
     get_one = ["submit inner as x", "get x"]
     classes = [Class("outer", "p", get_one), Class("inner", "p", ["work 1"])]
     clients = [Client("c", 1, True, ["submit outer as x", "get x"])]

@@ -1,4 +1,4 @@
-"""The shared code of the benchmarks: it finds, runs and measures programs, compares their answers, and prints tables."""
+"""The shared code of the benchmarks, which finds, runs and measures programs, compares their answers, and prints tables."""
 
 import os
 import shutil
@@ -13,7 +13,7 @@ CRATES = HERE.parent / "crates"
 
 
 class Unable(Exception):
-    """The benchmark can't be run."""
+    """The benchmark cannot be run."""
 
 
 class Wrong(Exception):
@@ -22,9 +22,9 @@ class Wrong(Exception):
 
 @dataclass
 class Program:
-    """A program's arguments, its right answer and status, and the file of the folder that is its input.
+    """A program to measure: its arguments, its right answer and exit status, and the file of the folder that is its input.
 
-    Its output is written to a file and compared, or goes to /dev/null.
+    The output of the program is written to a file and compared, or goes to /dev/null.
     """
 
     words: list
@@ -36,7 +36,7 @@ class Program:
 
 @dataclass
 class Cost:
-    """The least CPU time, the greatest peak memory and the least elapsed time of some runs."""
+    """The cost of a program: the least CPU time, the greatest peak memory and the least elapsed time of several runs."""
 
     milliseconds: float
     mebibytes: float
@@ -44,7 +44,7 @@ class Cost:
 
 
 def in_folder(bench):
-    """Calls the benchmark with an empty folder, and returns its exit status."""
+    """Calls the benchmark with an empty folder, and returns the exit status."""
     try:
         with tempfile.TemporaryDirectory() as folder:
             bench(Path(folder))
@@ -58,7 +58,7 @@ def in_folder(bench):
 
 
 def without_words(name, words, bench):
-    """Calls a benchmark that takes no arguments, and returns its exit status."""
+    """Calls a benchmark that takes no arguments, and returns the exit status."""
     if words:
         print(f"usage: {name}", file=sys.stderr)
         return 2
@@ -66,7 +66,7 @@ def without_words(name, words, bench):
 
 
 def built(name):
-    """Returns the path of a crate's built program, or of the one that the environment variable of that name gives."""
+    """Returns the path of a crate's built program, or the path in the environment variable with the crate's name in capitals."""
     folder = BENCH if (BENCH / name).is_dir() else CRATES
     program = Path(os.environ.get(name.upper()) or folder / name / "out" / name).resolve()
     if not os.access(program, os.X_OK) or not program.is_file():
@@ -97,9 +97,9 @@ def costs(folder, measure, programs, runs):
 
 
 def run(folder, measure, program):
-    """Returns the microseconds of CPU time, the KiB, and the elapsed microseconds of a run.
+    """Returns the CPU time in microseconds, the peak memory in KiB, and the elapsed time in microseconds of a run.
 
-    Raises Wrong if the status or the answer of the program differs; the answer only if it is compared.
+    Raises Wrong if the exit status is wrong, or if the answer is compared and is wrong.
     """
     name = program.words[0]
     output = folder / "output" if program.is_compared else Path(os.devnull)
@@ -125,7 +125,7 @@ def difference(printed, wanted):
 
 
 class Bars:
-    """The bars that are exceeded so far."""
+    """The bars that were exceeded so far."""
 
     def __init__(self):
         self.exceeded = []
@@ -135,7 +135,7 @@ class Bars:
             self.exceeded.append(f"{what} is {found:.2f}, and is not to be above {bar:.2f}")
 
     def end(self):
-        """Raises Wrong at the end of the benchmark if a bar is exceeded."""
+        """Raises Wrong if a bar was exceeded. Called at the end of the benchmark."""
         if self.exceeded:
             raise Wrong("\n".join(self.exceeded))
 
@@ -158,7 +158,7 @@ def instruction_cells(folder, programs):
 
 
 def instructions(folder, program):
-    """Returns how many millions of instructions a program runs on its input, as callgrind counts them."""
+    """Returns the instructions that a program executes on its input, in millions, as callgrind counts them."""
     counter = ["valgrind", "--tool=callgrind", f"--callgrind-out-file={os.devnull}", *program.words]
     with open(folder / program.given, "rb") as given:
         ended = subprocess.run(counter, stdin=given, stdout=subprocess.DEVNULL, stderr=subprocess.PIPE, text=True)
@@ -169,7 +169,7 @@ def instructions(folder, program):
 
 
 class Table:
-    """A table that is printed row by row: the first column is aligned to the left, the others to the right."""
+    """A table that is printed row by row. The first column is aligned to the left, and the others to the right."""
 
     def __init__(self, *columns):
         self.widths = [width for _, width in columns]
