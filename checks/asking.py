@@ -1,4 +1,4 @@
-"""The built program, and its output for an input."""
+"""Finds the built program, and runs it on inputs."""
 
 import os
 import subprocess
@@ -11,7 +11,7 @@ SECONDS = 600
 
 
 def built_program():
-    """Returns the program's path. If there is none, prints a line that says so and returns None."""
+    """Returns the path of the built program. If there is no program, prints a line that says so and returns None."""
     program = Path(os.environ.get("SIZING") or BUILT).resolve()
     if os.access(program, os.X_OK) and program.is_file():
         return program
@@ -20,7 +20,7 @@ def built_program():
 
 
 def written(program, words, text):
-    """Returns the program's standard output, and prints its errors."""
+    """Runs the program with this standard input. Prints its standard error, and returns its standard output."""
     ended = subprocess.run([program, *words], input=text, capture_output=True, text=True, timeout=SECONDS, check=False)
     if ended.stderr:
         print(ended.stderr, file=sys.stderr, end="")
@@ -28,6 +28,6 @@ def written(program, words, text):
 
 
 def each(ask, inputs):
-    """Returns the result of `ask` for each input; several run at a time."""
+    """Returns the result of `ask` for each input. Several calls run at the same time."""
     with ThreadPoolExecutor(os.cpu_count()) as pool:
         return list(pool.map(ask, inputs))

@@ -1,4 +1,4 @@
-"""A headless Chromium, spoken to over a pipe by the DevTools protocol."""
+"""A headless Chromium, which is controlled over a pipe by the DevTools protocol."""
 
 import base64
 import json
@@ -24,12 +24,12 @@ SECONDS = 120
 
 
 def installed():
-    """Returns the path of Chromium, or None."""
+    """Returns the path of Chromium, or None if it is not installed."""
     return shutil.which("chromium") or shutil.which("chromium-browser")
 
 
 class Browser:
-    """A Chromium with one page, to be used in a `with`."""
+    """A Chromium with one page, to be used in a `with` statement."""
 
     def __init__(self, width=1200, height=900):
         self.width, self.height = width, height
@@ -38,7 +38,7 @@ class Browser:
     def __enter__(self):
         self.folder = tempfile.mkdtemp(prefix="sizing-chromium-")
         for_it, ours = os.pipe(), os.pipe()
-        # Chromium reads commands from descriptor 3, and writes answers to 4
+        # Chromium reads commands from descriptor 3, and writes answers to descriptor 4
         script = f'exec "$0" "$@" 3<&{for_it[0]} 4>&{ours[1]}'
         command = ["bash", "-c", script, installed(), *OPTIONS, f"--user-data-dir={self.folder}", "about:blank"]
         silent = dict.fromkeys(("stdout", "stderr"), subprocess.DEVNULL)
@@ -62,7 +62,7 @@ class Browser:
         shutil.rmtree(self.folder, ignore_errors=True)
 
     def call(self, method, **parameters):
-        """Calls a method, and returns its result."""
+        """Calls a method of the protocol, and returns its result."""
         self.last += 1
         message = {"id": self.last, "method": method, "params": parameters}
         if self.session:
@@ -77,7 +77,7 @@ class Browser:
             self.events.append(answer)
 
     def read(self):
-        """Returns the next message."""
+        """Returns the next message of Chromium."""
         deadline = time.monotonic() + SECONDS
         while b"\0" not in self.unread:
             ready, _, _ = select.select([self.reads], [], [], max(deadline - time.monotonic(), 0))
@@ -93,27 +93,27 @@ class Browser:
         self.call("Emulation.setDeviceMetricsOverride", width=width, height=height, deviceScaleFactor=1, mobile=False)
 
     def media(self, scheme="light", media="screen"):
-        """Sets the colour scheme, and the medium: screen or print."""
+        """Sets the colour scheme (light or dark) and the medium (screen or print)."""
         self.call("Emulation.setEmulatedMedia", media=media, features=[{"name": "prefers-color-scheme", "value": scheme}])
 
     def open(self, path):
-        """Opens a file, and waits until it is loaded."""
+        """Opens a file as the page, and waits until it is loaded."""
         self.events = []
         self.call("Page.navigate", url=Path(path).resolve().as_uri())
         while not any(event.get("method") == "Page.loadEventFired" for event in self.events):
             self.events.append(self.read())
-        # a call that waits, so that what the page reported before it has arrived
+        # wait for the end of a further call, so that all earlier messages of the page have arrived
         self.evaluate("new Promise(done => requestAnimationFrame(() => setTimeout(done, 50)))")
 
     def evaluate(self, script):
-        """Returns the value of an expression of JavaScript."""
+        """Returns the value of a JavaScript expression, evaluated in the page."""
         found = self.call("Runtime.evaluate", expression=script, returnByValue=True, awaitPromise=True)
         if "exceptionDetails" in found:
             raise RuntimeError(f"{script[:80]}: {found['exceptionDetails']}")
         return found["result"].get("value")
 
     def problems(self):
-        """Yields a line for each error that the page reported, and for each request that is not for the page itself."""
+        """Yields a line for each error that the page reported, and for each request except that for the page itself."""
         for event in self.events:
             method, told = event.get("method"), event.get("params", {})
             if method == "Runtime.exceptionThrown":
@@ -127,13 +127,13 @@ class Browser:
                 yield f"request: {told['request']['url'][:200]}"
 
     def press(self, key, code, text=""):
-        """Presses a key, which also enters this text."""
+        """Presses and releases a key, which enters this text."""
         named = {"key": key, "code": key, "windowsVirtualKeyCode": code}
         self.call("Input.dispatchKeyEvent", type="keyDown" if text else "rawKeyDown", text=text, **named)
         self.call("Input.dispatchKeyEvent", type="keyUp", **named)
 
     def picture(self, path, most=None):
-        """Writes a PNG of the page, at most this many pixels tall."""
+        """Writes a picture of the page as PNG. It is at most `most` pixels tall, if `most` is given."""
         tall = int(self.evaluate("Math.ceil(document.querySelector('main').getBoundingClientRect().bottom)"))
         clip = {"x": 0, "y": 0, "width": self.width, "height": min(tall, most or tall), "scale": 1}
         data = self.call("Page.captureScreenshot", format="png", clip=clip, captureBeyondViewport=True, optimizeForSpeed=False)["data"]

@@ -3,7 +3,7 @@
 
     python3 checks/completions.py
 
-- Each command and each option of its help is in each completion.
+- Each completion has each command, and each option in the help of the command.
 - bash loads its file, and completes commands, options, files and the values of options.
 - zsh and fish complete the same, if they are installed; otherwise a line says that they are not.
 
@@ -46,7 +46,7 @@ CASES = [
     ("sizing learn s", ["shop.recording"], ["strict"]),
     ("sizing certify --workers ", [], ["shop.toml", "--workers"]),
 ]
-# The offers that only bash omits: zsh and fish put files with another ending last.
+# Cases for bash alone, which does not offer files with another suffix. zsh and fish offer them last.
 BASH_ONLY = [
     ("sizing ask ", ["other.toml", "shop.toml"], ["shop.json"]),
     ("sizing ask shop.toml ", ["shop.json"], ["shop.toml"]),
@@ -61,7 +61,7 @@ COMP_CWORD=$((${#COMP_WORDS[@]} - 1))
 _sizing sizing "${COMP_WORDS[COMP_CWORD]}" "${COMP_WORDS[COMP_CWORD - 1]}"
 printf '%s\n' "${COMPREPLY[@]}"
 """
-# zsh completes only on a terminal, so a second zsh runs on one; each offer is printed in the place of the line.
+# zsh completes only on a terminal, so a second zsh runs on a pseudo-terminal, and prints each offer instead of completing the line.
 ZSH = r"""
 zmodload zsh/zpty
 zpty inner zsh -f -i
@@ -78,17 +78,17 @@ zpty -d inner
 
 
 def bash_offers(folder, line):
-    """Returns the offers of bash for a command line."""
+    """Returns the words that bash offers for a command line."""
     return ran(["bash", "--norc", "-c", BASH, "bash", str(folder / "sizing.bash"), line], folder).splitlines()
 
 
 def zsh_offers(folder, line):
-    """Returns the offers of zsh for a command line."""
+    """Returns the words that zsh offers for a command line."""
     return re.findall(r"(?m)^OFFER (\S+)", ran(["zsh", "-f", "-c", ZSH, "zsh", str(folder), line], folder).replace("\r", ""))
 
 
 def fish_offers(folder, line):
-    """Returns the offers of fish for a command line."""
+    """Returns the words that fish offers for a command line."""
     text = ran(["fish", "--no-config", "-c", f"source {folder}/sizing.fish; complete -C '{line}'"], folder)
     return [offer.split("\t")[0] for offer in text.splitlines()]
 

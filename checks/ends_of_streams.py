@@ -1,12 +1,12 @@
 #!/usr/bin/env python3
 """Runs the built program with unusable streams or arguments, and compares what it reports.
 
-`main` has no contract: this check shows what it does with standard input, standard output and the command line. README.md
+`main` has no contract. This check tests what `main` does with standard input, standard output and the command line. README.md
 describes each case.
 
 The program is crates/sizing/out/sizing, or the one that the environment variable SIZING names.
 
-Exit status: 0 if all cases end as they should, 1 if one doesn't, 2 if there is no program.
+Exit status: 0 if all cases end as they should, 1 if one does not, 2 if there is no program.
 """
 
 import os
@@ -18,7 +18,7 @@ from pathlib import Path
 HERE = Path(__file__).resolve().parent
 BUILT = HERE.parent / "crates" / "sizing" / "out" / "sizing"
 EXAMPLES = HERE.parent / "examples"
-# The arguments of each command, and the files that it reads, with a line `%%` between two of them.
+# The arguments of each command, and the files of its input. If there are two, a line `%%` separates them.
 COMMANDS = [
     (["replay"], ["two-clients.toml", "two-clients.events"]),
     (["check"], ["two-clients.toml", "two-clients.json"]),
@@ -57,7 +57,7 @@ def main():
 
 
 def cases(program, folder):
-    """Yields each case's name, its run, and its expected end, which is None for help and invalid arguments."""
+    """Yields the name, the run and the expected end of each case. The end is None for help and invalid arguments."""
     for command, parts in COMMANDS:
         title = " ".join(command)
         given = folder / command[0]
@@ -82,7 +82,7 @@ def cases(program, folder):
 
 
 def cases_of_files(title, words, parts, folder):
-    """Yields the cases in which a named file cannot be read, or standard input is named for both files."""
+    """Yields the cases in which a named file cannot be read, or `-` names standard input for both files."""
     files = [EXAMPLES / part for part in parts]
     for number, part in enumerate(parts):
         for what, path in (("a directory", folder), (f"no file {part}", folder / "none" / part)):
@@ -94,7 +94,7 @@ def cases_of_files(title, words, parts, folder):
 
 
 def cases_of_certificates(program, folder):
-    """Yields the cases for the content of the certificate's file before `ask`, with the expected end and the content after it."""
+    """Yields the cases of `ask --certificate` on a file with some content. The expected end includes the content of the file after it."""
     plan = (EXAMPLES / "two-clients-queue-of-two.toml").read_bytes()
     occupied = b"%s is there and no certificate, so it stays as it is: name another file for --certificate\n"
     for what, before, is_kept in (
@@ -111,14 +111,15 @@ def cases_of_certificates(program, folder):
 
 
 def ask_for(program, given, path):
-    """Returns the status, the first word on standard output, standard error, and the file's content: its start if it changed."""
+    """Runs `ask --certificate`. Returns the status, the start of standard output, standard error, and the content of the file (only the
+    start of it if the certificate was written)."""
     status, printed, complained = ends([program, "ask", "--certificate", path], given)
     text = path.read_bytes()
     return status, printed[:4], complained, text[:8] if status == 0 else text
 
 
 def shown(name, run, wanted):
-    """Runs a case, prints how it ends, and returns whether that is right."""
+    """Runs a case, prints how it ends, and returns whether the end is right."""
     try:
         ended = run()
     except subprocess.TimeoutExpired:
@@ -130,7 +131,7 @@ def shown(name, run, wanted):
 
 
 def told_usage(ended):
-    """Returns whether the run printed nothing on standard output, and an error or the usage on standard error."""
+    """Returns whether the status is 2, standard output is empty, and standard error has an error message or the usage."""
     status, printed, complained = ended
     is_told = b"sizing" in complained or complained.startswith(b"error: ")
     return status == 2 and printed == b"" and is_told and complained.endswith(b"\n")

@@ -1,14 +1,14 @@
 #!/usr/bin/env python3
-"""Shows that tests find bodies that no clause refuses.
+"""Shows that tests find bugs that no contract refuses.
 
-Each file bugs/*.edit has a body that meets its contract but is wrong, and names the crate whose tests must find it. Each is tried
-in a copy of the repository, by `rt try --test`, which proves nothing. A test that fails in an unchanged copy too, for example
-since a loaded machine exceeds its time limit, does not count.
+Each file bugs/*.edit changes a function body so that it is wrong but still satisfies its contract, and names the crate whose tests
+must find this bug. The check tries each bug in a copy of the repository, with `rt try --test`, which proves nothing. A test that
+also fails in an unchanged copy, for example because a loaded machine exceeds the test's time limit, does not count.
 
-The arguments name the bugs to try; without arguments all are tried.
+The arguments name the bugs to try. Without arguments all bugs are tried.
 
-Exit status: 0 if each bug is found, 1 if one passes or its tests are not run, 2 if a text to rewrite doesn't occur exactly once,
-or a bug doesn't exist.
+Exit status: 0 if each bug is found, 1 if one is not found or its tests are not run, 2 if a text to replace does not occur exactly
+once, or a bug does not exist.
 """
 
 import re
@@ -27,7 +27,7 @@ FAILED = re.compile(r"^test (\S+) \.\.\. FAILED", re.MULTILINE)
 
 
 class Bug:
-    """A bug: the rewritten texts, and the crate whose tests must find it."""
+    """A bug: the changed texts, and the crate whose tests must find the bug."""
 
     def __init__(self, path):
         self.name = path.stem
@@ -54,7 +54,8 @@ class Bug:
 
 
 def tested(crate, texts):
-    """Returns the crate's tests that pass and those that fail in a copy with these texts, and the last line of the output."""
+    """Runs the crate's tests in a copy of the repository with these texts. Returns the tests that pass, the tests that fail, and the last
+    line of the output."""
     with tempfile.TemporaryDirectory(prefix="failing_tests.") as folder:
         top = Path(folder) / "copy"
         shutil.copytree(TOP, top, ignore=shutil.ignore_patterns(".git", "out"), symlinks=True)

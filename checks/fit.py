@@ -5,17 +5,17 @@
 
 For each plan of examples/, for random plans, and for larger ones with up to as many pools as a plan may have:
 
-- If no sizes help, because of a circle of submits or a submit that is repeated forever and never got, `fit` names a class or a
-  submit that causes it. For every other plan it finds sizes.
-- `check` says yes to the output of `fit --bundle`. Its plan differs from the given one only in sizes, none of which is smaller.
-  The lines of `fit` list these sizes, and the given ones that differ.
-- With the same certificate, `check` says no to one less of any core or queue that changed. A max that changed is the core.
-- If `certify` finds a certificate, `fit` changes nothing. With the sizes that `fit` names `certify` finds one, and `fit` changes
-  nothing.
-- `fit` reports sizes above their limit only if those of the plan's steady certificate are, or one of its weights is.
+- If no sizes help, because of a cycle of submits or a submit that is repeated forever and never got, `fit` names a class of the
+  cycle or such a submit. For every other plan `fit` finds sizes.
+- `check` says yes to the output of `fit --bundle`. The plan in it differs from the given plan only in sizes, none of which is
+  smaller. The lines of `fit` list these sizes, with the given size where it differs.
+- With the same certificate, `check` says no if a core or queue that changed is smaller by one. A max that changed equals the core.
+- If `certify` finds a certificate for the plan, `fit` changes nothing. For the sizes of `fit`, `certify` finds a certificate, and a
+  second `fit` changes nothing.
+- `fit` reports sizes above their limit only if the plan's steady certificate needs such sizes, or has a weight above its limit.
 
-For small plans, with one or two pools and single clients, that get sizes up to 6: the check gives all sizes with a smaller total
-growth to `certify`. If it finds a certificate for some of them, the check prints that; it is not a fault.
+For small plans (one or two pools, one client of each client kind) whose sizes of `fit` are at most 6, the check runs `certify` with
+all sizes that grow less in total. If `certify` finds a certificate for some of them, the check prints that. This is not a fault.
 
 The program is crates/sizing/out/sizing, or the one that the environment variable SIZING names.
 
@@ -42,10 +42,10 @@ from steady import is_too_large
 
 EXAMPLES = Path(__file__).resolve().parent.parent / "examples"
 MOST_SMALL_SIZE = 6
-# Small plans with more cheaper sizes than this are not compared, so more plans are drawn than are needed.
+# The maximum number of smaller sizes to try for a small plan. Plans with more are skipped, so more plans are generated than requested.
 MOST_CHEAPER = 3000
 DRAWN_FOR_ONE = 3
-# The number of plans for each larger one, and the numbers of pools that a larger one may have.
+# The number of random plans for each larger plan, and the minimum and maximum number of pools of a larger plan.
 PLANS_FOR_LARGER = 10
 FEWEST_POOLS, MOST_POOLS = 8, 64
 
@@ -81,7 +81,7 @@ def main():
 
 
 def told(name, fits):
-    """Prints the counts for some plans, and each plan with a wrong answer. Returns the number of wrong answers."""
+    """Prints the counts for these plans, and each plan with a wrong answer. Returns the number of wrong answers."""
     wrong = sum(map(Fit.is_reported, fits))
     number = sum((fit.count for fit in fits), Counter())
     print(f"{len(fits)} {name}, {wrong} answered wrongly: {number['certified']} have a certificate, {number['sized']} get "
@@ -91,7 +91,7 @@ def told(name, fits):
 
 
 class Fit:
-    """The answer of `fit` to a plan, its kind, and its fault."""
+    """The answer of `fit` to a plan, with counts of its kind, and the fault of the answer."""
 
     def __init__(self, program, given):
         self.program, self.given = program, given
@@ -142,7 +142,8 @@ class Fit:
         return self.fault_of_less(fitted, cert)
 
     def fault_of_less(self, fitted, cert):
-        """Returns a size that falls, a max that rises without its core, or a changed core or queue that could be smaller."""
+        """Returns a text that reports a size that fell, a max that rose above its core, or a changed core or queue that could be smaller;
+        an empty text if there is none."""
         for number, (now, found) in enumerate(zip(self.plan.pools, fitted.pools)):
             if any(new < old for new, old in zip(sizes_of(found), sizes_of(now))):
                 return f"a size of {now.name} falls"
@@ -171,7 +172,7 @@ def without_sizes(plan):
 
 
 def lessened(now, found):
-    """Yields the found pool with one less core, and with one less queue, if these have grown."""
+    """Yields the found pool with a core that is smaller by one and with a queue that is smaller by one, if these have grown."""
     if found.core > now.core:
         yield found._replace(core=found.core - 1)
     if found.queue > now.queue:
@@ -179,7 +180,7 @@ def lessened(now, found):
 
 
 def wanted_lines(plan, fitted):
-    """Returns the answer that `fit` must give if it finds the sizes of `fitted`, and how many sizes change."""
+    """Returns the expected answer of `fit` if it finds the sizes of `fitted`, and the number of sizes that change."""
     lines, changes = [], 0
     for now, found in zip(plan.pools, fitted.pools):
         numbers = []
@@ -193,7 +194,7 @@ def wanted_lines(plan, fitted):
 # ---- larger plans
 
 def larger_plan(chance):
-    """Returns a plan of many pools with the smallest sizes, whose jobs get jobs of other pools."""
+    """Returns a random plan with many pools of the smallest sizes, whose jobs get jobs of other pools."""
     pools = [Pool(1, 1, 1, False) for _ in range(chance.randint(FEWEST_POOLS, MOST_POOLS))]
     classes = []
     for number in range(2 * len(pools)):
@@ -203,22 +204,23 @@ def larger_plan(chance):
     return Plan(pools, classes, clients)
 
 
-# ---- cheaper sizes
+# ---- smaller sizes
 
 def is_comparable(plan, fit):
-    """Returns whether a small plan got small sizes, and there are not too many cheaper ones."""
+    """Returns whether the sizes of `fit` for a small plan are small, and there are not too many smaller sizes to try."""
     is_small = not fit.fault and max(map(max, fit.sizes)) <= MOST_SMALL_SIZE
     return is_small and cheaper_ones(plan, growth(plan, fit.sizes)) <= MOST_CHEAPER
 
 
 def cheaper_ones(plan, limit):
-    """Returns the number of ways in which the plan's sizes can grow by less than this in total."""
+    """Returns the number of ways in which the plan's sizes can grow by less than `limit` in total."""
     sizes = 3 * len(plan.pools)
     return comb(limit - 1 + sizes, sizes)
 
 
 def saving(program, plan, fit):
-    """Returns how much less the cheapest sizes with a certificate grow, and how many sizes were tried."""
+    """Returns the difference between the total growth of the sizes of `fit` and the least growth with a certificate, and the number of
+    sizes that were tried."""
     tried = []
 
     def is_certified(other):

@@ -5,12 +5,12 @@
 
 For each plan of ../examples and of mistakes/:
 
-- `ask --json` writes one object on one line, which Python's json reads, with the same keys each time. Its answer, its faults and
-  its warnings are those of `ask`, with the same positions and words, and so is the status.
-- The shares of clients and threads in a bound add up to it, and a standing bound is at most the queue.
-- In `sizing replay` the events of a witness end in a refusal or in jobs that are stuck.
+- `ask --json` writes one object on one line, which Python's json reads. The object always has the same keys. Its answer, its faults
+  and its warnings are those of `ask`, with the same positions and texts. The exit status is that of `ask`, too.
+- The shares of clients and threads in a bound add up to the bound, and a standing bound is at most the queue.
+- In `sizing replay`, the events of a witness end in a refused submit or in jobs that are stuck.
 - The sizes are those of `sizing fit`.
-- `ask --dot` writes a graph that Graphviz draws, if `dot` is installed, with each pool, class and kind of clients in it.
+- `ask --dot` writes a graph that has each pool, and that Graphviz draws, if `dot` is installed.
 
 The program is crates/sizing/out/sizing, or the one that the environment variable SIZING names.
 
@@ -75,7 +75,7 @@ def asked(program, plan, *options):
 
 
 def differences_of_lines(value, text):
-    """Yields a line if the answer, or the faults and warnings, differ from those of the lines."""
+    """Yields a line if the answer, the faults or the warnings of the JSON form differ from those in the lines of `ask`."""
     lines = text.splitlines()
     answers = [line for line in lines if line in ANSWERS] or ["FAULTS"]
     if [value["answer"]] != answers:
@@ -88,7 +88,7 @@ def differences_of_lines(value, text):
 
 
 def differences_of_bounds(value):
-    """Yields a line for each bound that is wrong: exactly the safe plans have bounds, and the shares in a bound add up to it."""
+    """Yields a line for each wrong bound. Pools have bounds exactly when the plan is safe, and the shares in a bound add up to it."""
     for pool in value["pools"]:
         bound = pool["bound"]
         if (bound is None) != (value["answer"] != "SAFE"):
@@ -105,7 +105,7 @@ def differences_of_bounds(value):
 
 
 def differences_of_sizes(program, plan, value):
-    """Yields a line if the sizes or the cause differ from those of `fit`."""
+    """Yields a line if the sizes, or the reason why there are none, differ from those of `fit`."""
     if (sizes := value["sizes"]) is None:
         return
     fit = subprocess.run([program, "fit", plan], capture_output=True, text=True, timeout=SECONDS, check=False)
@@ -120,7 +120,7 @@ def differences_of_sizes(program, plan, value):
 
 
 def differences_of_witness(program, plan, value):
-    """Yields a line if an event of a witness is not possible, or the events do not end as the witness says."""
+    """Yields a line if an event of the witness is not possible, or if the events do not end as the witness says."""
     witness = value["witness"]
     if (witness is None) != (value["answer"] != "NOT SAFE"):
         yield f"the witness is {witness}"
@@ -135,7 +135,7 @@ def differences_of_witness(program, plan, value):
 
 
 def differences_of_picture(dot, value, told, status):
-    """Yields a line if the picture cannot be drawn, or lacks a pool."""
+    """Yields a line if the graph cannot be drawn, or lacks a pool."""
     if told.returncode != status:
         yield f"--dot ends with {told.returncode}, and words with {status}"
     for pool in value["pools"]:

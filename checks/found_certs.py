@@ -1,23 +1,25 @@
 #!/usr/bin/env python3
-"""Compares the search for certificates with a second one, written independently in Python, on small random plans.
+"""Compares the search for certificates with a second search, written independently in Python, on small random plans.
 
-For each plan the second one determines the bounds that `sizing check` must print for the certificate that `sizing certify` finds,
-or that none is found. Both use the following method, but the second one has no shortcuts: it tries numbers that the program
-computes.
+For each plan the second search determines the bounds that `sizing check` must print for the certificate that `sizing certify` finds,
+or that `certify` finds none. Both searches use the following method. The second search has no shortcuts: it finds some numbers by
+trial that the program computes.
 
-1. A class is a level above the highest of the classes that it submits. A circle of submits gets no certificate.
-2. A least vector is computed class by class, from the lowest level up, and in a body from its end backwards. The end weighs the
-   sum of the done job and a worker; a submit adds the weight of its queued job; a get subtracts the weight of its done job; no
-   weight falls below its minimum. A queued job weighs its weight at its beginning less that of a worker. A done job has the
-   greatest weight, up to that of the queued job, with which the queued job does not weigh more. A client that repeats weighs the
-   same at its end and at its beginning; otherwise there is no vector.
-3. Workers weigh nothing at first. While the total is above its bound, one pool lends: its workers get the greatest weight of its
-   jobs, computed with weight 0 for these workers and for done jobs of the pool. It ignores classes that neither a client nor a
-   job that a client causes submits. The pool that lends is the one with the least total; if none reduces the total, no vector is
-   found. (If a class that is never submitted weighs too much, a pool lends to prevent that. These plans are too small for it.)
-4. In rounds from 0, each pool without a rank whose blocked vector is found gets the round's number. A get does not count if its
-   jobs reach only pools with ranks. In round 0 each pool needs a standing vector or otherwise a lifetime vector: all jobs of the
-   pool weigh at least 1 everywhere, gets subtract nothing, and no pool lends.
+1. The level of a class is one more than the highest level of the classes that it submits. A plan with a cycle of submits has no
+   certificate.
+2. A least vector is computed class by class, from the lowest level up, and for each body from its end backwards. The weight at the
+   end is that of a done job plus that of a worker. A submit adds the weight of its queued job. A get subtracts the weight of its done
+   job. No weight is less than its minimum. The weight of a queued job is that at its beginning minus that of a worker. The weight of
+   a done job is the greatest one, up to that of a queued job, that does not increase the weight of a queued job. A client that
+   repeats must have the same weight at its end and at its beginning; otherwise there is no vector.
+3. The weight of workers is 0 at first. While the total exceeds its bound, one pool lends: the weight of its workers becomes the
+   greatest weight of its jobs, computed with weight 0 for these workers and for done jobs of the pool. Only classes that a client,
+   or a job that a client causes, submits are considered. The pool that lends is the one whose loan gives the least total. If no loan
+   reduces the total, no vector is found. (If a class that is never submitted weighs too much, a pool lends to prevent that. The
+   random plans are too small for this case.)
+4. In each round, from round 0, each pool without a rank whose blocked vector is found gets the number of the round as its rank. A
+   get is not counted if its jobs depend only on pools with ranks. In round 0 each pool also needs a standing vector or, if there is
+   none, a lifetime vector: all jobs of the pool weigh at least 1 at every point, gets subtract nothing, and no pool lends.
 
     python3 checks/found_certs.py [PLANS [SEED]]     # by default 2,000 plans and seed 1
 
@@ -56,12 +58,12 @@ def main():
 
 
 def told_of(program, plan):
-    """Returns the output of `check` for the certificate that is found, or that of `certify` if none is found."""
+    """Returns the output of `check` for the certificate that `certify` finds, or the output of `certify` if it finds none."""
     bundle = written(program, ["certify"], plan)
     return (written(program, ["check"], bundle) if "\n%%\n" in f"\n{bundle}" else bundle).strip()
 
 
-# ---- plans by chance
+# ---- random plans
 
 NONE = "no certificate found"
 
@@ -87,7 +89,7 @@ class Plan:
         self.submitted = self.submitted_classes()
 
     def submitted_classes(self):
-        """Returns the classes that clients submit, and those that the jobs of such classes submit."""
+        """Returns the classes that clients submit, and all classes that the jobs of these classes submit, directly or indirectly."""
         found, pending = set(), [client.body for client in self.clients]
         while pending:
             for word, what in pending.pop():
@@ -100,7 +102,7 @@ class Plan:
 def plan_by_chance(chance):
     pools = [pool_by_chance(chance) for _ in range(chance.randint(1, 4))]
     count = chance.randint(1, 5)
-    # Mostly a class submits only classes before it; a few plans have circles.
+    # In most plans, a class submits only classes before it. A few plans have cycles of submits.
     free = chance.random() < 0.05
     classes = [
         Class(chance.randrange(len(pools)), body_by_chance(chance, count if free else number))
@@ -146,7 +148,7 @@ def renumbered(classes, clients, order):
     return placed, [Client(client.count, client.repeat, body(client.body)) for client in clients]
 
 
-# ---- texts
+# ---- the texts of plans
 
 def text(plan):
     lines = []
@@ -257,7 +259,7 @@ def blocked_total(plan, levels, pool, reached, rank):
 
 
 def least_total(plan, levels, queued, needs, limit):
-    """Returns the least total within the limit, with workers that lend, or None if none is found."""
+    """Returns the least total, with workers that lend, if it is at most the limit, or None if none is found."""
     workers = [0] * len(plan.pools)
 
     def weights(workers):
@@ -310,7 +312,7 @@ class Weights:
         self.rows[number] = with_done(done)[0]
 
     def back(self, body, end, needs):
-        """Returns the weight of an actor at each position of the body, computed from its end backwards."""
+        """Returns the weight of an actor at each position of the body, computed from the end of the body backwards."""
         row = [end]
         for (word, what), need in zip(reversed(body), reversed(needs[:-1])):
             weight = row[0]

@@ -3,12 +3,13 @@
 
 For each plan:
 
-- If there is a circle of submits, or a client repeats a submit without a get forever, `fit` reports that, with the place of one.
-- For every other plan `fit` finds sizes, none of which is smaller than the plan's.
-- If the second search finds a certificate for a plan, `fit` changes nothing.
+- If the plan has a cycle of submits, or a submit without a get that is repeated forever, `fit` names a class of the cycle or such a
+  submit.
+- For every other plan `fit` finds sizes, none of which is smaller than the plan's size.
+- If the second search finds a certificate for the plan, `fit` changes nothing.
 
-For small plans, with one or two pools and single clients, the second search finds no certificate at sizes with a smaller total
-growth. The check tries all such sizes, if they are not too many.
+For small plans (one or two pools, one client of each client kind), the second search finds no certificate for sizes that grow less
+in total. The check tries all such sizes, if there are not too many.
 
     python3 checks/found_sizes.py [PLANS [SMALL_PLANS [SEED]]]     # by default 2,000 plans, 100 small ones and seed 1
 
@@ -29,7 +30,7 @@ from no_sizes import NOTHING_FOUND, causes
 from read_plans import read_plan
 
 SIZES = re.compile(r"pool \S+: core (\d+)(?: \(now \d+\))?, max (\d+)(?: \(now \d+\))?, queue (\d+)(?: \(now \d+\))?")
-# Small plans whose sizes grow by more than this are not compared with all other sizes.
+# The maximum total growth of a small plan for which all smaller sizes are tried, by the number of its pools.
 MOST_GROWTH = {1: 9, 2: 7}
 
 
@@ -74,7 +75,7 @@ def answers(program, plans):
 
 
 def fault_of(plan, told):
-    """Returns the kind of the plan, and the fault of the answer."""
+    """Returns the kind of the plan, and the fault of the answer, which is empty if the answer is right."""
     if wanted := causes(read_plan(text(plan))):
         head, _, cause = told.partition("\n")
         is_told = head == NOTHING_FOUND and cause in wanted
@@ -110,7 +111,7 @@ def growth(plan, sizes):
 
 
 def cheaper_sizes(plan, limit, is_certified):
-    """Returns the cheapest sizes with a certificate and a total growth below this, or None if there are none."""
+    """Returns the sizes with a certificate that grow least in total, by less than `limit`, or None if there are none."""
     declared = [size for pool in plan.pools for size in sizes_of(pool)]
     for total in range(limit):
         for added in shares(len(declared), total):
@@ -122,7 +123,7 @@ def cheaper_sizes(plan, limit, is_certified):
 
 
 def shares(places, total):
-    """Yields all ways to share the total among this many places."""
+    """Yields all ways to divide the total into this number of parts."""
     if places == 1:
         yield (total,)
         return
@@ -132,7 +133,7 @@ def shares(places, total):
 
 
 def small_plan(chance):
-    """Returns a plan of one or two small pools that has a certificate at some sizes, and none at its own."""
+    """Returns a random plan of one or two small pools that has a certificate with some sizes, but none with its own sizes."""
     while True:
         plan = plan_by_chance(chance)
         for client in plan.clients:

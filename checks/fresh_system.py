@@ -1,11 +1,11 @@
 #!/usr/bin/env python3
-"""fresh_system.py [RELEASE]: unpacks a release in a fresh Debian without the toolchain, and tries there what it has.
+"""fresh_system.py [RELEASE]: unpacks a release in a fresh Debian system without the toolchain, and runs its contents there.
 
-RELEASE is a tarball of `make dist`; without it, one is packed of a copy of this repository and the built program. The base system
-is made by debootstrap, which needs root, a network and minutes, or copied from the folder that the environment variable SIZING_BASE
-names. Without them the check prints one line and ends with 0. README.md says what is tried.
+RELEASE is a tarball of `make dist`. Without it, the check packs a release of a copy of this repository and the built program. The
+base system is created by debootstrap, which needs root, a network and a few minutes, or copied from the folder that the environment
+variable SIZING_BASE names. If neither is possible, the check prints one line and ends with 0. README.md describes the cases.
 
-Exit status: 0 if all is as it should be, 1 if something is not, 2 if there is no program.
+Exit status: 0 if all cases are right, 1 if one is wrong, 2 if there is no program.
 """
 
 import os
@@ -23,7 +23,7 @@ sys.path.insert(0, str(ROOT / "examples"))
 from pages import commands_of
 
 SUITE = "bookworm"
-# The packages of the base in addition to those of each Debian: the reader of manual pages.
+# The packages of the base system in addition to those of a minimal Debian: the reader of manual pages.
 PACKAGES = "man-db"
 EXAMPLES = "share/sizing/examples"
 ASKED = f"bin/sizing ask {EXAMPLES}/two-clients.toml"
@@ -36,13 +36,13 @@ class System:
         self.root, self.wrong = root, 0
 
     def run(self, command, folder="/", path="/usr/local/bin:/usr/bin:/bin"):
-        """Runs a shell command in the system, and returns its status and what it prints on both streams."""
+        """Runs a shell command in the system, and returns its exit status and the output of both streams."""
         words = ["chroot", self.root, "/usr/bin/env", "-i", f"PATH={path}", "HOME=/", "LC_ALL=C.UTF-8", "MANPAGER=cat", "MANWIDTH=100", "bash", "-c"]
         ended = subprocess.run([*words, f"cd {folder} && {command}"], stdin=subprocess.DEVNULL, stdout=subprocess.PIPE, stderr=subprocess.STDOUT, text=True, check=False)
         return ended.returncode, ended.stdout
 
     def case(self, name, is_right, printed):
-        """Prints a case, with what was printed if it is wrong."""
+        """Prints the result of a case, with the output if the case is wrong."""
         self.wrong += not is_right
         print(f"{name}: {'ok' if is_right else f'wrong: {printed}'}", flush=True)
 
@@ -73,7 +73,7 @@ def main(words):
 
 
 def packed(room):
-    """Packs a release of a copy of the repository and the built program; returns None if there is no program."""
+    """Packs a release of a copy of the repository and the built program, and returns its path, or None if there is no program."""
     program = built_program()
     if program is None:
         return None
@@ -84,7 +84,7 @@ def packed(room):
 
 
 def quoted(page, wanted=None):
-    """Returns the commands that a page quotes, or one of them, each with its output."""
+    """Returns the commands that a page quotes, or only the wanted one, each with its output."""
     return [it for it in commands_of((ROOT / page).read_text(encoding="utf-8")) if wanted in (None, it[0])]
 
 

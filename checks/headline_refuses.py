@@ -1,15 +1,15 @@
 #!/usr/bin/env python3
-"""Shows that the laws refuse bugs with which everything below them agrees.
+"""Shows that the laws refuse bugs that are consistent with all lower crates.
 
-Each file headline/*.bug rewrites, for one bug, a definition, the code, and the lemmas that say the same, so that they agree on
-the bug. In a copy of the repository with these changes the crates below must still prove, and a law of a crate above must be
+Each file headline/*.bug changes, for one bug, a definition, the code, and the lemmas about them, so that all of them agree on the
+bug. In a copy of the repository with these changes, the lower crates must still be proved, and a law of a higher crate must be
 refused. README.md describes the form of such a file.
 
-The arguments name the bugs to try; without arguments all are tried. Prove the repository's crates first, so that their libraries
-are available.
+The arguments name the bugs to try. Without arguments all bugs are tried. Prove the crates of the repository first, so that their
+libraries are available.
 
-Exit status: 0 if each bug is refused by its law, 1 if one is accepted or is refused elsewhere, 2 if a text to rewrite doesn't
-occur exactly once, or a bug doesn't exist.
+Exit status: 0 if each bug is refused by its law, 1 if one is accepted or is refused elsewhere, 2 if a text to replace does not
+occur exactly once, or a bug does not exist.
 """
 
 import shutil
@@ -23,13 +23,13 @@ from pathlib import Path
 HERE = Path(__file__).resolve().parent
 TOP = HERE.parent
 BUGS = HERE / "headline"
-# The prover's messages about a goal that isn't proved, as opposed to a text that it can't read.
+# The prover's messages about a goal that is not proved, as opposed to a text that it cannot parse.
 UNPROVED = ("the goal does not follow", "it is not proved that")
 ERROR = ": error: "
 
 
 class Bug:
-    """A bug: the rewritten texts, the crates that must still prove, and the crate and its law that must be refused."""
+    """A bug: the changed texts, the crates that must still be proved, and the crate and the law that must be refused."""
 
     def __init__(self, path):
         self.name = path.stem
@@ -64,7 +64,7 @@ class Bug:
 
 
 def with_those_below(crates):
-    """Returns the crates and all crates of this repository that they depend on, also indirectly."""
+    """Returns the crates and all crates of this repository that they depend on, directly or indirectly."""
     below = {}
     for line in (TOP / "crates.txt").read_text().splitlines():
         if line and not line.startswith("#"):
@@ -80,7 +80,7 @@ def with_those_below(crates):
 
 
 def copy(bug, folder):
-    """Copies the repository with the rewritten texts, and with the proofs of the crates that are checked."""
+    """Copies the repository with the changed texts, and with the stored proofs of the crates that are checked."""
     checked = with_those_below([*bug.proves, bug.refuses])
 
     def left_out(inside, names):
@@ -97,25 +97,25 @@ def copy(bug, folder):
 
 
 def check(folder, crate):
-    """Returns whether the crate is proved, and the lines that the prover prints."""
+    """Checks a crate of the copy. Returns whether it is proved, and the lines that the prover prints."""
     done = subprocess.run(["rt", "check"], cwd=folder / "crates" / crate, stdin=subprocess.DEVNULL,
                           stdout=subprocess.PIPE, stderr=subprocess.STDOUT, text=True)
     return done.returncode == 0, done.stdout.splitlines()
 
 
 def tells(line, words):
-    """Returns whether the line contains one of these."""
+    """Returns whether the line contains one of these texts."""
     return any(word in line for word in words)
 
 
 def first_refusal(said):
-    """Returns the first line that reports a refusal, without the hints at its end."""
+    """Returns the first line that reports an error, without the hints at its end, or the last line if there is none."""
     line = next((line for line in said if tells(line, (ERROR, *UNPROVED))), said[-1] if said else "nothing is said")
     return textwrap.shorten(line, width=300, placeholder=" ..")
 
 
 def attempt(bug, folder):
-    """Returns whether the bug's law refuses it, the outcome in words, and the prover's line."""
+    """Tries a bug. Returns whether its law refuses it, the result in words, and the prover's line."""
     copy(bug, folder)
     for crate in bug.proves:
         proved, said = check(folder, crate)

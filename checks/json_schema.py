@@ -1,11 +1,11 @@
 """A validator for the part of JSON Schema draft-07 that share/plan.schema.json uses.
 
-A keyword that it does not know is an error, so that a schema never says more than is checked.
+An unknown keyword is an error, so that a schema never has a condition that the validator ignores.
 """
 
 import re
 
-# Keywords that describe a value and do not restrict it.
+# The keywords that describe a value and do not restrict it.
 ANNOTATIONS = {"$schema", "title", "description", "default", "examples", "definitions"}
 KEYWORDS = {
     "$ref", "type", "properties", "additionalProperties", "required", "items", "maxItems", "minimum", "maximum", "pattern",
@@ -40,7 +40,7 @@ def resolved(root, reference):
 
 
 def is_of_type(value, name):
-    """Returns whether a value has a type. An integer may be written as 1.0, as draft-07 says; a boolean is no number."""
+    """Returns whether a value has the type with this name. As in draft-07, 1.0 is an integer, and a boolean is not a number."""
     if name is None:
         return True
     if name == "integer":
@@ -80,7 +80,7 @@ def scalar_errors(schema, value, path):
 
 
 def whole(pattern):
-    """Returns a pattern without its anchors, for a match of the whole text: Python's `$` allows a newline after it."""
+    """Returns a pattern without its anchors, to be matched with a whole text. Python's `$` would allow a newline after the text."""
     if not (pattern.startswith("^") and pattern.endswith("$")):
         raise ValueError(f"the pattern {pattern} does not match whole texts")
     return pattern[1:-1]

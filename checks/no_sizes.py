@@ -1,12 +1,12 @@
-"""The causes for which no sizes help a plan, derived from its bodies alone: a circle of submits, or a submit that is repeated
-forever and never got."""
+"""The reasons why no sizes help a plan, derived from its bodies alone: a cycle of submits, or a submit that is repeated forever and
+never got."""
 
-# The line before that of a cause.
+# The line of `fit` before the line with the reason.
 NOTHING_FOUND = "no fitting sizes found"
 
 
 def causes(plan):
-    """Returns the lines that `fit` may print as the cause for which no sizes help the plan; none if some sizes help."""
+    """Returns the lines that `fit` may print as the reason why no sizes help the plan. Returns none if some sizes help."""
     return circles(plan) or never_got(plan)
 
 
@@ -19,7 +19,8 @@ def circles(plan):
 
 
 def never_got(plan):
-    """Returns the submits without a get in bodies that repeat: those of clients, and of the jobs that they cause."""
+    """Returns the lines for the submits without a get that are repeated: those in the bodies of clients that repeat, and in the bodies
+    of the jobs that these clients cause."""
     bodies = [(f"client {client.name}", client.body) for client in plan.clients if client.repeat]
     for number in submitted(plan, [body for _, body in bodies]):
         bodies.append((f"class {plan.classes[number].name}", plan.classes[number].body))

@@ -1,5 +1,5 @@
-"""A parser of plans with Python's own TOML, without the crates: names become numbers, and slots become the submits that fill
-them."""
+"""A parser of plans that uses Python's TOML parser and none of the crates. It replaces names by numbers, and slots by the positions of
+the submits that fill them."""
 
 import tomllib
 

@@ -1,13 +1,13 @@
 #!/usr/bin/env python3
-"""Refuses each growth of the memory of `sizing` in turn, on examples of each command, and each start of a thread. README.md
-explains what that shows.
+"""Refuses each growth of the memory of `sizing` and each start of a thread in turn, on examples of each command. README.md explains
+what that shows.
 
-A run in which the N-th of them is refused must end with fault 20 and no answer, or with the example's own answer and
-status. N goes from 1 to the first that a run doesn't reach.
+A run in which the N-th growth or start is refused must end with fault 20 and no answer, or with the right answer and status of the
+example. N goes from 1 to the first number that a run does not reach.
 
 The program is crates/sizing/out/sizing, or the one that the environment variable SIZING names.
 
-Exit status: 0 if all runs end so, 1 if one doesn't, 2 if nothing can be shown.
+Exit status: 0 if all runs end so, 1 if one does not, 2 if the check cannot be run.
 """
 
 import os
@@ -24,13 +24,13 @@ from typing import Optional
 HERE = Path(__file__).resolve().parent
 BUILT = HERE.parent / "crates" / "sizing" / "out" / "sizing"
 EXAMPLES = HERE.parent / "examples"
-# The suffix of the file with the text after the line `%%`, by command.
+# The suffix of the example's file with the text after the line `%%`, by command.
 SECOND_PARTS = {"replay": "events", "check": "json", "explain": "json", "run": "json", "conform": "recording"}
-# The commands that write a bundle, which is not stored.
+# The commands that write a bundle. No example stores it.
 BUNDLING = ("certify", "fit --bundle", "refute --bundle")
-# The other commands without a stored answer: `ask`, and those that read a recording.
+# The other commands whose answers no example stores: `ask`, and the commands that read a recording.
 ASKING = ("ask", "ask --json", "ask --dot", "conform", "learn")
-# The arguments after the command.
+# The arguments after the command, by command.
 OPTIONS = {"run": ["--rounds", "3"]}
 JUDGED = ["two-clients-queue-of-two", "nested-two-workers", "web-and-database-sized", "cross-pools-two-threads"]
 REFUTED = ["two-clients", "nested-one-worker", "nested-unused-max"]
@@ -52,19 +52,19 @@ CASES = [
     ("learn", "recordings/web-and-database"),
 ]
 SHARED_OBJECT = "refuse_growth.so"
-# The number of growths in a row that a run must not reach. The threads of `run` share its jobs differently each time, so the number
-# of growths varies a little.
+# The number of consecutive growths that must not be reached before the check of a command ends, if it is not 1. The threads of `run`
+# divide its jobs differently each time, so the number of growths varies a little.
 UNREACHED = {"run": 5}
 SECONDS = 10
 
 
 class Unable(Exception):
-    """Nothing can be shown."""
+    """The check cannot be run."""
 
 
 @dataclass(frozen=True)
 class Ended:
-    """The end of a run. The status is negative if a signal ended it, and None if it didn't end in time."""
+    """The end of a run. The status is negative if a signal ended the run, and None if the run did not end in time."""
 
     status: Optional[int]
     printed: bytes
@@ -87,7 +87,7 @@ def main():
 
 
 def built():
-    """Returns the path of the program."""
+    """Returns the path of the built program. Raises Unable if there is none."""
     program = Path(os.environ.get("SIZING") or BUILT).resolve()
     if not os.access(program, os.X_OK) or not program.is_file():
         raise Unable(f"there is no program at {program}: run `make program` at the top of the repository")
@@ -105,7 +105,7 @@ def compile_object(folder, name):
 
 
 def sweep(folder, program, command, name):
-    """Refuses each growth of a command on an example in turn, and prints the outcomes. Returns the number of wrong ends."""
+    """Refuses each growth of a command on an example in turn, and prints the results. Returns the number of wrong ends."""
     given = given_to(command, name)
     if command in BUNDLING:
         right = bundle_end(program, command, given)
@@ -144,7 +144,7 @@ def given_to(command, name):
 
 
 def right_end(command, name):
-    """Returns the expected end of a command on an example, from the file of its answer, whose last line has the status.
+    """Returns the expected end of a command on an example, from the file with the answer. The last line of the file has the status.
 
     An example to which `check` says yes has no file for `explain`, since no condition fails.
     """
@@ -160,9 +160,9 @@ def right_end(command, name):
 
 
 def bundle_end(program, command, plan):
-    """Returns the end of a command that writes a bundle, if nothing is refused. `check` must say yes to the bundle; `certify` may
-    find none; `replay` of the bundle of `refute` must end in a refusal or in jobs that are stuck. The plan of the bundle must be
-    the given one, except for `fit`."""
+    """Returns the end of a command that writes a bundle, if nothing is refused. `check` must say yes to a bundle of `certify` or `fit`,
+    but `certify` may find no certificate. `replay` of a bundle of `refute` must end in a refused submit or in jobs that are stuck. The
+    plan of the bundle must be the given plan, except for `fit`."""
     done = subprocess.run(words_of(program, command), input=plan, capture_output=True, timeout=SECONDS, check=False)
     if command == "refute --bundle":
         return witness_end(program, plan, done)
@@ -176,7 +176,7 @@ def bundle_end(program, command, plan):
 
 
 def witness_end(program, plan, done):
-    """Returns the end of `refute --bundle`, which wrote events after the plan."""
+    """Returns the end of `refute --bundle`. Raises Unable if it is not right: see bundle_end."""
     replay = subprocess.run([program, "replay"], input=done.stdout, capture_output=True, timeout=SECONDS, check=False)
     last = replay.stdout.splitlines()[-2:-1]
     shows = any(b": refused by " in line or line.endswith(b": stuck yes") for line in last)
@@ -186,7 +186,7 @@ def witness_end(program, plan, done):
 
 
 def asked_end(program, command, plan):
-    """Returns the end of a command of ASKING if nothing is refused, which must be a yes or a no."""
+    """Returns the end of a command of ASKING if nothing is refused. Raises Unable if the command does not answer yes or no."""
     done = subprocess.run(words_of(program, command), input=plan, capture_output=True, timeout=SECONDS, check=False)
     if done.returncode not in (0, 1) or not done.stdout or done.stderr:
         raise Unable(f"{command} answers {done.stdout!r}")
@@ -205,7 +205,8 @@ def contents(name):
 
 
 def run(folder, program, command, given, number):
-    """Returns the end of a run in which the growth of this number is refused, and the refused call, or None if none was."""
+    """Returns the end of a run in which the growth with this number is refused, and the name of the refused call, or None if the run
+    does not reach this growth."""
     told = folder / "told"
     told.write_bytes(b"")
     settings = {"LD_PRELOAD": f"./{SHARED_OBJECT}", "REFUSE_AT": str(number), "REFUSE_TOLD": str(told)}

@@ -1,21 +1,21 @@
 #!/usr/bin/env python3
-"""Opens the report of six plans in a headless Chromium.
+"""Opens the reports of six plans in a headless Chromium, and checks them.
 
-    python3 checks/report_page.py               # opens them
-    python3 checks/report_page.py --pictures    # and writes a picture of each to docs/pictures
+    python3 checks/report_page.py               # checks the reports
+    python3 checks/report_page.py --pictures    # also writes a picture of each to docs/pictures
 
-Each report is web/report.html with the answer of `sizing ask --json` to a plan, which web/sample.py completes; what it adds
-about the events must be what `sizing replay` prints. In each:
+Each report is web/report.html with the answer of `sizing ask --json` to a plan. web/sample.py adds the outcomes of the events, which
+must be those that `sizing replay` prints. For each report:
 
-- the console has no error, and the page asks the network for nothing;
+- the console has no error, and the page makes no request to the network;
 - the expected texts are there, and nothing is wider than a window of 1,200 pixels, on screen and in print;
-- each text has a contrast of at least 4.5 to its background, in light and in dark;
-- the Tab key reaches each link and each folded part, in order, and shows where it is;
-- a link to a line of the plan opens the plan there.
+- each text has a contrast of at least 4.5 to its background, in the light and in the dark colour scheme;
+- the Tab key reaches each link and each folded part, in order, and the page marks the part that has the focus;
+- a link to a line of the plan shows that line.
 
 The program is crates/sizing/out/sizing, or the one that the environment variable SIZING names. Chromium is that of Debian's
-package `chromium`; without it the status is 0 after a line that says so. Pictures are made smaller by `pngquant`, if it is
-installed.
+package `chromium`. Without it, the check prints a line that says so, and the exit status is 0. `pngquant` makes the pictures
+smaller, if it is installed.
 
 Exit status: 0 if all of this holds, 1 if not, 2 if there is no program.
 """
@@ -39,7 +39,7 @@ from sample import page_of, whole_answer
 
 
 class Sample(NamedTuple):
-    """A plan, and texts that its report has."""
+    """A plan, and texts that must be in its report."""
 
     name: str
     plan: str
@@ -79,11 +79,11 @@ SAMPLES = [
     ),
 ]
 WIDTH = 1200
-# A picture shows the report as far as this.
+# The maximum height of a picture in pixels. The report below it is cut off.
 MOST_PIXELS = 1800
 SECONDS = 300
 
-# The texts whose contrast is too low, each with its contrast. The background of a text is the first filled element below it.
+# The texts whose contrast is too low, each with its contrast. The background of a text is that of the first filled element under it.
 CONTRAST = """(() => {
   const parse = color => {
     const found = color.match(/[\\d.]+/g);
@@ -137,7 +137,7 @@ FOCUSED = f"""(() => {{
 WIDER = """[document.documentElement, ...document.querySelectorAll(".drawing, pre, section")]
   .filter(each => each.scrollWidth > each.clientWidth + 1).map(each => `${each.tagName} ${each.scrollWidth} above ${each.clientWidth}`)"""
 TALL = "Math.ceil(document.documentElement.getBoundingClientRect().height)"
-# A link to a line shows the line.
+# Whether a link to a line of the plan shows the line.
 LINK = """(() => {
   const link = document.querySelector("a[href^='#L']");
   if (!link) return true;
@@ -168,7 +168,7 @@ def problems(browser, sample, page):
     yield from keyboard_problems(browser)
     if not browser.evaluate(LINK):
         yield "a link to a line of the plan does not show the line"
-    # with all folded parts open
+    # printing opens all folded parts
     browser.evaluate("window.dispatchEvent(new Event('beforeprint'))")
     yield from (f"too wide when it is unfolded: {each}" for each in browser.evaluate(WIDER))
     browser.resize(WIDTH, browser.evaluate(TALL))
@@ -181,7 +181,7 @@ def problems(browser, sample, page):
 
 
 def keyboard_problems(browser):
-    """Yields a line for each link and folded part that the Tab key does not reach in its order, or does not mark."""
+    """Yields a line for each link and folded part that the Tab key does not reach in its order, or that is not marked then."""
     count = browser.evaluate(f"{FOCUSABLE}.length")
     for index in range(count):
         browser.press("Tab", 9)
@@ -210,7 +210,7 @@ def picture(browser, sample, page):
 
 
 def answer_of(program, sample):
-    """Returns the data of the report of a plan, and the event lines of its witness."""
+    """Returns the data of the report of a plan, and the lines of the events of its witness."""
     plan = ROOT / sample.plan
     ran = subprocess.run([program, "ask", "--json", plan], capture_output=True, text=True, timeout=SECONDS, check=False)
     answer = json.loads(ran.stdout)
@@ -218,7 +218,7 @@ def answer_of(program, sample):
 
 
 def outcomes(answer):
-    """Yields what `sizing replay` must print for each event of the witness, without its number."""
+    """Yields the expected line of `sizing replay` for each event of the witness, without the number of the event."""
     plan = {entry["name"]: entry["body"] for entry in answer["plan"]["classes"]}
     plan |= {f"client {entry['name']}": entry["body"] for entry in answer["plan"]["clients"]}
     for event in answer["witness"]["events"]:
@@ -234,7 +234,7 @@ def outcomes(answer):
 
 
 def replay_problems(program, sample, answer, events):
-    """Yields a line if the outcomes of the witness differ from those of `sizing replay`."""
+    """Yields a line if the outcomes in the report differ from those of `sizing replay`."""
     if not events:
         return
     text = (ROOT / sample.plan).read_text(encoding="utf-8") + "%%\n" + "".join(f"{event}\n" for event in events)

@@ -1,4 +1,4 @@
-"""A reader of the test rows, in the form that crates/row_tests/src/files.rt describes, except those with sample plans."""
+"""A reader of test rows, in the form that crates/row_tests/src/files.rt describes. It skips rows with sample plans."""
 
 import re
 from pathlib import Path
@@ -9,7 +9,7 @@ SPELLED = {"^n": "\n", "^r": "\r", "^t": "\t", "^s": " "}
 
 
 def rows_of(file, kind):
-    """Yields the name of each row, its input of this kind, and the answer; skips rows with a sample plan."""
+    """Yields the name, the input of this kind and the expected answer of each row in a file. Skips rows with a sample plan."""
     for text in re.split(r"(?m)^== ", (DATA / file).read_text())[1:]:
         name = text.partition("\n")[0]
         parts = dict(part_of(part) for part in re.split(r"(?m)^-- ", text)[1:])

@@ -3,14 +3,14 @@
 
     python3 checks/runs.py [RUNS [SEED]]     # by default 1,000 runs and seed 1
 
-A plan has 1 to 64 clients and pools with 1 to 64 threads in all. If `sizing certify` finds a certificate, the program runs the
-plan with a number of rounds within the limits of a run. The run must end within ten seconds, with the jobs and the units that
-this check derives from the bodies alone. The program must report a number of rounds that is too large for the plan. README.md
-describes how the threads of every second run are disturbed.
+A plan has 1 to 64 clients, and pools with 1 to 64 threads in total. If `sizing certify` finds a certificate, the program runs the
+plan for a number of rounds within the limits of a run. The run must end within ten seconds, with the numbers of jobs and units that
+this check computes from the bodies alone. If the number of rounds is too large for the plan, the program must return a fault.
+README.md describes how about half of the runs are disturbed.
 
 The program is crates/sizing/out/sizing, or the one that the environment variable SIZING names.
 
-Exit status: 0 if each run is right, 1 if one is not, 2 if nothing can be shown.
+Exit status: 0 if each run is right, 1 if one is not, 2 if the check cannot be run.
 """
 
 import os
@@ -32,7 +32,7 @@ MOST_CLIENTS = 64
 MOST_CARRIERS = 64
 MOST_EVENTS = 1_000_000
 MOST_ROUNDS = 1_000_000
-# The limits on the events of a run, one of which is drawn. A run of a single round may have more.
+# The limits on the number of events of a run, one of which is chosen at random. A run of a single round may have more events.
 EVENTS = [100, 1_000, 10_000, 30_000]
 UNITS = [1, 2, 7, 1_000_000]
 MOST_WRONG = 3
@@ -52,7 +52,7 @@ def main():
 
 
 class Runs:
-    """The program, the object that disturbs its threads, and the counts of the runs so far."""
+    """The program, the shared object that disturbs its threads, and the counts of the runs so far."""
 
     def __init__(self, program, disturb, chance):
         self.program, self.disturb, self.chance = program, disturb, chance
@@ -71,7 +71,7 @@ class Runs:
         return 1 if self.wrong else 0
 
     def one_plan(self, plan, bundle):
-        """Runs a certified plan, and once more with too many rounds, if there can be too many."""
+        """Runs a certified plan, and runs it once more with too many rounds, if a number of rounds is too large for it."""
         numbers = Numbers(plan)
         events = max(self.chance.choice(EVENTS), numbers.events(1))
         most = numbers.most_rounds(MOST_EVENTS)
@@ -91,7 +91,7 @@ class Runs:
         return {"LD_PRELOAD": str(self.disturb), "DISTURB_SEED": str(self.chance.randrange(2**32))}
 
     def held(self, bundle, rounds, wanted, settings):
-        """Runs a bundle, and prints how it ends if that is not the expected end."""
+        """Runs a bundle, and prints how the run ends if that is not the expected end."""
         words = [self.program, "run", "--rounds", str(rounds)]
         try:
             done = subprocess.run(words, input=bundle, capture_output=True, text=True, timeout=SECONDS,
@@ -105,19 +105,19 @@ class Runs:
 
 
 class Numbers:
-    """The numbers of a run of a plan: its jobs, its units, and the bound on its events."""
+    """The numbers of a run of a plan: its jobs, its units, and the upper bound on its events."""
 
     def __init__(self, plan):
         self.plan = plan
 
         @cache
         def of_class(number):
-            """Returns the jobs, units and events that one job of the class causes, with the events of its take and its finish."""
+            """Returns the numbers of jobs, units and events that one job of the class causes, including its take and its end."""
             jobs, units, events = of_body(plan.classes[number].body)
             return jobs + 1, units, events + 2
 
         def of_body(body):
-            """Returns the jobs, units and events that a body causes; each of its actions is an event."""
+            """Returns the numbers of jobs, units and events that a body causes. Each of its actions is an event."""
             below = [of_class(operand) for what, operand in body if what == "submit"]
             jobs, units, events = (sum(column) for column in zip((0, 0, len(body)), *below))
             return jobs, units + sum(operand for what, operand in body if what == "work"), events
@@ -135,7 +135,7 @@ class Numbers:
         return f"jobs {self.total(rounds, 0)}, units {self.total(rounds, 1)}, refused 0\n"
 
     def most_rounds(self, events):
-        """Returns the maximum number of rounds with at most this many events; 0 if one round has more."""
+        """Returns the maximum number of rounds with at most this number of events, or 0 if one round has more."""
         low, high = 0, MOST_ROUNDS
         while low < high:
             middle = (low + high + 1) // 2
@@ -163,12 +163,12 @@ def plan_by_chance(chance):
 
 
 def about(chance, most):
-    """Returns a random number from 1 to `most`, uniform on a logarithmic scale, but the two ends more often."""
+    """Returns a random number from 1 to `most`, uniform on a logarithmic scale, except that 1 and `most` are more frequent."""
     return chance.choice([1, most, *(round(most ** chance.random()) for _ in range(6))])
 
 
 def parts(chance, whole, most):
-    """Splits a number into random parts of at least 1."""
+    """Splits a number into at most `most` random parts of at least 1."""
     cuts = sorted(chance.sample(range(1, whole), min(chance.randrange(most), whole - 1)))
     return [high - low for low, high in zip([0, *cuts], [*cuts, whole])]
 

@@ -3,13 +3,13 @@
 
     python3 checks/schema.py
 
-- Each plan of examples/ and each sound plan of mistakes/ is valid.
-- Of the mistakes, the schema finds exactly those that SCHEMA lists. Those of SYNTAX are no TOML, so the editor reports them
-  before it uses the schema. Each of BEYOND says why a schema cannot find it.
-- On plans at the boundary of each rule, the schema and `sizing ask` agree, except for those of DIFFERENT.
+- By the schema, each plan of examples/ and each right plan of mistakes/ is valid.
+- The schema finds exactly the mistakes that SCHEMA lists. The mistakes in SYNTAX are not TOML, so an editor reports them before it
+  uses the schema. For each other mistake, BEYOND has the reason why a schema cannot find it.
+- On plans at the boundary of each rule, the schema and `sizing ask` agree, except for the plans in DIFFERENT.
 
-The Python package jsonschema checks the same, if it is installed. The boundaries need the program crates/sizing/out/sizing, or
-the one that the environment variable SIZING names; without it they are left out.
+If the Python package jsonschema is installed, it checks the same. The plans at the boundaries need the program
+crates/sizing/out/sizing, or the one that the environment variable SIZING names. Without the program they are skipped.
 
 Exit status: 0 if all of this holds, 1 if not.
 """
@@ -33,7 +33,7 @@ SCHEMA_FILE = ROOT / "share" / "plan.schema.json"
 
 SOUND = ["sound", "crlf_and_tab"]
 
-# Mistakes that the schema finds, each with the path of its first error.
+# The mistakes that the schema finds, each with the path of its first error.
 SCHEMA = {
     "plural_table": "",
     "misspelled_key": "pool.1",
@@ -48,11 +48,11 @@ SCHEMA = {
     "two_spaces": "class.1.body.0",
     "get_with_timeout": "client.0.body.1",
     "execute_for_submit": "client.0.body.0",
-    # the second slip, a get of a slot that is not open, is beyond a schema
+    # the second mistake, a get of a slot that is not open, cannot be found by a schema
     "two_slips": "client.0.count",
 }
 
-# Mistakes that leave no TOML.
+# The mistakes with which a plan is not TOML.
 SYNTAX = [
     "unclosed_quote",
     "slash_comment",
@@ -64,7 +64,7 @@ SYNTAX = [
     "a_bundle_for_a_plan",
 ]
 
-# Mistakes that a schema of draft-07 cannot find, each with the reason.
+# The mistakes that a schema of draft-07 cannot find, each with the reason.
 COMPARES = "it would have to compare two numbers of the text"
 LOOKS_UP = "it would have to look a name up elsewhere in the text"
 FOLLOWS = "it would have to follow a slot through the actions of a body"
@@ -81,7 +81,7 @@ BEYOND = {
     "empty_file": VALID,
 }
 
-# A plan that is valid, whose values the boundaries replace one at a time.
+# A valid plan. A plan at a boundary differs from it in one value.
 BASE = {
     "pool": {"name": '"p"', "core": "1", "max": "1", "queue": "2"},
     "class": {"name": '"a"', "pool": '"p"', "body": '["work 1"]'},
@@ -112,7 +112,7 @@ BODIES = [
     f"[{', '.join([WORK] * 257)}]",
 ]
 
-# Boundaries at which the schema accepts what `sizing ask` refuses, each with the reason.
+# The boundaries at which the schema accepts a plan that has a fault for `sizing ask`, each with the reason.
 DIFFERENT = {
     ("pool", "core", "1.0"): "1.0 is an integer in JSON Schema, and not in TOML",
     ("pool", "queue", "1.0"): "1.0 is an integer in JSON Schema, and not in TOML",
@@ -121,7 +121,7 @@ DIFFERENT = {
 
 
 def read(path):
-    """Returns the plan of a file, or None if it is no TOML."""
+    """Returns the plan of a file, or None if the file is not TOML."""
     try:
         return tomllib.loads(path.read_bytes().decode())
     except (tomllib.TOMLDecodeError, UnicodeDecodeError):
@@ -129,13 +129,13 @@ def read(path):
 
 
 def first_error(schema, plan):
-    """Returns the path of the first error, as pool.0.core, or None if the plan is valid."""
+    """Returns the path of the first error, such as pool.0.core, or None if the plan is valid."""
     found = next(errors(schema, plan), None)
     return None if found is None else ".".join(map(str, found[0]))
 
 
 def files_differ(schema):
-    """Yields a line for each file that the schema does not judge as it should, and for each file that no list names."""
+    """Yields a line for each file for which the result of the schema is wrong, and for each file that no list names."""
     sound = [*sorted((ROOT / "examples").glob("*.toml")), *(HERE / "mistakes" / f"{name}.toml" for name in SOUND)]
     for path in sound:
         plan = read(path)
@@ -153,7 +153,7 @@ def files_differ(schema):
 
 
 def boundaries():
-    """Yields plans at the boundaries of each rule: the table, the key, the value that it has there, and the text."""
+    """Yields the plans at the boundaries of each rule: the table, the key, the value of the key, and the text of the plan."""
     changes = [(table, key, value) for table, key in (("pool", "core"), ("pool", "queue"), ("client", "count")) for value in NUMBERS]
     changes += [(table, "name", value) for table in BASE for value in NAMES]
     changes += [("client", "body", value) for value in BODIES]
@@ -165,7 +165,7 @@ def boundaries():
             del plan[table][key]
         else:
             plan[table][key] = value
-        # the rest of the plan follows the change, so that nothing else is wrong
+        # another value changes with this one, so that nothing else is wrong
         if value and (table, key) == ("pool", "core"):
             plan["pool"]["max"] = value
         if value and (table, key) == ("pool", "name"):
@@ -177,13 +177,14 @@ def boundaries():
 
 
 def has_faults(program, text):
-    """Returns whether `sizing ask` answers a plan with faults."""
+    """Returns whether `sizing ask` reports faults of a plan."""
     ran = subprocess.run([program, "ask", "--json"], input=text.encode(), capture_output=True, check=False)
     return json.loads(ran.stdout)["answer"] == "FAULTS"
 
 
 def boundaries_differ(schema, program):
-    """Yields a line for each boundary at which the schema and the program differ without a reason, or agree despite one."""
+    """Yields a line for each boundary at which the schema and the program differ although DIFFERENT has no reason for it, or agree
+    although DIFFERENT has one."""
     cases = list(boundaries())
     with ThreadPoolExecutor(os.cpu_count()) as pool:
         faulty = list(pool.map(lambda case: has_faults(program, case[3]), cases))
@@ -194,7 +195,7 @@ def boundaries_differ(schema, program):
 
 
 def validators_differ(schema):
-    """Yields a line for each plan that the package jsonschema judges otherwise, and for a schema that is none."""
+    """Yields a line for each plan for which the package jsonschema has another result, and a line if it finds the schema invalid."""
     try:
         from jsonschema import Draft7Validator
     except ImportError:
@@ -208,7 +209,7 @@ def validators_differ(schema):
             plan = tomllib.loads(text.decode())
         except (tomllib.TOMLDecodeError, UnicodeDecodeError):
             continue
-        # that package matches a pattern with Python's `$`, which allows a newline after the text
+        # the package jsonschema matches a pattern with Python's `$`, which allows a newline after the text
         if validator.is_valid(plan) != (first_error(schema, plan) is None) and b"\\n" not in text:
             yield f"the package jsonschema differs: {text.decode()[:200]}"
 

@@ -1,14 +1,15 @@
 #!/usr/bin/env python3
-"""Visits every state of every small plan that the built program certifies, and looks for one that is not safe.
+"""Visits every state of every small plan that the built program certifies, and searches for a state that is not safe.
 
-This file implements the machine a second time, from the rules in docs/GUIDE.md alone, without the crates. For each plan of a
-family the check runs `sizing certify`. If that finds a certificate, the check tries all lists of events, up to the names of jobs:
-no submit may be refused, no set of jobs may wait only for its own members, and some job or pool must be able to continue as long
-as a job is unfinished. The check compares the machine with `sizing replay` on a walk through each plan, certified or not.
+This file implements the machine a second time, from the rules in docs/GUIDE.md alone, without the crates. The check runs `sizing
+certify` on each plan of a family. If `certify` finds a certificate, the check tries all lists of events, treating states that differ
+only in job names as equal. No submit may be refused, no set of jobs may wait only for its own members, and while a job is
+unfinished, an event of some job or pool must be possible. The check also compares this machine with `sizing replay` on a random list
+of events of each plan, whether or not it is certified.
 
 The program is crates/sizing/out/sizing, or the one that the environment variable SIZING names.
 
-Exit status: 0 if all is safe and all walks agree, 1 if not, 2 if there is no program.
+Exit status: 0 if all states are safe and all replays agree, 1 if not, 2 if there is no program.
 """
 
 import itertools
@@ -20,7 +21,7 @@ from collections import Counter, namedtuple
 from pathlib import Path
 
 BUILT = Path(__file__).resolve().parent.parent / "crates" / "sizing" / "out" / "sizing"
-# The search stops at a plan with more states than this, which is counted separately.
+# The maximum number of states of a plan that are visited. A plan with more states is counted separately.
 MOST_STATES = 20_000
 STEPS_OF_A_WALK = 40
 SECONDS = 120
@@ -30,16 +31,17 @@ Class = namedtuple("Class", "name pool body")
 Client = namedtuple("Client", "name count repeat body")
 Plan = namedtuple("Plan", "pools classes clients")
 
-# An action is ("work", units), ("submit", class) or ("get", position of its submit); a phase is QUEUED, DONE or a position.
+# An action is ("work", units), ("submit", class) or ("get", position of its submit). The phase of a job is QUEUED, DONE or a position.
 QUEUED, DONE = "queued", "done"
-# A job that can still be named; its maker is ("client", number), ("job", number), or None if the maker has ended.
+# A job that a later event can name. Its maker is ("client", number), ("job", number), or None if no actor can get the job any longer.
 Job = namedtuple("Job", "kind maker slot phase")
-# Idle workers and queue of each pool, position of each client, and the jobs by number, in the order of their creation.
+# A state: the idle workers and the queue of each pool, the position of each client, and the jobs with their numbers, in the order of
+# their creation.
 State = namedtuple("State", "idle queues clients jobs")
 
 
 class Machine:
-    """The machine of a plan: its start, and the effect of each event."""
+    """The machine of a plan: its initial state, and the effect of each event."""
 
     def __init__(self, plan):
         self.plan = plan
@@ -50,7 +52,7 @@ class Machine:
         return State(idle, ((),) * len(idle), (0,) * len(self.kinds), ())
 
     def events(self, state):
-        """Yields all events that may be possible, by their words in a replay."""
+        """Yields all events that may be possible, each as the words of its line in a replay."""
         yield from (("client", number) for number in range(len(self.kinds)))
         yield from (("job", number) for number, _ in state.jobs)
         yield from ((word, pool) for word in ("take", "retire") for pool in range(len(self.plan.pools)))
@@ -62,7 +64,7 @@ class Machine:
         return self.plan.classes[job.kind].pool
 
     def step(self, state, event, new_number):
-        """Returns the state after the event and its outcome in a replay, or None if the event is not possible."""
+        """Returns the state after the event and the event's outcome in a replay, or None if the event is not possible."""
         word, number = event
         if word == "take":
             if not state.idle[number] or not state.queues[number]:
@@ -138,12 +140,12 @@ class Machine:
             elif child.maker != ("job", number):
                 jobs.append((other, child))
             elif child.phase != DONE:
-                # No actor can get it any longer, but it continues.
+                # no actor can get this job any longer, but the job continues
                 jobs.append((other, child._replace(maker=None)))
         return state._replace(idle=put(state.idle, of, state.idle[of] + 1), jobs=tuple(jobs))
 
     def waiting(self, state):
-        """Returns the greatest set of unfinished jobs that wait only for one another."""
+        """Returns the greatest set of unfinished jobs that wait only for each other."""
         jobs = dict(state.jobs)
         members = {number for number, job in state.jobs if job.phase != DONE}
         while True:
@@ -185,7 +187,7 @@ def changed(jobs, number, phase):
 
 
 def renamed(state):
-    """Returns the state with its jobs numbered from 0, in their order, which does not change its behavior."""
+    """Returns the state with its jobs numbered from 0, in the same order. This does not change which events are possible."""
     names = {number: name for name, (number, _) in enumerate(state.jobs)}
 
     def maker(job):
@@ -196,7 +198,7 @@ def renamed(state):
 
 
 def explored(plan):
-    """Returns how many states the plan reaches, the fault of one of them or None, and whether there were too many."""
+    """Visits the states of a plan. Returns their number, the fault of a bad state or None, and whether there are too many states."""
     machine = Machine(plan)
     first = renamed(machine.start())
     seen, front = {first}, [first]
@@ -229,7 +231,8 @@ def explored(plan):
 
 
 def bodies(text):
-    """Parses actions such as `a+ -`: `a+` submits class a with a get, `a` without one, and `-` gets the oldest open submit."""
+    """Parses a body such as `a+ -`: `a+` is a submit of class a that is got later, `a` is a submit that is never got, and `-` is the get
+    of the oldest open submit."""
     actions, open_submits = [], []
     for word in text.split():
         if word == "-":
@@ -244,7 +247,7 @@ def bodies(text):
 
 
 def plans():
-    """Yields the family: one pool with one or two classes, and two pools that call each other."""
+    """Yields the plans of the family: plans of one pool with one or two classes, and plans of two pools that call each other."""
     sizes = [(1, 1), (1, 2), (2, 2)]
     pools = [Pool("p", core, top, queue, first) for core, top in sizes for queue in (1, 2, 3) for first in (False, True)]
     asks = ["a+ -", "a", "a+ a+ - -", "a a+ -"]
@@ -297,7 +300,7 @@ def run(program, command, text, *options):
 
 
 def walk(plan, draw):
-    """Returns random events, of which only the last may be impossible, and the answer that a replay must give to them."""
+    """Returns random events, of which only the last may be impossible, and the expected answer of a replay of them."""
     machine, made = Machine(plan), 0
     state, lines, answers = machine.start(), [], []
     for number in range(1, STEPS_OF_A_WALK + 1):

@@ -1,11 +1,11 @@
-"""The steady weights of a plan that some sizes fit: the weights of its actors and the total, in one vector for all pools."""
+"""The steady weights of a plan for which sizes exist: the weights of its actors and their total, in one vector for all pools."""
 
 MOST_SIZE = 1_000_000
 MOST_WEIGHT = 1_000_000_000
 
 
 def is_too_large(plan):
-    """Returns whether the plan's steady certificate has a weight above its limit, or a total of at least the limit of sizes."""
+    """Returns whether the plan's steady certificate has a weight above the limit of weights, or a total of at least the limit of sizes."""
     jobs = job_rows(plan)
     clients = [client_row(jobs, client) for client in plan.clients]
     weights = [weight for row in [*jobs.values(), *clients] for weight in row]
@@ -22,7 +22,8 @@ def total(plan, clients):
 
 
 def job_rows(plan):
-    """Returns the weights of each class by its number: queued, at each position, and done. No class may submit itself."""
+    """Returns the weights of a job of each class, by the class's number: queued, at each position, and done. No class may submit itself,
+    directly or indirectly."""
     rows = {}
 
     def settle(number):
@@ -46,7 +47,7 @@ def client_row(rows, client):
 
 
 def most_open(rows, body):
-    """Returns the maximum weight of the queued jobs of submits that are open at one time, of those with a get."""
+    """Returns the maximum total weight of the jobs, as if queued, of submits with a get that are open at the same time."""
     got = {what for word, what in body if word == "get"}
     now = most = 0
     for place, (word, what) in enumerate(body):
@@ -59,7 +60,7 @@ def most_open(rows, body):
 
 
 def weights(rows, body, end, least):
-    """Returns the weight of an actor at each position, computed from its end backwards."""
+    """Returns the weight of an actor at each position of the body, computed from the end of the body backwards."""
     behind = [end]
     for word, what in reversed(body):
         weight = behind[-1]

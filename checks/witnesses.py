@@ -2,15 +2,15 @@
 """Replays each witness that `sizing refute` finds against random plans, on the machine of small_plans.py, which is independent of
 the crates.
 
-For each plan for which the second search of found_certs.py finds no certificate:
+The random plans are those for which the second search of found_certs.py finds no certificate. For each of them:
 
-- Each event of a witness is possible, and only the last one may be refused. After the last one, either it was refused, or the
-  named jobs are unfinished and wait only for each other.
-- If `refute` says that a plan is safe, and the plan has few states, no state of it is bad.
+- Each event of a witness is possible, and only the last event may be a refused submit. If it is not, the named jobs are unfinished
+  and wait only for each other after it.
+- If `refute` says that the plan is safe, and the plan has few states, no state of it is bad.
 - If `refute` does not decide, it reports at most as many searched states as requested.
 
-The check also prints how many plans stay open at each number of states, how many events the witnesses have, and how many plans
-without a witness are safe on this machine, are not, or have too many states.
+For each limit of states, the check also prints the number of plans that are not decided, the average number of events of the
+witnesses, and how many plans without a witness are safe on this machine, are not safe, or have too many states.
 
     python3 checks/witnesses.py [PLANS [SEED [STATES..]]]     # 3,000 plans, seed 1, and 10,000 and then 100,000 states
 
@@ -36,7 +36,7 @@ from small_plans import DONE, Machine, explored
 
 SAFE, OPEN = 0, 4
 OPEN_NOW = "open"
-# The search stops at a plan without a witness that has more states than this.
+# The maximum number of states of a plan without a witness that are visited.
 small_plans.MOST_STATES = 3_000
 
 
@@ -59,14 +59,14 @@ def main():
 
 @dataclass
 class Asked:
-    """The plans that stay open, and how many answers are wrong."""
+    """The plans that are not decided, and the number of wrong answers."""
 
     still_open: list
     wrong: int
 
 
 def asked(program, plans, states):
-    """Runs `refute` on each plan, and prints the counts of the outcomes."""
+    """Runs `refute` on each plan, and prints the counts of the answers by kind."""
     came, events, found = Counter(), Counter(), Asked([], 0)
     for plan, (kind, length, fault) in zip(plans, each(lambda plan: judged(program, plan, states), plans)):
         came[kind] += 1
@@ -82,7 +82,7 @@ def asked(program, plans, states):
 
 
 def uncertified(count, chance):
-    """Returns the texts of this many random plans without a certificate."""
+    """Returns the texts of random plans without a certificate, `count` in all."""
     texts = []
     while len(texts) < count:
         plan = plan_by_chance(chance)
@@ -92,7 +92,7 @@ def uncertified(count, chance):
 
 
 def judged(program, plan, states):
-    """Returns the kind of the answer to a plan, how many events its witness has, and its fault or None."""
+    """Returns the kind of the answer to a plan, the number of events of the witness, and the fault of the answer or None."""
     status, said = refuted(program, plan, states, "--bundle")
     if status == 0:
         copied, _, rest = said.partition("\n%%\n")
@@ -109,7 +109,7 @@ def judged(program, plan, states):
 
 
 def miscounted(said, states):
-    """Returns the fault of the line with the number of searched states, or None."""
+    """Returns the fault of the line with the number of searched states, or None if the line is right."""
     told = re.fullmatch(r"not decided: (?:1 state was|(\d+) states were) searched\n", said)
     if not told:
         return f"it says {said!r}"
@@ -117,14 +117,14 @@ def miscounted(said, states):
 
 
 def refuted(program, plan, states, *words):
-    """Runs `refute`, and returns its status and its answer."""
+    """Runs `refute`, and returns its exit status and its answer."""
     command = [program, "refute", "--states", str(states), *words]
     done = subprocess.run(command, input=plan, capture_output=True, text=True, timeout=SECONDS, check=False)
     return done.returncode, done.stdout
 
 
 def replayed(text_of_plan, lines):
-    """Returns the kind of a witness, how many events it has, and its fault or None."""
+    """Replays a witness. Returns its kind, the number of its events, and its fault or None."""
     plan = read_plan(text_of_plan)
     pools = {pool.name: number for number, pool in enumerate(plan.pools)}
     machine = Machine(plan)
