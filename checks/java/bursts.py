@@ -1,10 +1,10 @@
-"""Bursts of one-shot clients at the bound of lifetime vectors, and with one job more.
+"""Bursts of clients that submit once: as many jobs as the bound of a lifetime vector allows, and one more.
 
-By hand: a refusal needs `queue + max` jobs before it, less core if the pool is prestarted, since each thread that is not
-prestarted was created for a job, and none of these jobs is queued. So a pool that gets no more jobs than that in its lifetime
-refuses none, in any order of steps. With one job more, jobs that are held until all clients have submitted fill a pool that is
-not prestarted, and each round refuses exactly one. The other bursts refuse it in some order of steps, and the rounds continue
-until one round has that order.
+Derived by hand: a pool refuses a job only after `queue + max` other jobs, or `queue + max - core` if it is prestarted. The reason is
+that each thread that is not prestarted was created for a job that was never queued. So a pool that gets at most that number of jobs in
+its lifetime refuses none, in any order of steps. With one more job, there are two cases. If the pool is not prestarted and all jobs
+are held until all clients have submitted, the jobs fill the pool, and each round refuses exactly one job. Otherwise a job is refused
+only in some orders of steps, and the rounds continue until one has such an order.
 """
 
 from collections import Counter
@@ -17,7 +17,7 @@ class Line(NamedTuple):
     queue: int
     prestart: bool
     held: bool  # each job is held until all clients have submitted
-    nested: bool  # each job submits one job more to the pool
+    nested: bool  # each job submits another job to the pool
 
     def bound(self):
         return self.queue + self.max - self.core * self.prestart
@@ -26,7 +26,7 @@ class Line(NamedTuple):
         return self.bound() // (1 + self.nested)
 
     def each_round(self):
-        """Returns whether each round with one job more refuses exactly one."""
+        """Returns whether each round with one job more than the bound refuses exactly one job."""
         return self.held and not self.prestart and not self.nested
 
 
@@ -38,7 +38,7 @@ LINES = [
     Line(2, 4, 3, False, True, False),
     Line(2, 5, 4, False, True, False),
     Line(3, 8, 6, False, True, False),
-    # With one more client: the job that the first job submits is queued, so the next jobs start threads.
+    # One more client is refused: the job that the first job submits is queued, so the next jobs start threads.
     Line(1, 3, 1, False, True, True),
     Line(1, 2, 2, False, True, True),
     Line(2, 4, 2, False, True, True),
@@ -48,7 +48,7 @@ LINES = [
     Line(2, 3, 4, True, False, False),
 ]
 ROUNDS = 200
-# The maximum number of rounds if only some of them refuse.
+# The maximum number of rounds if only some rounds refuse a job.
 MOST_ROUNDS = 50_000
 PART_LEFT_OUT = 0.2
 KINDS = ("array", "linked")
@@ -65,7 +65,7 @@ def burst(line, kind, more, slow, leaves, until_refused, clients=None):
 
 
 def done(tools, bursts):
-    """Returns the outcome of each burst, by its arguments."""
+    """Runs the bursts with these arguments, and returns the counts of each."""
     return [{what: int(number) for what, number in (words.rsplit(" ", 1) for words in told.split(", "))}
             for told in tools.run_java("Bursts", *bursts)]
 
@@ -100,7 +100,7 @@ def one_more(tools):
 
 
 def slips(tools):
-    """Checks that bursts find wrong bounds and sizes of each pool."""
+    """Checks that bursts find a wrong bound or a wrong size of each pool."""
     planted = [(name, line, jobs) for line in LINES for name, line, jobs in slips_of(line)]
     told = done(tools, [burst(line, KINDS[number % 2], 0, True, 0, True, jobs) for number, (_, line, jobs) in enumerate(planted)])
     wanted = Counter(name for name, _, _ in planted)
@@ -110,7 +110,7 @@ def slips(tools):
 
 
 def slips_of(line):
-    """Yields each slip: its name, the pool's sizes, and the number of jobs."""
+    """Yields each deliberate error: its name, the sizes of the pool, and the number of jobs."""
     if line.prestart:
         yield "threads that are prestarted count as made for jobs", line, line.queue + line.max
     elif line.each_round():

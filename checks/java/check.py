@@ -3,11 +3,11 @@
 
     python3 checks/java/check.py [PART ..]     # replays, interleavings, bursts, loops, permits, services, learned; all by default
 
-README.md describes the parts. Each part also has planted slips, which it must find. The check needs a JDK: `javac` and `java`,
-those of JAVA_HOME if it is set. Without a JDK it prints a line that says so, and checks nothing.
+README.md describes the parts. Each part must also find deliberate errors. The check needs a JDK, which is the one in JAVA_HOME if
+that is set. Without a JDK it prints a line that says so, and checks nothing.
 
-The program is crates/sizing/out/sizing, or the one that the environment variable SIZING names; `interleavings`, `bursts`,
-`loops`, `permits` and `services` need none.
+The program is crates/sizing/out/sizing, or the one that the environment variable SIZING names. The parts `interleavings`, `bursts`,
+`loops`, `permits` and `services` do not need it.
 
 Exit status: 0 if all parts pass, or if there is no JDK; 1 if one fails; 2 if there is no program.
 """
@@ -34,7 +34,7 @@ from refused_growths import Unable, built
 
 PARTS = {"replays": replays.part, "interleavings": interleavings.part, "bursts": bursts.part, "loops": loops.part,
          "permits": permits.part, "services": services.part, "learned": learned.part}
-# The parts that ask the program.
+# The parts that need the program.
 ASKING = {"replays", "learned"}
 LIBRARY = HERE.parent.parent / "java" / "sizing-recorder" / "src" / "main" / "java" / "sizing"
 SECONDS = 1800
@@ -47,7 +47,7 @@ class Tools:
         self.program, self.java, self.classes = program, java, classes
 
     def run_java(self, name, *words, given=""):
-        """Returns the lines that a Java program prints."""
+        """Runs a Java program with these arguments and this standard input, and returns the lines that it prints."""
         ended = subprocess.run([self.java, "-cp", self.classes, name, *map(str, words)], input=given, text=True,
                                stdout=subprocess.PIPE, timeout=SECONDS, check=True)
         return ended.stdout.splitlines()
@@ -75,7 +75,7 @@ def main():
         return 2
     with tempfile.TemporaryDirectory() as classes:
         sources = sorted(map(str, [*HERE.glob("*.java"), *HERE.glob("services/*.java"), *LIBRARY.glob("*.java")]))
-        # with a round of a recording nothing is done but to close it
+        # -try: the variable of a recording's round in a `try` statement is not used in the statement
         subprocess.run([javac, "-Xlint:all,-try", "-Werror", "-d", classes, *sources], check=True)
         version = subprocess.run([java, "-version"], capture_output=True, text=True).stderr.splitlines()[0]
         print(f"{version}, {os.cpu_count()} processors", flush=True)

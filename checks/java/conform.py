@@ -1,8 +1,9 @@
-"""Is a service still its plan? Compares a recording with a plan, by the words of docs/RECORDING.md ("What it says of a plan").
+"""Checks whether a service still follows its plan: compares a recording with the plan, as docs/RECORDING.md describes ("What it says of
+a plan").
 
     python3 checks/java/conform.py PLAN RECORDING
 
-It prints `conforms`, or its findings in the words of `crates/conformance`: in the order of the lines, those without a line
+Prints `conforms`, or the findings, in the words of `crates/conformance` and in the order of the lines. Findings without a line come
 last. The exit status is 0 if the recording conforms, and 1 otherwise.
 """
 
@@ -18,12 +19,12 @@ from read_plans import read_plan
 from recording import read
 
 
-# The greatest number of a name NAME_2, NAME_3, and so on, as of every number of a recording.
+# The greatest number in a name NAME_2, NAME_3, and so on, which is that of every number in a recording.
 MAX_NUMBER = 1_000_000_000
 
 
 class Step(NamedTuple):
-    """A step of an actor that a body has: a submit, or the first get of a future by its submitter."""
+    """A step of an actor that corresponds to an action of a body: a submit, or the first get of a future by its submitter."""
 
     line: int
     what: str
@@ -31,7 +32,7 @@ class Step(NamedTuple):
 
 
 class Place(NamedTuple):
-    """A position of a path in a body: the next action, and the positions of the gets of the futures that it holds."""
+    """A position of a path in a body: the index of the next action, and the positions of the gets of the futures that are still open."""
 
     position: int
     held: frozenset  # pairs of a position and a job
@@ -41,9 +42,9 @@ class Comparison:
     def __init__(self, plan, recording):
         self.plan, self.recording = plan, recording
         self.findings, self.told = [], set()
-        self.foreign = []  # gets of a future of another one's, with their lines
+        self.foreign = []  # the gets of futures by actors that did not submit the job, with their lines
         self.paths = {actor: [] for actor in recording.jobs + recording.rounds}
-        self.fitting = {}  # the classes of the plan that a job can be of
+        self.fitting = {}  # for each job, the classes of the plan that it may have
         self.find_paths()
 
     def finds(self, subject, line, text):
@@ -91,7 +92,7 @@ class Comparison:
         return (most,)
 
     def stepped(self, place, step, body, gets):
-        """Returns the places after the step. Each submit that is passed is skipped with its get."""
+        """Yields the places after the step. Each submit that the step passes is skipped together with its get."""
         due = dict(place.held)
         for position in range(place.position, len(body)):
             what, operand = body[position]
@@ -106,10 +107,10 @@ class Comparison:
     def fits(self, job):
         return self.fitting[job]
 
-    # ---- what is compared
+    # ---- the comparisons
 
     def all(self):
-        """Returns the findings in the order of their lines, those without a line last."""
+        """Returns the findings in the order of their lines. Findings without a line come last."""
         self.pools()
         self.jobs()
         self.rounds()
@@ -132,7 +133,8 @@ class Comparison:
                     self.finds(("pool", name, difference), sizes.line, f"pool {name}: {difference}")
 
     def jobs(self):
-        """Finds the classes of each job, the last job first, since those of the jobs that it submits must be known."""
+        """Finds the classes that each job may have, from the last job to the first, since the classes of the jobs that a job submits must
+        be known before."""
         for job in reversed(self.recording.jobs):
             candidates = self.classes_of(job)
             walks = {number: self.walk(job, self.plan.classes[number].body) for number in candidates}
@@ -144,7 +146,7 @@ class Comparison:
                 self.strays(("job", job.name, job.pool), job, [self.plan.classes[number].body for number in self.classes_of(job)])
 
     def strays(self, subject, actor, bodies):
-        """Reports the first actor of each label, by the body that matches most of its path."""
+        """Reports an actor whose path matches no body, if it is the first of its label, by the body that matches most of the path."""
         path = self.paths[actor]
         most = max(self.walk(actor, body)[0] for body in bodies)
         behind = f"behind {path[most - 1].what} {path[most - 1].job.name}" if most else "at its begin"
@@ -161,7 +163,7 @@ class Comparison:
         self.finds(subject, step.line, f"{described(actor)} {did}")
 
     def rounds(self):
-        """Assigns each round to the first kind of its family whose body has its path."""
+        """Assigns each round to the first client kind of its family whose body matches the round's path."""
         within, begun = {}, {}
         ends = sorted((one.last, one) for one in self.recording.rounds if one.last is not None)
         kinds = {}
@@ -191,7 +193,8 @@ class Comparison:
     # ---- what invalidates the result, independent of the paths
 
     def voids(self):
-        """Reports the first line of each word. For a get that was not done, the path shows whether it invalidates the result."""
+        """Reports the first line of each word that invalidates the result. A get that timed out or was interrupted is not reported here,
+        since the comparison of the path decides whether it does."""
         found = [(line, word, what) for line, word, what in self.recording.notes if word != "shutdown"]
         for actor in self.paths:
             found += [(act.line, act.word, act.job) for act in actor.acts if act.word in ("refused", "cancel", "any", "threw")]
@@ -209,7 +212,7 @@ def described(actor):
 
 
 def differences(sizes, pool, is_first):
-    """Yields the differences between the pool and that of the plan. Only its first line has the number of prestarted threads."""
+    """Yields the differences between a line of the pool and the plan. The number of prestarted threads counts only in the first line."""
     if sizes.core != pool.core:
         yield f"core {sizes.core}, plan {pool.core}"
     if sizes.max != pool.max:
@@ -225,7 +228,7 @@ def differences(sizes, pool, is_first):
 
 
 def compared(plan_text, recording_text):
-    """Returns the findings."""
+    """Returns the findings of the comparison of a plan and a recording."""
     return Comparison(read_plan(plan_text), read(recording_text)).all()
 
 

@@ -1,4 +1,4 @@
-"""Small recordings with the findings of `conform.py`, by hand, and the test rows of `sizing conform`."""
+"""Small recordings with the expected findings of `conform.py`, derived by hand, and the test rows of `sizing conform`."""
 
 import sys
 from pathlib import Path
@@ -9,7 +9,7 @@ from conform import compared
 from row_files import rows_of
 
 POOL = "pool p core 1 max 1 queue array 2 timeout no prestarted 0 handler abort"
-# A client gets two jobs in order; a job of class a gets one of class b.
+# A client submits and gets two jobs, one after the end of the other. A job of class a gets a job of class b.
 PLAN = """
 pool = [{name = "p", core = 1, max = 1, queue = 2}]
 class = [{name = "a", pool = "p", body = ["work 1", "submit b as x", "get x"]}, {name = "b", pool = "p", body = []}]
@@ -34,12 +34,12 @@ def round_of(*lines, number=0):
 
 
 def job_of_a(*lines):
-    """Returns the lines of a round with a job of class a. Lines 3 to 5 are its begin, the submit and the start of the job."""
+    """Returns the lines of a round with a job of class a. Lines 3 to 5 are the begin of the round, the submit and the start of the job."""
     return round_of("round 0 submit 0 a p", "job 0 start", *lines, "job 0 end", "round 0 got 0")
 
 
-# The name, the plan, the lines after the head (so the first one is line 3), what deviates from the plan, and what invalidates the
-# result.
+# The name, the plan, the lines after the first two (so the first of them is line 3), the deviations from the plan, and the findings
+# that invalidate the result.
 ROWS = [
     ("nothing is left out", PLAN, job_of_a(*got("job 0", 1))[:-1] + got("round 0", 2) + ["round 0 end"], [], []),
     ("all is left out", PLAN, round_of(), [], []),
@@ -99,7 +99,7 @@ ROWS = [
 
 
 def in_order(lines):
-    """Returns the lines by their numbers, those without a number last."""
+    """Returns the lines in the order of their numbers. Lines without a number come last."""
     return sorted(lines, key=lambda line: int(line.split(" ")[1][:-1]) if line.startswith("line ") else 10**9)
 
 
@@ -115,7 +115,8 @@ def wrong_rows():
 
 
 def wrong_stored_rows():
-    """Returns the test rows that `conform.py` contradicts, of those with a valid recording and a decided answer."""
+    """Returns a text for each test row for which `conform.py` has other findings. Skips rows with a bad recording or an undecided
+    answer."""
     wrong, rows = [], 0
     for name, given, answer in rows_of("recorded_conforms", "conform"):
         plan, bar, recording = given.partition("%%\n")
@@ -131,7 +132,7 @@ def wrong_stored_rows():
 
 
 def wrong_learned_rows():
-    """Returns the test rows in which `conform.py` finds something other than the comments at the head of the learned plan."""
+    """Returns a text for each test row for which the findings of `conform.py` are not the comments at the head of the learned plan."""
     wrong, rows = [], 0
     for name, recording, answer in rows_of("recorded_learns", "learn"):
         plan, _, status = answer.rpartition("\nstatus ")

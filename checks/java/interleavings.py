@@ -1,8 +1,8 @@
-"""Two interleavings that Java allows and a submit in one step does not, with a queue that pauses after a failed offer.
+"""Two interleavings that Java allows, but that are impossible if a submit is one step. The queue pauses after a failed offer.
 
-Core 1, max 2, queue 1. W's job starts the first thread, V's job is queued, X's offer fails, and X pauses. Then the jobs of W and
-V end, and X asks for a thread. By hand: with Y, whose job got the last thread meanwhile, X is refused, though nothing is queued
-and one of the two threads is idle; without Y, X gets a second thread, though nothing is queued.
+The pool has core 1, max 2 and queue 1. W's job starts the first thread, V's job is queued, X's offer fails, and X pauses. Then the jobs
+of W and V end, and X asks for a thread. Derived by hand: if there is a fourth client Y, whose job got the last thread meanwhile, X is
+refused, although no job is queued and one of the two threads is idle. Without Y, X gets a second thread, although no job is queued.
 """
 
 BY_HAND = {

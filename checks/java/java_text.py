@@ -1,4 +1,4 @@
-"""Plans and cases as the Java side reads them."""
+"""The texts of plans and cases that the Java programs of this folder read."""
 
 
 def plan_lines(plan):

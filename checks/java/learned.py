@@ -1,10 +1,10 @@
-"""The plans that recordings of services show. The check runs each service with the recorder; `learn` derives its plan, and `fit`
-finds sizes for the plan. With these sizes the check runs the service again, a thousand rounds in all, which may meet no refusal
-and no stop. Then it lowers a number by one: if `refute` finds a witness, the check replays the witness, also on executors, and
-runs the service with that number.
+"""Checks the plans that `sizing learn` derives from recordings of services. The check runs each service with the recorder; `learn`
+derives its plan, and `fit` finds sizes for the plan. The check runs the service again with these sizes, for a thousand rounds in total,
+in which no submit may be refused and no run may hang. Then it lowers one number by one. If `refute` finds a witness against the
+resulting plan, the check replays the witness, also on executors, and runs the service with that number.
 
-The check must find planted slips: a plan with another size, count or body, a recording without one of its gets, and a run that
-met a refusal or a stop and is reported as right.
+The check must find deliberate errors: a plan with another size, count or body; a recording without one of its gets; and a run with a
+refused submit, or a run that hung, that is reported as right.
 """
 
 import re
@@ -24,44 +24,44 @@ SERVICES = [name for name in VOIDS if name != "example"]
 HEAD = re.compile(r"# Learned from a recording\. Rounds: (\d+)\. Jobs: (\d+)\.\n# What was not taken is not here: .*\n(?:# Not at their ends yet\. .*\n)?")
 POOL = re.compile(r"pool (\w+): core (\d+)(?: \(now \d+\))?, max (\d+)(?: \(now \d+\))?, queue (\d+)(?: \(now \d+\))?")
 ROUNDS = 1000
-# The rounds of one run, of services that need several runs: their clients do not repeat, and have one round each in a run.
+# The number of rounds of a run, for services that need several runs. Their clients do not repeat, so each has one round in a run.
 ROUNDS_OF_A_RUN = {"orders": 10, "hurried-prices": 50}
-# A run without progress for this many seconds has stopped.
+# A run without progress for this number of seconds has stopped.
 SECONDS = 30
-# The maximum number of microseconds that a slow thread waits before it takes. Its queue is a subclass, which no plan can name.
+# The maximum time in microseconds that a slow thread waits before it takes a job. The queue is a subclass, which no plan can name.
 SLOW = 2000
 OTHER_QUEUE = "queue of another kind (other)"
-# The number of runs of a service with a number one less.
+# The number of runs of a service with a number that is lowered by one.
 TRIES = 5
 SECONDS_OF_A_TRY = 5
-# The exit statuses of `refute` for `safe` and `not decided`.
+# The exit statuses of `refute` for `safe` and for `not decided`.
 NO_WITNESS = (0, 4)
 FROM_ONE = "from 1"
 # The number of gets that are removed from a recording, one at a time.
 GETS_LEFT_OUT = 10
-# The plans that no sizes fit if all clients repeat, by hand: no thread waits for a letter of `orders`, or for some of the hurried
-# prices. In the services each buyer and each hurried client comes once, so there are sizes for all plans.
+# The plans for which no sizes exist if all clients repeat, derived by hand: no thread waits for a letter of `orders`, or for some of the
+# hurried prices. In the services each buyer and each hurried client has one round, so there are sizes for all plans.
 NEVER_GOT = {
     "orders": r"no fitting sizes found class reserve action 0: submits for ever, never got",
     "hurried-prices": r"no fitting sizes found client hurried action \d: submits for ever, never got",
 }
-# The end of the witness, by hand, if `fit` started from 1 and the first number that is not safe with one less has one less.
+# The ending of the witness, derived by hand, if `fit` starts from sizes of 1 and the first size that is needed is lowered by one.
 WITNESS = {
-    # seven clients, each of whose requests is queued while the one thread is idle
+    # the requests of seven clients, all of them queued while the one thread is idle
     "web-and-database": "refused by web",
     # three reports hold all of three threads, and no thread is left for their sections
     "reports": "stuck for ever",
-    # ten orders, before any of them is done
+    # ten orders, none of them done
     "orders": "refused by front",
-    # the three rows of the window, all queued while the one thread is idle
+    # the three rows of the window, all of them queued while the one thread is idle
     "importer": "refused by rows",
-    # the prices of two patient clients and of four hurried ones, all queued while the one thread is idle
+    # the prices of two patient clients and of four hurried clients, all of them queued while the one thread is idle
     "hurried-prices": "refused by prices",
 }
 
 
 class Learned(NamedTuple):
-    """The answer of `learn` to a recording: its text, the comments after the head, and the plan."""
+    """The answer of `learn` to a recording: its text, the comments after the first lines, and the plan."""
 
     text: str
     comments: list
@@ -69,7 +69,7 @@ class Learned(NamedTuple):
 
 
 class Sized(NamedTuple):
-    """A service with the sizes that `fit` found from the named start."""
+    """A service with the sizes that `fit` found, and the sizes from which `fit` started."""
 
     name: str
     began: str
@@ -80,7 +80,7 @@ class Sized(NamedTuple):
 
 
 class Ran(NamedTuple):
-    """A run: its requested number of rounds, its output, and its recording."""
+    """A run of a service: the requested number of rounds, the output, and the recording."""
 
     rounds: int
     told: str
@@ -105,7 +105,7 @@ def part(tools):
 
 
 def conformed(tools, plan, recording):
-    """Returns the lines of `sizing conform`, none if it prints `conforms`. `conform.py` must return the same lines."""
+    """Returns the lines of `sizing conform`, or none if it prints `conforms`. Raises AssertionError if `conform.py` has other findings."""
     status, told = tools.sizing("conform", f"{plan}%%\n{recording}")
     lines = told.splitlines()
     found = [] if lines == ["conforms"] else lines
@@ -122,7 +122,7 @@ def voids(found):
 
 
 def learned(tools, recording):
-    """Returns the plan that `learn` derives, or None if it derives none."""
+    """Returns the answer of `learn`, or None if it derives no plan."""
     status, text = tools.sizing("learn", recording)
     head = HEAD.match(text)
     if status or not head or list(map(int, head.groups())) != [len(read(recording).rounds), len(read(recording).jobs)]:
@@ -132,7 +132,7 @@ def learned(tools, recording):
 
 
 def as_recorded(tools, plans, recordings):
-    """Checks that the recording conforms to the plan, except for what the comments report, which must be what is known by hand."""
+    """Checks that `conform` reports only the comments of the learned plan, and that these are the expected ones, derived by hand."""
     wrong = []
     for name, told in plans.items():
         found = conformed(tools, told.text, recordings[name])
@@ -144,7 +144,7 @@ def as_recorded(tools, plans, recordings):
 
 
 def as_written(tools, plans, recordings):
-    """Checks that the plan is the one that was written by hand, as far as a run shows it."""
+    """Checks that each learned plan agrees with the plan that was written by hand, as far as a run shows it."""
     wrong, bodies, alike = [], 0, 0
     for name, told in plans.items():
         written = read_plan(plan_of(name))
@@ -160,7 +160,7 @@ def as_written(tools, plans, recordings):
 
 
 def differences(plan, written):
-    """Returns the differences in pools and sizes, classes and their pools, kinds and counts, in any order."""
+    """Yields the differences between two plans in pools, classes and client kinds, without their bodies. Their order does not matter."""
     for what, ours, theirs in zip(("pools", "classes", "kinds"), tables(plan), tables(written)):
         if ours != theirs:
             yield f"{what} {sorted(ours)}, written {sorted(theirs)}"
@@ -172,13 +172,13 @@ def tables(plan):
 
 
 def bodies_of(plan):
-    """Returns the bodies by owner: the submits with the names of their classes, and the gets. A recording has no `work`."""
+    """Returns the body of each class and client kind: the submits with the names of their classes, and the gets."""
     return {(sort, one.name): [(what, plan.classes[operand].name if what == "submit" else operand) for what, operand in one.body]
             for sort, entries in (("class", plan.classes), ("kind", plan.clients)) for one in entries}
 
 
 def with_room(plan):
-    """Returns the plan with each maximum raised to its core."""
+    """Returns the plan with each maximum that is less than its core raised to the core."""
     return plan._replace(pools=[pool._replace(max=max(pool.core, pool.max)) for pool in plan.pools])
 
 
@@ -187,7 +187,7 @@ def is_lawful(plan):
 
 
 def slips_of_plans(tools, plans, recordings):
-    """Checks that `conform` finds another size, count or body, and that `differences` finds another size or count."""
+    """Checks that `conform` finds a wrong size, count or body in a plan, and that `differences` finds a wrong size or count."""
     missed, tried, told_apart = [], 0, 0
     for name, told in plans.items():
         for what, other in other_plans(told.plan):
@@ -206,7 +206,7 @@ def slips_of_plans(tools, plans, recordings):
 
 
 def slips_of_recordings(tools, plans, recordings):
-    """Checks that the plan differs without the line of a get. (A hurried client may have no get: its plan has both paths.)"""
+    """Checks that a recording without a get does not conform, and that another plan is learned from it. Skips gets of hurried clients."""
     missed, tried = [], 0
     for name, told in plans.items():
         lines = recordings[name].splitlines(keepends=True)
@@ -226,8 +226,8 @@ def slips_of_recordings(tools, plans, recordings):
 
 
 def sizes_of(tools, plans):
-    """Returns each learned plan with the sizes that `fit` finds, from those of the service and from 1. If all clients repeat, no
-    sizes fit the plans that have jobs without a get."""
+    """Returns each learned plan with the sizes that `fit` finds, starting from those of the service and from 1. Checks that there are no
+    sizes for the plans in NEVER_GOT if all clients repeat."""
     sized, wrong = [], []
     for name, told in plans.items():
         ones = told.plan._replace(pools=[pool._replace(core=1, max=1, queue=1) for pool in told.plan.pools])
@@ -250,7 +250,7 @@ def sizes_text(plan):
 
 
 def fitted(tools, plan):
-    """Returns the plan with the sizes that `fit` finds, for which the bundle has a certificate, or None; and the other findings."""
+    """Returns the plan with the sizes that `fit` finds, and the word `sizes`; otherwise None, and the output of `fit` or its fault."""
     status, told = tools.sizing("fit", text_of(plan))
     lines = told.splitlines()
     sizes = [POOL.fullmatch(line) for line in lines[:-1]]
@@ -274,7 +274,7 @@ def numbers_changed(pools, others):
 
 
 def runs(tools, name, plan, slow=0, seconds=SECONDS, number=None):
-    """Runs the service with the plan's sizes: by default as often as all the rounds take."""
+    """Runs the service with the plan's sizes, `number` times. By default there are enough runs for all rounds."""
     rounds = ROUNDS_OF_A_RUN.get(name, ROUNDS)
     sizes = " ".join(f"{pool.name} {pool.core} {pool.max} {pool.queue}" for pool in plan.pools)
     with tempfile.TemporaryDirectory() as folder:
@@ -284,7 +284,7 @@ def runs(tools, name, plan, slow=0, seconds=SECONDS, number=None):
 
 
 def met(run):
-    """Returns what the run met that no run with a yes may meet, as its clients and pools report it, and as its recording shows."""
+    """Returns a text for each event that no run of a safe plan may have, such as a refused submit, from its output and recording."""
     told, seen = counts(run), read(run.recording)
     cancelled = {act.job for actor in seen.rounds + seen.jobs for act in actor.acts if act.word == "cancel"}
     found = [f"{told[what]} {what}" for what in ("refused", "failed", "stopped") if told[what]]
@@ -303,8 +303,7 @@ def counts(run):
 
 
 def without_refusal(tools, ran, how):
-    """Checks that no run with the sizes that `fit` found meets anything, and that each run conforms to the plan, apart from the
-    kind of the queue from which threads take slowly."""
+    """Checks that no run has an event as in `met`, and that each run conforms to its plan, except for the kind of the slow queue."""
     wrong = []
     for one, all_runs in ran:
         for run in all_runs:
@@ -319,7 +318,7 @@ def without_refusal(tools, ran, how):
 
 
 def slips_of_sizes(tools, ran):
-    """Checks that the recording of such a run conforms to no plan with a number one less."""
+    """Checks that the recording of a run with the sizes of `fit` conforms to no plan in which a size is lowered by one."""
     missed, tried = [], 0
     for one, all_runs in ran:
         for what, other in less(one.plan):
@@ -331,11 +330,11 @@ def slips_of_sizes(tools, ran):
     return missed
 
 
-# ---- a number one less
+# ---- a number that is lowered by one
 
 
 def less(plan):
-    """Yields the plan with one number lowered by one, for each number in order. If core and max are equal, both are lowered."""
+    """Yields the plan with one size lowered by one, for each size in order. If core and max are equal, lowers both."""
     for at, pool in enumerate(plan.pools):
         changes = [{"core": pool.core - 1, "max": pool.max - (pool.core == pool.max)}]
         changes += [{"max": pool.max - 1}] if pool.max > pool.core else []
@@ -346,7 +345,7 @@ def less(plan):
 
 
 def one_less(tools, ran):
-    """Lowers the first number with which `refute` finds a witness, replays the witness, and runs the service with that number."""
+    """Lowers the first size of each plan for which `refute` then finds a witness, replays the witness, and runs the service."""
     wrong, missed, found, all_met = [], [], 0, 0
     for one, all_runs in ran:
         safe, status, told = [], None, ""
@@ -377,7 +376,7 @@ def one_less(tools, ran):
 
 
 def replayed(tools, right, plan, told):
-    """Checks that the witness ends as `refute` says, in `sizing replay` and on executors, and otherwise with the right sizes."""
+    """Checks that the witness ends as `refute` says, in `sizing replay` and on executors, and that it does not with the right sizes."""
     status, bundle = tools.sizing("refute", text_of(plan), "--bundle")
     text, events = bundle.rsplit("%%\n", 1)
     ended, answer = tools.sizing("replay", bundle)
@@ -400,6 +399,6 @@ def replayed(tools, right, plan, told):
 
 
 def not_told_apart(one, right, bad):
-    """Checks that a run that met something is found if it is reported as right, or recorded as right."""
+    """Checks that a bad run is found if either its output or its recording is replaced by that of a good run."""
     slips = [wrong for run in bad for wrong in (run._replace(told=right.told), run._replace(recording=right.recording))]
     return [f"learned, {one}: a run that met {met(run)} is told as right" for run in slips if not met(run)]

@@ -1,6 +1,8 @@
-"""Clients that repeat certified plans of examples/, and the same with a queue of one place less.
+"""Clients that repeat the bodies of certified plans of examples/, with the queues that the plans need, and with a queue that has one
+place fewer.
 
-The certificate's total bounds the queue that the plan needs. If one place less is not safe, by hand, some submit must be refused.
+The total of the certificate is a bound for the queue that the plan needs. If one place fewer is not safe (derived by hand), some submit
+must be refused.
 """
 
 from pathlib import Path
@@ -10,29 +12,30 @@ from read_plans import read_plan
 
 EXAMPLES = Path(__file__).resolve().parent.parent.parent / "examples"
 ROUNDS = 100_000
-# The maximum number of microseconds that a slow worker waits before it takes.
+# The maximum time in microseconds that a slow worker waits before it takes a job.
 SLOW = 150
-# The same of the pool whose queue is one less, so that its threads are often idle together.
+# The same for a pool whose queue has one place fewer. It is longer, so that the pool's threads are often idle at the same time.
 SLOW_LESS = 2000
 PART_LEFT_OUT = 0.25
-# Rounds, the part of the submits that is skipped, and the delay of the workers in microseconds.
+# The ways to run a plan: the number of rounds, the fraction of the submits that are skipped, and the maximum delay of the workers in
+# microseconds.
 WAYS = ((ROUNDS, 0, 0), (20_000, PART_LEFT_OUT, 0), (20_000, 0, SLOW), (20_000, PART_LEFT_OUT, SLOW))
-# The pools whose queue is as long as the plan needs, and why one place less is not enough.
+# The pools whose queue is as long as the plan needs, with this length. A comment says which jobs need all of its places.
 ONE_LESS = {
-    # both jobs queued, and the one thread idle
+    # both jobs are queued, while the one thread is idle
     "two-clients-queue-of-two": {"p": 2},
     "start-before-queue": {"p": 2},
-    # all 25 requests queued, and all threads idle
+    # all 25 requests are queued, while all threads are idle
     "web-and-database-sized": {"web": 25},
-    # all 1,000 requests; and the jobs of four front threads, while the two threads of the back are idle
+    # all 1,000 requests are queued in front; the jobs of four front threads are queued in back, while its two threads are idle
     "front-and-back": {"front": 1000, "back": 4},
-    # the jobs of both clients, while the threads are idle
+    # the jobs of both clients are queued, while the threads are idle
     "cross-pools-two-threads": {"p": 2, "q": 2},
-    # six sections, while two reports run and all other threads are idle
+    # six sections are queued, while two reports run and all other threads are idle
     "report-fan-out-core-3": {"reports": 6},
-    # both jobs, while the prestarted thread is idle
+    # both jobs are queued, while the prestarted thread is idle
     "fan-out-of-two": {"p": 2},
-    # one place is enough
+    # one place is enough, and a queue cannot have fewer
     "one-report-prestarted": {},
     "nested-two-workers": {},
     "one-client-loops": {},
@@ -45,7 +48,7 @@ def part(tools):
 
 
 def loops_of(tools, name, sizes):
-    """Runs a plan with the queues that it needs, and with each of them one place less."""
+    """Runs a plan with the queues that it needs, and for each pool of `sizes` with one place fewer in that pool's queue."""
     plan = read_plan((EXAMPLES / f"{name}.toml").read_text())
     needed = with_queues(plan, sizes)
     repeats = any(client.repeat for client in plan.clients)

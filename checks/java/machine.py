@@ -1,7 +1,7 @@
-"""The answers of an executor to a list of events, by the three rules of the Javadoc (docs/GUIDE.md). Actors may skip submits.
+"""A machine that computes the answers of an executor to a list of events, by the three rules of the Javadoc (docs/GUIDE.md).
 
-A submit is one event, or (`in_steps`) up to three: below core a new thread starts the job; otherwise the job is offered to the
-queue; and if the offer fails, the pool tries to add a thread. An actor can skip a submit and then passes its get.
+A submit is one event or, with `in_steps`, up to three: with fewer than core threads a new thread starts the job; otherwise the job is
+offered to the queue; and if the offer fails, the pool tries to add a thread. An actor can skip a submit, and then also skips its get.
 """
 
 NOT_POSSIBLE = "not possible"
@@ -10,10 +10,10 @@ NOT_POSSIBLE = "not possible"
 class Actor:
     def __init__(self, body, repeat):
         self.body, self.repeat, self.position = body, repeat, 0
-        self.made = {}  # the latest job of each submit, None if it was skipped
-        self.call = None  # the last step of its call of execute, None outside a call
-        self.tried = False  # its submit was refused, and it is still at that position
-        self.path, self.spots = [], {}  # its actions so far, and the index in them of each submit
+        self.made = {}  # the latest job of each submit, or None if the submit was skipped
+        self.call = None  # the last step of the actor's call of execute, or None outside a call
+        self.tried = False  # the actor's submit was refused, and the actor is still at that position
+        self.path, self.spots = [], {}  # the actor's actions so far, and the index among them of each submit
 
     def action(self):
         return self.body[self.position] if self.position < len(self.body) else ("end", None)
@@ -30,7 +30,7 @@ class Machine:
         self.plan, self.in_steps, self.refusals = plan, in_steps, 0
         self.clients = [Actor(client.body, client.repeat) for client in plan.clients for _ in range(client.count)]
         self.jobs = []
-        self.gave_up = False  # an actor skipped a submit that was refused before
+        self.gave_up = False  # some actor skipped a submit that was refused before
         self.idle = [pool.core if pool.prestart else 0 for pool in plan.pools]
         self.queues = [[] for _ in plan.pools]
 
@@ -173,7 +173,7 @@ class Machine:
         return members
 
     def counts(self):
-        """Returns the numbers of refused submits and of unfinished jobs, and the counts of each pool."""
+        """Returns a line with the numbers of refused submits and unfinished jobs, and a line with the counts of each pool."""
         unfinished = sum(job.stage != "done" for job in self.jobs)
         return [f"refusals {self.refusals}, unfinished {unfinished}"] + [
             f"{one.name}: threads {self.threads(pool)}, idle {self.idle[pool]}, queued {len(self.queues[pool])}"

@@ -1,7 +1,8 @@
-"""The plan of the paths that the actors of a list of events took. It skips no submit, so `sizing replay` can replay it.
+"""A plan whose bodies are the paths that the actors of a list of events took. No actor skips a submit on it, so `sizing replay` can
+replay the events.
 
-Each client becomes a kind of its own, whose body is the actions of its rounds and then the rest of its body. Each job becomes a
-class in the same way. Skipped submits and their gets are on no path, so only the other events have answers.
+Each client becomes a separate client kind, whose body is the actions of the client's rounds and then the rest of its body. Each job
+becomes a separate class in the same way. Skipped submits and their gets are on no path, so the plan has no events for them.
 """
 
 import sys
@@ -11,14 +12,14 @@ sys.path.insert(0, str(Path(__file__).resolve().parent.parent))
 
 from small_plans import Class, Client, Plan
 
-# Answers to events that a path does not have. An actor that will skip a part does not wait yet. On its path it is already after
-# that part, where it may wait, so the two machines can differ in `stuck`.
+# The answers to events that the plan of the paths does not have. The answers to `stuck` are among them, since they may differ: an actor
+# that is going to skip a part does not wait yet, but on its path it is already after that part, where it may wait.
 OFF_THE_PATHS = ("left out", "passed", "looped", "stuck yes", "stuck no")
 MOST_ACTIONS = 256
 
 
 def plan_of_paths(machine):
-    """Returns the plan, or None if a path is too long, or has a submit that was refused and then skipped."""
+    """Returns the plan of the paths, or None if a path is too long or has a submit that was refused and then skipped."""
     if machine.gave_up:
         return None
     old = len(machine.plan.classes)
@@ -46,6 +47,6 @@ def path(actor, old):
 
 
 def on_the_paths(events, answers):
-    """Returns the events and answers that the plan of the paths has."""
+    """Returns those of the events that the plan of the paths has, and their answers."""
     kept = [(event, told) for event, told in zip(events, answers) if told not in OFF_THE_PATHS]
     return [event for event, _ in kept], [told for _, told in kept]

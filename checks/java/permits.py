@@ -1,13 +1,13 @@
-"""Permits that bound the live jobs of a pool, and the ways by which the permit of a job comes back.
+"""Permits that bound the number of live jobs of a pool, and the ways in which the permit of a job is released.
 
-docs/PERMITS.md says which ways are right. By hand, with one thread, a queue of two and two permits: job A runs, B is queued, and
-both are cancelled, or a `get` times out. If a permit comes back when a thread of the pool has finished with its job, C and D
-wait, and in the end both permits are back. If the body returns the permit, B's permit is lost, since the body of a cancelled
-queued job does not run. A cancelled stage does nothing, so both permits are lost. If a permit comes back when the submitter stops
-waiting, A still runs and B is in the queue: C takes the second place, and D is refused.
+docs/PERMITS.md says which ways are right. Derived by hand, for one thread, a queue of two and two permits: job A runs, job B is queued,
+and both are cancelled, or a `get` times out. If a permit is released when a thread of the pool has finished with its job, the
+submitters of C and D wait for a permit, and in the end both permits are released. If the body releases the permit, B's permit is lost,
+since the body of a cancelled queued job does not run. A cancelled stage does nothing, so both permits are lost. If a permit is released
+when the submitter stops waiting, A still runs and B is still in the queue. Then C takes the second place of the queue, and D is refused.
 
-With as many places as permits no submit is ever refused, whatever is cancelled: each queued job and each submitter that offers a
-job has a permit. With one place less, all three jobs can be queued while both threads are idle.
+If the queue has as many places as there are permits, no submit is ever refused, whatever is cancelled: each queued job and each
+submitter that offers a job has a permit. With one place fewer, all three jobs can be queued while both threads are idle.
 """
 
 WAITS = "A served, B served; C waits, D waits; {} of 2 permits come back"
@@ -24,7 +24,7 @@ BY_HAND = {
 }
 PERMITS = 3
 ROUNDS = 1000
-# The maximum number of rounds if only some of them refuse.
+# The maximum number of rounds if only some rounds refuse a job.
 MOST_ROUNDS = 50_000
 KINDS = ("array", "linked")
 SLIPS = ("DONE", "STAGE")
@@ -42,7 +42,7 @@ def cancelled(tools):
 
 
 def loops(tools):
-    """Runs the right ways with a place for each permit, and with one less; and wrong ways with a place for each permit."""
+    """Runs the right ways with a place for each permit and with one place fewer, and the wrong ways with a place for each permit."""
     wrong, jobs, less, slips = [], 0, [], []
     for way in RIGHT:
         for kind in KINDS:

@@ -33,7 +33,7 @@ class Sizes(NamedTuple):
 
 
 class Act(NamedTuple):
-    """A line of an actor: a word, and the job that it names (None for `any`)."""
+    """A line of an actor: its word, and the job that it names (None for `any`)."""
 
     line: int
     word: str
@@ -42,11 +42,11 @@ class Act(NamedTuple):
 
 @dataclass(eq=False)
 class Actor:
-    """A job or a round. Its first line is its submit or its begin; its last line is None if it has no end."""
+    """A job or a round. `first` is the line of its submit or its begin, and `last` is the line of its end, or None if it has none."""
 
     sort: str
     number: int
-    name: str  # the class of a job, the kind of a round
+    name: str  # the class of the job, or the client kind of the round
     pool: str | None
     submitter: "Actor | None"
     first: int
@@ -61,16 +61,16 @@ class Actor:
 
 @dataclass
 class Recording:
-    pools: dict = field(default_factory=dict)  # the lines of each pool as Sizes, by its name
+    pools: dict = field(default_factory=dict)  # the `pool` lines of each pool, as Sizes, by the pool's name
     jobs: list = field(default_factory=list)
     rounds: list = field(default_factory=list)
-    notes: list = field(default_factory=list)  # lines of no actor: (line, word, what it names)
-    unseen: dict = field(default_factory=dict)  # the numbers of jobs that ran without lines, by line
+    notes: list = field(default_factory=list)  # the lines without an actor: (line number, word, the job or pool that it names)
+    unseen: dict = field(default_factory=dict)  # the numbers of jobs that ran without lines, by the number of the `unseen` line
     closed: bool = False
 
 
 def read(text):
-    """Parses a recording, which may be cut off. Raises BadLine if a line has no form or breaks a rule."""
+    """Parses a recording, which may be cut off. Raises BadLine if a line has none of the forms or breaks a rule."""
     lines = text.split("\n")[:-1]  # without the text after the last newline
     if not lines:
         raise BadLine(1, "O1")
@@ -98,7 +98,7 @@ class Reader:
         elif number > 1:
             getattr(self, words[0])(*words[1:])
 
-    # ---- lines of no actor
+    # ---- lines without an actor
 
     def end(self):
         self.recording.closed = True

@@ -1,4 +1,4 @@
-"""Lists of events, on the executors, by `sizing replay`, and by the machine of this folder."""
+"""Compares the answers to lists of events of the executors, of `sizing replay`, and of the machine in machine.py."""
 
 import random
 from collections import Counter
@@ -14,10 +14,10 @@ from walks import plan_by_chance, walk
 EXAMPLES = Path(__file__).resolve().parent.parent.parent / "examples"
 KINDS = ("array", "linked")
 LISTS = 1000
-# The number of plans on which each slip is tried.
+# The number of plans on which each deliberate error is tried.
 SLIPPED = 100
-# The numbers of jobs, by hand, that never finish after the events of an example, if all jobs and threads continue and no client
-# acts. For all other examples it is 0.
+# The number of jobs that never finish after the events of an example, if all jobs and threads continue and no client acts. It is derived
+# by hand, and is 0 for all other examples.
 NEVER_FINISH = {
     "cross-pools": 4, "nested-one-worker": 2, "nested-unused-max": 2, "report-fan-out": 8, "stuck-by-a-dropped-get": 4,
     "there-and-back": 3,
@@ -35,7 +35,7 @@ def numbered(answers):
 
 
 def on_executors(tools, cases):
-    """Returns the answers of the executors to each case."""
+    """Runs the cases on executors, and returns the answers to each case."""
     told, found = tools.run_java("Replays", given="".join(cases)), []
     for _ in cases:
         end = told.index("end")
@@ -68,11 +68,11 @@ def examples(tools):
     return wrong
 
 
-# ---- lists by chance
+# ---- random lists
 
 
 class List:
-    """A list of events for a plan, with the expected answers."""
+    """A random list of events for a plan, with the expected answers."""
 
     def __init__(self, chance, plan, machine_of=Machine):
         self.plan, self.kind = plan, chance.choice(KINDS)
@@ -84,7 +84,7 @@ class List:
         return case(plan or self.plan, self.kind, self.in_steps, [*self.events, "counts", *more])
 
     def of_program(self):
-        """Returns the plan and the events that `sizing replay` can replay, with its answers, or None if there are none."""
+        """Returns a plan and events that `sizing replay` can replay, with the expected answers, or None if it cannot replay this list."""
         if self.in_steps:
             return None
         plan = plan_of_paths(self.machine) if self.leaving_out else self.plan
@@ -127,11 +127,11 @@ def lists(tools, chance):
     return wrong
 
 
-# ---- slips
+# ---- deliberate errors
 
 
 class AsksTheQueueAgain(Machine):
-    """A machine with a slip: a submit that asks for a thread queues its job if the queue has room again."""
+    """A machine with a deliberate error: a submit that asks for a thread queues its job if the queue has room again."""
 
     def submit(self, actor, kind):
         pool = self.plan.classes[kind].pool
@@ -141,7 +141,7 @@ class AsksTheQueueAgain(Machine):
 
 
 class IdleThreadsAreGiven(Machine):
-    """A machine with a slip: a submit hands its job to an idle thread."""
+    """A machine with a deliberate error: a submit gives its job to an idle thread."""
 
     def submit(self, actor, kind):
         pool = self.plan.classes[kind].pool
@@ -165,7 +165,7 @@ RULE_SLIPS = {"an ask looks at the queue again": AsksTheQueueAgain, "idle thread
 
 
 def slips(tools, chance):
-    """Plants each slip into the executors or the machine, and checks that it is found."""
+    """Makes each deliberate error in the executors' pools or in the machine, and checks that it is found."""
     found = Counter()
     some = [List(chance, plan_by_chance(chance)) for _ in range(SLIPPED)]
     for name, change in POOL_SLIPS.items():

@@ -1,9 +1,9 @@
-"""Services of a few pools, each run with the recorder of java/. Each recording must satisfy the rules of docs/RECORDING.md, and
-conform to the plan beside the service.
+"""Runs services with a few pools each, with the recorder of java/. Each recording must satisfy the rules of docs/RECORDING.md, and
+conform to the service's plan.
 
-The check must find planted slips: in the service (another path, one client more, a pool with one thread more, or with one more
-later), in the plan (another size or count, a missing submit or get), and in the recording (a missing line). With the slip of one
-client more, four users instead of three take all threads of the reports' pool and wait forever, so that recording is cut off.
+The check must find deliberate errors: in the service (another path, one more client, a pool with one more thread, or a pool that gets
+one more thread later), in the plan (another size or count, a missing submit or get), and in the recording (a missing line). With one
+more client, four users instead of three take all threads of the pool of `reports` and wait forever, so that recording is cut off.
 """
 
 import re
@@ -18,7 +18,7 @@ from recording import BadLine, read
 
 HERE = Path(__file__).resolve().parent / "services"
 EXAMPLE = Path(__file__).resolve().parent.parent.parent / "examples" / "recordings" / "web-and-database"
-# What invalidates the result in each run of a service, by hand: only that one of the hurried clients cancels.
+# The findings that invalidate the result in each run of a service, derived by hand: only one of the hurried clients cancels a job.
 VOIDS = {
     "web-and-database": [],
     "example": [],
@@ -30,9 +30,9 @@ VOIDS = {
 VOID = r"^line \d+: a yes is void from here on: "
 RUNS = 4
 FIRST_PARTS = 10
-# The maximum length of recordings from which lines are removed one by one.
+# The maximum number of lines of a recording from which lines are removed one at a time.
 MOST_LINES = 200
-# The expected finding for each slip in a service.
+# The expected finding for each deliberate error in a service.
 SLIPS = {
     "path": r"its body has no such (submit|get) |ended; its body has a get |of no class of the plan$",
     "count": r"kind .*: [0-9]+ (at once|in all), count is ",
@@ -61,7 +61,7 @@ def plan_of(name):
 
 
 def as_planned(texts):
-    """Checks that each recording conforms, whole and cut off anywhere."""
+    """Checks that each recording conforms to its plan, as a whole and cut off at several places."""
     wrong, lines, jobs, parts = [], 0, 0, 0
     for (name, slip, _), text in texts.items():
         if slip != "none":
@@ -105,7 +105,8 @@ def slips_of_plans(texts):
 
 
 def other_plans(plan):
-    """Yields plans that the service does not match: it has the sizes and the counts of its plan, and takes each covered path."""
+    """Yields plans that differ from the service's plan in one size, count or body. The service does not follow them, since it reaches each
+    count of its plan, and takes each path that the plan has."""
     for at, pool in enumerate(plan.pools):
         for key, value in (("core", pool.core + 1), ("max", pool.max + 1), ("queue", pool.queue - 1), ("prestart", True)):
             yield f"{pool.name} {key} {value}", plan._replace(pools=put(plan.pools, at, pool._replace(**{key: value})))
@@ -125,7 +126,7 @@ def put(entries, at, entry):
 
 
 def shorter(body):
-    """Yields the body without a get, and without a submit and its get."""
+    """Yields, for each action, its position and the body without it. A submit is removed together with its get."""
     for position, (what, _) in enumerate(body):
         gone = {position} | ({at for at, action in enumerate(body) if action == ("get", position)} if what == "submit" else set())
         kept = [at for at in range(len(body)) if at not in gone]
@@ -133,7 +134,8 @@ def shorter(body):
 
 
 def slips_of_recordings(texts):
-    """Checks that a recording without any one of these lines breaks a rule. (The end of a job may be missing if it is not got.)"""
+    """Checks that a recording breaks a rule if one of its lines is removed. (The line at the end of a job is removed only if the job is
+    got.)"""
     missed, tried = [], Counter()
     for name in VOIDS:
         lines = texts[name, "none", 0].splitlines(keepends=True)

@@ -1,4 +1,4 @@
-"""Random plans and lists of events."""
+"""Random plans, and random lists of events for them."""
 
 import sys
 from pathlib import Path
@@ -10,7 +10,7 @@ from machine import NOT_POSSIBLE, Machine
 from small_plans import Class, Client, Plan, Pool
 
 MOST_JOBS = 60
-# The weights with which the possible events of each kind are drawn.
+# The weights with which the next event is chosen at random among the possible events, by the kind of event.
 WEIGHTS = {"client": 4, "job": 4, "take": 2, "retire": 1, "leave": 2}
 
 
@@ -31,7 +31,7 @@ def plan_by_chance(chance):
 
 
 def walk(plan, chance, in_steps, leaving_out, most=60):
-    """Returns a machine, the events that were drawn for it one by one, and the expected answers."""
+    """Returns a machine after a random list of events, the events, and the expected answers."""
     machine, events, answers = Machine(plan, in_steps), [], []
     while len(events) < most and len(machine.jobs) < MOST_JOBS:
         event = draw(machine, chance, leaving_out)
@@ -45,7 +45,7 @@ def walk(plan, chance, in_steps, leaving_out, most=60):
 
 
 def draw(machine, chance, leaving_out):
-    """Draws an event, sometimes a question, and rarely an event that may not be possible."""
+    """Returns a random possible event, sometimes a line `stuck`, and rarely an event that may not be possible."""
     if machine.jobs and chance.random() < 0.05:
         waiting = machine.most_waiting()
         members = waiting if waiting and chance.random() < 0.7 else {chance.randrange(len(machine.jobs)) for _ in range(2)}
