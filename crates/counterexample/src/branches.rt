@@ -38,8 +38,8 @@ impl<'a> Walk<'a> {
         })
     }
 
-    /// Returns the branches from this state. If a client of a kind is back at its first submit, no
-    /// new client of that kind is tried, because both would act alike.
+    /// Returns the branches from this state. If some client is back at its first submit, no new
+    /// client of the same client kind is tried, because both would act alike.
     pub(crate) fn branches(&self, alloc: Global) -> Result<Vec<Branch>, AllocError> {
         let mut branches = Vec::new(alloc);
         for (place, (choice, ready)) in self.choices.all.iter().zip(&self.ready).enumerate() {
@@ -56,7 +56,7 @@ impl<'a> Walk<'a> {
         Ok(branches)
     }
 
-    /// Returns `true` if a client of the kind is again at its first submit.
+    /// Returns `true` if some client of the client kind is back at its first submit.
     fn has_old(&self, kind: usize) -> bool {
         self.choices.all.iter().zip(&self.ready).any(|(choice, ready)| *choice
             == Choice::First(kind)

@@ -98,7 +98,7 @@ impl<'a> Machine<'a> {
         self.active_clients.len()
     }
 
-    /// Adds a client of this kind to the clients that have moved, and returns it.
+    /// Adds a client of this client kind to the clients that have moved, and returns the client.
     pub(crate) fn begin(&mut self, kind: usize) -> Result<Parent, AllocError> {
         let number = self.active_clients.len();
         self.active_clients.push(ActiveClient {

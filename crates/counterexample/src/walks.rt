@@ -173,8 +173,8 @@ impl<'a> Walk<'a> {
         }
     }
 
-    /// Makes the choice with this index. `newer` selects the actor: the number of actors that
-    /// became ready after it.
+    /// Makes the choice with this index. The actor that makes it is the one after which `newer`
+    /// actors became ready for it.
     pub(crate) fn choose(&mut self, place: usize, newer: usize) -> Result<WalkStep, AllocError> {
         match self.choices.all.get(place).copied() {
             Some(Choice::Begin(kind)) => {
@@ -194,8 +194,7 @@ impl<'a> Walk<'a> {
         }
     }
 
-    /// Removes an actor from those that are ready for this choice, and returns it: the one after
-    /// which `newer` actors became ready.
+    /// Removes and returns the actor after which `newer` actors became ready for this choice.
     fn take_ready(&mut self, place: usize, newer: usize) -> Option<Parent> {
         let ready = self.ready.get_mut(place)?;
         let at = ready.len().checked_sub(1)?.checked_sub(newer)?;

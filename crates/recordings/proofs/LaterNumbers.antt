@@ -1,4 +1,4 @@
--- No line names a job or a round whose number is still to be given.
+-- No line names a job or a round with the next number or a later number.
 use Rattle.std.proofs.Common.{◌≡◌, ℕ, ◌+◌, ◌≤◌, ◌==◌, ◌||◌, Bool, true, false, if◌then◌else◌, List, Option, Some, None, refl, arith}
 use Rattle.std.specs.List.{list_any}
 use Rattle.recordings.specs.declared.recording_line.RecordedActor.{RecordedActor}
@@ -50,7 +50,7 @@ fresh_job =
     let all : submits before + (if is_submit line then 1 else 0) ≤ j = rw (← submits_more before line) past in
     none_more (names_job j) before line (h j (omega arith)) (names_past before line k j all))
 
--- before the line that submits a job, the job's number is still to be given
+-- the number of a job that a line submits is the next number or a later number, in terms of the lines before it
 pub next_job : (before : List RecordedLine) (line : RecordedLine) (j : ℕ) → Keeps before line → submits_job j line ≡ true → submits before ≤ j
 next_job before (Submits actor job class pool) j k same = grind (arith, k.numbers, same)
 next_job before line j k same = grind (arith, same)

@@ -20,7 +20,7 @@ bind_some (Some x) f y e = (x, refl, e)
 pub bind_written : {X Y : Type 0} (o : Option X) (f : X → Option Y) (x : X) (y : Y) → o ≡ Some x → f x ≡ Some y → (o >>= f) ≡ Some y
 bind_written o f x y first second = ap (λ o. o >>= f) first ∙ second
 
--- a result is that for this word, or that for other words
+-- if a choice by a word has a result, it is the result for this word, or the result for other words
 pub by_word : {Y P : Type 0} (text word : List ℕ) (here others : Option Y) (y : Y) → cond (bytes_eq text word) here others ≡ Some y → (text ≡ word → here ≡ Some y → P) → (others ≡ Some y → P) → P
 by_word {Y} {P} text word here others y e is_it is_not = by_test (bytes_eq text word) refl e
   where

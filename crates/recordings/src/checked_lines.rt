@@ -1,4 +1,4 @@
-//! An iterator over the lines of a recording that checks the rules of recordings.
+//! An iterator over the lines of a recording, which checks each line against the rules.
 
 ghost use Rattle.std.specs.Prelude.{◌≡◌, ◌≤◌, length, List, Option, IfOk};
 ghost use Rattle.recordings.specs.RecordingLine.{RecordedLine, lines_read};

@@ -62,7 +62,7 @@ impl Jobs {
         job < self.submitted && self.get(job).is_none_or(|state| state.cancelled)
     }
 
-    /// Returns the job that this job submitted in its last line, if that line is a submit.
+    /// Returns the job that `job` submitted in its last line, if that line is a submit.
     pub(crate) fn last_submit(&self, job: usize) -> Option<usize>
         ensures { result ≡ last_submit_in (job_at self.now job) }
     {

@@ -30,7 +30,7 @@ pub struct RecordedNotes {
 }
 
 impl RecordedNotes {
-    /// Creates empty notes, for a recording of which no line was read.
+    /// Creates the notes as they are before the first line is read.
     pub fn new(alloc: Global) -> RecordedNotes
         ensures { IsNotesOf result [] }
     {

@@ -26,7 +26,7 @@ pub struct Paths {
 }
 
 impl Paths {
-    /// Creates the paths of a recording of which no line was read.
+    /// Creates the paths as they are before the first line is read.
     pub fn new(alloc: Global) -> Paths
         ensures { IsPathsOf result [] }
     {

@@ -29,7 +29,7 @@ pub struct TraceValidator {
 }
 
 impl TraceValidator {
-    /// Creates the state of a recording of which no line was read.
+    /// Creates the state as it is before the first line is read.
     pub fn new(alloc: Global) -> TraceValidator
         ensures { Represents result [] }
     {
