@@ -71,8 +71,8 @@ class Bench:
         self.bars.end()
 
     def lines(self, script, most=None):
-        """Compares a long replay with counting its lines. Returns the instructions of the replay in millions, or None if they are not
-        counted."""
+        """Compares a long replay with counting its lines. Returns the number of instructions of the replay, in millions, or None if they
+        are not counted."""
         replay = self.replay(script)
         given = (self.folder / replay.given).read_bytes()
         lines = f"lines {given.count(10)}, words {len(given.split())}\n".encode()
@@ -104,7 +104,7 @@ class Bench:
         return Program([self.sizing, "replay"], script.answer(), script.status(), given=script.name)
 
     def counted(self, program):
-        """Returns the instructions that the program executes in millions, or None if they are not counted."""
+        """Returns the number of instructions that the program executes, in millions, or None if they are not counted."""
         return instructions(self.folder, program) if self.is_counted else None
 
     def stuck(self, falling, rising, silent):

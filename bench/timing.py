@@ -158,7 +158,7 @@ def instruction_cells(folder, programs):
 
 
 def instructions(folder, program):
-    """Returns the instructions that a program executes on its input, in millions, as callgrind counts them."""
+    """Returns the number of instructions that a program executes on its input, in millions, as callgrind counts them."""
     counter = ["valgrind", "--tool=callgrind", f"--callgrind-out-file={os.devnull}", *program.words]
     with open(folder / program.given, "rb") as given:
         ended = subprocess.run(counter, stdin=given, stdout=subprocess.DEVNULL, stderr=subprocess.PIPE, text=True)

@@ -17,7 +17,7 @@ def lines_of_crates():
 
 
 def with_bench_program(lines, name):
-    """Returns the lines, and the line of the program of bench/ with this name, if there is one: its folder has it in the file `crate`."""
+    """Returns the lines. If `name` is a program of bench/, adds its line, which is in the file `crate` of its folder."""
     path = f"{ROOT}/bench/{name}/crate"
     if name in lines or not os.path.isfile(path):
         return lines
