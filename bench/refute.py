@@ -63,7 +63,7 @@ class Bench:
         plain = [compiled(self.folder, "walk_states"), str(STATES)]
         walked = int(subprocess.run(plain, input=numbers(plan), capture_output=True, text=True, check=True).stdout)
         if not walked <= told <= walked + walked * OTHERS / 100:
-            raise Wrong(f"never decided: refute tells {told} states, and the plain program walks through {walked}")
+            raise Wrong(f"never decided: refute reports {told} states, and the plain program visits {walked}")
         tell_if_uncounted()
         if not has_callgrind():
             return
@@ -71,7 +71,7 @@ class Bench:
         of_refute = instructions(self.folder, refute) * 1e6 / told
         of_plain = instructions(self.folder, Program(plain, b"", 0, "numbers")) * 1e6 / walked
         ratio = of_refute / of_plain
-        print(f"{told} states: {of_refute:.0f} instructions each, {of_plain:.0f} of the plain program: {ratio:.2f}")
+        print(f"{told} states: {of_refute:.0f} instructions each, {of_plain:.0f} in the plain program, ratio {ratio:.2f}")
         self.bars.hold("the ratio of instructions for a state", ratio, RATIO_BAR)
 
     def measured(self, name, plan, bar):
@@ -112,7 +112,7 @@ def ended(name, plan, bundle):
     if told.startswith("refused"):
         return "refused", len(lines)
     if told != "stuck yes":
-        raise Wrong(f"{name}: the last line comes to {told!r}")
+        raise Wrong(f"{name}: the outcome of the last line is {told!r}")
     return "stuck", len(lines) - 1
 
 

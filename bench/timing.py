@@ -77,10 +77,10 @@ def built(name):
 def compiled(folder, name, *options):
     """Compiles a C program of this folder into another folder, and returns its path."""
     if shutil.which("gcc") is None:
-        raise Unable("gcc is needed, and there is none")
+        raise Unable("gcc is not installed")
     path = folder / name
     if subprocess.run(["gcc", "-O2", *options, "-o", path, HERE / f"{name}.c"]).returncode != 0:
-        raise Unable(f"gcc doesn't compile {name}.c")
+        raise Unable(f"gcc cannot compile {name}.c")
     return path
 
 
@@ -105,14 +105,14 @@ def run(folder, measure, program):
     output = folder / "output" if program.is_compared else Path(os.devnull)
     ended = subprocess.run([measure, folder / program.given, output, *program.words], stdout=subprocess.PIPE)
     if ended.returncode != 0:
-        raise Unable(f"{name} can't be measured")
+        raise Unable(f"{name} cannot be measured")
     status, microseconds, kibibytes, elapsed = map(int, ended.stdout.split())
     if status > 128:
         raise Wrong(f"{name} is ended by signal {status - 128} after {microseconds / 1e6:.1f} s of CPU time")
     if program.is_compared and output.read_bytes() != program.answer:
         raise Wrong(f"{name} ends with status {status}: {difference(output.read_bytes(), program.answer)}")
     if status != program.status:
-        raise Wrong(f"{name} ends with status {status}, wanted {program.status}")
+        raise Wrong(f"{name} ends with status {status}, expected {program.status}")
     return microseconds, kibibytes, elapsed
 
 
@@ -120,8 +120,8 @@ def difference(printed, wanted):
     printed, wanted = printed.split(b"\n"), wanted.split(b"\n")
     for number, (left, right) in enumerate(zip(printed, wanted), 1):
         if left != right:
-            return f"line {number} is {left.decode(errors='replace')!r}, wanted {right.decode()!r}"
-    return f"it printed {len(printed) - 1} lines, wanted {len(wanted) - 1}"
+            return f"line {number} is {left.decode(errors='replace')!r}, expected {right.decode()!r}"
+    return f"it printed {len(printed) - 1} lines, expected {len(wanted) - 1}"
 
 
 class Bars:
@@ -132,7 +132,7 @@ class Bars:
 
     def hold(self, what, found, bar):
         if found > bar:
-            self.exceeded.append(f"{what} is {found:.2f}, and is not to be above {bar:.2f}")
+            self.exceeded.append(f"{what} is {found:.2f}, above the bar {bar:.2f}")
 
     def end(self):
         """Raises Wrong if a bar was exceeded. Called at the end of the benchmark."""

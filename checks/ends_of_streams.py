@@ -65,7 +65,7 @@ def cases(program, folder):
         words = [program, *command]
         yield f"{title}, a full device as standard output", lambda: full_device(words, given), NOT_WRITTEN
         yield f"{title}, a closed standard output", lambda: ends(words, given, close=1), NOT_WRITTEN
-        yield f"{title}, a pipe that nobody reads", lambda: broken_pipe(words, given), NOT_WRITTEN
+        yield f"{title}, a pipe that no process reads", lambda: broken_pipe(words, given), NOT_WRITTEN
         yield f"{title}, a directory as standard input", lambda: ends(words, folder), NOT_READ
         yield f"{title}, a closed standard input", lambda: ends(words, given, close=0), NOT_READ
         yield f"{title}, words too many", lambda: ends([*words, "a", "b", "c"], given), None
@@ -123,7 +123,7 @@ def shown(name, run, wanted):
     try:
         ended = run()
     except subprocess.TimeoutExpired:
-        print(f"{name}: no end within {SECONDS} seconds")
+        print(f"{name}: it does not end within {SECONDS} seconds")
         return False
     is_right = told_usage(ended) if wanted is None else ended == wanted
     print(f"{name}: {'ok' if is_right else ended}")

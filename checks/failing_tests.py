@@ -49,7 +49,7 @@ class Bug:
         text = self.texts.get(file) or (TOP / file).read_text()
         times = text.count(old)
         if times != 1:
-            raise LookupError(f"{self.name}: {file} has this text {times} times, and not once: {old}")
+            raise LookupError(f"{self.name}: {file} has this text {times} times instead of once: {old}")
         self.texts[file] = text.replace(old, new)
 
 
@@ -64,7 +64,7 @@ def tested(crate, texts):
         done = subprocess.run(["rt", "try", "--test"], cwd=top / "crates" / crate, stdin=subprocess.DEVNULL,
                               stdout=subprocess.PIPE, stderr=subprocess.STDOUT, text=True)
     said = done.stdout.splitlines()
-    return set(PASSED.findall(done.stdout)), set(FAILED.findall(done.stdout)), said[-1] if said else "nothing is said"
+    return set(PASSED.findall(done.stdout)), set(FAILED.findall(done.stdout)), said[-1] if said else "there is no output"
 
 
 def main():
@@ -81,9 +81,9 @@ def main():
         _, failed, last = tested(bug.tests, bug.texts)
         failed &= right[bug.tests]
         found_out += bool(failed)
-        told = f"found out by {', '.join(sorted(failed))}" if failed else f"no test of {bug.tests} finds it out: {last}"
+        told = f"found by {', '.join(sorted(failed))}" if failed else f"no test of {bug.tests} finds it: {last}"
         print(f"{bug.name}: {told} ({time.monotonic() - began:.0f} s)", flush=True)
-    print(f"{found_out} found out by tests, {len(bugs) - found_out} not")
+    print(f"{found_out} found by tests, {len(bugs) - found_out} not")
     return 0 if found_out == len(bugs) else 1
 
 

@@ -73,9 +73,9 @@ def main():
     wrong = told("examples and plans", fits) + told("larger plans", of_larger) + told("small plans", of_small)
     dearer = [saved for saved, _ in savings if saved]
     print(f"{len(compared)} small plans compared with {sum(tries for _, tries in savings)} cheaper sizes: "
-          f"{len(dearer)} could do with less, by {sum(dearer)} together")
+          f"for {len(dearer)} smaller sizes have a certificate, by {sum(dearer)} in total")
     if len(compared) < small_count:
-        print(f"only {len(compared)} small plans could be compared, and {small_count} were wanted")
+        print(f"only {len(compared)} small plans could be compared, but {small_count} were requested")
         return 1
     return 1 if wrong else 0
 
@@ -84,8 +84,8 @@ def told(name, fits):
     """Prints the counts for these plans, and each plan with a wrong answer. Returns the number of wrong answers."""
     wrong = sum(map(Fit.is_reported, fits))
     number = sum((fit.count for fit in fits), Counter())
-    print(f"{len(fits)} {name}, {wrong} answered wrongly: {number['certified']} have a certificate, {number['sized']} get "
-          f"other sizes, {number['helpless']} no sizes help, {number['too large']} need too large ones; {number['grown']} "
+    print(f"{len(fits)} {name}, {wrong} wrong answers: {number['certified']} have a certificate, {number['sized']} get other "
+          f"sizes, for {number['helpless']} no sizes help, {number['too large']} need too large sizes; {number['grown']} "
           "cores and queues grow")
     return wrong
 
@@ -109,7 +109,7 @@ class Fit:
             return self.fault_of_cause(wanted)
         if self.told.startswith(NOTHING_FOUND):
             self.count["too large"] += 1
-            return "" if ": sizes above " in self.told and is_too_large(self.plan) else "sizes that are not too large"
+            return "" if ": sizes above " in self.told and is_too_large(self.plan) else "the sizes are not too large"
         is_certified = run(self.program, "certify", self.given)[0] == 0
         self.count["certified" if is_certified else "sized"] += 1
         return self.fault_of_sizes(is_certified)
@@ -117,8 +117,8 @@ class Fit:
     def fault_of_cause(self, wanted):
         head, _, cause = self.told.partition("\n")
         if self.status != 1 or head != NOTHING_FOUND or cause.removesuffix("\n") not in wanted:
-            return f"wanted one of {sorted(wanted)}"
-        return "" if (self.bundle_status, self.bundle) == (1, self.told) else f"with --bundle otherwise:\n{self.bundle}"
+            return f"expected one of {sorted(wanted)}"
+        return "" if (self.bundle_status, self.bundle) == (1, self.told) else f"the answer with --bundle differs:\n{self.bundle}"
 
     def fault_of_sizes(self, is_certified):
         if self.bundle_status != 0:
@@ -154,12 +154,12 @@ class Fit:
                 pools = [*fitted.pools[:number], less, *fitted.pools[number + 1:]]
                 status, verdict = run(self.program, "check", f"{text_of(fitted._replace(pools=pools))}%%\n{cert}")
                 if status != 1 or not verdict.startswith("no\n"):
-                    return f"less would do: {less}"
+                    return f"smaller sizes are enough: {less}"
         return ""
 
     def is_reported(self):
         if self.fault:
-            print(f"{self.given}is answered, with status {self.status},\n{self.told}{self.fault}\n")
+            print(f"for the plan\n{self.given}the answer, with status {self.status}, is\n{self.told}{self.fault}\n")
         return bool(self.fault)
 
 
@@ -231,7 +231,7 @@ def saving(program, plan, fit):
     cheaper = cheaper_sizes(plan, limit, is_certified)
     if cheaper is None:
         return 0, len(tried)
-    print(f"{fit.given}is answered\n{fit.told}and could do with (core, max, queue) {cheaper}\n", flush=True)
+    print(f"for the plan\n{fit.given}the answer is\n{fit.told}but these sizes (core, max, queue) are enough: {cheaper}\n", flush=True)
     return limit - growth(plan, cheaper), len(tried)
 
 

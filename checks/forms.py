@@ -55,7 +55,7 @@ def differences(program, dot, plan):
     words = asked(program, plan)
     told = asked(program, plan, "--json")
     if told.returncode != words.returncode:
-        yield f"--json ends with {told.returncode}, and words with {words.returncode}"
+        yield f"the status with --json is {told.returncode}, and without it {words.returncode}"
     if told.stdout.count("\n") != 1 or not told.stdout.endswith("\n"):
         yield "--json is not one line"
     value = json.loads(told.stdout)
@@ -84,7 +84,7 @@ def differences_of_lines(value, text):
     faults = [f"{file}:{it['line']}:{it['column']}: {it['text']} (fault {it['fault']})" for it in value["faults"]]
     warnings = [f"{file}:{it['line']}:{it['column']}: warning: {it['text']}" for it in value["warnings"]]
     if [line for line in lines if line.startswith(f"{file}:")] != [*faults, *warnings]:
-        yield "the faults or the warnings are others"
+        yield "the faults or the warnings differ"
 
 
 def differences_of_bounds(value):
@@ -97,11 +97,11 @@ def differences_of_bounds(value):
             continue
         paid = sum(share["jobs"] for share in [*bound["clients"], *bound["threads"]])
         if paid != bound["total"]:
-            yield f"pool {pool['name']}: {paid} is paid for {bound['total']}"
+            yield f"pool {pool['name']}: the shares add up to {paid}, and the bound is {bound['total']}"
         if bound["kind"] == "standing" and bound["total"] > pool["queue"]:
             yield f"pool {pool['name']}: {bound['total']} may wait in a queue of {pool['queue']}"
         if pool["blocked"]["most"] + pool["blocked"]["left"] != pool["core"]:
-            yield f"pool {pool['name']}: {pool['blocked']} of {pool['core']} threads"
+            yield f"pool {pool['name']}: {pool['blocked']}, of {pool['core']} core threads"
 
 
 def differences_of_sizes(program, plan, value):
@@ -111,12 +111,12 @@ def differences_of_sizes(program, plan, value):
     fit = subprocess.run([program, "fit", plan], capture_output=True, text=True, timeout=SECONDS, check=False)
     if sizes["cause"] is not None:
         if fit.stdout != f"no fitting sizes found\n{sizes['cause']}\n":
-            yield f"the cause is {sizes['cause']!r}, and of fit {fit.stdout!r}"
+            yield f"the cause is {sizes['cause']!r}, and that of fit is {fit.stdout!r}"
         return
     fitted = re.findall(r"(?m)^pool (\w+): core (\d+).*, max (\d+).*, queue (\d+)", fit.stdout)
     told = [(it["name"], str(it["core"]), str(it["max"]), str(it["queue"])) for it in sizes["pools"]]
     if told != fitted:
-        yield f"the sizes are {told}, and of fit {fitted}"
+        yield f"the sizes are {told}, and those of fit are {fitted}"
 
 
 def differences_of_witness(program, plan, value):
@@ -137,7 +137,7 @@ def differences_of_witness(program, plan, value):
 def differences_of_picture(dot, value, told, status):
     """Yields a line if the graph cannot be drawn, or lacks a pool."""
     if told.returncode != status:
-        yield f"--dot ends with {told.returncode}, and words with {status}"
+        yield f"the status with --dot is {told.returncode}, and without it {status}"
     for pool in value["pools"]:
         if f'label="{pool["name"]}\\n' not in told.stdout:
             yield f"the picture lacks pool {pool['name']}"

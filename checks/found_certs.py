@@ -50,7 +50,7 @@ def main():
     told = each(lambda plan: told_of(program, text(plan)), plans)
     differing = [number for number in range(count) if told[number] != answers[number]]
     for number in differing[:3]:
-        print(f"plan {number}:\n{text(plans[number])}is answered\n{told[number]}\nand not\n{answers[number]}")
+        print(f"for plan {number},\n{text(plans[number])}the answer is\n{told[number]}\ninstead of\n{answers[number]}")
     found = sum(told != NONE for told in answers)
     lifetimes = sum("lifetime" in told for told in answers)
     print(f"{count} plans, {len(differing)} differ; {found} get a certificate, {lifetimes} of them with a lifetime vector")

@@ -58,7 +58,7 @@ def main():
             continue
         tried += 1
         cheaper = cheaper_sizes(plan, growth(plan, sizes), lambda other: answer(other) != NONE)
-        wrong += report(plan, told, cheaper and f"less would do: {cheaper}")
+        wrong += report(plan, told, cheaper and f"smaller sizes are enough: {cheaper}")
     print(f"{count} plans: " + ", ".join(f"{kind} {number}" for kind, number in kinds.items()))
     print(f"{small_count} small plans, {tried} compared with all sizes; {wrong} of all are wrong")
     return 1 if wrong or small and not tried else 0
@@ -66,7 +66,7 @@ def main():
 
 def report(plan, told, fault):
     if fault:
-        print(f"{text(plan)}is answered\n{told}\n{fault}")
+        print(f"for the plan\n{text(plan)}the answer is\n{told}\n{fault}")
     return bool(fault)
 
 
@@ -79,15 +79,15 @@ def fault_of(plan, told):
     if wanted := causes(read_plan(text(plan))):
         head, _, cause = told.partition("\n")
         is_told = head == NOTHING_FOUND and cause in wanted
-        return "no sizes help", "" if is_told else f"wanted one of {sorted(wanted)}"
+        return "no sizes help", "" if is_told else f"expected one of {sorted(wanted)}"
     sizes = sizes_told(told)
     if sizes is None:
         return "sizes change", "no sizes"
     if any(now > size for pool, found in zip(plan.pools, sizes) for now, size in zip(sizes_of(pool), found)):
-        return "sizes change", "a size that falls"
+        return "sizes change", "a size falls"
     if answer(plan) == NONE:
         return "sizes change", ""
-    return "as it is", "a change" if growth(plan, sizes) else ""
+    return "as it is", "a size changes" if growth(plan, sizes) else ""
 
 
 # ---- sizes

@@ -59,7 +59,7 @@ class Bug:
         text = self.texts.get(file) or (TOP / file).read_text()
         times = text.count(old)
         if times != 1:
-            raise LookupError(f"{self.name}: {file} has this text {times} times, and not once: {old}")
+            raise LookupError(f"{self.name}: {file} has this text {times} times instead of once: {old}")
         self.texts[file] = text.replace(old, new)
 
 
@@ -110,7 +110,7 @@ def tells(line, words):
 
 def first_refusal(said):
     """Returns the first line that reports an error, without the hints at its end, or the last line if there is none."""
-    line = next((line for line in said if tells(line, (ERROR, *UNPROVED))), said[-1] if said else "nothing is said")
+    line = next((line for line in said if tells(line, (ERROR, *UNPROVED))), said[-1] if said else "there is no output")
     return textwrap.shorten(line, width=300, placeholder=" ..")
 
 
@@ -120,16 +120,16 @@ def attempt(bug, folder):
     for crate in bug.proves:
         proved, said = check(folder, crate)
         if not proved:
-            return False, f"refused below the laws, by {crate}", first_refusal(said)
+            return False, f"refused by the lower crate {crate}", first_refusal(said)
     proved, said = check(folder, bug.refuses)
     if proved:
         return False, f"accepted by {bug.refuses}", "all is proved"
     why = first_refusal(said)
     if not tells(why, UNPROVED):
-        return False, f"{bug.refuses} can't be checked", why
+        return False, f"{bug.refuses} cannot be checked", why
     if not any(ERROR in line and f"laws/{bug.law}/" in line for line in said):
-        return False, f"{bug.refuses} is refused, but not its {bug.law}", why
-    return True, f"refused by {bug.refuses}, where {bug.law} is not proved", why
+        return False, f"{bug.refuses} is refused, but not because of {bug.law}", why
+    return True, f"refused by {bug.refuses}, since {bug.law} is not proved", why
 
 
 def main():

@@ -97,10 +97,10 @@ def built():
 def compile_object(folder, name):
     """Compiles a C file of this folder into another folder, and returns the path of the shared object."""
     if shutil.which("gcc") is None:
-        raise Unable("gcc is needed, and there is none")
+        raise Unable("gcc is not installed")
     path = folder / f"{name}.so"
     if subprocess.run(["gcc", "-O2", "-shared", "-fPIC", "-o", path, HERE / f"{name}.c"]).returncode != 0:
-        raise Unable(f"gcc doesn't compile {name}.c")
+        raise Unable(f"gcc cannot compile {name}.c")
     return path
 
 
@@ -150,13 +150,13 @@ def right_end(command, name):
     """
     if command == "explain" and not (EXAMPLES / f"{name}.explain").exists():
         if not contents(f"{name}.check").startswith(b"yes\n"):
-            raise Unable(f"nothing says what `explain` answers to the example {name}")
+            raise Unable(f"the example {name} has no answer of `explain`")
         return Ended(0, b"failing 0\n", b"")
     answer, _, status = contents(f"{name}.{command}").rpartition(b"status ")
     try:
         return Ended(int(status), answer, b"")
     except ValueError:
-        raise Unable(f"the last line of {name}.{command} tells no status")
+        raise Unable(f"the last line of {name}.{command} has no status")
 
 
 def bundle_end(program, command, plan):
@@ -201,7 +201,7 @@ def contents(name):
     try:
         return (EXAMPLES / name).read_bytes()
     except OSError as error:
-        raise Unable(f"the example can't be read: {error}")
+        raise Unable(f"the example cannot be read: {error}")
 
 
 def run(folder, program, command, given, number):
@@ -218,16 +218,16 @@ def run(folder, program, command, given, number):
     except subprocess.TimeoutExpired as late:
         ended = Ended(None, late.stdout or b"", late.stderr or b"")
     except OSError as error:
-        raise Unable(f"the program can't be run: {error}")
+        raise Unable(f"the program cannot be run: {error}")
     lines = told.read_text().split()
     if not lines:
-        raise Unable(f"{SHARED_OBJECT} isn't in the program: is that statically linked? {command}: {shown(ended)}")
+        raise Unable(f"{SHARED_OBJECT} is not loaded: is the program statically linked? {command}: {shown(ended)}")
     return ended, lines[1] if len(lines) > 1 else None
 
 
 def shown(ended):
     if ended.status is None:
-        how = f"it doesn't end within {SECONDS} seconds"
+        how = f"it does not end within {SECONDS} seconds"
     elif ended.status < 0:
         how = f"signal {-ended.status} ends it"
     else:

@@ -163,7 +163,7 @@ def problems(browser, sample, page):
         yield from found
         return
     text = browser.evaluate("document.querySelector('main').textContent.replace(/\\s+/g, ' ')")
-    yield from (f"no text {wanted!r}" for wanted in sample.texts if wanted not in text)
+    yield from (f"the text {wanted!r} is missing" for wanted in sample.texts if wanted not in text)
     yield from (f"too wide: {each}" for each in browser.evaluate(WIDER))
     yield from keyboard_problems(browser)
     if not browser.evaluate(LINK):

@@ -66,7 +66,7 @@ class Runs:
             if status == 0:
                 self.one_plan(plan, bundle)
         print(", ".join(f"{what} {number}" for what, number in self.count.items()))
-        print("with so many threads: " + ", ".join(f"from {low} on {self.threads[low]}" for low in sorted(self.threads)))
+        print("runs by threads: " + ", ".join(f"{self.threads[low]} with {low} to {2 * low - 1}" for low in sorted(self.threads)))
         print(f"{self.wrong} wrong")
         return 1 if self.wrong else 0
 
@@ -98,10 +98,10 @@ class Runs:
                                   env={**os.environ, **settings})
             ended = done.returncode, done.stdout, done.stderr
         except subprocess.TimeoutExpired:
-            ended = f"no end within {SECONDS} seconds"
+            ended = f"it does not end within {SECONDS} seconds"
         if ended != wanted:
             self.wrong += 1
-            print(f"run --rounds {rounds}, with {settings}: {ended}, wanted {wanted}, of\n{bundle}", flush=True)
+            print(f"run --rounds {rounds}, with {settings}: {ended}, expected {wanted}, for\n{bundle}", flush=True)
 
 
 class Numbers:

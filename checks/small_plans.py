@@ -333,7 +333,7 @@ def main():
         count["plans"] += 1
         events, wanted = walk(plan, draw)
         if run(program, "replay", f"{text}%%\n{events}")[1] != wanted:
-            wrong.append(f"a replay differs:\n{text}%%\n{events}\nwanted:\n{wanted}")
+            wrong.append(f"a replay differs:\n{text}%%\n{events}\nexpected:\n{wanted}")
         status, answer = run(program, "certify", text)
         if status == 0 and run(program, "check", answer)[0] == 0:
             states, found, cut = explored(plan)

@@ -113,7 +113,7 @@ def miscounted(said, states):
     told = re.fullmatch(r"not decided: (?:1 state was|(\d+) states were) searched\n", said)
     if not told:
         return f"it says {said!r}"
-    return None if 1 <= int(told[1] or 1) <= states else f"of {states} states it says {said!r}"
+    return None if 1 <= int(told[1] or 1) <= states else f"with a limit of {states} states it prints {said!r}"
 
 
 def refuted(program, plan, states, *words):
@@ -137,7 +137,7 @@ def replayed(text_of_plan, lines):
         if word == "stuck":
             members = {int(operand) for operand in operands}
             if number < len(lines):
-                return "witness", len(lines), "events behind the jobs that wait"
+                return "witness", len(lines), "events after the line with the jobs that wait"
             continue
         event = (word, pools[operands[0]] if word in ("take", "retire") else int(operands[0]))
         done = machine.step(state, event, made) if event[0] != "client" or event[1] < len(machine.kinds) else None

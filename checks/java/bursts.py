@@ -76,7 +76,7 @@ def at_the_bound(tools):
               for kind in (KINDS[(number + slow) % 2],)]
     told = done(tools, bursts)
     wrong = [f"bursts at the bound, {words}: {found}" for words, found in zip(bursts, told, strict=True) if found["refused in"]]
-    print(f"bursts at the bound: {len(LINES)} pools, {sum(found['rounds'] for found in told)} rounds, a thread asked for though the queue "
+    print(f"bursts at the bound: {len(LINES)} pools, {sum(found['rounds'] for found in told)} rounds, a thread requested although the queue "
           f"has room {sum(found['asked with room'] for found in told)} times, refused in {sum(found['refused in'] for found in told)} rounds", flush=True)
     return wrong
 
@@ -93,8 +93,8 @@ def one_more(tools):
             some.append(found["rounds"])
             right = found["refused in"] == 1
         if not right:
-            wrong.append(f"bursts with one job more, {words}: {found}")
-    print(f"bursts with one job more: {sure} pools that refuse just one in each of {ROUNDS} rounds; {len(some)} that refuse in some, the "
+            wrong.append(f"bursts with one more job, {words}: {found}")
+    print(f"bursts with one more job: {sure} pools that refuse one job in each of {ROUNDS} rounds; {len(some)} that refuse in some, the "
           f"first after {', '.join(map(str, some))} rounds; with {len(wrong)} wrong", flush=True)
     return wrong
 
@@ -105,8 +105,8 @@ def slips(tools):
     told = done(tools, [burst(line, KINDS[number % 2], 0, True, 0, True, jobs) for number, (_, line, jobs) in enumerate(planted)])
     wanted = Counter(name for name, _, _ in planted)
     found = Counter(name for (name, _, _), one in zip(planted, told, strict=True) if one["refused in"])
-    print("slips, found of so many: " + ", ".join(f"'{name}' {found[name]} of {number}" for name, number in wanted.items()), flush=True)
-    return [f"bursts: the slip '{name}' is found {found[name]} times of {number}" for name, number in wanted.items() if found[name] != number]
+    print("deliberate errors, found: " + ", ".join(f"'{name}' {found[name]} of {number}" for name, number in wanted.items()), flush=True)
+    return [f"bursts: the deliberate error '{name}' is found {found[name]} of {number} times" for name, number in wanted.items() if found[name] != number]
 
 
 def slips_of(line):

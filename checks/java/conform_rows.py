@@ -109,8 +109,8 @@ def wrong_rows():
         end = [] if name == "the first part of that" else ["end"]
         found = compared(plan, "\n".join(["recording 1", POOL, *lines, *end]) + "\n")
         if found != in_order(deviations + voids):
-            wrong.append(f"conform, {name}: {found}, wanted {deviations + voids}")
-    print(f"conform: {len(ROWS)} rows by hand, of which {len(wrong)} are answered otherwise", flush=True)
+            wrong.append(f"conform, {name}: {found}, expected {deviations + voids}")
+    print(f"conform: {len(ROWS)} rows written by hand, {len(wrong)} with other findings", flush=True)
     return wrong
 
 
@@ -126,8 +126,8 @@ def wrong_stored_rows():
         rows += 1
         found = compared(plan, recording) or ["conforms"]
         if found != told.split("\n"):
-            wrong.append(f"conform, row {name}: {found}, the row says {told}")
-    print(f"conform: {rows} rows of tests, of which {len(wrong)} are answered otherwise", flush=True)
+            wrong.append(f"conform, row {name}: {found}, but the row has {told}")
+    print(f"conform: {rows} rows of tests, {len(wrong)} with other findings", flush=True)
     return wrong
 
 
@@ -143,6 +143,6 @@ def wrong_learned_rows():
         comments = [line.removeprefix("# ") for line in head[2:] if not line.startswith("# Not at their ends yet.")]
         found = compared(plan, recording)
         if found != comments:
-            wrong.append(f"conform, row {name}: {found}, the comments of the plan that was learned are {comments}")
-    print(f"conform: {rows} rows of tests of learned plans, of which {len(wrong)} are answered otherwise", flush=True)
+            wrong.append(f"conform, row {name}: {found}, but the comments of the learned plan are {comments}")
+    print(f"conform: {rows} rows of tests of learned plans, {len(wrong)} with other findings", flush=True)
     return wrong

@@ -17,8 +17,8 @@ def part(tools):
         for name, wanted in BY_HAND.items():
             told = tools.run_java("Interleavings", kind, str(name == "four clients").lower(), "true")
             if told != [wanted]:
-                wrong.append(f"interleavings, {kind}, {name}: {told}, wanted {wanted}")
+                wrong.append(f"interleavings, {kind}, {name}: {told}, expected {wanted}")
             slipped = tools.run_java("Interleavings", kind, str(name == "four clients").lower(), "false")
             found += slipped != [wanted]
-    print(f"interleavings: 4, with {len(wrong)} wrong; slip 'the failed offer does not wait': found in {found} of 4", flush=True)
-    return wrong + ([] if found == 4 else ["interleavings: the slip is not found"])
+    print(f"interleavings: 4, {len(wrong)} wrong; deliberate error 'the failed offer does not wait': found in {found} of 4", flush=True)
+    return wrong + ([] if found == 4 else ["interleavings: the deliberate error is not found"])

@@ -137,9 +137,9 @@ def as_recorded(tools, plans, recordings):
     for name, told in plans.items():
         found = conformed(tools, told.text, recordings[name])
         if found != told.comments or deviations(found) or voids(found) != VOIDS[name]:
-            wrong.append(f"learned, {name}: conform says {found}, the comments {told.comments}")
+            wrong.append(f"learned, {name}: conform prints {found}, but the comments are {told.comments}")
     comments = sum(len(told.comments) for told in plans.values())
-    print(f"learned: {len(plans)} plans, with {comments} comments; conform says otherwise of {len(wrong)}", flush=True)
+    print(f"learned: {len(plans)} plans, with {comments} comments; conform disagrees on {len(wrong)}", flush=True)
     return wrong
 
 
@@ -151,11 +151,11 @@ def as_written(tools, plans, recordings):
         found = conformed(tools, plan_of(name), recordings[name])
         wrong += [f"learned, {name}: {difference}" for difference in differences(told.plan, written)]
         if deviations(found) or voids(found) != VOIDS[name]:
-            wrong.append(f"learned, {name}: of the plan that was written conform says {found}")
+            wrong.append(f"learned, {name}: for the plan written by hand conform prints {found}")
         ours, theirs = bodies_of(told.plan), bodies_of(written)
         bodies += len(ours)
         alike += sum(theirs.get(key) == body for key, body in ours.items())
-    print(f"learned and written by hand: {len(plans)} plans, of whose {bodies} bodies {alike} are the same, with {len(wrong)} wrong", flush=True)
+    print(f"learned and written by hand: {len(plans)} plans, {alike} of {bodies} bodies equal, {len(wrong)} wrong", flush=True)
     return wrong
 
 
@@ -196,12 +196,12 @@ def slips_of_plans(tools, plans, recordings):
                 continue
             tried += 1
             if not deviations(conformed(tools, text_of(other), recordings[name])):
-                missed.append(f"learned, {name}: the slip of the plan '{what}' is not found")
+                missed.append(f"learned, {name}: conform does not find the error '{what}' in the plan")
             if "without action" not in what:
                 told_apart += 1
                 if not list(differences(other, told.plan)):
-                    missed.append(f"learned, {name}: the slip of the plan '{what}' is not told apart")
-    print(f"slips of learned plans: {tried} by conform and {told_apart} by comparison, of which {len(missed)} were not found", flush=True)
+                    missed.append(f"learned, {name}: the comparison does not find the error '{what}' in the plan")
+    print(f"deliberate errors in learned plans: {tried} for conform and {told_apart} for the comparison, {len(missed)} not found", flush=True)
     return missed
 
 
@@ -217,8 +217,8 @@ def slips_of_recordings(tools, plans, recordings):
             shorter = "".join(lines[:at] + lines[at + 1 :])
             other = learned(tools, shorter)
             if not deviations(conformed(tools, told.text, shorter)) or other is not None and bodies_of(other.plan) == bodies_of(told.plan):
-                missed.append(f"learned, {name}: nobody misses line {at + 1}, {lines[at]!r}")
-    print(f"slips of recordings: without a get {tried}, of which {len(missed)} were not found", flush=True)
+                missed.append(f"learned, {name}: the removal of line {at + 1}, {lines[at]!r}, is not found")
+    print(f"deliberate errors in recordings: {tried} without a get, {len(missed)} not found", flush=True)
     return missed
 
 
@@ -234,14 +234,14 @@ def sizes_of(tools, plans):
         for began, plan in (("its own sizes", told.plan), (FROM_ONE, ones)):
             found, said = fitted(tools, plan)
             if found is None:
-                wrong.append(f"learned, {name}, {began}: fit says {said}")
+                wrong.append(f"learned, {name}, {began}: fit prints {said}")
             else:
                 sized.append(Sized(name, began, found))
                 print(f"sizes of {sized[-1]}: {sizes_text(found)}", flush=True)
         again = told.plan._replace(clients=[client._replace(repeat=True) for client in told.plan.clients])
         found, said = fitted(tools, again)
         if (found is None) != (name in NEVER_GOT) or not re.fullmatch(NEVER_GOT.get(name, "sizes"), said):
-            wrong.append(f"learned, {name}, where all clients repeat: fit says {said}")
+            wrong.append(f"learned, {name}, if all clients repeat: fit prints {said}")
     return sized, wrong
 
 
@@ -309,7 +309,7 @@ def without_refusal(tools, ran, how):
         for run in all_runs:
             found = [line for line in conformed(tools, text_of(one.plan), run.recording) if not how or not line.endswith(OTHER_QUEUE)]
             if met(run) or deviations(found) or voids(found) != VOIDS[one.name]:
-                wrong.append(f"learned, {one}: a run met {met(run)}, and conform says {found}")
+                wrong.append(f"learned, {one}: a run has {met(run)}, and conform prints {found}")
         rounds, jobs = (sum(counts(run)[what] for run in all_runs) for what in ("rounds", "jobs"))
         print(f"runs of {one}{how}: {len(all_runs)}, {rounds} rounds, {jobs} jobs, refused {sum(counts(run)['refused'] for run in all_runs)}, "
               f"stopped {sum(counts(run)['stopped'] for run in all_runs)}", flush=True)
@@ -325,8 +325,8 @@ def slips_of_sizes(tools, ran):
             tried += 1
             found = conformed(tools, text_of(other), all_runs[0].recording)
             if not any(re.match(rf"line \d+: pool {what.split()[0]}: {what.split()[1]} \d+, plan \d+$", line) for line in found):
-                missed.append(f"learned, {one}: the slip '{what}' is not found: {found}")
-    print(f"slips of sizes: one less {tried}, of which {len(missed)} were not found", flush=True)
+                missed.append(f"learned, {one}: the error '{what}' is not found: {found}")
+    print(f"deliberate errors in sizes: {tried} lowered by one, {len(missed)} not found", flush=True)
     return missed
 
 
@@ -356,11 +356,11 @@ def one_less(tools, ran):
             if status not in NO_WITNESS:
                 wrong.append(f"learned, {one}, {what}: refute ends with {status}: {told}")
             safe.append(f"{what} ({told.split(':')[0]})")
-        before = "; before it " + ", ".join(safe) if safe else ""
+        before = "; no witness before with " + ", ".join(safe) if safe else ""
         if one.began == FROM_ONE and (status != 1 or not told.startswith(WITNESS[one.name])):
             wrong.append(f"learned, {one}: refute ends with {status}: {told}")
         if status != 1:
-            print(f"one less of {one}: no witness{before}", flush=True)
+            print(f"one size lowered, {one}: no witness{before}", flush=True)
             continue
         found += 1
         wrong += [f"learned, {one}, {what}: {line}" for line in replayed(tools, one.plan, plan, told)]
@@ -369,9 +369,9 @@ def one_less(tools, ran):
         all_met += bool(bad)
         missed += not_told_apart(one, all_runs[0], bad)
         first = min((counts(run)["rounds"] for run in bad), default="no")
-        print(f"one less of {one}, {what}: {told.splitlines()[0]}; replayed, and met by {len(bad)} of {len(tries)} runs, the first after "
+        print(f"one size lowered, {one}, {what}: {told.splitlines()[0]}; replayed, and {len(bad)} of {len(tries)} runs are bad, the first after "
               f"{first} rounds{before}", flush=True)
-    print(f"witnesses: {found} of {len(ran)}, {all_met} of them met by runs, with {len(wrong)} wrong; slips of runs not found {len(missed)}", flush=True)
+    print(f"witnesses: {found} of {len(ran)}, {all_met} of them with bad runs, {len(wrong)} wrong; deliberate errors in runs not found: {len(missed)}", flush=True)
     return wrong + missed
 
 
@@ -390,7 +390,7 @@ def replayed(tools, right, plan, told):
     answers = on_executors(tools, cases)
     for kind, executors in zip(KINDS, answers):
         if executors[: len(lines)] != lines or is_stuck == executors[-1].endswith("unfinished 0"):
-            wrong.append(f"on executors, {kind}: {executors}, replay says {lines}")
+            wrong.append(f"on executors, {kind}: {executors}, but replay prints {lines}")
     by_replay = tools.sizing("replay", f"{text_of(right)}%%\n{events}")[1].splitlines()
     for executors in [by_replay, *answers[len(KINDS) :]]:
         if any("refused by" in line or line.endswith("stuck yes") for line in executors):
@@ -401,4 +401,4 @@ def replayed(tools, right, plan, told):
 def not_told_apart(one, right, bad):
     """Checks that a bad run is found if either its output or its recording is replaced by that of a good run."""
     slips = [wrong for run in bad for wrong in (run._replace(told=right.told), run._replace(recording=right.recording))]
-    return [f"learned, {one}: a run that met {met(run)} is told as right" for run in slips if not met(run)]
+    return [f"learned, {one}: a bad run is not found if its output or recording is replaced" for run in slips if not met(run)]

@@ -58,7 +58,7 @@ def loops_of(tools, name, sizes):
             told = looped(tools, needed, kind, rounds, leaves, slow, "all", False)
             jobs += told["completed"]
             if told["refused"] or told["completed"] != told["jobs"] or repeats and told["rounds"] != rounds:
-                wrong.append(f"loops, {name}, {kind}, slow {slow}, leaves out {leaves}: {told}")
+                wrong.append(f"loops, {name}, {kind}, slow {slow}, skips {leaves}: {told}")
         for pool, queue in sizes.items():
             told = looped(tools, with_queues(needed, {pool: queue - 1}), kind, ROUNDS, 0, SLOW_LESS, pool, True)
             less.append(f"{pool} {queue - 1} ({kind}) after {told['rounds']}")
@@ -66,7 +66,7 @@ def loops_of(tools, name, sizes):
                 wrong.append(f"loops, {name}, {kind}, {pool} {queue - 1}: none refused in {told['rounds']} rounds")
     rounds = ", ".join(str(rounds) for rounds, _, _ in WAYS) if repeats else "no"
     print(f"loops, {name}: two kinds of queue, {rounds} rounds each, {jobs} jobs, with {len(wrong)} wrong"
-          + (f"; with one place less refused in {', '.join(less)} rounds" if less else ""), flush=True)
+          + (f"; with one place fewer refused in {', '.join(less)} rounds" if less else ""), flush=True)
     return wrong
 
 

@@ -36,8 +36,8 @@ def part(tools):
 
 def cancelled(tools):
     told = dict(zip(BY_HAND, tools.run_java("Cancelled", *BY_HAND), strict=True))
-    wrong = [f"permits, {way}: {told[way]}, wanted {wanted}" for way, wanted in BY_HAND.items() if told[way] != wanted]
-    print(f"permits: {len(BY_HAND)} ways by which they come back, with {len(wrong)} wrong", flush=True)
+    wrong = [f"permits, {way}: {told[way]}, expected {wanted}" for way, wanted in BY_HAND.items() if told[way] != wanted]
+    print(f"permits: {len(BY_HAND)} ways in which they are released, {len(wrong)} wrong", flush=True)
     return wrong
 
 
@@ -53,12 +53,12 @@ def loops(tools):
         told = looped(tools, way, KINDS[0], PERMITS - 1, MOST_ROUNDS, True)
         less.append(told["jobs"])
         if not told["refused"]:
-            wrong.append(f"permits, {way}, one place less: {told}")
+            wrong.append(f"permits, {way}, one place fewer: {told}")
     for way in SLIPS:
         slips.append(looped(tools, way, KINDS[1], PERMITS, MOST_ROUNDS, True)["refused"] > 0)
-    print(f"permits: {len(RIGHT)} ways, {jobs} jobs, with {len(wrong)} wrong; with one place less refused after "
-          f"{', '.join(map(str, less))} jobs; slips {', '.join(SLIPS)}: found {sum(slips)} of {len(SLIPS)}", flush=True)
-    return wrong + ([] if all(slips) else ["permits: a slip is not found"])
+    print(f"permits: {len(RIGHT)} ways, {jobs} jobs, {len(wrong)} wrong; with one place fewer refused after "
+          f"{', '.join(map(str, less))} jobs; wrong ways {', '.join(SLIPS)}: found {sum(slips)} of {len(SLIPS)}", flush=True)
+    return wrong + ([] if all(slips) else ["permits: a wrong way is not found"])
 
 
 def looped(tools, way, kind, places, rounds, until_refused):

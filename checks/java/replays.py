@@ -63,7 +63,7 @@ def examples(tools):
         steps = len(answer)
         answers += steps - 1
         if told[:steps] != answer or not told[-1].endswith(f"unfinished {never}"):
-            wrong.append(f"replays, {name}, {kind}: {told}, wanted {answer} and at last unfinished {never}")
+            wrong.append(f"replays, {name}, {kind}: {told}, expected {answer} and in the end unfinished {never}")
     print(f"replays of examples: {len(wanted)}, answers {answers}, with {len(wrong)} wrong", flush=True)
     return wrong
 
@@ -108,7 +108,7 @@ def lists(tools, chance):
             count["by sizing replay"] += 1
             count["of these with parts left out"] += "left out" in one.answers
             if told != answers:
-                wrong.append(f"replays, sizing replay: {told}, wanted {answers} of\n{text_of(plan)}%%\n" + "\n".join(events))
+                wrong.append(f"replays, sizing replay: {told}, expected {answers} for\n{text_of(plan)}%%\n" + "\n".join(events))
     cases = [one.case(None, f"run free {PART_LEFT_OUT * one.leaving_out}") if sure else one.case() for one, sure in zip(found, certified)]
     for one, sure, told in zip(found, certified, on_executors(tools, cases)):
         count["on executors"] += 1
@@ -122,8 +122,8 @@ def lists(tools, chance):
         count["certified"] += sure
         wanted = one.wanted + (["then refusals 0, unfinished 0"] if sure else [])
         if told != wanted:
-            wrong.append(f"replays, {one.kind}, in steps {one.in_steps}: {told}, wanted {wanted} of\n{one.case()}")
-    print("replays by chance: " + ", ".join(f"{what} {number}" for what, number in count.items()) + f", with {len(wrong)} wrong", flush=True)
+            wrong.append(f"replays, {one.kind}, in steps {one.in_steps}: {told}, expected {wanted} for\n{one.case()}")
+    print("random replays: " + ", ".join(f"{what} {number}" for what, number in count.items()) + f", with {len(wrong)} wrong", flush=True)
     return wrong
 
 
@@ -180,8 +180,8 @@ def slips(tools, chance):
     told = on_executors(tools, [one.case() for one in some])
     for name, rule in RULE_SLIPS.items():
         found[name] = sum(by_rule(rule, one) != answers for one, answers in zip(some, told))
-    print(f"slips, found in so many of {SLIPPED} lists: " + ", ".join(f"'{name}' {number}" for name, number in found.items()), flush=True)
-    return [f"replays: the slip '{name}' is not found" for name, number in found.items() if not number]
+    print(f"deliberate errors, by the number of {SLIPPED} lists that find them: " + ", ".join(f"'{name}' {number}" for name, number in found.items()), flush=True)
+    return [f"replays: the deliberate error '{name}' is not found" for name, number in found.items() if not number]
 
 
 def by_rule(rule, one):

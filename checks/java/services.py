@@ -76,7 +76,7 @@ def as_planned(texts):
             parts += 1
             found = deviations(compared(plan_of(name), text[:cut]))
             if found:
-                wrong.append(f"services, {name}, cut off behind {cut} bytes: {found}")
+                wrong.append(f"services, {name}, cut off after {cut} bytes: {found}")
     print(f"services: {len(VOIDS)} with {RUNS} runs each, and a recording of examples/, {lines} lines of {jobs} jobs, and {parts} first parts of them, with {len(wrong)} wrong", flush=True)
     return wrong
 
@@ -87,8 +87,8 @@ def slips_of_services(texts):
         if slip != "none":
             found = deviations(compared(plan_of(name), text))
             if not any(re.search(SLIPS[slip], line) for line in found):
-                missed.append(f"services, {name}: the slip '{slip}' is not found: {found}")
-    print(f"slips of services: {len(VOIDS) * len(SLIPS)}, of which {len(missed)} were not found", flush=True)
+                missed.append(f"services, {name}: the error '{slip}' is not found: {found}")
+    print(f"deliberate errors in services: {len(VOIDS) * len(SLIPS)}, {len(missed)} not found", flush=True)
     return missed
 
 
@@ -99,8 +99,8 @@ def slips_of_plans(texts):
         for what, other in other_plans(plan):
             tried += 1
             if not deviations(Comparison(other, recording).all()):
-                missed.append(f"services, {name}: the slip of the plan '{what}' is not found")
-    print(f"slips of plans: {tried}, of which {len(missed)} were not found", flush=True)
+                missed.append(f"services, {name}: the error '{what}' in the plan is not found")
+    print(f"deliberate errors in plans: {tried}, {len(missed)} not found", flush=True)
     return missed
 
 
@@ -145,11 +145,11 @@ def slips_of_recordings(texts):
                 tried[word] += 1
                 try:
                     read("".join(lines[:at] + lines[at + 1:]))
-                    missed.append(f"services, {name}: nobody misses line {at + 1}, {line!r}")
+                    missed.append(f"services, {name}: the removal of line {at + 1}, {line!r}, is not found")
                 except BadLine:
                     continue
-    print(f"slips of recordings: lines that are not there, {', '.join(f'{word} {number}' for word, number in tried.items())}, of which {len(missed)} "
-          "were not found", flush=True)
+    print(f"deliberate errors in recordings: removed lines, {', '.join(f'{word} {number}' for word, number in tried.items())}, {len(missed)} "
+          "not found", flush=True)
     return missed
 
 
@@ -169,5 +169,5 @@ def certified(tools):
         return []
     answers = {name: tools.sizing("certify", plan_of(name))[0] for name in VOIDS}
     wrong = [f"services, {name}: certify ends with {status}" for name, status in answers.items() if status]
-    print(f"plans of services: {len(answers)}, of which {len(wrong)} have no certificate", flush=True)
+    print(f"plans of services: {len(answers)}, {len(wrong)} without a certificate", flush=True)
     return wrong
