@@ -51,7 +51,7 @@ pub record IsStuck (plan : Plan) (events : List Event) (members : List ℕ) (sta
 abbrev pub BeginsWith : List Event → List Event → Type 0
 BeginsWith events front = (rest : List Event) × (events ≡ front ++ rest)
 
--- these events of the list have this ending
+-- the list begins with the events `front`, which have this ending
 abbrev pub HasEnding : Plan → List Event → List ℕ → List Vector → List Event → Ending → Type 0
 HasEnding plan events members standing front (Refused p) = BeginsWith events front × EndsRefused plan front p
 HasEnding plan events members standing front (StuckForever stuck reason) = (front ≡ events) × (stuck.items ≡ members) × IsStuck plan events members standing (Some reason)

@@ -137,7 +137,7 @@ impl JobSet {
     }
 
     /// Removes each member that does not wait only for members, and returns `true` if it removed
-    /// one. Visits the jobs from the latest to the first: a parent waits for a later job.
+    /// one. Visits the jobs from the latest to the first, since a job waits for a later one.
     fn shrink_once(&mut self, machine: &Machine, closed: &[bool]) -> bool {
         let mut changed = false;
         for number in (0..machine.jobs.len()).rev() {

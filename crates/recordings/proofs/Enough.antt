@@ -116,7 +116,7 @@ both_ways false true false = refl
 both_ways false false true = refl
 both_ways false false false = refl
 
--- The events of types that are new and not the type of `one` are those of types that are new after `one` and not its type.
+-- Among the events of other types than that of `one`, the events of new types are the same before and after `one`.
 new_after : (closed : List ℕ → Bool) (one : InvalidationEntry) (xs : List Invalidation) → filter (is_new closed) (filter (unlike one.invalidation) xs) ≡ filter (unlike one.invalidation) (filter (is_new (closed_with closed one)) xs)
 new_after closed one xs =
     let both : Invalidation → Bool = λ other. unlike one.invalidation other && is_new closed other in
@@ -128,7 +128,7 @@ same_after : (closed : List ℕ → Bool) (one : InvalidationEntry) (xs ys : Lis
 same_after closed one xs ys same =
     ap (λ (zs : List Invalidation). if is_new closed one.invalidation then one.invalidation ∷ zs else zs) (new_after closed one xs ∙ (ap (filter (unlike one.invalidation)) same ∙ sym (new_after closed one ys)))
 
--- An event whose type is new has another type than `one`, whose type is not new.
+-- If the type of `one` is not new, an event of the same type is not of a new type.
 not_own : (closed : List ℕ → Bool) (one : InvalidationEntry) → closed (keyword_of one.invalidation.event) ≡ true → (other : Invalidation) → (s : Bool) → has_type other.event one.invalidation ≡ s → is_new closed other ≡ (not s && is_new closed other)
 not_own closed one is_closed other true same = ap not (subst (λ word. closed word ≡ true) (same_text (keyword_of one.invalidation.event) (keyword_of other.event) same) is_closed)
 not_own closed one is_closed other false same = refl

@@ -32,7 +32,7 @@ any_filter : {X : Type 0} (p q : X → Bool) → ((x : X) → p x ≡ true → q
 any_filter p q stays [] = refl
 any_filter p q stays (x ∷ xs) = any_if p (q x) x (filter q xs) (stays x) ∙ ap (λ b. p x || b) (any_filter p q stays xs)
 
--- An event `other` of the type of `one` has another type than `invalidation`, if `one` has.
+-- If `one` has another type than `invalidation`, an event `other` of the type of `one` also has another type.
 not_like : (invalidation one other : Invalidation) → has_type one.event invalidation ≡ false → has_type one.event other ≡ true → (b : Bool) → has_type other.event invalidation ≡ b → not b ≡ true
 not_like invalidation one other fresh like true same =
     let one_word = same_text (keyword_of invalidation.event) (keyword_of other.event) same in
@@ -43,7 +43,7 @@ stays_unlike : (invalidation one other : Invalidation) → has_type one.event in
 stays_unlike invalidation one other fresh like = not_like invalidation one other fresh like (has_type other.event invalidation) refl
 
 -- ---- one more event
--- The events after the first event, if the appended event has the type of the first.
+-- An appended event of the type of `invalidation` is removed together with the other later events of that type.
 last_goes : (invalidation one : Invalidation) (firsts : List Invalidation) (there : Bool) → unlike invalidation one ≡ false → filter (unlike invalidation) (if there then firsts else firsts ++ one ∷ []) ≡ filter (unlike invalidation) firsts
 last_goes invalidation one firsts true like = refl
 last_goes invalidation one firsts false like = filter_more (unlike invalidation) firsts one ∙ ap (λ (b : Bool). if b then filter (unlike invalidation) firsts ++ one ∷ [] else filter (unlike invalidation) firsts) like

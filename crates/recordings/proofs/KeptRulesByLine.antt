@@ -1,4 +1,4 @@
--- No lines keep the rules; and lines keep the rules if the last line breaks none and the lines before it keep them.
+-- The empty list keeps the rules. A list keeps the rules if its last line breaks none and the lines before it keep them.
 use Rattle.std.proofs.Common.{◌≡◌, List, [], ◌∷◌, ◌++◌, None, refl, ap, sym, subst, ◌∙◌, append_assoc}
 use Rattle.std.proofs.lemmas.List.{same_from_push}
 use Rattle.recordings.specs.RecordingLine.{RecordedLine}

@@ -22,7 +22,7 @@ entry_after_line (Submits actor job class pool) one there = if job == one then S
 entry_after_line (Got actor job) one there = if job == one then entry_after_get actor there else there
 entry_after_line line one there = there
 
--- The foreign get in the line with this number, if the line is one, from the unclaimed jobs.
+-- The foreign get in the line with this number, if the line is a get of an unclaimed job by another actor than the submitter.
 abbrev pub foreign_get_by : UnclaimedJobs → ℕ → RecordedLine → Option ForeignGet
 foreign_get_by unclaimed number (Got actor job) = if is_foreign (submitter_in unclaimed job) actor then Some (record { line = number; actor = actor; job = job }) else None
 foreign_get_by unclaimed number line = None

@@ -14,7 +14,7 @@ use support::IdMap;
 /// The names of the pools that have a `pool` line.
 ///
 /// A name is looked up by a number that is cheap to compute. If several names have the same number,
-/// `firsts` has the first of them, and `others` has the rest.
+/// `firsts` has the name that was added first, and `others` has the other names.
 #[derive(Drop)]
 pub(crate) struct Pools {
     firsts: IdMap<String>,
@@ -62,7 +62,7 @@ impl Pools {
     }
 }
 
-// Look-ups in the set are rare, so keep them out of line.
+// Returns whether the set has this name. The function is not inlined, since it is rarely called.
 #[inline(never)]
 fn contains_other(others: &HashSet<String>, name: &str) -> bool
     ensures { result ≡ contains_text others.now name.now }

@@ -18,7 +18,7 @@ const DIFFERENT_WORK: &str = "
 #[test]
 fn each_actor_does_its_own_work(rt: HostRuntime) -> Result<(), Fail> {
     let alloc = rt.alloc();
-    // Two clients of three rounds and one of a single round submit 7 jobs.
+    // Two clients with three rounds each and one client with one round submit 7 jobs.
     let gate = Shares::new(alloc, 3, 7)?;
     let run = totals(&rt, alloc, DIFFERENT_WORK, 3, &gate);
     assert_eq!(rt; run, Ok((7, 62)));
