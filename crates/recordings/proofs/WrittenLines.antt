@@ -121,7 +121,7 @@ other_first : (word rest : List ℕ) → has_no 32 word ≡ true → bytes_eq (w
 unfolding line_of_words
 other_first word rest none other no_job no_round = by_first word rest none other ∙ rw (no_job, no_round) refl
 
--- the words after an actor do not have one of the forms without a job's number
+-- the words after an actor do not begin with `begin`, and are none of `start`, `end` and `threw`
 abbrev IsAct : List ℕ → List ℕ → Type 0
 IsAct word rest =
     (has_no 32 word ≡ true) × (bytes_eq (word ++ 32 ∷ rest) (codes "start") ≡ false) × (bytes_eq (word ++ 32 ∷ rest) (codes "end") ≡ false) × (bytes_eq (word ++ 32 ∷ rest) (codes "threw") ≡ false)
