@@ -105,6 +105,10 @@ with_tasks program =
 abbrev pub with_recording_commands : App → App
 with_recording_commands program = with_subcommand (with_subcommand program conform_shape) learn_shape
 
+-- the program without subcommands: it has a version
+abbrev pub program : App
+program = record (new_app (codes "sizing")) { top = record (new_app (codes "sizing")).top { has_version = true } }
+
 -- the program, with a subcommand for each command
 abbrev pub sizing : App
-sizing = with_recording_commands (with_tasks (with_review_commands (new_app (codes "sizing"))))
+sizing = with_recording_commands (with_tasks (with_review_commands program))

@@ -2,9 +2,10 @@
 ghost use Rattle.std.specs.Prelude.{◌≡◌, IfOk, IsOkAnd, false, codes};
 ghost use Rattle.clap.specs.Words.{app_of, new_app, rule_of, shape_of, with_subcommand};
 ghost use Rattle.clap.specs.declared.builder.command.Command.TheViews.{out-Command as fields_of};
-ghost use Rattle.command_line.specs.Application.{ask_shape, bundle_option, certificate_option, certify_shape, check_shape, conform_shape, dot_option, explain_shape, file_argument, fit_shape, json_option, learn_shape, number_option, of_both, of_plan, refute_shape, replay_shape, rounds_option, run_shape, sizing, states_option, strict_option, with_recording_commands, with_review_commands, with_tasks, workers_option};
+ghost use Rattle.command_line.specs.Application.{ask_shape, bundle_option, certificate_option, certify_shape, check_shape, conform_shape, dot_option, explain_shape, file_argument, fit_shape, json_option, learn_shape, number_option, of_both, of_plan, program, refute_shape, replay_shape, rounds_option, run_shape, sizing, states_option, strict_option, with_recording_commands, with_review_commands, with_tasks, workers_option};
 
-use crate::{ask_help, help, recording_help, search_help};
+use crate::help;
+use crate::help::Help;
 use clap::builder::ValueParser;
 use clap::{Arg, ArgAction, Command};
 use job_bodies::{MAX_ROUNDS, MAX_STATES, MAX_WORKERS};
@@ -63,53 +64,32 @@ fn with_subcommand<'a>(
     program.subcommand(made?)
 }
 
-// Creates the application without subcommands.
+// Creates the application without subcommands. `main` prints the version in place of `clap`'s empty one.
 fn program<'a>(alloc: Global) -> Command<'a>
-    ensures { app_of result ≡ new_app (codes "sizing") }
+    ensures { app_of result ≡ program }
 {
-    Command::new(alloc, "sizing")
-        .about(help::SIZING_ABOUT)
-        .override_usage(help::SIZING_USAGE)
-        .after_help(help::SIZING_NOTES)
+    with_help(Command::new(alloc, "sizing").version(""), help::SIZING)
 }
 
 fn replay<'a>(alloc: Global) -> Result<Command<'a>, AllocError>
     ensures shape { IfOk result (λ made. shape_of made ≡ replay_shape) }
     ensures local { IfOk result (λ made. (fields_of made).has_globals ≡ false) }
 {
-    of_both(
-        alloc,
-        "replay",
-        help::REPLAY_ABOUT,
-        help::REPLAY_USAGE,
-        help::REPLAY_NOTES,
-    )
+    of_both(alloc, "replay", help::REPLAY)
 }
 
 fn check<'a>(alloc: Global) -> Result<Command<'a>, AllocError>
     ensures shape { IfOk result (λ made. shape_of made ≡ check_shape) }
     ensures local { IfOk result (λ made. (fields_of made).has_globals ≡ false) }
 {
-    of_both(
-        alloc,
-        "check",
-        help::CHECK_ABOUT,
-        help::CHECK_USAGE,
-        help::CHECK_NOTES,
-    )
+    of_both(alloc, "check", help::CHECK)
 }
 
 fn explain<'a>(alloc: Global) -> Result<Command<'a>, AllocError>
     ensures shape { IfOk result (λ made. shape_of made ≡ explain_shape) }
     ensures local { IfOk result (λ made. (fields_of made).has_globals ≡ false) }
 {
-    of_both(
-        alloc,
-        "explain",
-        help::EXPLAIN_ABOUT,
-        help::EXPLAIN_USAGE,
-        help::EXPLAIN_NOTES,
-    )
+    of_both(alloc, "explain", help::EXPLAIN)
 }
 
 // Creates the argument for the file of the plan, or of all texts.
@@ -118,7 +98,7 @@ fn plan<'a>(alloc: Global) -> Arg<'a>
     ensures local { result.global ≡ false }
 {
     file(alloc, "PLAN").help(
-        "The file of the plan, or of all that standard input would give; `-` is standard input",
+        "The file of the plan, or of both texts; `-` is standard input",
     )
 }
 
@@ -127,7 +107,7 @@ fn second<'a>(alloc: Global) -> Arg<'a>
     ensures rule { rule_of result ≡ file_argument (codes "SECOND") }
     ensures local { result.global ≡ false }
 {
-    file(alloc, "SECOND").help("The file of what comes after the plan")
+    file(alloc, "SECOND").help("The file of the second text")
 }
 
 // Creates an argument that names a file.
@@ -142,13 +122,7 @@ fn certify<'a>(alloc: Global) -> Result<Command<'a>, AllocError>
     ensures shape { IfOk result (λ made. shape_of made ≡ certify_shape) }
     ensures local { IfOk result (λ made. (fields_of made).has_globals ≡ false) }
 {
-    of_plan(
-        alloc,
-        "certify",
-        search_help::CERTIFY_ABOUT,
-        search_help::CERTIFY_USAGE,
-        search_help::CERTIFY_NOTES,
-    )?
+    of_plan(alloc, "certify", help::CERTIFY)?
     .arg(workers(alloc))
 }
 
@@ -158,23 +132,17 @@ fn workers<'a>(alloc: Global) -> Arg<'a>
 {
     number(alloc, "workers", 1, MAX_WORKERS)
         .default_value("4")
-        .help("In how many threads to search and to check, 1 to 64")
+        .help("The number of threads that search, 1 to 64")
 }
 
 fn fit<'a>(alloc: Global) -> Result<Command<'a>, AllocError>
     ensures shape { IfOk result (λ made. shape_of made ≡ fit_shape) }
     ensures local { IfOk result (λ made. (fields_of made).has_globals ≡ false) }
 {
-    of_plan(
-        alloc,
-        "fit",
-        search_help::FIT_ABOUT,
-        search_help::FIT_USAGE,
-        search_help::FIT_NOTES,
-    )?
+    of_plan(alloc, "fit", help::FIT)?
     .arg(bundle(
         alloc,
-        "Write the plan with those sizes, and its certificate behind it",
+        "Write the plan with the new sizes, and its certificate",
     ))
 }
 
@@ -193,13 +161,7 @@ fn run<'a>(alloc: Global) -> Result<Command<'a>, AllocError>
     ensures shape { IfOk result (λ made. shape_of made ≡ run_shape) }
     ensures local { IfOk result (λ made. (fields_of made).has_globals ≡ false) }
 {
-    of_both(
-        alloc,
-        "run",
-        search_help::RUN_ABOUT,
-        search_help::RUN_USAGE,
-        search_help::RUN_NOTES,
-    )?
+    of_both(alloc, "run", help::RUN)?
     .arg(rounds(alloc))
 }
 
@@ -208,7 +170,7 @@ fn rounds<'a>(alloc: Global) -> Arg<'a>
     ensures local { result.global ≡ false }
 {
     number(alloc, "rounds", 1, MAX_ROUNDS)
-        .help("How often each repeating client goes through its body, 1 to 1000000")
+        .help("The number of times that each repeating client goes through its body, 1 to 1000000")
         .required(true)
 }
 
@@ -216,17 +178,11 @@ fn refute<'a>(alloc: Global) -> Result<Command<'a>, AllocError>
     ensures shape { IfOk result (λ made. shape_of made ≡ refute_shape) }
     ensures local { IfOk result (λ made. (fields_of made).has_globals ≡ false) }
 {
-    of_plan(
-        alloc,
-        "refute",
-        search_help::REFUTE_ABOUT,
-        search_help::REFUTE_USAGE,
-        search_help::REFUTE_NOTES,
-    )?
+    of_plan(alloc, "refute", help::REFUTE)?
     .arg(states(alloc))?
     .arg(bundle(
         alloc,
-        "Write the plan with the events behind it, for `sizing replay`",
+        "Write the plan and the events of the witness, for `sizing replay`",
     ))
 }
 
@@ -236,20 +192,14 @@ fn states<'a>(alloc: Global) -> Arg<'a>
 {
     number(alloc, "states", 1, MAX_STATES)
         .default_value("100000")
-        .help("How many states may be searched, 1 to 10000000")
+        .help("The maximum number of states to search, 1 to 10000000")
 }
 
 fn ask<'a>(alloc: Global) -> Result<Command<'a>, AllocError>
     ensures shape { IfOk result (λ made. shape_of made ≡ ask_shape) }
     ensures local { IfOk result (λ made. (fields_of made).has_globals ≡ false) }
 {
-    of_both(
-        alloc,
-        "ask",
-        ask_help::ASK_ABOUT,
-        ask_help::ASK_USAGE,
-        ask_help::ASK_NOTES,
-    )?
+    of_both(alloc, "ask", help::ASK)?
     .arg(strict(alloc))?
     .arg(json(alloc))?
     .arg(dot(alloc))?
@@ -260,26 +210,14 @@ fn conform<'a>(alloc: Global) -> Result<Command<'a>, AllocError>
     ensures shape { IfOk result (λ made. shape_of made ≡ conform_shape) }
     ensures local { IfOk result (λ made. (fields_of made).has_globals ≡ false) }
 {
-    of_both(
-        alloc,
-        "conform",
-        recording_help::CONFORM_ABOUT,
-        recording_help::CONFORM_USAGE,
-        recording_help::CONFORM_NOTES,
-    )
+    of_both(alloc, "conform", help::CONFORM)
 }
 
 fn learn<'a>(alloc: Global) -> Result<Command<'a>, AllocError>
     ensures shape { IfOk result (λ made. shape_of made ≡ learn_shape) }
     ensures local { IfOk result (λ made. (fields_of made).has_globals ≡ false) }
 {
-    subcommand(
-        alloc,
-        "learn",
-        recording_help::LEARN_ABOUT,
-        recording_help::LEARN_USAGE,
-        recording_help::LEARN_NOTES,
-    )
+    subcommand(alloc, "learn", help::LEARN)
     .arg(recording(alloc))
 }
 
@@ -302,7 +240,7 @@ fn strict<'a>(alloc: Global) -> Arg<'a>
     Arg::new(alloc, "strict")
         .long("strict")
         .action(ArgAction::SetTrue)
-        .help("SAFE with a warning is a no: status 1")
+        .help("Exit with status 1 if there is a warning")
 }
 
 // Creates the option for JSON output.
@@ -313,7 +251,7 @@ fn json<'a>(alloc: Global) -> Arg<'a>
     Arg::new(alloc, "json")
         .long("json")
         .action(ArgAction::SetTrue)
-        .help("Write the whole answer as one object of JSON")
+        .help("Write the answer as a JSON object")
 }
 
 fn dot<'a>(alloc: Global) -> Arg<'a>
@@ -323,7 +261,7 @@ fn dot<'a>(alloc: Global) -> Arg<'a>
     Arg::new(alloc, "dot")
         .long("dot")
         .action(ArgAction::SetTrue)
-        .help("Write a picture of the plan, for Graphviz")
+        .help("Write the plan as a picture for Graphviz")
 }
 
 // Creates the option that names the file for a certificate.
@@ -335,7 +273,7 @@ fn certificate<'a>(alloc: Global) -> Arg<'a>
         .long("certificate")
         .value_name("FILE")
         .action(ArgAction::Set)
-        .help("Write the certificate that was found into this file, to be given next time")
+        .help("Write the certificate that was found to this file, for the next run")
 }
 
 // Creates the option `--ID N`, for a whole number in this range.
@@ -351,46 +289,40 @@ fn number<'a>(alloc: Global, id: &'a str, low: u64, high: u64) -> Arg<'a>
 }
 
 // Creates a subcommand that reads a plan and a second text, with its help and without options.
-fn of_both<'a>(
-    alloc: Global,
-    name: &'a str,
-    about: &'a str,
-    usage: &'a str,
-    notes: &'a str,
-) -> Result<Command<'a>, AllocError>
+fn of_both<'a>(alloc: Global, name: &'a str, help: Help) -> Result<Command<'a>, AllocError>
     ensures shape { IfOk result (λ made. shape_of made ≡ (of_both name.entry.now).top) }
     ensures local { IfOk result (λ made. (fields_of made).has_globals ≡ false) }
 {
-    of_plan(alloc, name, about, usage, notes)?.arg(second(alloc))
+    of_plan(alloc, name, help)?.arg(second(alloc))
 }
 
 // Creates a subcommand that reads a plan.
-fn of_plan<'a>(
-    alloc: Global,
-    name: &'a str,
-    about: &'a str,
-    usage: &'a str,
-    notes: &'a str,
-) -> Result<Command<'a>, AllocError>
+fn of_plan<'a>(alloc: Global, name: &'a str, help: Help) -> Result<Command<'a>, AllocError>
     ensures shape { IfOk result (λ made. shape_of made ≡ (of_plan name.entry.now).top) }
     ensures local { IfOk result (λ made. (fields_of made).has_globals ≡ false) }
 {
-    subcommand(alloc, name, about, usage, notes).arg(plan(alloc))
+    subcommand(alloc, name, help).arg(plan(alloc))
 }
 
 // Creates a subcommand without arguments.
-fn subcommand<'a>(
-    alloc: Global,
-    name: &'a str,
-    about: &'a str,
-    usage: &'a str,
-    notes: &'a str,
-) -> Command<'a>
+fn subcommand<'a>(alloc: Global, name: &'a str, help: Help) -> Command<'a>
     ensures shape { shape_of result ≡ (new_app name.entry.now).top }
     ensures local { (fields_of result).has_globals ≡ false }
 {
-    Command::new(alloc, name)
-        .about(about)
-        .override_usage(usage)
-        .after_help(notes)
+    with_help(
+        Command::new(alloc, name).display_order(help.position),
+        help,
+    )
+}
+
+// Sets the texts of the help.
+fn with_help<'a>(command: Command<'a>, help: Help) -> Command<'a>
+    ensures app { app_of result ≡ app_of command.entry }
+    ensures shape { shape_of result ≡ shape_of command.entry }
+    ensures local { (fields_of result).has_globals ≡ (fields_of command.entry).has_globals }
+{
+    command
+        .about(help.about)
+        .override_usage(help.usage)
+        .after_help(help.notes)
 }

@@ -164,7 +164,7 @@ pub fn read_words<'a>(alloc: Global, words: &'a [&'a str]) -> Result<Option<Cli<
     if is_out_of_range(&matches) {
         return Err(sizing.error(
             ErrorKind::ValueValidation,
-            "a number is out of its range, or `--json` stands beside `--dot`",
+            "the arguments '--json' and '--dot' cannot be used together",
         )?);
     }
     Ok(parsed_args(&matches))

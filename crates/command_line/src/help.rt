@@ -1,145 +1,239 @@
-//! The help texts of the program and of the reviews. Each shows an example that can be pasted into
-//! a shell.
+//! The help texts of the program and its commands.
 
-/// The short description of the program.
-pub(crate) const SIZING_ABOUT: &str = "\
-Answers, before a service starts, whether a submit to its thread pools can ever be refused, and
-whether jobs that wait for jobs can starve.";
+/// The help of a command, without the lists of its arguments.
+#[derive(Clone, Copy)]
+pub(crate) struct Help {
+    /// The position of the command in the list of commands.
+    pub(crate) position: usize,
+    /// A line that says what the command does.
+    pub(crate) about: &'static str,
+    /// The usage lines.
+    pub(crate) usage: &'static str,
+    /// The input, the answer and the exit statuses.
+    pub(crate) notes: &'static str,
+}
 
-/// The usage line of the program.
-pub(crate) const SIZING_USAGE: &str = "sizing <COMMAND>";
+pub(crate) const SIZING: Help = Help {
+    position: 0,
+    about: "\
+Find out before a service starts whether its thread pools can reject a task, and whether jobs that
+wait for other jobs can deadlock.",
+    usage: "sizing <COMMAND>",
+    notes: "\
+Begin with `sizing ask PLAN`; `sizing ask --help` has an example to paste into a shell.
 
-/// The program's input, where to begin, and the exit statuses.
-pub(crate) const SIZING_NOTES: &str = "\
-sizing reads files, or standard input where none is named and where the name is `-`. For `ask`,
-`certify`, `fit` and `refute` it reads a plan, and for `learn` a recording of what a service did. For
-the others it reads a plan and a second text:
-  for `replay`                      one event a line
-  for `check`, `explain` and `run`  a certificate
-  for `conform`                     a recording
-A file may hold both, with a line between them that is exactly `%%`, and standard input has them so.
-`ask` takes a kept certificate too, as a file of its own. Answers go to standard output. To begin,
-paste the example of `sizing ask --help` into a shell.
+`ask`, `certify`, `fit` and `refute` read a plan, and `learn` reads a recording. The other commands
+read a plan and a second text: `replay` events, `check`, `explain` and `run` a certificate, `conform`
+a recording. A text is read from standard input if its file is `-` or not named. A single file, or
+standard input, can hold both texts, separated by a line that is exactly `%%`.
 
 Exit status:
   0  yes, or done
-  1  no: a condition fails, a job is refused or stuck, an event is not possible, no certificate or no
-     sizes were found, sizes change, a witness was found, or a service is not as planned
-  2  bad text in the input, a run that is too large, or bad arguments
-  3  memory ran out, or reading, writing or running failed
-  4  not decided, of `ask`, `conform` and `refute` (with --bundle that is 1)";
+  1  no: the plan is not safe, sizes change, a service differs from its plan, or nothing was found
+  2  invalid input, invalid arguments, or a run that is too large
+  3  out of memory, or an error while reading, writing or starting threads
+  4  not decided (`ask`, `conform` and `refute`)",
+};
 
-/// The short description of `replay`.
-pub(crate) const REPLAY_ABOUT: &str = "Replays events on a plan, and says what came of each";
-
-/// The usage lines of `replay`.
-pub(crate) const REPLAY_USAGE: &str = "\
+pub(crate) const REPLAY: Help = Help {
+    position: 9,
+    about: "Replay events on a plan, and print the outcome of each",
+    usage: "\
 sizing replay PLAN EVENTS
-       sizing replay < INPUT";
-
-/// The input and the answer of `replay`, with an example.
-pub(crate) const REPLAY_NOTES: &str = "\
-INPUT is a plan in TOML, a line that is exactly `%%`, and one event a line:
+       sizing replay < INPUT",
+    notes: "\
+The second text has one event per line:
   client N     client N does its next action
   job N        job N does its next action
   take POOL    an idle worker of the pool takes the job at the head of its queue
   retire POOL  an idle worker above the pool's core ends
-  stuck N ..   asks whether the jobs of these numbers wait for each other alone
-Clients are numbered from 0 in the plan's order, each kind of client `count` times. Jobs are
-numbered from 0 in the order in which they were made.
+  stuck N ..   asks whether these jobs wait only for each other
+Clients are numbered from 0 in the order of the plan: each [[client]] has `count` of them. Jobs are
+numbered from 0 in the order in which they are submitted.
 
-The answer has a line for each event, up to the first one that is not possible, and then the
-numbers of refusals and of unfinished jobs.
+The answer has a line for each event, up to the first that is not possible, and then the number of
+refused submits and of unfinished jobs.
 
 Exit status:
-  0  each event was possible, no job was refused, and no jobs were stuck
-  1  a job was refused, an event was not possible, or jobs were stuck
-  2  bad text in INPUT, or bad arguments
-  3  memory ran out, or reading or writing failed
+  0  each event is possible, no submit is refused, and no jobs are stuck
+  1  otherwise
+  2 or 3 after an error (see `sizing --help`)",
+};
 
-Example, to be pasted into a shell. The last event is refused: the pool may have one thread, its
-queue is full, and its worker is idle but has not taken job 1 from the queue.
-
-sizing replay <<'END'
-[[pool]]
-name = \"pages\"
-core = 1
-max = 1
-queue = 1
-
-[[class]]
-name = \"render\"
-pool = \"pages\"
-body = [\"work 1\"]
-
-[[client]]
-name = \"browser\"
-count = 2
-repeat = true
-body = [\"submit render as page\", \"get page\"]
-%%
-client 0
-job 0
-job 0
-client 0
-client 0
-client 0
-client 1
-END
-
-It answers, with status 1:
-
-1: started job 0
-2: worked 1
-3: finished job 0
-4: got job 0
-5: looped
-6: queued job 1
-7: refused by pages
-refusals 1, unfinished 1";
-
-/// The short description of `check`.
-pub(crate) const CHECK_ABOUT: &str =
-    "Says whether a certificate shows that no submit is ever refused and no jobs starve";
-
-/// The usage lines of `check`.
-pub(crate) const CHECK_USAGE: &str = "\
+pub(crate) const CHECK: Help = Help {
+    position: 6,
+    about: "Check whether a certificate proves that a plan is safe",
+    usage: "\
 sizing check PLAN CERTIFICATE
-       sizing check < INPUT";
-
-/// The input and the answer of `check`, with an example.
-pub(crate) const CHECK_NOTES: &str = "\
-INPUT is a plan in TOML, a line that is exactly `%%`, and a certificate in JSON:
-  pools  for each pool two vectors: `standing` bounds the jobs in its queue (in version 2 `lifetime`
-         may stand in its place, and bounds the jobs that are ever made for it), and `blocked`
-         bounds its jobs that wait; a wait for a job whose reach is below the pool's rank does not
-         count
-  ranks  `pools` has a rank for each pool, `reach` and `levels` a number for each class
-A vector has the weights of
-  workers  one worker of each pool
-  classes  one job of each class: in a queue, before each of its actions, behind the last, and done
-  clients  one client of each kind: before each of its actions, and behind the last
-
-The answer is `yes` or `no`, and then a line for each pool, as
+       sizing check < INPUT",
+    notes: "\
+The answer is `yes` or `no`, and then a line for each pool:
   pool NAME: standing T of Q, blocked T of B
-or with `lifetime` in the place of `standing`. T is what the vector comes to. Beside it stands what
-the pool has: Q is the capacity of its queue, or for a lifetime vector queue + max, less the core
-threads of a prestarted pool; B is core - 1.
+`standing T of Q`: at most T jobs are in the queue at once, and its capacity is Q. A certificate can
+have `lifetime T of Q` instead: at most T jobs are ever submitted, and Q of them fit into queue and
+threads. `blocked T of B`: at most T of the pool's threads wait for jobs that need this pool, and B,
+core - 1, may.
 
-A yes means: in every state that any order of events reaches, no submit was refused, each pool keeps
-its maximum and its queue's capacity, and no jobs wait only for each other. A no means that this
-certificate does not show it, and `sizing explain` says where.
+`yes` means that in every state that any order of events reaches, no submit was refused, each pool
+respects its maximum and its queue's capacity, and no jobs wait only for each other. `no` means that
+this certificate does not prove it; `sizing explain` lists the conditions that fail.
 
 Exit status:
   0  yes
   1  no
-  2  bad text in INPUT, or bad arguments
-  3  memory ran out, or reading or writing failed
+  2 or 3 after an error (see `sizing --help`)
 
-Example, to be pasted into a shell: a pool of one thread with a queue of 2, and two clients. Each
-client has at most one job, so the queue has room for all of them.
+Example: sizing certify shop.toml | sizing check",
+};
 
-sizing check <<'END'
+pub(crate) const EXPLAIN: Help = Help {
+    position: 7,
+    about: "List the conditions of a certificate that fail",
+    usage: "\
+sizing explain PLAN CERTIFICATE
+       sizing explain < INPUT",
+    notes: "\
+The answer has a line for each condition that fails: its place, its rule, and its two sides, of which
+the first must be at most the second. The last line is `failing N` with the number of these lines.
+
+Exit status:
+  0  no condition fails, so `sizing check` answers yes
+  1  otherwise
+  2 or 3 after an error (see `sizing --help`)",
+};
+
+pub(crate) const CERTIFY: Help = Help {
+    position: 5,
+    about: "Search for a certificate that a plan is safe",
+    usage: "\
+sizing certify [--workers N] PLAN
+       sizing certify [--workers N] < PLAN",
+    notes: "\
+The answer is the plan, a line `%%` and a certificate in JSON, to which `sizing check` answers yes.
+Otherwise it is one of these lines:
+  no certificate found           none was found; the plan may still be safe
+  no certificate: text too long  one was found, and its text would be longer than `check` reads
+
+Exit status:
+  0  a certificate was found
+  1  none was found, or its text is too long
+  2 or 3 after an error (see `sizing --help`)
+
+Example: sizing certify shop.toml | sizing check",
+};
+
+pub(crate) const FIT: Help = Help {
+    position: 4,
+    about: "Find sizes for which a plan has a certificate",
+    usage: "\
+sizing fit [--bundle] PLAN
+       sizing fit [--bundle] < PLAN",
+    notes: "\
+The answer has a line for each pool:
+  pool NAME: core C, max M, queue Q
+with `(now X)` after each number that changes, where X is the number in the plan. The last line is
+`changes N`, the number of changes. With --bundle the answer is the plan with the new sizes, a line
+`%%`, and a certificate, to which `sizing check` answers yes.
+
+No size decreases. For the certificate that was found, no smaller core, maximum or queue will do;
+another certificate may need less.
+
+Otherwise the answer is `no fitting sizes found`, and the reason:
+  class NAME submits itself
+  client NAME action I: submits for ever, never got
+  class NAME action I: submits for ever, never got
+  pool NAME: sizes above 1000000
+With the first three, no sizes have a certificate. With the fourth the search reached the limit for a
+size or a weight; other sizes may do. Actions are numbered from 0. With --bundle the answer can also
+be `no bundle: text too long`.
+
+Exit status:
+  0  no size changes, or a bundle was written
+  1  sizes change, none were found, or the bundle is too long
+  2 or 3 after an error (see `sizing --help`)",
+};
+
+pub(crate) const RUN: Help = Help {
+    position: 10,
+    about: "Run a certified plan on threads, and count its jobs and their units of work",
+    usage: "\
+sizing run --rounds N PLAN CERTIFICATE
+       sizing run --rounds N < INPUT",
+    notes: "\
+If `sizing check` answers yes, a thread is started for each client, and for each pool as many threads
+as its maximum. Each client that repeats goes through its body N times, the others once, until all
+jobs are done. No submit is refused, however the threads are scheduled. A unit of work is counted
+and takes no time. A run has at most 64 clients, 64 threads of pools, and 1000000 events: for each
+job one per action and 2 more, for each client one per action and one between two rounds.
+
+The answer is one of these lines:
+  jobs N, units N, refused 0   the number of jobs, and the work of clients and jobs
+  no                           `sizing check` answers no
+  fault 40 RunTooLarge         the run would exceed these limits, and was not started
+
+Exit status:
+  0  the plan was run
+  1  no
+  2 or 3 after an error (see `sizing --help`)",
+};
+
+pub(crate) const REFUTE: Help = Help {
+    position: 8,
+    about: "Search for events that lead to a refused submit or to a deadlock",
+    usage: "\
+sizing refute [--states N] [--bundle] PLAN
+       sizing refute [--states N] [--bundle] < PLAN",
+    notes: "\
+If a certificate is found, the answer is
+  safe: a certificate was found
+Otherwise the answer is a witness, if one is found. Its first line says how it ends:
+  refused by POOL, after N events of M clients
+  stuck forever: J jobs wait only for each other, after N events of M clients
+  stuck now: J jobs wait only for each other, after N events of M clients
+Then come the steps, where equal steps of several clients are one line, the state of each pool, and
+which job waits for which. A plan with a witness has no certificate. If none is found, the answer is
+  not decided: S states were searched
+With --bundle the answer is the plan, a line `%%`, and the events of the witness for `sizing replay`.
+
+Exit status:
+  0  a certificate was found, so the plan is safe; with --bundle, a witness was written
+  1  a witness was found; with --bundle, none was
+  4  not decided; with --bundle that is 1
+  2 or 3 after an error (see `sizing --help`)",
+};
+
+pub(crate) const ASK: Help = Help {
+    position: 1,
+    about: "Decide whether a plan is safe, and print the reason or the sizes to change",
+    usage: "\
+sizing ask [--strict] [--json | --dot] [--certificate FILE] PLAN [CERTIFICATE]
+       sizing ask [--strict] [--json | --dot] [--certificate FILE] < PLAN",
+    notes: "\
+CERTIFICATE is one of an earlier run: if it still holds, nothing is searched.
+
+If the plan is invalid, the answer lists up to about 100 faults:
+  shop.toml:17:40: class page, action 2 \"get row\": nothing was submitted as row; did you mean rows?
+Otherwise it lists the warnings, and then says
+  SAFE         no submit is ever refused, and no jobs wait only for each other; how many jobs can
+               wait in the queue of each pool, and who submits them
+  NOT SAFE     steps that end in a refused submit or in jobs that wait only for each other, and
+               sizes that prevent it, or why there are none
+  NOT DECIDED  neither was found; sizes that are certainly safe
+
+With --json the answer is one JSON object on one line (docs/GUIDE.md lists its keys). With --dot it
+is a picture of the plan for `dot -Tsvg`.
+
+Exit status:
+  0  SAFE (with --strict: and no warning)
+  1  NOT SAFE, or with --strict SAFE with a warning
+  4  NOT DECIDED
+  2 or 3 after an error (see `sizing --help`)
+
+In a build: sizing ask --strict shop.toml
+
+Example, to paste into a shell:
+
+sizing ask <<'END'
 [[pool]]
 name = \"pages\"
 core = 1
@@ -156,71 +250,66 @@ name = \"browser\"
 count = 2
 repeat = true
 body = [\"submit render as page\", \"get page\"]
-%%
-{\"version\":1,
- \"pools\":[{\"standing\":{\"workers\":[0],\"classes\":[[1,1,1,1]],\"clients\":[[1,0,1]]},
-           \"blocked\":{\"workers\":[0],\"classes\":[[0,0,0,0]],\"clients\":[[0,0,0]]}}],
- \"ranks\":{\"pools\":[0],\"reach\":[0],\"levels\":[0]}}
 END
 
 It answers, with status 0:
 
-yes
-pool pages: standing 2 of 2, blocked 0 of 0";
+SAFE
+pages: 1 thread, queue 2: up to 2 jobs wait at once (2 browser)
+  pages waits for nobody
+no submit is ever refused, and no jobs wait for each other forever",
+};
 
-/// The short description of `explain`.
-pub(crate) const EXPLAIN_ABOUT: &str =
-    "Lists the conditions of a certificate that fail, each with both its sides";
+pub(crate) const CONFORM: Help = Help {
+    position: 3,
+    about: "Compare a recording of a service with its plan",
+    usage: "\
+sizing conform PLAN RECORDING
+       sizing conform < INPUT",
+    notes: "\
+RECORDING has a line for each event of the service's pools, as the recorder in `java/` writes it
+(docs/RECORDING.md).
 
-/// The usage lines of `explain`.
-pub(crate) const EXPLAIN_USAGE: &str = "\
-sizing explain PLAN CERTIFICATE
-       sizing explain < INPUT";
-
-/// The input and the answer of `explain`, with an example.
-pub(crate) const EXPLAIN_NOTES: &str = "\
-INPUT is what `sizing check` reads: a plan in TOML, a line that is exactly `%%`, and a certificate
-in JSON.
-
-The answer has a line for each condition of the certificate that fails: its place, its rule, and its
-two sides, of which the first should be at most the second. The last line is `failing N`, where N is
-their number.
+The answer is `conforms` if each pool has the sizes of the plan, each job and each round of a client
+follows its body (it can skip a submit together with its get), and at no time more rounds of a kind
+are open than its `count`. This says nothing of other runs of the service. Otherwise the answer lists
+the first difference of each class and kind:
+  line 812: job 44 of class order submitted price; its body has no such submit behind get stock
+  line 903: kind tomcat: 31 at once, count is 30
+  line 3: pool db: max 20, plan 10
+and the first line of each kind that invalidates the answer of `ask` for this service:
+  line 40: a yes is void from here on: job 3 was refused
 
 Exit status:
-  0  N is 0, so `sizing check` answers yes
-  1  N is not 0
-  2  bad text in INPUT, or bad arguments
-  3  memory ran out, or reading or writing failed
+  0  the recording conforms
+  1  it does not, or a line invalidates the answer of `ask`
+  4  not decided: a body has too many ways to match a recorded path
+  2 or 3 after an error (see `sizing --help`)",
+};
 
-Example, to be pasted into a shell. It is that of `sizing check --help` with a queue of 1: both
-clients can submit while the pool's worker is idle and has taken neither job, and the queue has room
-for one.
+pub(crate) const LEARN: Help = Help {
+    position: 2,
+    about: "Derive a plan from a recording of a service",
+    usage: "\
+sizing learn RECORDING
+       sizing learn < RECORDING",
+    notes: "\
+RECORDING has a line for each event of the service's pools, as the recorder in `java/` writes it
+(docs/RECORDING.md).
 
-sizing explain <<'END'
-[[pool]]
-name = \"pages\"
-core = 1
-max = 1
-queue = 1
+The answer is a plan in TOML: the pools with their recorded sizes, a class for each label of jobs,
+and a kind of client for each label of rounds. Each body covers all recorded paths of its label; if
+no single body does, there are several classes NAME, NAME_2 and so on. `count` is the largest number
+of rounds that were open at once, and a kind repeats if more rounds began in all. Comments at the top
+list what the plan leaves out, and what invalidates the answer of `ask` for this service.
 
-[[class]]
-name = \"render\"
-pool = \"pages\"
-body = [\"work 1\"]
+A path that was not taken, and a pool or class that was not used, is not in the plan. Review the plan
+before you rely on it.
 
-[[client]]
-name = \"browser\"
-count = 2
-repeat = true
-body = [\"submit render as page\", \"get page\"]
-%%
-{\"version\":1,
- \"pools\":[{\"standing\":{\"workers\":[0],\"classes\":[[1,1,1,1]],\"clients\":[[1,0,1]]},
-           \"blocked\":{\"workers\":[0],\"classes\":[[0,0,0,0]],\"clients\":[[0,0,0]]}}],
- \"ranks\":{\"pools\":[0],\"reach\":[0],\"levels\":[0]}}
-END
+Exit status:
+  0  a plan was written
+  1  none was found, and why
+  2 or 3 after an error (see `sizing --help`)
 
-It answers, with status 1:
-
-pool pages standing, total: S2 2 above 1
-failing 1";
+Example: sizing learn shop.recording | sizing ask",
+};

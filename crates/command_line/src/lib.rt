@@ -5,13 +5,10 @@
 #![tactic(auto)]
 
 mod application;
-mod ask_help;
 mod command;
 mod flag;
 mod help;
 mod number;
-mod recording_help;
-mod search_help;
 
 pub use command::{
     AskInput, AskOptions, Cli, Command, Form, RecordingCommand, RefuteFormat, ReviewCommand,
