@@ -151,7 +151,7 @@ def contents(cases, repository, release):
     cases.equal("VERSION", (release / "VERSION").read_text(), facts)
     text = (release / "PROVED").read_text()
     proved = dict(line.split(": ", 1) for line in text.splitlines() if not line.startswith("#"))
-    cases.equal("the facts of PROVED", list(proved), ["commit", "command", "result", "crates", "functions", "kit", "definitions", "sources", "program"])
+    cases.equal("the facts of PROVED", list(proved), ["commit", "command", "result", "version", "crates", "functions", "kit", "definitions", "sources", "program"])
     cases.equal("the gate's last line in PROVED", (proved["commit"], proved["result"]), (head, "3 passed, 0 failed"))
     for name, command in re.findall(r"(?m)^# (\w+): +LIST (.*)$", text):
         printed = must(["sh", "-c", f"python3 -B tools/crates.py sizing {command}"], repository)

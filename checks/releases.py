@@ -15,6 +15,7 @@ STUB = """
 #include <stdio.h>
 #include <string.h>
 int main(int count, char **words) {
+    if (count > 1 && !strcmp(words[1], "--version")) return puts("sizing 0.0.0") < 0;
     int asks = count > 1 && !strcmp(words[1], "ask");
     if (count > 1 && !strcmp(words[count - 1], "--help")) {
         fputs(asks ? "Answers whether a plan is safe\\n\\nUsage: sizing ask [OPTIONS] [PLAN] [CERTIFICATE]\\n\\n"

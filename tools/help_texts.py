@@ -38,6 +38,11 @@ def help_of(program, *words):
     return ran.stderr.rstrip("\n")
 
 
+def version_of(program):
+    """Returns the first line that `--version` prints, such as `sizing 0.9.0 (23e7679e8a41)`."""
+    return subprocess.run([program, "--version"], capture_output=True, text=True, check=False).stdout.split("\n")[0]
+
+
 def about_of(text):
     """Returns the description at the head of a help text, on one line."""
     return " ".join(text.split("\n\n")[0].split())

@@ -5,6 +5,7 @@ Each checksum of several files is that of the lines `CHECKSUM  PATH` in the orde
 prints it."""
 import hashlib
 import os
+import re
 import subprocess
 
 from crates import ROOT, below, folder_of, lines_of_crates, with_bench_program
@@ -12,6 +13,8 @@ from sources import functions_of
 
 # The folders of a crate that are not part of the proof of its program.
 LEFT_OUT = {"out", "mutants", "must-fail"}
+# The file of the version and the commit, which differs in the copy that is proved. It is in no checksum.
+VERSION_FILE = "crates/sizing/src/version.rt"
 
 
 def record_of(crate):
@@ -25,6 +28,7 @@ def write_record(crate, command, result, root=ROOT):
     facts = {
         "command": command,
         "result": result,
+        "version": version_in(root),
         "crates": len(names),
         "functions": sum(len(functions_of(read(root, path))) for path in sources(root, names) if path.endswith(".rt")),
         "kit": subprocess.run(["rt", "version"], capture_output=True, text=True, check=True).stdout.strip(),
@@ -57,6 +61,20 @@ def faults_of(crate, facts, command):
         yield f"the program is not that of its record: run `{command}`"
     if facts["sources"] != sum_of(ROOT, sources(ROOT, crates_of(crate))):
         yield f"the sources have changed since the program was built: run `{command}`"
+    if facts["version"] != version_of_program():
+        yield f"the program was built as {facts['version']}, and this is {version_of_program()}: run `{command}`"
+
+
+def version_in(root):
+    """Returns the version that the program prints which is built from the sources at `root`, or from a copy of this tree."""
+    with open(f"{root}/{VERSION_FILE}", encoding="utf-8") as file:
+        written = re.search('"(.*)";', file.read())[1]
+    return version_of_program() if root == ROOT else written
+
+
+def version_of_program():
+    """Returns the version that a program prints which is built from this tree now, with the commit."""
+    return subprocess.run(["tools/version", "--program"], cwd=ROOT, capture_output=True, text=True, check=True).stdout.strip()
 
 
 def crates_of(crate):
@@ -71,7 +89,7 @@ def sources(root, names):
         for folder, folders, files in os.walk(f"{root}/crates/{name}"):
             folders[:] = set(folders) - LEFT_OUT
             found += (os.path.relpath(f"{folder}/{file}", root) for file in files)
-    return sorted(found)
+    return sorted(set(found) - {VERSION_FILE})
 
 
 def read(root, path):

@@ -1,12 +1,14 @@
 """Proofs of a copy: some crates with those below them, in a folder of their own, where `rt ci` proves each from nothing."""
 import contextlib
 import os
+import re
 import shutil
 import subprocess
 import sys
 import tempfile
 
 from crates import below, copy_crates, folder_of, lines_of_crates, with_bench_program
+from proved import VERSION_FILE, version_of_program
 
 TOOLS = os.path.dirname(os.path.abspath(__file__))
 # The suffixes of a program's name, as LLVM builds it and as Rattle's own compiler does.
@@ -20,7 +22,18 @@ def copied(crate, left_out):
     names = below(lines, [crate])
     with tempfile.TemporaryDirectory(prefix="sizing-proof-") as room:
         copy_crates(lines, names, room, left_out)
+        write_version(room)
         yield room, len(names)
+
+
+def write_version(room):
+    """Writes the version and the commit into the sources of the program in a copy, if they are there."""
+    path = f"{room}/{VERSION_FILE}"
+    if os.path.isfile(path):
+        with open(path, encoding="utf-8") as file:
+            text = re.sub('"[^"]*";', f'"{version_of_program()}";', file.read())
+        with open(path, "w", encoding="utf-8") as file:
+            file.write(text)
 
 
 def gate(room, times):

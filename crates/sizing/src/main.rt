@@ -1,6 +1,9 @@
 //! `sizing`: finds out whether the thread pools of a plan can refuse a task or starve.
 #![tactic(auto)]
 
+mod version;
+
+use crate::version::VERSION;
 use clap::error::ErrorKind;
 use sizing_cli::{CliError, ServeFault, StdFiles, StdSink, StdSource, serve_words};
 use std::alloc::AllocError;
@@ -28,7 +31,24 @@ fn main(rt: HostRuntime) -> ExitCode {
     let files = StdFiles::new(&rt);
     match serve_words(&rt, rt.alloc(), &parts, &files, &mut source, &mut sink) {
         Ok(status) => ExitCode::from(status.code()),
+        Err(fault) if asks_for_version(&fault) => print_version(&rt),
         Err(fault) => ended(&rt, &fault),
+    }
+}
+
+/// Returns whether the arguments ask for the version.
+fn asks_for_version(fault: &CliError<'_>) -> bool {
+    match fault {
+        CliError::Words(error) => error.kind() == ErrorKind::DisplayVersion,
+        _ => false,
+    }
+}
+
+/// Prints the version, and returns the exit status.
+fn print_version(rt: &(impl Print + Eprint)) -> ExitCode {
+    match println!(rt; "sizing {VERSION}") {
+        Ok(()) => ExitCode::SUCCESS,
+        Err(_) => ended(rt, &CliError::Serve(ServeFault { number: WRITE_FAILED })),
     }
 }
 

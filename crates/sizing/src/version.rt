@@ -1,0 +1,5 @@
+//! The version of the program.
+
+/// The version and the commit. `make gate` and `make program` write them here, in the copy of the
+/// sources that they prove.
+pub(crate) const VERSION: &str = "(development)";
