@@ -203,8 +203,8 @@ class Comparison:
 
 
 def void_text(word, what, jobs):
-    return {"refused": f"{what} was refused", "cancel": f"{what} was cancelled", "any": "invokeAny was called", "removed": f"{what} was taken out of its queue",
-            "threw": f"{what} ended its thread by an exception", "unseen": f"{jobs} jobs were run of which no line tells"}[word]
+    return {"refused": f"{what} was refused", "cancel": f"{what} was cancelled", "any": "invokeAny was called", "removed": f"{what} was removed from its queue",
+            "threw": f"{what} ended its thread with an exception", "unseen": f"{jobs} jobs were run that no line mentions"}[word]
 
 
 def described(actor):

@@ -50,7 +50,7 @@ WITNESS = {
     # the requests of seven clients, all of them queued while the one thread is idle
     "web-and-database": "refused by web",
     # three reports hold all of three threads, and no thread is left for their sections
-    "reports": "stuck for ever",
+    "reports": "stuck forever",
     # ten orders, none of them done
     "orders": "refused by front",
     # the three rows of the window, all of them queued while the one thread is idle

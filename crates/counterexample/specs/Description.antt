@@ -16,7 +16,7 @@ jobs_wait members = decimal (length members) ++ codes " jobs wait only for each 
 -- the text of the witness's ending
 abbrev pub ending_text : Plan → Ending → List ℕ
 ending_text plan (Refused p) = codes "refused by " ++ (pool_at plan p).name
-ending_text plan (StuckForever members reason) = codes "stuck for ever: " ++ jobs_wait members.items
+ending_text plan (StuckForever members reason) = codes "stuck forever: " ++ jobs_wait members.items
 ending_text plan (StuckNow members) = codes "stuck now: " ++ jobs_wait members.items
 
 -- the client that performs the event, as a list, which is empty if no client does
@@ -47,9 +47,9 @@ head plan witness clients = (ending_text plan witness.ending ++ codes ", after "
 -- the last line: the reason why jobs wait permanently, or what may end the wait; a refused submit has no such line
 abbrev pub why_text : Ending → List ℕ
 why_text (Refused p) = []
-why_text (StuckForever members PoolsAreFull) = codes "for ever: each pool in whose queue one waits has all its threads" ++ 10 ∷ []
-why_text (StuckForever members PoolsStayAtCore) = codes "for ever: each pool in whose queue one waits has all its threads, or never has more than core" ++ 10 ∷ []
-why_text (StuckNow members) = codes "until a pool in whose queue one waits starts a thread above core" ++ 10 ∷ []
+why_text (StuckForever members PoolsAreFull) = codes "forever: each pool in whose queue one of them waits has all its threads" ++ 10 ∷ []
+why_text (StuckForever members PoolsStayAtCore) = codes "forever: each pool in whose queue one of them waits has all its threads, or never starts one above core" ++ 10 ∷ []
+why_text (StuckNow members) = codes "until a pool in whose queue one of them waits starts a thread above core" ++ 10 ∷ []
 
 -- the text is the first line, a story that no clause specifies, and the last line
 pub record IsDescription (plan : Plan) (witness : Witness) (text : List ℕ) : Type 0 where

@@ -63,7 +63,7 @@ fn push_ending(text: &mut String, plan: &Plan, ending: &Ending) -> Result<(), Al
 {
     match ending {
         Ending::Refused(pool) => push_refused(text, plan.pool_name(*pool)),
-        Ending::StuckForever(members, _) => push_stuck(text, "stuck for ever: ", members),
+        Ending::StuckForever(members, _) => push_stuck(text, "stuck forever: ", members),
         Ending::StuckNow(members) => push_stuck(text, "stuck now: ", members),
     }
 }
@@ -89,13 +89,13 @@ fn push_why(text: &mut String, ending: &Ending) -> Result<(), AllocError>
     match ending {
         Ending::Refused(_) => Ok(()),
         Ending::StuckForever(_, Reason::PoolsAreFull) => {
-            text.push_str("for ever: each pool in whose queue one waits has all its threads\n")
+            text.push_str("forever: each pool in whose queue one of them waits has all its threads\n")
         }
         Ending::StuckForever(_, Reason::PoolsStayAtCore) => text.push_str(
-            "for ever: each pool in whose queue one waits has all its threads, or never has more than core\n",
+            "forever: each pool in whose queue one of them waits has all its threads, or never starts one above core\n",
         ),
         Ending::StuckNow(_) => {
-            text.push_str("until a pool in whose queue one waits starts a thread above core\n")
+            text.push_str("until a pool in whose queue one of them waits starts a thread above core\n")
         }
     }
 }

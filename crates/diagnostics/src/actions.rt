@@ -68,7 +68,7 @@ fn is_length(text: &str) -> bool {
 /// Returns what is wrong with a text that is not an action.
 pub(crate) fn action_error(alloc: Global, text: &str) -> Result<String, AllocError> {
     if is_spaced(text) {
-        let words = "one space stands between two words, and none before or behind them";
+        let words = "write one space between words, and none before the first or after the last";
         return String::from_str(alloc, words);
     }
     let Words { words, count } = words_of(text);
@@ -97,24 +97,24 @@ fn work_error(alloc: Global, units: &str, count: usize) -> Result<String, AllocE
     if count < 2 {
         return String::from_str(
             alloc,
-            "a work has a length: write work 5; which number changes no answer",
+            "work needs a number: write work 5; the number has no effect on the answer",
         );
     }
     format!(in alloc;
-        "a work is a whole number of units from 1 to {MAX_WORK}, as work 5, and not {units}"
+        "work takes a whole number from 1 to {MAX_WORK}, not {units}"
     )
 }
 
 fn get_error(alloc: Global, slot: &str, count: usize) -> Result<String, AllocError> {
     if count > 2 {
         return format!(in alloc;
-            "a get of a plan has no timeout: write get {slot} where the service cannot go on without the result, or see docs/PERMITS.md for a get that may give up"
+            "a get has no timeout: write get {slot} if the service needs the result, or see docs/PERMITS.md for a get that can give up"
         );
     }
     if count < 2 {
         return String::from_str(
             alloc,
-            "a get names what it gets: write get NAME, behind a submit CLASS as NAME",
+            "get needs a name: write get NAME after a submit CLASS as NAME",
         );
     }
     name_rule(alloc, slot)
@@ -130,11 +130,11 @@ fn submit_error(
     if count < 2 {
         return String::from_str(
             alloc,
-            "a submit names a class: write submit CLASS, or submit CLASS as NAME",
+            "submit needs a class: write submit CLASS, or submit CLASS as NAME",
         );
     }
     if class == "as" && count == 3 {
-        return format!(in alloc; "a submit names a class before as: write submit CLASS as {word}");
+        return format!(in alloc; "the class is missing before as: write submit CLASS as {word}");
     }
     if !is_valid_name(class) {
         return name_rule(alloc, class);
@@ -142,26 +142,26 @@ fn submit_error(
     if count == 4 && word == "as" {
         return name_rule(alloc, slot);
     }
-    format!(in alloc; "write submit {class}, or submit {class} as NAME where it is got")
+    format!(in alloc; "write submit {class}, or submit {class} as NAME if its result is needed")
 }
 
 fn verb_error(alloc: Global, verb: &str, first: &str) -> Result<String, AllocError> {
     match verb {
         "execute" | "invoke" | "start" | "schedule" => {
             format!(in alloc;
-                "write submit {first}, and submit {first} as NAME where its result is got"
+                "write submit {first}, or submit {first} as NAME if its result is needed"
             )
         }
         "wait" | "join" | "await" => {
             format!(in alloc;
-                "write get {first}, where {first} was submitted before, or work 1 where it waits for nothing of the plan"
+                "write get {first} if {first} was submitted before, or work 1 if it waits for something outside the plan"
             )
         }
         "sleep" | "run" | "compute" => String::from_str(alloc, "write work 5"),
         _ => {
             let forms = ": an action is work N, submit CLASS, submit CLASS as NAME, or get NAME";
             let right = suggestion(alloc, verb, &["work", "submit", "get"], forms)?;
-            format!(in alloc; "there is no action {verb}{right}")
+            format!(in alloc; "unknown action {verb}{right}")
         }
     }
 }

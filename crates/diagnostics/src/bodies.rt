@@ -7,6 +7,7 @@ use crate::entry::PlacedEntry;
 use crate::suggestions::{comma_list, suggestion};
 use std::alloc::{AllocError, Global};
 use support::number::{BAD_ACTION, NO_SUCH_CLASS, SLOT_EMPTY, SLOT_OPEN};
+use toml::Value;
 
 /// A name under which a job was submitted.
 #[derive(Clone, Copy)]
@@ -24,6 +25,8 @@ struct CheckedAction<'a> {
     entry: &'a PlacedEntry<'a>,
     action: usize,
     text: &'a str,
+    /// All actions of the body.
+    actions: &'a [Value],
 }
 
 impl CheckedAction<'_> {
@@ -57,6 +60,7 @@ pub(crate) fn body(
                 entry: &*entry,
                 action,
                 text,
+                actions,
             };
             check_action(collector, checked, classes, &mut slots)?;
         }
@@ -98,14 +102,14 @@ fn check_submit(
     let otherwise = if classes.is_empty() {
         String::from_str(
             alloc,
-            "; the plan has no classes: write a [[class]] of this name",
+            "; the plan has no classes: add a [[class]] with this name",
         )?
     } else {
         let all = comma_list(alloc, classes)?;
         format!(in alloc; "; the classes are {all}")?
     };
     let right = suggestion(alloc, class, classes, &otherwise)?;
-    let words = format!(in alloc; "there is no class {class}{right}")?;
+    let words = format!(in alloc; "unknown class {class}{right}")?;
     checked.report(collector, NO_SUCH_CLASS, &words)
 }
 
@@ -119,7 +123,7 @@ fn check_slot_is_free<'a>(
         if slot.name == name && slot.got.is_none() {
             let submit = slot.submit;
             let words = format!(in collector.alloc;
-                "what action {submit} submitted as {name} was not got yet: get it before, or take another name"
+                "{name} is still in use by action {submit}: get it first, or use another name"
             )?;
             return checked.report(collector, SLOT_OPEN, &words);
         }
@@ -153,25 +157,61 @@ fn check_get<'a>(
     let words = match before {
         Some(action) => {
             format!(in collector.alloc;
-                "{name} was got already, at action {action}: a job is got once"
+                "action {action} has already got {name}; a result can be got once"
             )?
         }
-        None => no_such_slot(collector.alloc, name, slots)?,
+        None => no_such_slot(collector.alloc, checked, name, slots)?,
     };
     checked.report(collector, SLOT_EMPTY, &words)
 }
 
-fn no_such_slot(alloc: Global, name: &str, slots: &[Slot<'_>]) -> Result<String, AllocError> {
+fn no_such_slot(
+    alloc: Global,
+    checked: CheckedAction<'_>,
+    name: &str,
+    slots: &[Slot<'_>],
+) -> Result<String, AllocError> {
+    if let Some(words) = misplaced_submit(alloc, checked, name)? {
+        return Ok(words);
+    }
     let mut names = Vec::new(alloc);
     for slot in slots {
         names.push(slot.name)?;
     }
     let otherwise = if names.is_empty() {
-        format!(in alloc; ": write a submit CLASS as {name} before it")?
+        format!(in alloc; ": write submit CLASS as {name} before it")?
     } else {
         let all = comma_list(alloc, &names)?;
         format!(in alloc; "; there are {all}")?
     };
     let right = suggestion(alloc, name, &names, &otherwise)?;
     format!(in alloc; "nothing was submitted as {name}{right}")
+}
+
+/// Returns the message if the body has the submit after the get, or a submit of a class of this
+/// name without `as` before it.
+fn misplaced_submit(
+    alloc: Global,
+    checked: CheckedAction<'_>,
+    name: &str,
+) -> Result<Option<String>, AllocError> {
+    for (action, value) in checked.actions.iter().enumerate() {
+        let Some(text) = value.as_str() else {
+            continue;
+        };
+        match parse_action(text) {
+            Some(ParsedAction::SubmitAs(_, slot)) if slot == name && action > checked.action => {
+                return Ok(Some(format!(in alloc;
+                    "{name} is submitted only after this get, by action {action} \"{text}\""
+                )?));
+            }
+            Some(ParsedAction::Submit(class)) if class == name && action < checked.action => {
+                return Ok(Some(format!(in alloc;
+                    "nothing was submitted as {name}: write submit {class} as {name} in action {action}"
+                )?));
+            }
+            _ => {}
+        }
+    }
+    Ok(None)
 }

@@ -22,10 +22,10 @@ pub(crate) fn name(
     }
     for other in before {
         if other.text("name") == Some(name) {
-            let line = other.place().line;
+            let line = other.value_place("name").line;
             let list = list_of(entry.part);
             let words = format!(in collector.alloc;
-                "the {list} of line {line} has this name already"
+                "line {line} has a {list} with this name"
             )?;
             return entry.report(collector, DOUBLE_NAME, place, &words);
         }
@@ -36,7 +36,7 @@ pub(crate) fn name(
 /// Returns the rule for names, with a similar name that is well-formed, if there is one.
 pub(crate) fn name_rule(alloc: Global, name: &str) -> Result<String, AllocError> {
     let similar = well_formed_name(alloc, name)?;
-    let rule = "a name is a small letter and at most 31 small letters, digits and _ behind it";
+    let rule = "a name has 1 to 32 characters: a lower-case letter, then lower-case letters, digits or _";
     if is_valid_name(&similar) {
         format!(in alloc; "{rule}, as {similar}")
     } else {

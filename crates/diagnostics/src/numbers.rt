@@ -26,7 +26,7 @@ fn out_of_range(
         {
             any = true;
             let words = format!(in collector.alloc;
-                "{key} is {number}, and is to be from 1 to {MOST}"
+                "{key} is {number}, but must be from 1 to {MOST}"
             )?;
             entry.report(collector, BAD_NUMBER, entry.value_place(key), &words)?;
         }
@@ -47,7 +47,7 @@ pub(crate) fn sizes(
     };
     if max < core {
         let words = format!(in collector.alloc;
-            "max {max} is below core {core}; it is to be at least core"
+            "max {max} is less than core {core}"
         )?;
         return pool.report(collector, BAD_NUMBER, pool.value_place("max"), &words);
     }

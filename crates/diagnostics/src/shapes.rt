@@ -63,19 +63,19 @@ fn key_rule(key: &str) -> Option<KeyRule> {
         "queue" => (
             "queue",
             ValueKind::Number,
-            "write queue = N, how many jobs its queue holds",
+            "write queue = N, the capacity of its queue",
         ),
         "count" => (
             "count",
             ValueKind::Number,
-            "write count = N, how many clients of the kind there are",
+            "write count = N, the number of these clients",
         ),
         "prestart" => ("prestart", ValueKind::Flag, ""),
         "repeat" => ("repeat", ValueKind::Flag, ""),
         "body" => (
             "body",
             ValueKind::Body,
-            "write body = [\"..\"], what it does, or body = []",
+            "write body = [\"..\"], its actions, or body = []",
         ),
         _ => return None,
     };
@@ -127,14 +127,14 @@ fn unknown_key(
     let list = list_of(entry.part);
     let keys = keys_of(entry.part);
     let right = match plan_key_for(key) {
-        Some(name) if has_key(entry.part, name) => format!(in alloc; "; here it is called {name}")?,
+        Some(name) if has_key(entry.part, name) => format!(in alloc; "; use {name}")?,
         _ => {
             let all = crate::suggestions::comma_list(alloc, keys)?;
-            let otherwise = format!(in alloc; "; its keys are {all}")?;
+            let otherwise = format!(in alloc; "; the keys are {all}")?;
             suggestion(alloc, key, keys, &otherwise)?
         }
     };
-    let words = format!(in alloc; "no {list} has a key {key}{right}")?;
+    let words = format!(in alloc; "unknown key {key} in [[{list}]]{right}")?;
     entry.report(collector, UNKNOWN_KEY, entry.key_place(key), &words)
 }
 
@@ -162,7 +162,7 @@ fn value(
             return Ok(());
         }
         let hint = rule.hint;
-        let words = format!(in collector.alloc; "it has no {key}: {hint}")?;
+        let words = format!(in collector.alloc; "{key} is missing: {hint}")?;
         return entry.report(collector, MISSING_KEY, entry.place(), &words);
     };
     if rule.wanted == ValueKind::Body {
@@ -173,7 +173,7 @@ fn value(
     }
     let rule = rule_of(rule.wanted);
     let found = value.type_str();
-    let words = format!(in collector.alloc; "{key} is a {found}, and is to be {rule}")?;
+    let words = format!(in collector.alloc; "{key} is a {found}, but must be {rule}")?;
     entry.report(collector, WRONG_TYPE, entry.value_place(key), &words)
 }
 
@@ -188,10 +188,10 @@ fn is_of(wanted: ValueKind, value: &Value) -> bool {
 
 fn rule_of(wanted: ValueKind) -> &'static str {
     match wanted {
-        ValueKind::Text => "a text in quotes",
-        ValueKind::Number => "a whole number, without quotes",
+        ValueKind::Text => "a string",
+        ValueKind::Number => "an integer, without quotes",
         ValueKind::Flag => "true or false, without quotes",
-        ValueKind::Body => "a list of texts",
+        ValueKind::Body => "an array of strings",
     }
 }
 
@@ -204,7 +204,7 @@ fn body(
     let place = entry.value_place("body");
     let Some(actions) = value.as_array() else {
         let words =
-            "body is to be a list of texts, as [\"work 5\", \"submit query as rows\", \"get rows\"]";
+            "body must be an array of strings, such as [\"work 5\", \"submit query as rows\", \"get rows\"]";
         return entry.report(collector, WRONG_TYPE, place, words);
     };
     if actions.len() > MAX_ACTIONS {
@@ -215,7 +215,7 @@ fn body(
         if !action.is_str() {
             let found = action.type_str();
             let words = format!(in collector.alloc;
-                "it is a {found}, and is to be a text in quotes"
+                "it is a {found}, but must be a string"
             )?;
             entry.report_action(collector, number, WRONG_TYPE, "..", &words)?;
         }

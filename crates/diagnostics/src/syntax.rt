@@ -15,9 +15,9 @@ pub(crate) fn not_text(
 ) -> Result<Diagnostic, AllocError> {
     let is_wide = matches!(bytes, [0xFF, 0xFE, ..] | [0xFE, 0xFF, ..]);
     let what = if is_wide {
-        "the text is UTF-16: save it as UTF-8"
+        "the file is UTF-16: save it as UTF-8"
     } else {
-        "a byte is no UTF-8: save the text as UTF-8"
+        "the file is not valid UTF-8: save it as UTF-8"
     };
     Ok(Diagnostic {
         fault: PlanFault::at_text(NOT_TOML),
@@ -61,15 +61,15 @@ fn line_of(text: &str, place: TextPlace) -> &str {
 fn hint_of(line: &str) -> Option<&'static str> {
     let line = line.trim();
     if line.starts_with("//") {
-        return Some("a comment begins with #");
+        return Some("comments start with #");
     }
     if line == "%%" {
         return Some(
-            "here the plan ends and a second text begins: give each as a file of its own, the plan first",
+            "the plan ends here and a second text begins: pass each as a file of its own, the plan first",
         );
     }
     if line.contains('\u{201c}') || line.contains('\u{201d}') || line.contains('\u{201e}') {
-        return Some("the quotes are to be plain ones, \"");
+        return Some("use plain quotes, \"");
     }
     if let Some(hint) = bracket_hint(line) {
         return Some(hint);
@@ -82,10 +82,10 @@ fn hint_of(line: &str) -> Option<&'static str> {
 fn bracket_hint(line: &str) -> Option<&'static str> {
     match line.split('#').next().unwrap_or("").trim() {
         "[pool]" | "[class]" | "[client]" => {
-            Some("a plan has many of these: write two brackets, as [[pool]]")
+            Some("write two brackets, as in [[pool]]: a plan can have several")
         }
         "[[pool]]" | "[[class]]" | "[[client]]" => Some(
-            "an earlier line gives these in another way: write two brackets before each, as here",
+            "an earlier line defines this in another way: write two brackets there too",
         ),
         _ => None,
     }
@@ -101,7 +101,7 @@ fn value_hint(line: &str) -> Option<&'static str> {
         "yes" | "no" | "on" | "off" | "True" | "False" | "TRUE" | "FALSE" | "Yes" | "No" => {
             Some("write true or false")
         }
-        "" => Some("a value is missing behind ="),
+        "" => Some("a value is missing after ="),
         _ => None,
     }
 }

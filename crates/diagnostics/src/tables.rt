@@ -93,7 +93,7 @@ fn unknown_list(
         "clients" => String::from_str(alloc, "; did you mean [[client]]?")?,
         _ => suggestion(alloc, key, keys_of(Part::Text), otherwise)?,
     };
-    let what = format!(in alloc; "no plan has {key}{right}")?;
+    let what = format!(in alloc; "unknown key {key}{right}")?;
     let place = places.top(key).unwrap_or(BEGINNING);
     collector.push(PlanFault::at_text(UNKNOWN_KEY), place, what)
 }
@@ -130,7 +130,7 @@ fn no_list(
 ) -> Result<(), AllocError> {
     let list = list_of(part);
     let what = format!(in collector.alloc;
-        "{list} is a list of tables: write [[{list}]], with two brackets"
+        "write [[{list}]] with two brackets: {list} is an array of tables"
     )?;
     let place = places.top(list).unwrap_or(BEGINNING);
     collector.push(PlanFault::at_text(WRONG_TYPE), place, what)
@@ -165,7 +165,7 @@ fn entry_of<'a>(
             let list = list_of(part);
             let found = value.type_str();
             let what = format!(in collector.alloc;
-                "a {list} is a table, and not a {found}: write [[{list}]]"
+                "{list} must be a table, not a {found}: write [[{list}]]"
             )?;
             let place = places.top(list).unwrap_or(BEGINNING);
             collector.push(PlanFault::at_entry(part, index, WRONG_TYPE), place, what)?;
@@ -200,13 +200,13 @@ fn pool_of(
     let otherwise = if pools.is_empty() {
         String::from_str(
             alloc,
-            "; the plan has no pools: write a [[pool]] of this name",
+            "; the plan has no pools: add a [[pool]] with this name",
         )?
     } else {
         let all = comma_list(alloc, pools)?;
         format!(in alloc; "; the pools are {all}")?
     };
     let right = suggestion(alloc, pool, pools, &otherwise)?;
-    let words = format!(in alloc; "there is no pool {pool}{right}")?;
+    let words = format!(in alloc; "unknown pool {pool}{right}")?;
     class.report(collector, NO_SUCH_POOL, class.value_place("pool"), &words)
 }

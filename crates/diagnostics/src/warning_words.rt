@@ -10,14 +10,14 @@ pub(crate) fn words_of(alloc: Global, plan: &Plan, lint: Lint) -> Result<String,
     match lint {
         Lint::NothingToAsk => String::from_str(
             alloc,
-            "the plan has no pools and no clients: there is nothing to ask about",
+            "the plan has no pools and no clients, so there is nothing to decide",
         ),
         Lint::NoClients => String::from_str(
             alloc,
-            "the plan has no clients: nobody submits anything, and any sizes are safe; write a [[client]] for each thread that submits from outside",
+            "the plan has no clients, so nothing is submitted and any sizes are safe; add a [[client]] for each kind of thread that submits from outside the pools",
         ),
         Lint::NothingSubmitted => {
-            String::from_str(alloc, "no client submits anything: any sizes are safe")
+            String::from_str(alloc, "no client submits anything, so any sizes are safe")
         }
         Lint::PoolWithoutJobs(pool) => words_of_idle_pool(alloc, plan, pool),
         Lint::UselessMax(pool) => words_of_max(alloc, plan, pool),
@@ -26,7 +26,7 @@ pub(crate) fn words_of(alloc: Global, plan: &Plan, lint: Lint) -> Result<String,
         Lint::GoesOnce(client) => words_of_rounds(alloc, plan, client),
         Lint::Crowd(client) => words_of_crowd(alloc, plan, client),
         Lint::WorkLikeASize(_, _, _, units) => format!(in alloc;
-            "work {units} looks like a number of threads or jobs: it is a length of time, and changes no answer"
+            "work {units} looks like a number of threads or jobs, but it is a duration and has no effect on the answer"
         ),
         Lint::StaleCertificate => String::from_str(alloc, "the certificate is stale"),
     }
@@ -37,7 +37,7 @@ fn words_of_idle_pool(alloc: Global, plan: &Plan, number: usize) -> Result<Strin
         return Ok(String::new(alloc));
     };
     let name = pool.name.as_str();
-    format!(in alloc; "pool {name} gets no job: nothing is asked of its sizes")
+    format!(in alloc; "no job is ever submitted to pool {name}, so its sizes do not matter")
 }
 
 fn words_of_max(alloc: Global, plan: &Plan, number: usize) -> Result<String, AllocError> {
@@ -48,7 +48,7 @@ fn words_of_max(alloc: Global, plan: &Plan, number: usize) -> Result<String, All
     let core = pool.core;
     let max = pool.max;
     format!(in alloc;
-        "pool {name}: max {max} buys nothing: its queue never fills, and without that no thread above core {core} is made"
+        "pool {name}: max {max} has no effect: a thread above core {core} starts only when the queue is full, and it never is"
     )
 }
 
@@ -63,7 +63,7 @@ fn words_of_queue(
     };
     let name = pool.name.as_str();
     let queue = pool.queue;
-    format!(in alloc; "pool {name}: queue {queue} is far above the {most} that may wait at once")
+    format!(in alloc; "pool {name}: queue {queue} is far more than needed: at most {most} jobs wait at once")
 }
 
 fn words_of_class(alloc: Global, plan: &Plan, number: usize) -> Result<String, AllocError> {
@@ -71,7 +71,7 @@ fn words_of_class(alloc: Global, plan: &Plan, number: usize) -> Result<String, A
         return Ok(String::new(alloc));
     };
     let name = class.name.as_str();
-    format!(in alloc; "nobody submits class {name}: no client does, nor a job that a client causes")
+    format!(in alloc; "class {name} is never submitted, neither by a client nor by a job that a client causes")
 }
 
 fn words_of_rounds(alloc: Global, plan: &Plan, number: usize) -> Result<String, AllocError> {
@@ -82,7 +82,7 @@ fn words_of_rounds(alloc: Global, plan: &Plan, number: usize) -> Result<String, 
     let count = client.count;
     let rounds = if count == 1 { "round" } else { "rounds" };
     format!(in alloc;
-        "client {name} goes through its body once: the answer is about {count} {rounds} in all; write repeat = true where it begins again"
+        "client {name} runs its body once, so the answer covers {count} {rounds} in all; write repeat = true if it runs again and again"
     )
 }
 
@@ -93,6 +93,6 @@ fn words_of_crowd(alloc: Global, plan: &Plan, number: usize) -> Result<String, A
     let name = client.name.as_str();
     let count = client.count;
     format!(in alloc;
-        "client {name}: {count} of them submit to pools of one core thread whose queues hold fewer jobs"
+        "client {name}: count {count}, but it submits to pools with one core thread whose queues hold fewer jobs"
     )
 }

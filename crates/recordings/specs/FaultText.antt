@@ -6,7 +6,7 @@ use Rattle.recordings.specs.declared.fault.RecordingFault.{RecordingFault}
 use Rattle.recordings.specs.RuleText.{rule_text}
 
 abbrev pub reason_text : FaultReason → List ℕ
-reason_text reason.Form = codes "it has none of the forms of a line"
+reason_text reason.Form = codes "it is not a valid line"
 reason_text (reason.LineRule rule) = rule_text rule
 
 abbrev pub fault_text : RecordingFault → List ℕ

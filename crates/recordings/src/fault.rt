@@ -21,7 +21,7 @@ impl fmt::Display for FaultReason {
 
     fn fmt<W: fmt::Write>(&self, f: &mut fmt::Formatter<W>) -> fmt::Result {
         match self {
-            FaultReason::Form => f.write_str("it has none of the forms of a line"),
+            FaultReason::Form => f.write_str("it is not a valid line"),
             FaultReason::LineRule(rule) => write!(f, "{rule}"),
         }
     }

@@ -38,7 +38,7 @@ abbrev pub cause_advice_text : NoSizes → List ℕ
 cause_advice_text (Cause (Circle k)) = codes "no certificate accepts any sizes while jobs submit jobs of their own class: write the levels as classes of their own" ++ 10 ∷ []
 cause_advice_text (Cause (ClientNeverGets c i)) = not_got_text
 cause_advice_text (Cause (ClassNeverGets k i)) = not_got_text
-cause_advice_text (TooLarge p) = codes "fewer clients, or bodies that have fewer jobs open at one time, need less" ++ 10 ∷ []
+cause_advice_text (TooLarge p) = codes "fewer clients, or bodies with fewer open jobs at a time, need less" ++ 10 ∷ []
 
 abbrev pub advice_text : Plan → SizesFound → List ℕ
 advice_text plan (Found fit cert) = reasons_text plan fit
@@ -46,10 +46,10 @@ advice_text plan (NotFound cause) = cause_advice_text cause
 
 -- the declared sizes may be safe
 abbrev pub maybe_text : List ℕ
-maybe_text = codes "no certificate was found for the declared sizes, nor events that show them wrong: they may be right" ++ 10 ∷ []
+maybe_text = codes "neither a certificate for the declared sizes nor a counterexample was found: the sizes may be safe" ++ 10 ∷ []
 
 -- what is left undecided
 abbrev pub open_text : SizesFound → List ℕ
-open_text (NotFound (Cause cause)) = codes "no certificate accepts this plan, whatever its sizes, and no events were found that show it wrong" ++ 10 ∷ []
+open_text (NotFound (Cause cause)) = codes "no certificate accepts this plan with any sizes, and no counterexample was found" ++ 10 ∷ []
 open_text (NotFound (TooLarge p)) = maybe_text
 open_text (Found fit cert) = maybe_text

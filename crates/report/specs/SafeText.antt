@@ -116,4 +116,4 @@ pools_text plan cert = flat_map (pool_lines plan cert) (enumerate_from 0 plan.po
 
 -- the lines of each pool, and then what holds for all of them
 abbrev pub safe_text : Plan → Cert → List ℕ
-safe_text plan cert = pools_text plan cert ++ codes "no submit is ever refused, and no jobs wait for each other for ever" ++ 10 ∷ []
+safe_text plan cert = pools_text plan cert ++ codes "no submit is ever refused, and no jobs wait for each other forever" ++ 10 ∷ []

@@ -19,7 +19,7 @@ pub(crate) fn witness_value(
     let story = lines_value(alloc, &story)?;
     let ending = match &witness.ending {
         Ending::Refused(_) => "refused",
-        Ending::StuckForever(_, _) => "stuck for ever",
+        Ending::StuckForever(_, _) => "stuck forever",
         Ending::StuckNow(_) => "stuck now",
     };
     json!(in alloc; {"ending": ending, "events": events, "story": story})

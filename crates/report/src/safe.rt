@@ -23,7 +23,7 @@ pub(crate) fn push_safe(
     ensures { Pushes result text.old text.new (spec.safe_text plan.now cert.now) }
 {
     push_pools(alloc, text, plan, cert)?;
-    text.push_str("no submit is ever refused, and no jobs wait for each other for ever\n")
+    text.push_str("no submit is ever refused, and no jobs wait for each other forever\n")
 }
 
 fn push_pools(alloc: Global, text: &mut String, plan: &Plan, cert: &Cert) -> Result<(), AllocError>

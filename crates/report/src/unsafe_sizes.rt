@@ -83,7 +83,7 @@ fn push_advice_for_cause(text: &mut String, cause: NoSizes) -> Result<(), AllocE
             "no certificate accepts any sizes while nobody waits for these jobs: get the result, or bound them by permits (docs/PERMITS.md)\n",
         ),
         NoSizes::TooLarge(_) => text.push_str(
-            "fewer clients, or bodies that have fewer jobs open at one time, need less\n",
+            "fewer clients, or bodies with fewer open jobs at a time, need less\n",
         ),
     }
 }
@@ -94,10 +94,10 @@ pub(crate) fn push_open(text: &mut String, sizes: &SizesFound) -> Result<(), All
 {
     match sizes {
         SizesFound::NotFound(NoSizes::Cause(_)) => text.push_str(
-            "no certificate accepts this plan, whatever its sizes, and no events were found that show it wrong\n",
+            "no certificate accepts this plan with any sizes, and no counterexample was found\n",
         ),
         SizesFound::Found { .. } | SizesFound::NotFound(NoSizes::TooLarge(_)) => text.push_str(
-            "no certificate was found for the declared sizes, nor events that show them wrong: they may be right\n",
+            "neither a certificate for the declared sizes nor a counterexample was found: the sizes may be safe\n",
         ),
     }
 }
