@@ -2,6 +2,7 @@
 
 use cert_check::{Certified, PoolGate};
 use cert_search::search;
+use cert_text::read_cert;
 use locked_runner::{Gate, RunFault, run};
 use plan_text::read_plan;
 use std::alloc::{AllocError, Global};
@@ -59,6 +60,14 @@ impl PoolGate for Open {
     fn begin(&self, _pool: usize) -> bool {
         true
     }
+}
+
+// Returns the plan with this certificate, or `None` if a text has a fault or the certificate is not
+// accepted.
+pub(crate) fn with_certificate(alloc: Global, plan: &str, cert: &str) -> Option<Certified> {
+    let plan = read_plan(alloc, plan.as_bytes()).ok()?;
+    let cert = read_cert(alloc, cert.as_bytes(), &plan).ok()?;
+    Certified::check(plan, cert).ok()
 }
 
 // Returns the plan with the certificate that the search finds, or `None` if the search finds none
