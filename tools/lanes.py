@@ -1,21 +1,81 @@
-"""The number of checks that run in parallel, and the number of jobs of each check.
+"""The checks that `rt ci` runs in parallel, and the number of jobs of each.
 
-`rt ci` starts a check if the memory that it expects the check to take is free. It gives a check the processors that no other check
-needs. It expects 1.3 to 5.5 times the memory that a check of these crates takes, so some processors are idle. `realistic_need`
-replaces the expected memory if the machine has enough memory."""
+`rt ci` starts a check if its estimate of the memory fits. Its estimates are 1.3 to 5.5 times what a check of these crates takes, so
+that processors stay idle; `realistic_need` replaces them if the machine has enough memory. It also lets mutants fill each idle
+processor, so that a crate on the longest chain gets one job; `in_lanes` gives mutants one processor while a proof is left."""
+from concurrent.futures import FIRST_COMPLETED, ThreadPoolExecutor, wait
 
-# The memory of the largest check in GiB, which takes a little more. Nearly all others take 1 to 3 GiB (docs/GATE.md).
+# The largest check takes a little more than this, and nearly all others 1 to 3 GiB (docs/GATE.md).
 CHECK_GIB = 5
-# The memory of most checks in GiB. A check takes about 1 GiB more for each further job.
+# The memory of most checks. A check with more jobs takes this part of it more for each.
 USUAL_GIB = 2.5
+MORE = 0.5
+# The most jobs of a check: more save little time, and each costs the reading of the libraries.
+MOST_JOBS = 4
 
 
 def side_by_side(rt, gib):
-    """Returns the number of runs for which there is memory if each takes this many GiB: at least 1, at most one for each processor."""
+    """Returns how many runs fit at once that take this much memory each, at most one for each processor."""
     return max(1, min(rt.processors(), int(rt.free() / 2**30 / gib)))
 
 
 def realistic_need(rt):
-    """Makes rt expect USUAL_GIB for each check, if there is enough memory for the largest check on each processor."""
+    """Makes rt expect the usual memory of a check, if there is enough memory for the largest check on each processor."""
     if side_by_side(rt, CHECK_GIB) == rt.processors():
         rt.need = lambda crate: int(USUAL_GIB * 2**30)
+        rt.in_lanes = lambda tasks: in_lanes(rt, tasks)
+
+
+def in_lanes(rt, tasks):
+    """Runs tasks in parallel and returns what each gave. A task is the keys of those that it waits for, its work, its memory, and a
+    call that takes what was given and a number of jobs. Those with the longest chain of work after them start first."""
+    lanes, memory = rt.processors(), 0.85 * rt.free()
+    after = chains(tasks)
+    waiting = sorted(tasks, key=lambda key: (is_of_mutants(key), -after[key]))
+    running, given = {}, {}
+    with rt.ending(), ThreadPoolExecutor(lanes) as pool:
+        while waiting or running:
+            for key, jobs in startable(tasks, waiting, running, given, lanes, memory):
+                waiting.remove(key)
+                _, _, need, call = tasks[key]
+                running[pool.submit(call, given, jobs)] = key, need * (1 + MORE * (jobs - 1)), jobs
+            for ended in wait(running, return_when=FIRST_COMPLETED).done:
+                given[running.pop(ended)[0]] = ended.result()
+    return given
+
+
+def startable(tasks, waiting, running, given, lanes, memory):
+    """Yields tasks to start, each with its number of jobs; the caller moves each to `running` before it takes the next."""
+    ready = [key for key in waiting if all(below in given for below in tasks[key][0])]
+    proofs = [key for key in ready if not is_of_mutants(key)]
+    for key in ready:
+        idle = lanes - sum(jobs for _, _, jobs in running.values())
+        room = memory - sum(need for _, need, _ in running.values())
+        need = tasks[key][2]
+        if idle == 0 or (running and need > room):
+            return
+        if is_of_mutants(key):
+            proof_is_left = any(not is_of_mutants(it) for it in [*waiting, *(it for it, _, _ in running.values())])
+            if proof_is_left and any(is_of_mutants(it) for it, _, _ in running.values()):
+                return
+            yield key, 1
+        else:
+            others = len(proofs) - proofs.index(key)
+            fitting = 1 + int((room / need - 1) / MORE)
+            yield key, max(1, min(MOST_JOBS, idle // others, fitting))
+
+
+def chains(tasks):
+    """Returns by task the work of the longest chain of tasks that begins with it."""
+    after = {key: 0 for key in tasks}
+    # a task comes after those that it waits for
+    for key in reversed([*tasks]):
+        after[key] += tasks[key][1]
+        for below in tasks[key][0]:
+            after[below] = max(after[below], after[key])
+    return after
+
+
+def is_of_mutants(key):
+    """Returns whether a task tries a mutant, or prepares a crate for that."""
+    return key[1] in ("edits", "seed")
