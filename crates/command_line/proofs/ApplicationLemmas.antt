@@ -1,4 +1,4 @@
--- The results of `clap` for the application.
+-- The results that `clap` has for the application `sizing`.
 use Rattle.std.proofs.Common.{◌≡◌, true, false, refl, subst, inl, inr, List, [], ◌∷◌, Option, Result, Ok, Err}
 use Rattle.std.specs.Prelude.{IsErrAnd}
 use Rattle.std.proofs.lemmas.Bool.{and_parts}
@@ -21,14 +21,14 @@ sizing_is_simple = refl
 sizing_is_plain : is_simple sizing ≡ true
 sizing_is_plain = (and_parts (is_simple sizing) (is_free_app (built sizing)) sizing_is_simple).0
 
--- if `clap` finds no fault in the arguments, they have none
+-- if `clap` finds no fault in the arguments for an application that equals `sizing`, they have no fault for `sizing`
 pub no_fault : (made : App) (words : List Text) → made ≡ sizing
     → (is_simple_and_free made ≡ true → fault_of made words ≡ []) → fault_of sizing words ≡ []
 no_fault made words e taken =
     let P : App → Type 0 = λ a. is_simple_and_free a ≡ true → fault_of a words ≡ [] in
     subst P e taken sizing_is_simple
 
--- a kind among the first faults is among all of them
+-- a kind among the first of two lists is among the list that `or_else` selects
 among_first : (kind : ErrorKind) (first rest : Kinds) → IsAmong kind first → IsAmong kind (or_else first rest)
 among_first kind [] rest among = absurd among
 among_first kind (k ∷ first) rest among = among
@@ -37,7 +37,7 @@ has_kind_first : (first rest : Kinds) (error : Error) → HasKind first error �
 has_kind_first first rest error (inl memory) = inl memory
 has_kind_first first rest error (inr among) = inr (among_first (kind_of error) first rest among)
 
--- an error of the parse has one of the kinds
+-- an error that the parse returns has one of the kinds of `faults_of`
 pub fails_by_clap : {T : Type 0} (made : App) (words : List Text) (error : Error) (result : Result T Error) → made ≡ sizing
     → (is_simple_and_free made ≡ true → HasKind (fault_of made words) error) → IsErrAnd result (λ e. e ≡ error) → FailsBy (faults_of words) result
 fails_by_clap made words error (Ok x) is fails same = absurd same
@@ -45,7 +45,7 @@ fails_by_clap made words error (Err e) is fails same =
     let P : App → Type 0 = λ a. is_simple_and_free a ≡ true → HasKind (fault_of a words) error in
     rw same (has_kind_first (fault_of sizing words) _ error (subst P is fails sizing_is_simple))
 
--- if `clap` finds no fault and no number is out of its range, there is no fault
+-- if `clap` finds no fault, and no number or option of the subcommand is invalid, then the arguments have no fault
 pub no_faults : {A : Type 0} (made : App) (words : List Text) (rows : Option (Text × List Row)) → made ≡ sizing → fault_of sizing words ≡ []
     → (is_simple made ≡ true → A × (rows ≡ subcommand_of made words)) → is_out_of_range rows ≡ false → faults_of words ≡ []
 no_faults {A} made words rows is none same within =
@@ -54,14 +54,14 @@ no_faults {A} made words rows is none same within =
     let inside : is_out_of_range (subcommand_of sizing words) ≡ false = rw (← rows_are) within in
     rw (none, inside) refl
 
--- the parse of the arguments is that of the specified application
+-- the parsed arguments for an application that equals `sizing` are the parsed arguments for `sizing`
 pub rows_of_parse : {A : Type 0} (made : App) (words : List Text) (rows : Option (Text × List Row)) → made ≡ sizing
     → (is_simple made ≡ true → A × (rows ≡ subcommand_of made words)) → rows ≡ subcommand_of sizing words
 rows_of_parse {A} made words rows is same =
     let P : App → Type 0 = λ a. is_simple a ≡ true → A × (rows ≡ subcommand_of a words) in
     (subst P is same sizing_is_plain).1
 
--- if `clap` finds no fault and a number is out of its range, that is the fault
+-- if `clap` finds no fault and a number or an option of the subcommand is invalid, then the error has one of the kinds of `faults_of`
 pub fails_out_of_range : (words : List Text) (rows : Option (Text × List Row)) (error : Error) → fault_of sizing words ≡ [] → rows ≡ subcommand_of sizing words
     → is_out_of_range rows ≡ true → kind_of error ≡ ValueValidation → HasKind (faults_of words) error
 fails_out_of_range words rows error none same beyond is =

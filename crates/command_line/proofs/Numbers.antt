@@ -8,11 +8,11 @@ use Rattle.clap.specs.declared.builder.value_parser.ValueParser.TheVariants as p
 use Rattle.clap.proofs.ValueTestLemmas.{accepts-Accepts, Accepts-accepts}
 use Rattle.command_line.specs.Command.{number_in}
 
--- the text is such a number
+-- if the text is a whole number in the range, `number_in` returns it
 pub number_read : (low high : ℕ) (text : Text) (number : ℕ) → IsUnsignedIn low high text → number ≡ digits_value 10 (without_leading_plus text) → Some number ≡ number_in low high text
 number_read low high text number lies is = rw (Accepts-accepts false (parser.Unsigned low high) text lies) (ap Some is)
 
--- the text is not such a number
+-- if the text is not a whole number in the range, `number_in` returns None
 pub number_refused : (low high : ℕ) (text : Text) → (IsUnsignedIn low high text → ⊥) → None ≡ number_in low high text
 number_refused low high text refused = by_test (accepts false (parser.Unsigned low high) text) refl
   where

@@ -1,27 +1,27 @@
--- The `clap` application, written in the definitions of `clap`.
+-- The application `sizing`, in terms of the model of `clap`.
 use Rattle.std.specs.Prelude.{ℕ, [], ◌∷◌, true, Some, codes, decimal}
 use Rattle.clap.specs.Words.{App, Rule, Shape, Text, new_app, new_rule, with_rule, with_subcommand}
 use Rattle.clap.specs.declared.builder.action.ArgAction.TheVariants.{Set, SetTrue}
 use Rattle.clap.specs.declared.builder.value_parser.ValueParser.TheVariants as parser
 use Rattle.job_bodies.specs.declared.limits.TheConstants.{DEFAULT_WORKERS, MAX_ROUNDS, MAX_STATES, MAX_WORKERS}
 
--- an argument that names a file
+-- an argument with this id that names a file
 abbrev pub file_argument : Text → Rule
 file_argument id = record (new_rule id) { action = Some Set; value_names = 1 }
 
--- the file of the plan, or of all texts
+-- the argument that names the file of the plan, or the one file of all texts
 abbrev pub plan_argument : Rule
 plan_argument = file_argument (codes "PLAN")
 
--- the file of the second text
+-- the argument that names the file of the second text
 abbrev pub second_argument : Rule
 second_argument = file_argument (codes "SECOND")
 
--- a subcommand that reads a plan
+-- a subcommand that reads a plan, and has no options
 abbrev pub of_plan : Text → App
 of_plan name = with_rule (new_app name) plan_argument
 
--- a subcommand that reads a plan and a second text
+-- a subcommand that reads a plan and a second text, and has no options
 abbrev pub of_both : Text → App
 of_both name = with_rule (of_plan name) second_argument
 
@@ -34,50 +34,51 @@ check_shape = (of_both (codes "check")).top
 abbrev pub explain_shape : Shape
 explain_shape = (of_both (codes "explain")).top
 
--- the option `--ID N`, for a whole number in this range
+-- the option `--ID N`, where N is a whole number from `low` to `high`
 abbrev pub number_option : Text → ℕ → ℕ → Rule
 number_option id low high = record (new_rule id) { long = Some id; action = Some Set; parser = Some (parser.Unsigned low high); value_names = 1 }
 
--- the number of search threads
+-- the option `--workers N`: the number of search threads
 abbrev pub workers_option : Rule
 workers_option = record (number_option (codes "workers") 1 MAX_WORKERS) { defaults = decimal DEFAULT_WORKERS ∷ [] }
 
 abbrev pub certify_shape : Shape
 certify_shape = (with_rule (of_plan (codes "certify")) workers_option).top
 
--- writes a bundle
+-- the option `--bundle`, with which the output is a bundle of two texts
 abbrev pub bundle_option : Rule
 bundle_option = record (new_rule (codes "bundle")) { long = Some (codes "bundle"); action = Some SetTrue }
 
 abbrev pub fit_shape : Shape
 fit_shape = (with_rule (of_plan (codes "fit")) bundle_option).top
 
--- the number of rounds of each repeating client, which is required
+-- the required option `--rounds N`: how often each repeating client goes through its body
 abbrev pub rounds_option : Rule
 rounds_option = record (number_option (codes "rounds") 1 MAX_ROUNDS) { required = true }
 
 abbrev pub run_shape : Shape
 run_shape = (with_rule (of_both (codes "run")) rounds_option).top
 
--- the maximum number of states that a search for a witness visits
+-- the option `--states N`: the maximum number of states that a search for a witness visits
 abbrev pub states_option : Rule
 states_option = record (number_option (codes "states") 1 MAX_STATES) { defaults = codes "100000" ∷ [] }
 
 abbrev pub refute_shape : Shape
 refute_shape = (with_rule (with_rule (of_plan (codes "refute")) states_option) bundle_option).top
 
--- makes a warning a no
+-- the option `--strict`, with which a warning changes the exit status of a safe plan to 1
 abbrev pub strict_option : Rule
 strict_option = record (new_rule (codes "strict")) { long = Some (codes "strict"); action = Some SetTrue }
 
--- the option that names the file for a certificate
+-- the option `--certificate FILE`, which names the file to which a certificate is written
 abbrev pub certificate_option : Rule
 certificate_option = record (new_rule (codes "certificate")) { long = Some (codes "certificate"); action = Some Set; value_names = 1 }
 
--- the options for JSON and for Graphviz output
+-- the option `--json`, with which the answer is a JSON object
 abbrev pub json_option : Rule
 json_option = record (new_rule (codes "json")) { long = Some (codes "json"); action = Some SetTrue }
 
+-- the option `--dot`, with which the answer is a picture of the plan for Graphviz
 abbrev pub dot_option : Rule
 dot_option = record (new_rule (codes "dot")) { long = Some (codes "dot"); action = Some SetTrue }
 
@@ -88,27 +89,27 @@ ask_shape =
 abbrev pub conform_shape : Shape
 conform_shape = (of_both (codes "conform")).top
 
--- its one file is a recording
+-- the subcommand `learn`, whose first argument names a recording instead of a plan
 abbrev pub learn_shape : Shape
 learn_shape = (of_plan (codes "learn")).top
 
--- adds a subcommand for each review
+-- the application with the further subcommands `replay`, `check` and `explain`
 abbrev pub with_review_commands : App → App
 with_review_commands program = with_subcommand (with_subcommand (with_subcommand program replay_shape) check_shape) explain_shape
 
--- adds a subcommand for each task
+-- the application with the further subcommands `certify`, `fit`, `run`, `refute` and `ask`
 abbrev pub with_tasks : App → App
 with_tasks program =
     with_subcommand (with_subcommand (with_subcommand (with_subcommand (with_subcommand program certify_shape) fit_shape) run_shape) refute_shape) ask_shape
 
--- adds a subcommand for each command on recordings
+-- the application with the further subcommands `conform` and `learn`
 abbrev pub with_recording_commands : App → App
 with_recording_commands program = with_subcommand (with_subcommand program conform_shape) learn_shape
 
--- the program without subcommands: it has a version
+-- the application without subcommands, which has a version
 abbrev pub program : App
 program = record (new_app (codes "sizing")) { top = record (new_app (codes "sizing")).top { has_version = true } }
 
--- the program, with a subcommand for each command
+-- the application, with a subcommand for each command
 abbrev pub sizing : App
 sizing = with_recording_commands (with_tasks (with_review_commands program))

@@ -24,15 +24,15 @@ use Rattle.command_line.specs.declared.command.AskInput.TheVariants.{PlanAlone, 
 use Rattle.command_line.specs.declared.command.Form.{Form}
 use Rattle.command_line.specs.declared.command.Form.TheVariants.{Words, Json, Dot}
 
--- the whole number in a text, if it is in the range
+-- the number that the text spells; None if it is not a whole number from `low` to `high`
 abbrev pub number_in : ℕ → ℕ → Text → Option ℕ
 number_in low high text = if accepts false (parser.Unsigned low high) text then Some (digits_value 10 (without_leading_plus text)) else None
 
--- the number of this option, if it is in the range
+-- the number that the parsed arguments have for the option with this id; None if it is not from `low` to `high`
 abbrev pub number_of : Text → ℕ → ℕ → List Row → Option ℕ
 number_of id low high rows = option_and_then (number_in low high) (first_of id rows)
 
--- the option of this name was given, as `clap` records it
+-- the option with this id was given: `clap` stores the value `true` for it
 abbrev pub is_set : Text → List Row → Bool
 is_set id rows = option_map_or (λ text. bytes_eq text (codes "true")) (first_of id rows) false
 
@@ -48,27 +48,27 @@ run_with = option_map (λ rounds. Run rounds)
 abbrev pub refute_with : Bool → Option ℕ → Option Task
 refute_with bundle = option_map (λ states. Refute states (if bundle then refute_format.Bundle else refute_format.Story))
 
--- a certificate is given if a second file is named
+-- the texts that `ask` reads: a plan and a certificate if a second file is named, and otherwise a plan alone
 abbrev pub ask_input_of : Option Text → AskInput
 ask_input_of None = PlanAlone
 ask_input_of (Some name) = WithCertificate
 
--- the format that these two options request, unless both are given
+-- the output format that the options `--json` and `--dot` request; None if both are given
 abbrev pub form_of : Bool → Bool → Option Form
 form_of false false = Some Words
 form_of true false = Some Json
 form_of false true = Some Dot
 form_of true true = None
 
--- the task `ask` in this format
+-- the task `ask` with these parsed arguments and this output format
 abbrev pub ask_in : List Row → Form → Task
 ask_in rows form = Ask (ask_input_of (first_of (codes "SECOND") rows)) (record { strict = is_set (codes "strict") rows; form = form })
 
--- the task `ask` of these rows
+-- the task `ask` with these parsed arguments; None if both `--json` and `--dot` are given
 abbrev pub ask_named : List Row → Option Task
 ask_named rows = option_map (ask_in rows) (form_of (is_set (codes "json") rows) (is_set (codes "dot") rows))
 
--- the task of the subcommand with this name and these rows
+-- the task of the subcommand with this name and these parsed arguments; None if their values are invalid, or if the subcommand is no task
 abbrev pub task_of : Text → List Row → Option Task
 task_of name rows =
     if bytes_eq name (codes "certify") then certify_with (number_of (codes "workers") 1 MAX_WORKERS rows)
@@ -77,7 +77,7 @@ task_of name rows =
     else (if bytes_eq name (codes "refute") then refute_with (is_set (codes "bundle") rows) (number_of (codes "states") 1 MAX_STATES rows)
     else (if bytes_eq name (codes "ask") then ask_named rows else None))))
 
--- the command of the subcommand with this name and these rows
+-- the command of the subcommand with this name and these parsed arguments; None if their values are invalid
 abbrev pub command_named : Text × List Row → Option Command
 command_named (name, rows) =
     if bytes_eq name (codes "replay") then Some (Sequential Replay)
@@ -86,57 +86,58 @@ command_named (name, rows) =
     else (if bytes_eq name (codes "conform") then Some (OnRecording Conform)
     else (if bytes_eq name (codes "learn") then Some (OnRecording Learn) else option_map (λ task. OnThreads task) (task_of name rows)))))
 
--- the command of the subcommand that was entered, if one was
+-- the command of the subcommand that was entered; None if no subcommand was entered or its values are invalid
 abbrev pub command_among : Option (Text × List Row) → Option Command
 command_among = option_and_then command_named
 
--- the command that `clap` parses from the arguments
+-- the command that the arguments of a command line name
 abbrev pub command_of : List Text → Option Command
 command_of words = command_among (subcommand_of sizing words)
 
--- the two files that the rows of a subcommand name, if one was entered
+-- the names of the first and the second file in the parsed arguments of a subcommand; no names if no subcommand was entered
 abbrev pub files_in : Option (List Row) → Option Text × Option Text
 files_in None = (None, None)
 files_in (Some rows) = (first_of (codes "PLAN") rows, first_of (codes "SECOND") rows)
 
--- the two files of the subcommand that was entered
+-- the names of the first and the second file of the subcommand that was entered, if one was
 abbrev pub files_among : Option (Text × List Row) → Option Text × Option Text
 files_among entered = files_in (option_map (λ entry. entry.1) entered)
 
--- the files that the arguments name: of the plan or of all texts, and of the second text
+-- the names of the files that a command line has: the file of the plan or of all texts, and the file of the second text
 abbrev pub files_of : List Text → Option Text × Option Text
 files_of words = files_among (subcommand_of sizing words)
 
--- the files in the parsed arguments
+-- the names of the first and the second file in a `Cli`
 abbrev pub files_of_cli : Cli → Option Text × Option Text
 files_of_cli cli = (option_map (λ name. name.now) cli.first, option_map (λ name. name.now) cli.second)
 
--- the file that the rows of a subcommand name for a certificate
+-- the name of the file for a certificate in the parsed arguments of a subcommand; None if no subcommand was entered
 abbrev pub certificate_in : Option (List Row) → Option Text
 certificate_in None = None
 certificate_in (Some rows) = first_of (codes "certificate") rows
 
--- the certificate's file of the subcommand that was entered
+-- the name of the file for a certificate of the subcommand that was entered, if one was
 abbrev pub certificate_among : Option (Text × List Row) → Option Text
 certificate_among entered = certificate_in (option_map (λ entry. entry.1) entered)
 
--- the file that the arguments name for a certificate
+-- the name of the file for a certificate that a command line has
 abbrev pub certificate_of : List Text → Option Text
 certificate_of words = certificate_among (subcommand_of sizing words)
 
--- the certificate's file in the parsed arguments
+-- the name of the file for a certificate in a `Cli`
 abbrev pub certificate_of_cli : Cli → Option Text
 certificate_of_cli cli = option_map (λ name. name.now) cli.certificate
 
--- a subcommand was entered whose numbers and options name no command
+-- a subcommand was entered, but one of its numbers is out of its range, or two of its options exclude each other
 abbrev pub is_out_of_range : Option (Text × List Row) → Bool
 is_out_of_range entered = is_some entered && not (is_some (command_among entered))
 
--- the possible kinds of error: those of `clap`, or that of a number out of its range or of options that exclude each other
+-- the kinds of error that the arguments of a command line can have: the kinds of the first fault that `clap` finds; if it finds none, the
+-- kind for a number out of its range and for options that exclude each other
 abbrev pub faults_of : List Text → Kinds
 faults_of words = or_else (fault_of sizing words) (if is_out_of_range (subcommand_of sizing words) then ValueValidation ∷ [] else [])
 
--- the numbers of a task are in their ranges
+-- each number of the task is in its range
 abbrev pub IsTaskInRange : Task → Type 0
 IsTaskInRange (Certify workers) = (1 ≤ workers) × (workers ≤ MAX_WORKERS)
 IsTaskInRange (Fit sizes_form) = Unit {0}
@@ -144,7 +145,7 @@ IsTaskInRange (Run rounds) = (1 ≤ rounds) × (rounds ≤ MAX_ROUNDS)
 IsTaskInRange (Refute states refute_format) = (1 ≤ states) × (states ≤ MAX_STATES)
 IsTaskInRange (Ask given options) = Unit {0}
 
--- the numbers of a command are in their ranges
+-- each number of the command is in its range
 abbrev pub IsInRange : Command → Type 0
 IsInRange (Sequential review) = Unit {0}
 IsInRange (OnRecording reading) = Unit {0}

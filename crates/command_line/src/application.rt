@@ -1,4 +1,4 @@
-//! The `clap` application, with a subcommand for each command.
+//! The `clap` application of the program, with a subcommand for each command.
 ghost use Rattle.std.specs.Prelude.{◌≡◌, IfOk, IsOkAnd, false, codes};
 ghost use Rattle.clap.specs.Words.{app_of, new_app, rule_of, shape_of, with_subcommand};
 ghost use Rattle.clap.specs.declared.builder.command.Command.TheViews.{out-Command as fields_of};
@@ -20,7 +20,7 @@ pub(crate) fn application<'a>(alloc: Global) -> Result<Command<'a>, AllocError>
     with_recording_commands(alloc, tasked)
 }
 
-// Adds a subcommand for each review.
+// Adds the subcommands `replay`, `check` and `explain`.
 fn with_review_commands<'a>(alloc: Global, program: Command<'a>) -> Result<Command<'a>, AllocError>
     ensures { IfOk result (λ made. app_of made ≡ with_review_commands (app_of program.entry)) }
 {
@@ -29,7 +29,7 @@ fn with_review_commands<'a>(alloc: Global, program: Command<'a>) -> Result<Comma
     with_subcommand(checked, explain(alloc))
 }
 
-// Adds a subcommand for each task.
+// Adds the subcommands `certify`, `fit`, `run`, `refute` and `ask`.
 fn with_tasks<'a>(alloc: Global, program: Command<'a>) -> Result<Command<'a>, AllocError>
     ensures { IfOk result (λ made. app_of made ≡ with_tasks (app_of program.entry)) }
 {
@@ -40,7 +40,7 @@ fn with_tasks<'a>(alloc: Global, program: Command<'a>) -> Result<Command<'a>, Al
     with_subcommand(refuted, ask(alloc))
 }
 
-// Adds a subcommand for each command on recordings.
+// Adds the subcommands `conform` and `learn`.
 fn with_recording_commands<'a>(
     alloc: Global,
     program: Command<'a>,
@@ -51,8 +51,8 @@ fn with_recording_commands<'a>(
     with_subcommand(conformed, learn(alloc))
 }
 
-// Adds this subcommand, if it was made. The `?` is here so that no caller owns an application when
-// it returns early.
+// Adds a subcommand to the program, or returns the error of the subcommand's creation. The `?` is
+// in this function so that no caller returns early while it owns an application.
 fn with_subcommand<'a>(
     program: Command<'a>,
     made: Result<Command<'a>, AllocError>,
@@ -64,7 +64,8 @@ fn with_subcommand<'a>(
     program.subcommand(made?)
 }
 
-// Creates the application without subcommands. `main` prints the version in place of `clap`'s empty one.
+// Creates the application without subcommands. Its version is empty, because `main` prints the
+// version.
 fn program<'a>(alloc: Global) -> Command<'a>
     ensures { app_of result ≡ program }
 {
@@ -92,7 +93,7 @@ fn explain<'a>(alloc: Global) -> Result<Command<'a>, AllocError>
     of_both(alloc, "explain", help::EXPLAIN)
 }
 
-// Creates the argument for the file of the plan, or of all texts.
+// Creates the argument that names the file of the plan, or the one file of all texts.
 fn plan<'a>(alloc: Global) -> Arg<'a>
     ensures rule { rule_of result ≡ file_argument (codes "PLAN") }
     ensures local { result.global ≡ false }
@@ -102,7 +103,7 @@ fn plan<'a>(alloc: Global) -> Arg<'a>
     )
 }
 
-// Creates the argument for the file of the second text.
+// Creates the argument that names the file of the second text.
 fn second<'a>(alloc: Global) -> Arg<'a>
     ensures rule { rule_of result ≡ file_argument (codes "SECOND") }
     ensures local { result.global ≡ false }
@@ -110,7 +111,7 @@ fn second<'a>(alloc: Global) -> Arg<'a>
     file(alloc, "SECOND").help("The file of the second text")
 }
 
-// Creates an argument that names a file.
+// Creates an argument with this id, whose value names a file.
 fn file<'a>(alloc: Global, id: &'a str) -> Arg<'a>
     ensures rule { rule_of result ≡ file_argument id.entry.now }
     ensures local { result.global ≡ false }
@@ -221,7 +222,8 @@ fn learn<'a>(alloc: Global) -> Result<Command<'a>, AllocError>
     .arg(recording(alloc))
 }
 
-// Creates the argument for the file of a recording. Its id is that of the plan's file.
+// Creates the argument that names the file of a recording. It has the id of the argument for a
+// plan, so that the first file of each subcommand is found under one id.
 fn recording<'a>(alloc: Global) -> Arg<'a>
     ensures rule { rule_of result ≡ file_argument (codes "PLAN") }
     ensures local { result.global ≡ false }
@@ -232,7 +234,7 @@ fn recording<'a>(alloc: Global) -> Arg<'a>
         .help("The file of the recording; `-` is standard input")
 }
 
-// Creates the option that makes a warning a no.
+// Creates the option `--strict`, with which a warning changes the exit status of a safe plan to 1.
 fn strict<'a>(alloc: Global) -> Arg<'a>
     ensures rule { rule_of result ≡ strict_option }
     ensures local { result.global ≡ false }
@@ -243,7 +245,7 @@ fn strict<'a>(alloc: Global) -> Arg<'a>
         .help("Exit with status 1 if there is a warning")
 }
 
-// Creates the option for JSON output.
+// Creates the option `--json`, with which the answer is a JSON object.
 fn json<'a>(alloc: Global) -> Arg<'a>
     ensures rule { rule_of result ≡ json_option }
     ensures local { result.global ≡ false }
@@ -264,7 +266,7 @@ fn dot<'a>(alloc: Global) -> Arg<'a>
         .help("Write the plan as a picture for Graphviz")
 }
 
-// Creates the option that names the file for a certificate.
+// Creates the option `--certificate FILE`, which names the file to which a certificate is written.
 fn certificate<'a>(alloc: Global) -> Arg<'a>
     ensures rule { rule_of result ≡ certificate_option }
     ensures local { result.global ≡ false }
@@ -276,7 +278,7 @@ fn certificate<'a>(alloc: Global) -> Arg<'a>
         .help("Write the certificate that was found to this file, for the next run")
 }
 
-// Creates the option `--ID N`, for a whole number in this range.
+// Creates the option `--ID N`, where N is a whole number from `low` to `high`.
 fn number<'a>(alloc: Global, id: &'a str, low: u64, high: u64) -> Arg<'a>
     ensures rule { rule_of result ≡ number_option id.entry.now low high }
     ensures local { result.global ≡ false }
@@ -288,7 +290,7 @@ fn number<'a>(alloc: Global, id: &'a str, low: u64, high: u64) -> Arg<'a>
         .value_parser(ValueParser::unsigned(low, high))
 }
 
-// Creates a subcommand that reads a plan and a second text, with its help and without options.
+// Creates a subcommand that reads a plan and a second text, and has no options.
 fn of_both<'a>(alloc: Global, name: &'a str, help: Help) -> Result<Command<'a>, AllocError>
     ensures shape { IfOk result (λ made. shape_of made ≡ (of_both name.entry.now).top) }
     ensures local { IfOk result (λ made. (fields_of made).has_globals ≡ false) }
@@ -296,7 +298,7 @@ fn of_both<'a>(alloc: Global, name: &'a str, help: Help) -> Result<Command<'a>, 
     of_plan(alloc, name, help)?.arg(second(alloc))
 }
 
-// Creates a subcommand that reads a plan.
+// Creates a subcommand that reads a plan, and has no options.
 fn of_plan<'a>(alloc: Global, name: &'a str, help: Help) -> Result<Command<'a>, AllocError>
     ensures shape { IfOk result (λ made. shape_of made ≡ (of_plan name.entry.now).top) }
     ensures local { IfOk result (λ made. (fields_of made).has_globals ≡ false) }

@@ -36,7 +36,7 @@ pub enum ReviewCommand {
 /// A command on a recording of what a service did.
 #[derive(Clone, Copy, Debug, PartialEq, Eq)]
 pub enum RecordingCommand {
-    /// Compares a recording with the plan before it.
+    /// Compares a recording with the plan that precedes it in the input.
     Conform,
     /// Derives a plan from a recording.
     Learn,
@@ -47,12 +47,12 @@ pub enum RecordingCommand {
 pub enum Task {
     /// Searches for a certificate.
     Certify {
-        /// The number of threads, 1 to 64.
+        /// The number of threads that search, 1 to 64.
         workers: usize,
     },
     /// Searches for sizes that a certificate accepts.
     Fit {
-        /// The output for the sizes.
+        /// The output format for the sizes.
         sizes_form: SizesForm,
     },
     /// Runs a certified plan on threads, and counts its jobs and their units of work.
@@ -64,14 +64,14 @@ pub enum Task {
     Refute {
         /// The maximum number of states to search, 1 to 10,000,000. The default is 100,000.
         states: usize,
-        /// The output for a witness.
+        /// The output format for a witness.
         refute_format: RefuteFormat,
     },
-    /// Decides whether a plan is safe with the sizes that it declares, for a person or for a build.
+    /// Decides whether a plan is safe with the sizes that it declares.
     Ask {
-        /// Whether a certificate follows the plan.
+        /// The texts to read: a plan alone, or a plan and a certificate.
         given: AskInput,
-        /// The options of the answer.
+        /// The other options of `ask`.
         options: AskOptions,
     },
 }
@@ -81,8 +81,8 @@ pub enum Task {
 pub struct Cli<'a> {
     /// The command.
     pub command: Command,
-    /// The file of all texts, or of the plan if there is a second file. `None` and `-` mean
-    /// standard input.
+    /// The file of the plan or, if there is no second file, the one file of all texts. `None` and
+    /// `-` mean standard input.
     pub first: Option<&'a str>,
     /// The file of the second text.
     pub second: Option<&'a str>,
@@ -90,21 +90,21 @@ pub struct Cli<'a> {
     pub certificate: Option<&'a str>,
 }
 
-/// An output format for sizes.
+/// An output format of `fit`.
 #[derive(Clone, Copy, Debug, PartialEq, Eq)]
 pub enum SizesForm {
-    /// A line for each pool, with what changes.
+    /// A line for each pool, which marks the sizes that change.
     Sizes,
-    /// The plan with those sizes, and its certificate.
+    /// The plan with the new sizes, and its certificate.
     Bundle,
 }
 
-/// An output format for a witness.
+/// An output format of `refute`.
 #[derive(Clone, Copy, Debug, PartialEq, Eq)]
 pub enum RefuteFormat {
-    /// How the witness ends, and the story that leads there.
+    /// Lines for a person: how the witness ends, and the steps that lead to this end.
     Story,
-    /// The plan followed by the events, as `replay` reads them.
+    /// The plan and then the events, in the form that `replay` reads.
     Bundle,
 }
 
@@ -120,7 +120,7 @@ pub enum AskInput {
 /// The options of `ask`.
 #[derive(Clone, Copy, Debug, PartialEq, Eq)]
 pub struct AskOptions {
-    /// Whether a warning makes the answer a no.
+    /// Whether a warning changes the exit status of a safe plan to 1.
     pub strict: bool,
     /// The output format.
     pub form: Form,
@@ -139,7 +139,8 @@ pub enum Form {
 
 /// Parses the arguments of a command line, of which the first is the program's name.
 ///
-/// Returns `None` if the arguments name no command. The numbers of a command are in their ranges.
+/// Returns `None` if the arguments name no command. The numbers of a returned command are in their
+/// ranges.
 ///
 /// # Errors
 ///
@@ -170,7 +171,7 @@ pub fn read_words<'a>(alloc: Global, words: &'a [&'a str]) -> Result<Option<Cli<
     Ok(parsed_args(&matches))
 }
 
-// Returns the parsed arguments of the subcommand that was entered.
+// Returns the parsed arguments, or `None` if no subcommand was entered or its options are invalid.
 fn parsed_args<'a>(matches: &ArgMatches<'a>) -> Option<Cli<'a>>
     ensures command { option_map (λ cli. cli.command) result
         ≡ spec.command_among (subcommand_rows_of matches.now) }
@@ -190,7 +191,7 @@ fn parsed_args<'a>(matches: &ArgMatches<'a>) -> Option<Cli<'a>>
     })
 }
 
-// Returns the file that this argument names, if it was given.
+// Returns the file that the argument with this id names, if the argument was given.
 fn file_named<'a>(options: &ArgMatches<'a>, id: &str) -> Option<&'a str>
     ensures { option_map (λ name. name.now) result
         ≡ first_of id.now (rows_of (found_of options.now)) }
@@ -206,7 +207,8 @@ fn is_out_of_range(matches: &ArgMatches<'_>) -> bool
     matches.subcommand().is_some() && command_among(matches).is_none()
 }
 
-// Returns the command of the subcommand that was entered.
+// Returns the command of the subcommand that was entered, or `None` if no subcommand was entered or
+// its options are invalid.
 fn command_among(matches: &ArgMatches<'_>) -> Option<Command>
     ensures command { result ≡ spec.command_among (subcommand_rows_of matches.now) }
     ensures in_range { IfSome result spec.IsInRange }
@@ -221,7 +223,7 @@ fn command_among(matches: &ArgMatches<'_>) -> Option<Command>
     }
 }
 
-// Returns the task of the subcommand of this name.
+// Returns the task of the subcommand with this name and these options.
 fn task_of(name: &str, options: &ArgMatches<'_>) -> Option<Task>
     ensures task { result ≡ spec.task_of name.now (rows_of (found_of options.now)) }
     ensures in_range { IfSome result spec.IsTaskInRange }
@@ -300,7 +302,7 @@ fn ask(options: &ArgMatches<'_>) -> Option<Task>
     })
 }
 
-// Returns the requested format, unless there are two.
+// Returns the requested output format, or `None` if both `--json` and `--dot` were given.
 fn form_of(json: bool, dot: bool) -> Option<Form>
     ensures { result ≡ spec.form_of json dot }
 {

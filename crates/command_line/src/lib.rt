@@ -1,7 +1,8 @@
 //! The arguments of the command line, and the command that they name.
 //!
-//! `clap` parses the arguments and reports help and usage errors. `specs/` fixes its result:
-//! `Application` is the application, and `Command` is the command that the arguments name.
+//! `clap` parses the arguments, and reports usage errors and requests for help. The definitions in
+//! `specs/` specify its result: `Application.antt` defines the application, and `Command.antt` the
+//! command that the arguments name.
 #![tactic(auto)]
 
 mod application;

@@ -1,11 +1,11 @@
-//! Options with a whole number.
+//! Options whose value is a whole number.
 ghost use Rattle.std.specs.Prelude.{◌≡◌, ◌≤◌, IfSome};
 ghost use Rattle.clap.specs.Words.{found_of, rows_of};
 ghost use Rattle.command_line.specs.Command as spec;
 
 use clap::ArgMatches;
 
-/// Returns the number of the option, if it is in the range.
+/// Returns the number that was given for the option with this id, if it is from `low` to `high`.
 pub(crate) fn number_of(options: &ArgMatches<'_>, id: &str, low: u64, high: u64) -> Option<u64>
     ensures number { result ≡ spec.number_of id.now low high (rows_of (found_of options.now)) }
     ensures in_range { IfSome result (λ number. (low ≤ number) × (number ≤ high)) }
@@ -13,7 +13,7 @@ pub(crate) fn number_of(options: &ArgMatches<'_>, id: &str, low: u64, high: u64)
     number_in(options.get_str(id)?, low, high)
 }
 
-// Parses a whole number in the range.
+// Parses a whole number, and returns `None` if it is not from `low` to `high`.
 fn number_in(text: &str, low: u64, high: u64) -> Option<u64>
     ensures number { result ≡ spec.number_in low high text.now }
     ensures in_range { IfSome result (λ number. (low ≤ number) × (number ≤ high)) }

@@ -1,4 +1,4 @@
--- The lines that report the faults of a plan's text.
+-- The lines that report the faults and the warnings of a plan's text.
 use Rattle.std.specs.Prelude.{ℕ, List, [], ◌∷◌, ◌++◌, codes, decimal, string_bytes}
 use Rattle.std.specs.List.{flat_map}
 use Rattle.plan_text.specs.declared.place.TextPlace.{TextPlace}
@@ -6,18 +6,19 @@ use Rattle.diagnostics.specs.declared.diagnostic.Diagnostic.{Diagnostic}
 use Rattle.diagnostics.specs.declared.diagnostic.Faults.{Faults}
 use Rattle.diagnostics.specs.declared.warnings.Warning.{Warning}
 
--- a place in the file of this name
+-- a place in the file of this name, as `FILE:LINE:COLUMN: `
 abbrev pub place_head : List ℕ → TextPlace → List ℕ
 place_head file place = file ++ (codes ":" ++ (decimal place.line ++ (codes ":" ++ (decimal place.column ++ codes ": "))))
 
--- the number of a fault, at the end of its line
+-- the end of a fault's line: the number of the fault, and a newline
 abbrev pub number_end : ℕ → List ℕ
 number_end number = codes " (fault " ++ (decimal number ++ (codes ")" ++ 10 ∷ []))
 
--- a message at a place, and the number of the fault
+-- the line of a fault: its place, its message and its number
 abbrev pub fault_line : List ℕ → TextPlace → List ℕ → ℕ → List ℕ
 fault_line file place what number = place_head file place ++ (what ++ number_end number)
 
+-- the line of a diagnostic
 abbrev pub diagnostic_line : List ℕ → Diagnostic → List ℕ
 diagnostic_line file diagnostic = fault_line file diagnostic.place (string_bytes diagnostic.what) diagnostic.fault.number
 
@@ -25,11 +26,11 @@ diagnostic_line file diagnostic = fault_line file diagnostic.place (string_bytes
 abbrev pub diagnostic_lines : List ℕ → List Diagnostic → List ℕ
 diagnostic_lines file diagnostic = flat_map (diagnostic_line file) diagnostic
 
--- the first fault, and then the others
+-- the text of all faults: the line of the first fault, and then a line for each other fault
 abbrev pub faults_text : List ℕ → Faults → List ℕ
 faults_text file faults = diagnostic_line file faults.first ++ diagnostic_lines file faults.others.items
 
--- a warning at a place
+-- the line of a warning: its place and its message
 abbrev pub warning_at : List ℕ → TextPlace → List ℕ → List ℕ
 warning_at file place what = place_head file place ++ (codes "warning: " ++ (what ++ 10 ∷ []))
 

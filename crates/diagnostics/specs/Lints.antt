@@ -11,29 +11,29 @@ use Rattle.diagnostics.specs.declared.lint.Lint.{Lint}
 use Rattle.diagnostics.specs.declared.lint.Lint.TheVariants.{NothingToAsk, NoClients, NothingSubmitted, PoolWithoutJobs, UselessMax, QueueFarAbove, ClassWithoutJobs, GoesOnce, Crowd, WorkLikeASize}
 use Rattle.diagnostics.specs.declared.warnings.Warning.{Warning}
 
--- the lint alone, or nothing
+-- the lint alone if the condition is true, and otherwise no lint
 abbrev pub only_if : Bool → Lint → List Lint
 only_if true lint = lint ∷ []
 only_if false lint = []
 
 -- ---- lengths of work that look like sizes
 
--- the number is a size of the pool
+-- the number is the core size, the maximum or the queue capacity of the pool
 abbrev pub has_size : ℕ → Pool → Bool
 has_size n pool = pool.core == n || pool.max == n || pool.queue == n
 
 abbrev pub has_count : ℕ → Client → Bool
 has_count n client = client.count == n
 
--- the number is a size of some pool, or the count of some kind of clients
+-- the number is a size of some pool, or the count of some client kind
 abbrev pub is_a_size : Plan → ℕ → Bool
 is_a_size plan n = list_any (has_size n) plan.pools || list_any (has_count n) plan.clients
 
--- the length of work is at least 50 units and equals some size
+-- the length of a `work` is at least 50 units and equals a size of the plan
 abbrev pub looks_like_a_size : Plan → ℕ → Bool
 looks_like_a_size plan units = nat_le 50 units && is_a_size plan units
 
--- the lints of an action in the body of a class or a kind of clients
+-- the lints of an action in the body of a class or client kind
 abbrev pub lints_of_action : Plan → Part → ℕ → ℕ → Action → List Lint
 lints_of_action plan of number place (Work units) = only_if (looks_like_a_size plan units) (WorkLikeASize of number place units)
 lints_of_action plan of number place _ = []
@@ -43,27 +43,27 @@ lints_of_body plan of number body = flat_map (λ (entry : ℕ × Action). lints_
 
 -- ---- pools
 
--- the class is submitted, and its jobs run in the pool
+-- the class is marked as submitted, and its jobs run in the pool
 abbrev pub brings_jobs : List Bool → ℕ → ℕ → Class → Bool
 brings_jobs marks p k class = slice_index_or marks k false && class.pool == p
 
--- a class that is submitted has its jobs in the pool
+-- the pool runs the jobs of some class that is marked as submitted
 abbrev pub gets_a_job : Plan → List Bool → ℕ → Bool
 gets_a_job plan marks p = list_any (λ (entry : ℕ × Class). brings_jobs marks p entry.0 entry.1) (enumerate_from 0 plan.classes)
 
--- the pool can have more threads than its core size, which are created when the queue is full
+-- the pool's maximum is above its core size
 abbrev pub may_grow : Pool → Bool
 may_grow pool = nat_lt pool.core pool.max
 
--- a tenth of the queue's capacity is more than the jobs that it holds at most, and more than 1
+-- a tenth of the queue's capacity is more than `most` jobs, and more than 1
 abbrev pub is_far_above : Pool → ℕ → Bool
 is_far_above pool most = nat_lt (max most 1) (pool.queue / 10)
 
--- the lints of sizes that are larger than needed for this number of jobs in the queue
+-- the lints of the pool's sizes that are larger than needed, if at most `most` jobs are in the queue at once
 abbrev pub lints_of_known_sizes : ℕ → Pool → ℕ → List Lint
 lints_of_known_sizes p pool most = only_if (may_grow pool) (UselessMax p) ++ only_if (is_far_above pool most) (QueueFarAbove p most)
 
--- if that number is known
+-- the lints of the pool's sizes that are larger than needed; none if the maximum number of jobs in the queue is not known
 abbrev pub lints_of_sizes : ℕ → Pool → Option ℕ → List Lint
 lints_of_sizes p pool None = []
 lints_of_sizes p pool (Some most) = lints_of_known_sizes p pool most
@@ -82,22 +82,23 @@ lints_of_class plan marks k class = only_if (not (slice_index_or marks k false))
 abbrev pub lints_of_classes : Plan → List Bool → List Lint
 lints_of_classes plan marks = flat_map (λ (entry : ℕ × Class). lints_of_class plan marks entry.0 entry.1) (enumerate_from 0 plan.classes)
 
--- ---- kinds of clients
+-- ---- client kinds
 
 abbrev pub is_submit : Action → Bool
 is_submit (Submit k) = true
 is_submit _ = false
 
--- the pool has one core thread, and a queue that holds fewer jobs than there are clients
+-- the pool has one core thread, and a queue with fewer places than `count`
 abbrev pub is_small : ℕ → Pool → Bool
 is_small count pool = pool.core == 1 && nat_lt pool.queue count
 
--- the action is not a submit, or submits to such a pool
+-- the action is no submit, or submits to a pool with one core thread whose queue has fewer places than `count`
 abbrev pub is_for_small : Plan → ℕ → Action → Bool
 is_for_small plan count (Submit k) = is_small count (pool_at plan (class_at plan k).pool)
 is_for_small plan count _ = true
 
--- the clients submit, and only to such pools
+-- the clients of this kind submit jobs, and only to pools with one core thread whose queues have fewer places than there are clients of the
+-- kind
 abbrev pub are_a_crowd : Plan → Client → Bool
 are_a_crowd plan client = list_any is_submit client.body && list_all (is_for_small plan client.count) client.body
 
@@ -109,25 +110,26 @@ lints_of_clients plan = flat_map (λ (entry : ℕ × Client). lints_of_client pl
 
 -- ---- the plan
 
+-- the lint of a plan without clients
 abbrev pub without_clients : Plan → Lint
 without_clients plan = if length plan.pools == 0 then NothingToAsk else NoClients
 
 abbrev pub lints_of_parts : Plan → List (Option ℕ) → List Bool → List Lint
 lints_of_parts plan needed marks = lints_of_pools plan needed marks ++ lints_of_classes plan marks ++ lints_of_clients plan
 
--- the lint of the whole plan, or the lints of its parts if there is none; `needed` has the most jobs that each queue holds,
--- as far as known, and `marks` the classes that are submitted
+-- the lints of a plan: one lint of the whole plan if such a lint applies, and otherwise the lints of its parts. For each pool, `needed` has
+-- the maximum number of jobs in its queue at once, if it is known. For each class, `marks` has whether it is submitted
 abbrev pub lints : Plan → List (Option ℕ) → List Bool → List Lint
 lints plan needed marks =
     if length plan.clients == 0 then without_clients plan ∷ [] else
     (if list_any (λ (mark : Bool). mark) marks then lints_of_parts plan needed marks else NothingSubmitted ∷ [])
 
--- the list is the lints of the plan; the marked classes are those that clients submit, directly or through other jobs
+-- the list has the lints of the plan, if the marked classes are those that clients submit, directly or through other jobs
 pub record AreLints (plan : Plan) (needed : List (Option ℕ)) (found : List Lint) : Type 0 where
   pub marks : List Bool
   pub submitted : MarksSubmitted plan marks
   pub comma_list : found ≡ lints plan needed marks
 
--- the lints that the warnings report
+-- the lints of the warnings, in the same order
 abbrev pub lints_in : List Warning → List Lint
 lints_in warnings = map (λ (warning : Warning). warning.lint) warnings

@@ -1,11 +1,11 @@
-//! The parsing of actions, and what is wrong with a text that is not one.
+//! The parsing of actions, and the messages for texts that are not actions.
 
 use crate::names::name_rule;
 use crate::suggestions::suggestion;
 use job_bodies::{MAX_WORK, is_valid_name};
 use std::alloc::{AllocError, Global};
 
-/// An action as it is written.
+/// A parsed action, with the class of a submit and the name under which a job is submitted or got.
 #[derive(Clone, Copy)]
 pub(crate) enum ParsedAction<'a> {
     Work,
@@ -14,7 +14,7 @@ pub(crate) enum ParsedAction<'a> {
     Get(&'a str),
 }
 
-/// The words of a text: the first four, and how many there are.
+/// The first four words of a text, and the number of all its words.
 #[derive(Clone, Copy)]
 struct Words<'a> {
     words: [&'a str; 4],
@@ -35,7 +35,7 @@ fn words_of(text: &str) -> Words<'_> {
     found
 }
 
-/// Parses an action, if the text is one.
+/// Parses an action. Returns `None` if the text is not an action.
 pub(crate) fn parse_action(text: &str) -> Option<ParsedAction<'_>> {
     let Words {
         words: [verb, first, word, slot],
@@ -52,8 +52,8 @@ pub(crate) fn parse_action(text: &str) -> Option<ParsedAction<'_>> {
     }
 }
 
-/// Returns whether the text is a length of work: a number from 1 to 1,000,000 without a leading
-/// zero.
+/// Returns whether the text is the length of a `work`: a number from 1 to 1,000,000 without a
+/// leading zero.
 fn is_length(text: &str) -> bool {
     let bytes = text.as_bytes();
     if bytes.first() == Some(&b'0') || !bytes.iter().all(|byte| byte.is_ascii_digit()) {
@@ -65,7 +65,7 @@ fn is_length(text: &str) -> bool {
     }
 }
 
-/// Returns what is wrong with a text that is not an action.
+/// Returns the message for a text that is not an action.
 pub(crate) fn action_error(alloc: Global, text: &str) -> Result<String, AllocError> {
     if is_spaced(text) {
         let words = "write one space between words, and none before the first or after the last";
@@ -81,6 +81,7 @@ pub(crate) fn action_error(alloc: Global, text: &str) -> Result<String, AllocErr
     }
 }
 
+/// Returns whether the text has a tab, two spaces in sequence, or a space at its start or end.
 fn is_spaced(text: &str) -> bool {
     let bytes = text.as_bytes();
     let mut last = b' ';

@@ -1,5 +1,5 @@
-//! The checks of bodies: each action is well-formed, names an existing class, and gets a job that
-//! was submitted.
+//! The checks of bodies: each action is well-formed, each submit names an existing class, and each
+//! get names a job that was submitted before and not got yet.
 
 use crate::actions::{ParsedAction, action_error, parse_action};
 use crate::collector::FaultCollector;
@@ -15,11 +15,11 @@ struct Slot<'a> {
     name: &'a str,
     /// The index of the action that submitted the job.
     submit: usize,
-    /// The index of the action that got the job.
+    /// The index of the action that got the job, or `None` if no action got it yet.
     got: Option<usize>,
 }
 
-/// The action that is being checked.
+/// An action that is being checked.
 #[derive(Clone, Copy)]
 struct CheckedAction<'a> {
     entry: &'a PlacedEntry<'a>,
@@ -113,6 +113,8 @@ fn check_submit(
     checked.report(collector, NO_SUCH_CLASS, &words)
 }
 
+/// Reports the action if a job was submitted under the name and not got yet. Otherwise adds the
+/// name to the slots.
 fn check_slot_is_free<'a>(
     collector: &mut FaultCollector,
     checked: CheckedAction<'a>,
@@ -136,6 +138,8 @@ fn check_slot_is_free<'a>(
     Ok(())
 }
 
+/// Marks the job that was submitted under this name as got. Reports the action if there is no such
+/// job, or if it was got before.
 fn check_get<'a>(
     collector: &mut FaultCollector,
     checked: CheckedAction<'a>,
@@ -165,6 +169,7 @@ fn check_get<'a>(
     checked.report(collector, SLOT_EMPTY, &words)
 }
 
+/// Returns the message for a get of a name under which no job was submitted before.
 fn no_such_slot(
     alloc: Global,
     checked: CheckedAction<'_>,
@@ -188,8 +193,8 @@ fn no_such_slot(
     format!(in alloc; "nothing was submitted as {name}{right}")
 }
 
-/// Returns the message if the body has the submit after the get, or a submit of a class of this
-/// name without `as` before it.
+/// Returns a message that points out a submit under this name after the get, or an unnamed submit
+/// of a class of this name before the get. Returns `None` if the body has neither.
 fn misplaced_submit(
     alloc: Global,
     checked: CheckedAction<'_>,

@@ -5,10 +5,10 @@ use job_bodies::PlanFault;
 use plan_text::TextPlace;
 use std::alloc::{AllocError, Global};
 
-/// The maximum number of faults that are reported besides the first.
+/// The maximum number of faults in the list.
 const MAX_FOUND: usize = 100;
 
-/// A list of the faults found so far.
+/// A list of the faults found so far. Further faults are dropped when it is full.
 #[derive(Drop)]
 pub(crate) struct FaultCollector {
     pub(crate) alloc: Global,

@@ -1,4 +1,4 @@
-//! The faults of a plan's text, and their lines.
+//! The faults of a plan's text, and the lines that print them.
 
 ghost use Rattle.diagnostics.specs.Diagnostic as spec;
 ghost use Rattle.support.specs.Pushed.{Pushes};
@@ -23,7 +23,7 @@ pub struct Diagnostic {
 pub struct Faults {
     /// The fault that the plan parser reports.
     pub first: Diagnostic,
-    /// Further faults that can be found in spite of the first, at most 100.
+    /// The other faults that were found, at most 100.
     pub others: Vec<Diagnostic>,
 }
 
@@ -76,7 +76,7 @@ fn push_line(
     push_number(text, number)
 }
 
-/// Appends a place in the file.
+/// Appends a place in the file, as `FILE:LINE:COLUMN: `.
 pub(crate) fn push_place(text: &mut String, file: &str, place: TextPlace) -> Result<(), AllocError>
     ensures { Pushes result text.old text.new (spec.place_head file.now place) }
 {

@@ -1,4 +1,4 @@
-//! The entries of a plan: its pools, its classes and its kinds of clients.
+//! The entries of a plan: its pools, its classes and its client kinds.
 
 use crate::collector::FaultCollector;
 use job_bodies::{Part, PlanFault};
@@ -9,8 +9,8 @@ use toml::{Table, Value};
 /// The beginning of a text.
 pub(crate) const BEGINNING: TextPlace = TextPlace { line: 1, column: 1 };
 
-/// Returns the name of the list of such entries in a plan's text, which also names an entry in
-/// messages.
+/// Returns the key of the list that has such entries. Messages use it as the name of an entry's
+/// kind.
 pub(crate) fn list_of(part: Part) -> &'static str {
     match part {
         Part::Text => "plan",
@@ -20,7 +20,7 @@ pub(crate) fn list_of(part: Part) -> &'static str {
     }
 }
 
-/// An entry of a list, with the places of its text.
+/// An entry of one of the plan's lists. `places` has the places of the whole text.
 #[derive(Clone, Copy)]
 pub(crate) struct PlacedEntry<'a> {
     pub(crate) part: Part,
@@ -34,7 +34,8 @@ impl<'a> PlacedEntry<'a> {
         self.table.get(key)
     }
 
-    /// Returns the string at a key, if there is one.
+    /// Returns the string at the key, or `None` if the key is missing or has a value of another
+    /// type.
     pub(crate) fn text(&self, key: &str) -> Option<&'a str> {
         match self.table.get(key) {
             Some(value) => value.as_str(),
@@ -42,7 +43,8 @@ impl<'a> PlacedEntry<'a> {
         }
     }
 
-    /// Returns the integer at a key, if there is one.
+    /// Returns the integer at the key, or `None` if the key is missing or has a value of another
+    /// type.
     pub(crate) fn number(&self, key: &str) -> Option<i64> {
         match self.table.get(key) {
             Some(value) => value.as_integer(),
@@ -88,7 +90,7 @@ impl<'a> PlacedEntry<'a> {
         }
     }
 
-    /// Reports a fault of the entry, as `pool db: WORDS`.
+    /// Reports a fault of the entry, with the message `pool db: WORDS`.
     pub(crate) fn report(
         &self,
         collector: &mut FaultCollector,
@@ -105,7 +107,7 @@ impl<'a> PlacedEntry<'a> {
         )
     }
 
-    /// Reports a fault of an action, as `class page, action 1 "get row": WORDS`.
+    /// Reports a fault of an action, with the message `class page, action 1 "get row": WORDS`.
     pub(crate) fn report_action(
         &self,
         collector: &mut FaultCollector,

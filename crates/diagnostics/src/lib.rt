@@ -1,8 +1,8 @@
 //! Diagnostics for the text of a plan, which say where a fault is, what is wrong and how to fix it;
-//! and lints, which warn of valid plans that are probably not meant.
+//! and lints, which warn of parts of a valid plan that are probably mistakes.
 //!
-//! The first fault is the one that the plan parser reports, and the warnings are exactly the lints
-//! of the plan. The contracts promise nothing about messages and places.
+//! The first diagnostic is for the fault that the plan parser reports, and the warnings are exactly
+//! the lints of the plan. The contracts promise nothing about messages and places.
 #![tactic(auto)]
 
 mod actions;

@@ -2,31 +2,34 @@
 
 use job_bodies::Part;
 
-/// A lint: something that is valid in a plan but probably not meant. Pools, classes, kinds of
-/// clients and actions are counted from 0.
+/// A lint: a part of a valid plan that is probably a mistake. Pools, classes, client kinds and
+/// actions are numbered from 0.
 #[derive(Clone, Copy, PartialEq, Eq)]
 pub enum Lint {
     /// The plan has no pools and no clients.
     NothingToAsk,
     /// The plan has pools, but no clients.
     NoClients,
-    /// The plan has clients, but no class is submitted.
+    /// The plan has clients, but they submit nothing.
     NothingSubmitted,
-    /// This pool gets no jobs.
+    /// No job is ever submitted to this pool.
     PoolWithoutJobs(usize),
-    /// This pool has a maximum above its core size, and its queue never fills.
+    /// The maximum of this pool is above its core size, but has no effect, because its queue never
+    /// fills.
     UselessMax(usize),
-    /// The queue of this pool is much larger than this number of jobs, the most that can be in it.
+    /// The queue capacity of this pool is far above this number, which is the maximum number of
+    /// jobs in the queue at once.
     QueueFarAbove(usize, u64),
     /// No client submits this class, directly or through other jobs.
     ClassWithoutJobs(usize),
-    /// The clients of this kind go through their body once.
+    /// This client kind does not repeat: each of its clients goes through its body once.
     GoesOnce(usize),
-    /// The clients of this kind submit only to pools with one core thread, and their number is
-    /// larger than each of those pools' queues.
+    /// This client kind submits only to pools with one core thread, and each of these pools' queues
+    /// has fewer places than there are clients of the kind.
     Crowd(usize),
-    /// In the body of this class or kind of clients, the action at the second index works for this
-    /// number of units, which is also a size of the plan.
+    /// The body of a class or client kind has a `work` whose length is also a size of the plan. The
+    /// fields are: whether it is a class or a client kind, its number, the number of the action, and
+    /// the length in units.
     WorkLikeASize(Part, usize, usize, u32),
     /// A given certificate does not accept the plan. This is not a lint of the plan itself, and the
     /// caller that reports it provides the message.

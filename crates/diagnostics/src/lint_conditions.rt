@@ -1,4 +1,4 @@
-//! The conditions of the lints.
+//! The conditions under which lints are reported.
 
 ghost use Rattle.std.specs.Prelude.{◌≡◌, slice_index_or, false};
 ghost use Rattle.std.specs.List.{list_any, list_all};
@@ -7,28 +7,29 @@ ghost use Rattle.diagnostics.specs.Lints as spec;
 
 use job_bodies::{Action, Class, Client, Plan, Pool};
 
-/// The ratio of a queue's capacity to the jobs that it holds at most, above which a lint reports
-/// it.
+/// The ratio of a queue's capacity to the maximum number of jobs in the queue at once, above which
+/// a lint reports the queue.
 const FAR_ABOVE: u64 = 10;
 
-/// The shortest length of work that a lint reports if it is also a size of the plan.
+/// The shortest length of a `work`, in units, that a lint reports if it is also a size of the plan.
 const LIKE_A_SIZE: u32 = 50;
 
-/// Returns whether the class of this number is submitted.
+/// Returns whether the class of this number is marked as submitted.
 pub(crate) fn is_submitted(marks: &[bool], class: usize) -> bool
     ensures { result ≡ slice_index_or marks.now class false }
 {
     class < marks.len() && marks[class]
 }
 
-/// Returns whether any class is submitted.
+/// Returns whether any class is marked as submitted.
 pub(crate) fn is_any_submitted(marks: &[bool]) -> bool
     ensures { result ≡ list_any (λ mark. mark) marks.now }
 {
     marks.iter().any(|mark| *mark)
 }
 
-/// Returns how many jobs the queue of the pool of this number holds at most, if that is known.
+/// Returns the maximum number of jobs in the queue of the pool of this number, or `None` if it is
+/// not known.
 pub(crate) fn most_at(needed: &[Option<u64>], pool: usize) -> Option<u64>
     ensures { result ≡ slice_index_or needed.now pool None }
 {
@@ -39,7 +40,7 @@ pub(crate) fn most_at(needed: &[Option<u64>], pool: usize) -> Option<u64>
     }
 }
 
-/// Returns whether the pool of this number gets a job of a class that is submitted.
+/// Returns whether the pool of this number runs the jobs of some class that is marked as submitted.
 pub(crate) fn gets_a_job(plan: &Plan, marks: &[bool], pool: usize) -> bool
     ensures { result ≡ spec.gets_a_job plan.now marks.now pool }
 {
@@ -55,22 +56,22 @@ fn brings_jobs(marks: &[bool], number: usize, class: &Class, pool: usize) -> boo
     is_submitted(marks, number) && class.pool == pool
 }
 
-/// Returns whether the pool can have more threads than its core size.
+/// Returns whether the pool's maximum is above its core size.
 pub(crate) fn may_grow(pool: &Pool) -> bool
     ensures { result ≡ spec.may_grow pool.now }
 {
     pool.core < pool.max
 }
 
-/// Returns whether the pool's queue is much larger than `most` jobs.
+/// Returns whether a tenth of the queue's capacity is more than `most` jobs and more than 1.
 pub(crate) fn is_far_above(pool: &Pool, most: u64) -> bool
     ensures { result ≡ spec.is_far_above pool.now most }
 {
     most.max(1) < pool.queue / FAR_ABOVE
 }
 
-/// Returns whether the clients submit, and only to pools with one core thread whose queues hold
-/// fewer jobs than there are clients.
+/// Returns whether the clients of this kind submit jobs, and only to pools with one core thread
+/// whose queues have fewer places than there are clients of the kind.
 pub(crate) fn are_a_crowd(plan: &Plan, client: &Client) -> bool
     ensures { result ≡ spec.are_a_crowd plan.now client.now }
 {
@@ -95,8 +96,8 @@ fn submits_to_small_alone(plan: &Plan, count: u64, body: &[Action]) -> bool
     body.iter().all(|action| is_for_small(plan, count, *action))
 }
 
-/// Returns whether the action is not a submit, or submits to a pool that is small for this many
-/// clients.
+/// Returns whether the action is no submit, or submits to a pool with one core thread whose queue
+/// has fewer places than `count`.
 fn is_for_small(plan: &Plan, count: u64, action: Action) -> bool
     ensures { result ≡ spec.is_for_small plan.now count action }
 {
@@ -125,22 +126,21 @@ fn is_small_at(plan: &Plan, count: u64, pool: usize) -> bool
     }
 }
 
-/// Returns whether the pool has one core thread, and a queue that holds fewer jobs than there are
-/// clients.
+/// Returns whether the pool has one core thread, and a queue with fewer places than `count`.
 fn is_small(count: u64, pool: &Pool) -> bool
     ensures { result ≡ spec.is_small count pool.now }
 {
     pool.core == 1 && pool.queue < count
 }
 
-/// Returns whether the length of work equals a size of the plan and is at least 50.
+/// Returns whether the length of a `work` is at least 50 units and equals a size of the plan.
 pub(crate) fn looks_like_a_size(plan: &Plan, units: u32) -> bool
     ensures { result ≡ spec.looks_like_a_size plan.now units }
 {
     LIKE_A_SIZE <= units && is_a_size(plan, u64::from(units))
 }
 
-/// Returns whether some pool has this size, or some kind of clients this count.
+/// Returns whether the number is a size of some pool, or the count of some client kind.
 fn is_a_size(plan: &Plan, number: u64) -> bool
     ensures { result ≡ spec.is_a_size plan.now number }
 {

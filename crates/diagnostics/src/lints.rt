@@ -12,8 +12,8 @@ use job_bodies::{Action, Class, Client, Part, Plan, Pool};
 use size_search::submitted_by_clients;
 use std::alloc::{AllocError, Global};
 
-/// Returns the lints of the plan. For each pool whose queue is bounded by a standing vector,
-/// `needed` has the bound.
+/// Returns the lints of the plan. `needed` has, for each pool, the maximum number of jobs in its
+/// queue at once, or `None` if no standing vector bounds this number.
 pub(crate) fn lints_of(
     alloc: Global,
     plan: &Plan,
@@ -25,7 +25,8 @@ pub(crate) fn lints_of(
     lints_with_marks(alloc, plan, needed, &marks)
 }
 
-/// Returns the lints of the plan, given which classes are submitted.
+/// Returns the lints of the plan. `marks` has, for each class, whether clients submit it, directly
+/// or through other jobs.
 fn lints_with_marks(
     alloc: Global,
     plan: &Plan,
@@ -51,6 +52,7 @@ fn single_lint(alloc: Global, lint: Lint) -> Result<Vec<Lint>, AllocError>
     Ok(found)
 }
 
+/// Returns the lint of a plan without clients.
 fn without_clients(plan: &Plan) -> Lint
     ensures { result ≡ spec.without_clients plan.now }
 {
@@ -61,7 +63,7 @@ fn without_clients(plan: &Plan) -> Lint
     }
 }
 
-/// Returns the lints of the pools, the classes and the kinds of clients.
+/// Returns the lints of the pools, then of the classes, and then of the client kinds.
 fn lints_of_parts(
     alloc: Global,
     plan: &Plan,
@@ -94,7 +96,8 @@ fn push_pools(
     Ok(())
 }
 
-/// Appends the lint of a pool that gets no jobs, or those of sizes that are larger than needed.
+/// Appends the lint that the pool gets no jobs, or the lints of its sizes that are larger than
+/// needed.
 fn push_pool(
     found: &mut Vec<Lint>,
     plan: &Plan,
@@ -114,8 +117,8 @@ fn push_pool(
     }
 }
 
-/// Appends the lints of sizes that are larger than needed, if it is known how many jobs the queue
-/// holds at most.
+/// Appends the lints of the pool's sizes that are larger than needed. Appends none if the maximum
+/// number of jobs in the queue at once is not known.
 fn push_sizes(
     found: &mut Vec<Lint>,
     number: usize,
@@ -200,7 +203,7 @@ fn push_client(
     push_work(found, plan, Part::Client, number, &client.body)
 }
 
-/// Appends a lint for each length of work in a body that looks like a size.
+/// Appends a lint for each `work` of the body whose length looks like a size.
 fn push_work(
     found: &mut Vec<Lint>,
     plan: &Plan,
@@ -239,7 +242,7 @@ fn push_action(
     }
 }
 
-/// Appends the lint if it applies.
+/// Appends the lint if the condition holds.
 fn push_if(found: &mut Vec<Lint>, is_there: bool, lint: Lint) -> Result<(), AllocError>
     ensures { OnOk result (found.new.items ≡ found.old.items ++ spec.only_if is_there lint) }
 {

@@ -6,7 +6,7 @@ use job_bodies::is_valid_name;
 use std::alloc::{AllocError, Global};
 use support::number::{BAD_NAME, DOUBLE_NAME};
 
-/// Reports a name that is malformed, or that an earlier entry of the list has.
+/// Reports the entry's name if it is malformed, or if an earlier entry of the list has this name.
 pub(crate) fn name(
     collector: &mut FaultCollector,
     entry: &PlacedEntry<'_>,
@@ -33,7 +33,8 @@ pub(crate) fn name(
     Ok(())
 }
 
-/// Returns the rule for names, with a similar name that is well-formed, if there is one.
+/// Returns the message that states the rule for names. It ends with a similar well-formed name, if
+/// there is one.
 pub(crate) fn name_rule(alloc: Global, name: &str) -> Result<String, AllocError> {
     let similar = well_formed_name(alloc, name)?;
     let rule = "a name has 1 to 32 characters: a lower-case letter, then lower-case letters, digits or _";
@@ -44,7 +45,8 @@ pub(crate) fn name_rule(alloc: Global, name: &str) -> Result<String, AllocError>
     }
 }
 
-/// Returns the name in lower case, with `_` for each character that names cannot have.
+/// Returns the name in lowercase, with `_` in place of each character that a name cannot have. The
+/// result can still be malformed: its length and its first character are not checked.
 fn well_formed_name(alloc: Global, name: &str) -> Result<String, AllocError> {
     let mut similar = String::new(alloc);
     for letter in name.chars() {

@@ -1,4 +1,4 @@
-//! The checks of sizes and counts: each is in its range.
+//! The checks of sizes and counts.
 
 use crate::collector::FaultCollector;
 use crate::entry::PlacedEntry;
@@ -6,14 +6,14 @@ use job_bodies::MAX_SIZE;
 use std::alloc::AllocError;
 use support::number::BAD_NUMBER;
 
-/// The largest size and count.
+/// The largest valid size and count.
 const MOST: i64 = MAX_SIZE as i64;
 
 fn is_in_range(number: i64) -> bool {
     (1..=MOST).contains(&number)
 }
 
-/// Reports the numbers at these keys that are out of range. Returns whether there are any.
+/// Reports the numbers at these keys that are not from 1 to `MOST`. Returns whether there are any.
 fn out_of_range(
     collector: &mut FaultCollector,
     entry: &PlacedEntry<'_>,
@@ -34,7 +34,8 @@ fn out_of_range(
     Ok(any)
 }
 
-/// Reports the invalid sizes of a pool.
+/// Reports the sizes of a pool that are out of range, or its maximum if it is less than its core
+/// size.
 pub(crate) fn sizes(
     collector: &mut FaultCollector,
     pool: &PlacedEntry<'_>,
@@ -54,7 +55,7 @@ pub(crate) fn sizes(
     Ok(())
 }
 
-/// Reports the count of a kind of clients if it is invalid.
+/// Reports the count of a client kind if it is out of range.
 pub(crate) fn count(
     collector: &mut FaultCollector,
     client: &PlacedEntry<'_>,

@@ -1,4 +1,4 @@
-//! The faults of a plan's text.
+//! All faults of a plan's text that can be found.
 
 ghost use Rattle.std.specs.Prelude.{◌≡◌, IfOk};
 
@@ -12,8 +12,8 @@ use job_bodies::PlanFault;
 use plan_text::Places;
 use std::alloc::{AllocError, Global};
 
-/// Returns the faults of a plan's text that the parser rejects with `fault`: first that one, and
-/// then the others that can be found.
+/// Returns the faults of a plan's text that the parser rejects with `fault`: first `fault`, and
+/// then the other faults that can be found.
 ///
 /// # Errors
 ///
@@ -42,6 +42,7 @@ pub fn faults_of(alloc: Global, text: &[u8], fault: PlanFault) -> Result<Faults,
     }
 }
 
+/// Removes and returns the diagnostic at the index.
 fn take_at(found: &mut Vec<Diagnostic>, index: usize) -> Option<Diagnostic> {
     if index < found.len() {
         Some(found.remove(index))
@@ -50,7 +51,8 @@ fn take_at(found: &mut Vec<Diagnostic>, index: usize) -> Option<Diagnostic> {
     }
 }
 
-/// Returns all faults that can be found, of the TOML or of the plan in it.
+/// Returns the faults that can be found, at most 100: those of the plan, or a single syntax error
+/// if the text is not TOML.
 fn all_diagnostics(alloc: Global, bytes: &[u8]) -> Result<Vec<Diagnostic>, AllocError> {
     let mut collector = FaultCollector::new(alloc);
     match std::str::from_utf8(bytes) {

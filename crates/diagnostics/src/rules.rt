@@ -1,4 +1,5 @@
-//! The rules that faults violate, for faults with no other message.
+//! The rules that faults violate. A rule is the message for a fault that the checks of this crate
+//! did not find.
 
 use support::number::*;
 

@@ -1,4 +1,4 @@
-//! The checks of an entry's keys: which it has, and the types of their values.
+//! The checks of an entry's keys: unknown keys, missing keys, and values of the wrong type.
 
 use crate::collector::FaultCollector;
 use crate::entry::{PlacedEntry, list_of};
@@ -8,7 +8,7 @@ use std::alloc::AllocError;
 use support::number::{MISSING_KEY, TOO_MANY, UNKNOWN_KEY, WRONG_TYPE};
 use toml::Value;
 
-/// The type of the value at a key.
+/// The type that the value of a key must have.
 #[derive(Clone, Copy, PartialEq, Eq)]
 enum ValueKind {
     Text,
@@ -17,7 +17,7 @@ enum ValueKind {
     Body,
 }
 
-/// A key of an entry.
+/// The rule for a key.
 #[derive(Clone, Copy)]
 struct KeyRule {
     key: &'static str,
@@ -32,7 +32,8 @@ const CLASS_KEYS: [&str; 3] = ["name", "pool", "body"];
 
 const CLIENT_KEYS: [&str; 4] = ["name", "count", "repeat", "body"];
 
-/// Returns the keys that such an entry can have.
+/// Returns the keys that an entry of this kind can have, or the keys at the top level for
+/// `Part::Text`.
 pub(crate) fn keys_of(part: Part) -> &'static [&'static str] {
     match part {
         Part::Text => &["pool", "class", "client"],
@@ -82,7 +83,7 @@ fn key_rule(key: &str) -> Option<KeyRule> {
     Some(KeyRule { key, wanted, hint })
 }
 
-/// Returns the name in plans for a key from Java or from other configuration files.
+/// Returns the key of a plan that corresponds to a key of Java or of another configuration format.
 fn plan_key_for(key: &str) -> Option<&'static str> {
     match key {
         "corePoolSize" | "corepoolsize" | "core_pool_size" | "threads" | "size" => Some("core"),
@@ -113,7 +114,7 @@ pub(crate) fn unknown_keys(
     Ok(())
 }
 
-/// Returns whether such an entry can have this key.
+/// Returns whether an entry of this kind can have this key.
 pub(crate) fn has_key(part: Part, key: &str) -> bool {
     keys_of(part).iter().any(|rule| *rule == key)
 }
@@ -138,7 +139,7 @@ fn unknown_key(
     entry.report(collector, UNKNOWN_KEY, entry.key_place(key), &words)
 }
 
-/// Reports the keys that the entry lacks, and the values of the wrong type.
+/// Reports the required keys that the entry lacks, and its values of the wrong type.
 pub(crate) fn values(
     collector: &mut FaultCollector,
     entry: &PlacedEntry<'_>,
@@ -195,7 +196,7 @@ fn rule_of(wanted: ValueKind) -> &'static str {
     }
 }
 
-/// Reports a body that is not a list, is too long, or has elements that are not strings.
+/// Reports a body that is not an array, is too long, or has elements that are not strings.
 fn body(
     collector: &mut FaultCollector,
     entry: &PlacedEntry<'_>,

@@ -4,8 +4,9 @@ use std::alloc::{AllocError, Global};
 use strsim::osa_distance;
 
 /// Returns the word that is most similar to `written`, if one is similar enough. A word is similar
-/// if it starts with `written`, or if its edit distance is at most a third of the length of
-/// `written`, or 1.
+/// if it starts with `written` and `written` has at least 3 bytes, or if its edit distance from
+/// `written` is at most 1 or a third of the length of `written`. A word that equals `written` is
+/// skipped.
 pub(crate) fn nearest<'w>(
     alloc: Global,
     written: &str,
@@ -29,7 +30,8 @@ pub(crate) fn nearest<'w>(
     Ok(best)
 }
 
-/// Returns a suggestion, such as `; did you mean rows?`, or `otherwise` if no word is similar.
+/// Returns a suggestion, such as `; did you mean rows?`, or `otherwise` if no word is similar to
+/// `written`.
 pub(crate) fn suggestion(
     alloc: Global,
     written: &str,
@@ -42,7 +44,7 @@ pub(crate) fn suggestion(
     }
 }
 
-/// Joins the words with commas. After 12 words it ends with `..`.
+/// Returns the first 12 words, separated by commas. `, ..` follows if there are more.
 pub(crate) fn comma_list(alloc: Global, words: &[&str]) -> Result<String, AllocError> {
     let mut list = String::new(alloc);
     for (number, word) in words.iter().copied().enumerate() {

@@ -1,5 +1,5 @@
-//! Faults of texts that are not TOML: the place, the parser's message, and a hint for common
-//! mistakes.
+//! Faults of texts that are not TOML: the place, the parser's message, and a hint for a common
+//! mistake.
 
 use crate::diagnostic::Diagnostic;
 use job_bodies::PlanFault;
@@ -7,7 +7,7 @@ use plan_text::{TextPlace, place_at};
 use std::alloc::{AllocError, Global};
 use support::number::NOT_TOML;
 
-/// Returns the fault of bytes that are not UTF-8.
+/// Returns the fault of bytes that are not UTF-8. The first `valid` bytes are valid UTF-8.
 pub(crate) fn not_text(
     alloc: Global,
     bytes: &[u8],
@@ -26,7 +26,8 @@ pub(crate) fn not_text(
     })
 }
 
-/// Returns the fault of a text that is not TOML, at this place and with this message.
+/// Returns the fault of a text that is not TOML. The parser found the error at byte `offset`, and
+/// `words` is its message.
 pub(crate) fn not_toml(
     alloc: Global,
     text: &str,
@@ -57,7 +58,7 @@ fn line_of(text: &str, place: TextPlace) -> &str {
     ""
 }
 
-/// Returns a hint for a line that is not TOML.
+/// Returns a hint for a line that is not TOML, if its mistake is a common one.
 fn hint_of(line: &str) -> Option<&'static str> {
     let line = line.trim();
     if line.starts_with("//") {
@@ -77,8 +78,8 @@ fn hint_of(line: &str) -> Option<&'static str> {
     value_hint(line)
 }
 
-/// Returns a hint for the header of an entry: it must have two brackets, and the list must not be
-/// written in another way as well.
+/// Returns a hint if the line is the header of an entry. Such a line is a fault if it has one pair of
+/// brackets, or if an earlier line defines the list in another way.
 fn bracket_hint(line: &str) -> Option<&'static str> {
     match line.split('#').next().unwrap_or("").trim() {
         "[pool]" | "[class]" | "[client]" => {

@@ -1,4 +1,4 @@
-//! The checks of a plan's lists.
+//! The checks of a plan's document: its keys, its lists, and their entries.
 
 use crate::collector::FaultCollector;
 use crate::entry::{BEGINNING, PlacedEntry, list_of};
@@ -11,7 +11,7 @@ use std::alloc::{AllocError, Global};
 use support::number::{NO_SUCH_POOL, UNKNOWN_KEY, WRONG_TYPE};
 use toml::{Table, Value};
 
-/// The entries of a document.
+/// The entries of a document, except for those that are not tables.
 #[derive(Drop)]
 struct Lists<'a> {
     pools: Vec<PlacedEntry<'a>>,
@@ -33,7 +33,7 @@ pub(crate) fn document(
     all_bodies(collector, &lists)
 }
 
-/// Returns the entries, and reports the faults of their shapes and names.
+/// Returns the entries of the three lists, and reports the faults of their keys and names.
 fn lists_of<'a>(
     collector: &mut FaultCollector,
     document: &'a Table,
@@ -49,7 +49,7 @@ fn lists_of<'a>(
     })
 }
 
-/// Reports the faults of sizes, of the pools of classes, and of counts.
+/// Reports invalid sizes and counts, and classes whose pool does not exist.
 fn numbers_and_pools(collector: &mut FaultCollector, lists: &Lists<'_>) -> Result<(), AllocError> {
     let pool_names = names_of(collector.alloc, &lists.pools)?;
     for pool in &lists.pools {
@@ -64,7 +64,7 @@ fn numbers_and_pools(collector: &mut FaultCollector, lists: &Lists<'_>) -> Resul
     Ok(())
 }
 
-/// Reports the faults of the bodies.
+/// Reports the faults of the bodies of classes and client kinds.
 fn all_bodies(collector: &mut FaultCollector, lists: &Lists<'_>) -> Result<(), AllocError> {
     let class_names = names_of(collector.alloc, &lists.classes)?;
     for class in &lists.classes {
@@ -76,7 +76,7 @@ fn all_bodies(collector: &mut FaultCollector, lists: &Lists<'_>) -> Result<(), A
     Ok(())
 }
 
-/// Reports an unknown key at the top level.
+/// Reports the key at the top level if it is unknown.
 fn unknown_list(
     collector: &mut FaultCollector,
     key: &str,
@@ -98,7 +98,7 @@ fn unknown_list(
     collector.push(PlanFault::at_text(UNKNOWN_KEY), place, what)
 }
 
-/// Returns the entries of a list, and reports the faults of their shapes and names.
+/// Returns the entries of a list, and reports the faults of their keys and names.
 fn entries<'a>(
     collector: &mut FaultCollector,
     document: &'a Table,
@@ -122,7 +122,7 @@ fn entries<'a>(
     Ok(found)
 }
 
-/// Reports that the entries are not a list.
+/// Reports that the value at the key of this list is not an array.
 fn no_list(
     collector: &mut FaultCollector,
     part: Part,
@@ -136,7 +136,7 @@ fn no_list(
     collector.push(PlanFault::at_text(WRONG_TYPE), place, what)
 }
 
-/// Reports the faults of an entry's shape and of its name, given the earlier entries.
+/// Reports the faults of an entry's keys and name. `before` has the earlier entries of the list.
 fn shape_and_name(
     collector: &mut FaultCollector,
     entry: &PlacedEntry<'_>,
@@ -147,6 +147,7 @@ fn shape_and_name(
     names::name(collector, entry, before)
 }
 
+/// Returns the entry, or reports that the value is not a table.
 fn entry_of<'a>(
     collector: &mut FaultCollector,
     part: Part,
@@ -174,6 +175,7 @@ fn entry_of<'a>(
     }
 }
 
+/// Returns the names of the entries that have one.
 fn names_of<'a>(alloc: Global, entries: &[PlacedEntry<'a>]) -> Result<Vec<&'a str>, AllocError> {
     let mut names = Vec::new(alloc);
     for entry in entries {
@@ -184,7 +186,7 @@ fn names_of<'a>(alloc: Global, entries: &[PlacedEntry<'a>]) -> Result<Vec<&'a st
     Ok(names)
 }
 
-/// Reports a pool that does not exist.
+/// Reports the class's pool if the plan has no pool of this name.
 fn pool_of(
     collector: &mut FaultCollector,
     class: &PlacedEntry<'_>,

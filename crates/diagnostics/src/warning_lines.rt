@@ -1,4 +1,4 @@
-//! The lines of warnings.
+//! The lines that print warnings.
 
 ghost use Rattle.diagnostics.specs.Diagnostic as spec;
 ghost use Rattle.support.specs.Pushed.{Pushes};

@@ -5,7 +5,8 @@ use crate::lint::Lint;
 use job_bodies::Part;
 use plan_text::{Places, TextPlace};
 
-/// Returns the place of the lint.
+/// Returns the place in the plan's text to which the lint refers. It is the beginning of the text
+/// for a lint of the whole plan.
 pub(crate) fn place_of(places: &Places<'_>, lint: Lint) -> TextPlace {
     match lint {
         Lint::NothingToAsk | Lint::NoClients | Lint::NothingSubmitted | Lint::StaleCertificate =>

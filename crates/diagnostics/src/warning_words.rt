@@ -4,8 +4,8 @@ use crate::lint::Lint;
 use job_bodies::Plan;
 use std::alloc::{AllocError, Global};
 
-/// Returns the lint's message: what it is, and what it means for the answer. The message is empty
-/// if the plan does not have a number that the lint names.
+/// Returns the lint's message: what was found in the plan, and what it means for the answer. The
+/// message is empty if the plan does not have the pool, class or client kind that the lint names.
 pub(crate) fn words_of(alloc: Global, plan: &Plan, lint: Lint) -> Result<String, AllocError> {
     match lint {
         Lint::NothingToAsk => String::from_str(

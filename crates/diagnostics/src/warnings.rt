@@ -11,20 +11,20 @@ use job_bodies::Plan;
 use plan_text::{Places, TextPlace};
 use std::alloc::{AllocError, Global};
 
-/// A warning about a plan.
+/// A warning about a plan: a lint with its place and its message.
 #[derive(Drop)]
 pub struct Warning {
-    /// The lint.
+    /// The lint that the plan has.
     pub lint: Lint,
     /// The place in the plan's text.
     pub place: TextPlace,
-    /// A message that says what the lint is and what it means for the answer.
+    /// A message that says what was found in the plan, and what it means for the answer.
     pub what: String,
 }
 
-/// Returns a warning for each lint of the plan, in order. `text` is the plan's text. For each pool
-/// whose queue is bounded by a standing vector, `needed` has the bound. The contract promises
-/// nothing about places and messages.
+/// Returns a warning for each lint of the plan, in order. `text` is the plan's text. `needed` has,
+/// for each pool, the maximum number of jobs in its queue at once, or `None` if no standing vector
+/// bounds this number. The contract promises nothing about places and messages.
 ///
 /// # Errors
 ///

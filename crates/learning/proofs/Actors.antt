@@ -1,4 +1,4 @@
--- The rounds and jobs of a list of lines.
+-- Lemmas about the rounds and jobs of a list of lines.
 use Rattle.std.proofs.Common.{◌≡◌, ◌||◌, ℕ, Bool, true, false, List, [], ◌∷◌, ◌++◌, None, refl, inl, arith}
 use Rattle.std.specs.List.{Contains, list_any}
 use Rattle.std.proofs.lemmas.Bool.{and_parts}

@@ -1,4 +1,4 @@
--- Bodies that are extended by submits, each with its get.
+-- Lemmas about bodies that are extended by a submit, or by a submit and its get.
 use Rattle.std.proofs.Common.{◌≡◌, ◌≤◌, ◌<◌, ℕ, ◌+◌, Bool, true, false, cond, ◌&&◌, List, [], ◌∷◌, ◌++◌, map, length, take, drop, refl, sym, ap, subst, ◌∙◌, arith}
 use Rattle.std.specs.Prelude.{filter, insert}
 use Rattle.std.proofs.lemmas.Bool.{lt-ltb}

@@ -1,4 +1,4 @@
--- The names in the lines, after one more line.
+-- Lemmas about the names in the lines after one more line.
 use Rattle.std.proofs.Common.{◌≡◌, ◌≤◌, ◌+◌, length, if◌then◌else◌, List, [], ◌∷◌, ◌++◌, ◌∙◌, ap, sym, subst, arith}
 use Rattle.std.proofs.lemmas.List.Sums.{sum_by_push}
 use Rattle.job_bodies.specs.declared.limits.TheConstants.{MAX_POOLS}
@@ -53,7 +53,7 @@ named_after old new before line names pools few rounds jobs ended_rounds started
   ended_jobs = grind (arith, ended_jobs, names.ended_jobs, job_ends_more before line);
 }
 
--- Changes of the bodies do not affect the names.
+-- A change of the draft does not affect the pools and the counts.
 pub same_names : (old new : RecordedNames) (lines : List RecordedLine) → new ≡ record old { draft = new.draft } → AreNamesOf old lines → AreNamesOf new lines
 same_names old new lines same named =
     subst (λ (names : RecordedNames). AreNamesOf names lines) (sym same)

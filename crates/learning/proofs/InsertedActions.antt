@@ -1,4 +1,4 @@
--- The kept actions of a body after the insertion of an action that is not kept.
+-- Lemmas about the kept actions of a body after the insertion of an action that is not kept.
 use Rattle.std.proofs.Common.{◌≡◌, ◌≤◌, ◌<◌, ℕ, suc, zero, ◌+◌, Bool, true, false, cond, List, [], ◌∷◌, ◌++◌, map, length, refl, sym, ap, subst, ◌∙◌, arith}
 use Rattle.std.specs.Prelude.{filter, insert, slice_get}
 use Rattle.std.specs.List.{enumerate_from, AllZip}
@@ -12,7 +12,7 @@ use Rattle.conformance.specs.Path.{stays, kept_actions, IsStepOf, IsOfBodyBy}
 use Rattle.learning.specs.Insertion.{shifted_index, shifted_action, with_action}
 use Rattle.learning.proofs.ShiftedIndices.{left_out, shifted_index-before, shifted_index-after, stays-shifted_index}
 
--- An action with its index, after the insertion.
+-- An action and its index, after an insertion at index `at`.
 abbrev moved_entry : ℕ → ℕ × Action → ℕ × Action
 moved_entry at (position, a) = (shifted_index at position, shifted_action at a)
 
@@ -51,6 +51,6 @@ zip_moved at kept [] (entry ∷ entries) is = absurd is
 zip_moved at kept (d ∷ path) [] is = absurd is
 zip_moved at kept (d ∷ path) (entry ∷ entries) is = (step_moved at kept d entry is.0, zip_moved at kept path entries is.1)
 
--- The path matches the new body, by the choice that skips the inserted action.
+-- If a path matches a body by a choice, it matches the body after an insertion by the choice that also skips the inserted action.
 pub put_in : (body : List Action) (at : ℕ) (new : Action) (choice : List Bool) (path : List PathStep) → at ≤ length body → stays (left_out at choice) (at, new) ≡ false → IsOfBodyBy body choice path → IsOfBodyBy (with_action body at new) (left_out at choice) path
 put_in body at new choice path l out is = subst (λ (kept : List (ℕ × Action)). AllZip (IsStepOf kept) path kept) (sym (stay_all at choice new out 0 at body (omega arith) l)) (zip_moved at (kept_actions body choice) path (kept_actions body choice) is)

@@ -1,4 +1,4 @@
--- The labels of the lines, and the classes and kinds made from them.
+-- Lemmas about the labels of the lines, and the classes and client kinds that are made from them.
 use Rattle.std.proofs.Common.{◌≡◌, ◌<◌, ◌==◌, ◌&&◌, ℕ, List, [], ◌∷◌, length, true, false, string_bytes, arith, Some, get_or, slice_get, Result, Ok, Err, IfErr, OnOk, sym, subst, inl, inr}
 use Rattle.std.specs.Result.{IsErrAnd}
 use Rattle.std.specs.List.{All, Contains, position}
@@ -32,7 +32,7 @@ pub no_name : (lines : List RecordedLine) (beyond : InferenceLimit) (label : Lis
 no_name lines beyond label pool (learn_error.Memory error) given none = none
 no_name lines beyond label pool (learn_error.InferenceLimit why) given none = subst (IsReason lines) (sym none.0) (label, given_label lines beyond label pool given, none.1)
 
--- If there is an entry, the lines name it.
+-- If there is an entry, the lines have a job or a round.
 pub entered_actors : (lines : List RecordedLine) (beyond : InferenceLimit) (entries : List Entry) → All (IsEntryOf lines beyond) entries → 0 < length entries → HasActors lines
 entered_actors lines beyond [] each some = absurd (omega (arith, some))
 entered_actors lines beyond (entry ∷ entries) each some = (string_bytes entry.label, given_label lines beyond (string_bytes entry.label) entry.pool (each 0 entry (omega arith)).given)

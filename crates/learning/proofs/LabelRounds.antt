@@ -1,4 +1,4 @@
--- The rounds of each label after one more line.
+-- Lemmas about the counters for the rounds of each label after one more line.
 use Rattle.std.proofs.Common.{◌≡◌, ◌<◌, ℕ, zero, suc, ◌+◌, ◌==◌, Bool, true, false, if◌then◌else◌, List, [], ◌∷◌, ◌++◌, length, length-append, get_or, slice_get, Option, Some, None, refl, ap, sym, subst, ◌∙◌, inl, append_assoc, map, string_bytes, arith}
 use Rattle.std.specs.List.{position}
 use Rattle.std.specs.Option.{option_map}
@@ -42,7 +42,7 @@ place_is name label (first ∷ items) n found =
     slice_get-map name (first ∷ items) n ∙ ap (option_map name) (slice_get-get_or (first ∷ items) n first is.0)
     ∙ ap (λ (one : List ℕ). Some one) ((bytes_eq-Decides (name (get_or (first ∷ items) n first)) label).0 is.1)
 
--- The name of the element at an index.
+-- If the element at an index has a name, that is the name at the index of the list of names.
 pub named_at : {X : Type 0} (name : X → List ℕ) (items : List X) (n : ℕ) (item : X) (label : List ℕ) → n < length items → item ≡ get_or items n item → name item ≡ label → slice_get (map name items) n ≡ Some label
 named_at name items n item label within is same =
     slice_get-map name items n ∙ ap (option_map name) (slice_get-get_or items n item within ∙ ap (λ one. Some one) (sym is)) ∙ ap (λ (one : List ℕ). Some one) same
@@ -77,7 +77,7 @@ begin_kinds kinds more kind round label before old new extra names is extend_bod
     All-push (BeginsOfKind now (new ++ names)) before (RoundBegins round label) all
     (record { kind = kind; is_kind = at_seam kinds more kind round is; name = label; is_name = still_there new names kind label at; named = inl refl })
 
--- Each open round has the kind at the index of its number, and so does the new one.
+-- After a round begins, the list has the label number of each open round, including the new one, at the index of the round.
 live_begun : (kinds : List ℕ) (kind round one : ℕ) (old : Option ℕ) (is_new : Bool) → (length kinds == round) ≡ is_new → (if is_new then Some kind else old) ≡ Some one → (old ≡ Some one → slice_get kinds round ≡ Some one)
     → slice_get (kinds ++ kind ∷ []) round ≡ Some one
 live_begun kinds kind round one old true is there so = at_end kinds kind round (grind (arith, is)) ∙ there
@@ -102,7 +102,7 @@ end_counts kinds more kind round before old new at one counts =
     let now : Kinds = slice_get (kinds ++ more) in
     all_counted now None (Some kind) before (RoundEnds round) old old new (λ k. refl) (λ k. ap (is_kind k) (sym (still_there kinds more round kind at))) (λ k. refl) one (counts more)
 
--- A round that is open after the line was open before it.
+-- A round that is open after a line that ends a round was open before the line.
 still_live : (has_ended : Bool) (kind : ℕ) (old : Option ℕ) → (if has_ended then None else old) ≡ Some kind → old ≡ Some kind
 still_live true kind old there = absurd (grind (arith, there))
 still_live false kind old there = there

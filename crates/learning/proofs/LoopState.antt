@@ -5,11 +5,11 @@ use Rattle.std.proofs.lemmas.List.{append-nil, append_assoc}
 use Rattle.std.proofs.lemmas.List.Elements.{Contains-append_right}
 use Rattle.recordings.specs.RecordingLine.{RecordedLine}
 
--- The well-formed lines.
+-- The well-formed lines, in order.
 abbrev pub well_formed : List (Option RecordedLine) → List RecordedLine
 well_formed lines = filter_map (λ line. line) lines
 
--- `P` holds of the lines before the rest.
+-- `P` holds for the well-formed lines before `rest`.
 pub record LoopState (P : List RecordedLine → Type 0) (all : List RecordedLine) (rest : List (Option RecordedLine)) : Type 0 where
   pub before : List RecordedLine
   pub lines : all ≡ before ++ well_formed rest

@@ -1,4 +1,4 @@
--- A path that corresponds to the actions of a body, step by step.
+-- Lemmas about a path whose steps correspond to the kept actions of a body.
 use Rattle.std.proofs.Common.{◌≡◌, ◌<◌, ℕ, suc, List, [], ◌∷◌, length, subst, arith}
 use Rattle.std.specs.Prelude.{Bool, slice_get}
 use Rattle.std.specs.List.{AllZip}

@@ -1,4 +1,4 @@
--- Optional results.
+-- Lemmas about optional results.
 use Rattle.std.proofs.Common.{◌≡◌, subst}
 use Rattle.std.specs.Prelude.{Option, None, Some, Result, Ok, Err, IfOk, IfSome}
 use Rattle.std.proofs.lemmas.Option.{same_Some}

@@ -1,4 +1,4 @@
--- A path matches its own body.
+-- A path matches the body that consists of its own steps.
 use Rattle.std.proofs.Common.{◌≡◌, ◌≤◌, ◌<◌, ℕ, suc, zero, ◌+◌, Bool, true, false, ◌&&◌, List, [], ◌∷◌, map, length, take, refl, sym, ap, subst, ◌∙◌, arith, eq-eqb, zero-add}
 use Rattle.std.specs.Prelude.{Option, None, Some, filter, slice_get, slice_index, nat_lt, not, ◌==◌, All}
 use Rattle.std.specs.List.{enumerate_from, AllZip, list_any}

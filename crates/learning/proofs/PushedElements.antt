@@ -1,4 +1,4 @@
--- A property of each element of a list at its index, after one more element.
+-- Lemmas about a property of each element of a list and its index, after one more element.
 use Rattle.std.proofs.Common.{◌≡◌, ◌<◌, ◌+◌, ℕ, zero, suc, List, [], ◌∷◌, ◌++◌, length, get_or, slice_get, Some, take, string_bytes, ap, ◌∙◌, sym, subst, arith}
 use Rattle.std.specs.List.{All}
 use Rattle.std.specs.Option.{option_map}
@@ -30,7 +30,7 @@ pub written_back : {X : Type 0} (n : ℕ) (new rest : List X) → n ≡ length n
 written_back n new rest same = ap (λ k. take k (new ++ rest)) same ∙ take-append_seam new rest
 
 -- ---- the names of clients
--- The prefix that includes an index ends with the element at the index.
+-- The prefix up to and including an index is the prefix before the index, followed by the element at the index.
 up_to : {X : Type 0} (items : List X) (n : ℕ) (item : X) → slice_get items n ≡ Some item → take (n + 1) items ≡ take n items ++ item ∷ []
 up_to [] n item there = absurd (grind (arith, there))
 up_to (first ∷ items) zero item there = grind (arith, there)
@@ -44,7 +44,7 @@ names_pushed entries clients entry client kind within is named same =
     map-append (λ (one : Client). one.name) clients (client ∷ []) ∙ ap (λ names. names ++ client.name ∷ []) same ∙ ap (λ name. take kind (names_of entries) ++ name ∷ []) named
     ∙ sym (up_to (names_of entries) kind (string_bytes entry.name) at)
 
--- The name is of the family of a label whose rounds began.
+-- The name belongs to the family of some label, and a round of that label began.
 abbrev IsName : List RecordedLine → List ℕ → Type 0
 IsName lines name = (label : List ℕ) × HasBegun lines label × IsOfFamily label name
 

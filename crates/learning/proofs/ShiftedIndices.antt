@@ -1,4 +1,4 @@
--- The indices of actions after an insertion, and the actions that are kept.
+-- Lemmas about the indices and the kept actions of a body after an insertion.
 use Rattle.std.proofs.Common.{◌≡◌, ◌≤◌, ◌<◌, ℕ, suc, zero, ◌+◌, Bool, true, false, cond, ◌&&◌, List, [], ◌∷◌, refl, sym, ap, subst, ◌∙◌, inl, inr, arith, add-one}
 use Rattle.std.specs.Prelude.{nat_lt}
 use Rattle.std.proofs.lemmas.Bool.{cases_lt, lt-ltb, le-ltb}
@@ -39,7 +39,7 @@ shifted_index-lt at t p = elim (cases_lt t p) [
 ]
 
 -- ---- choices
--- The choice that skips the action inserted at this index.
+-- The choice for the body after an insertion at this index: it skips the inserted action.
 abbrev pub left_out : ℕ → List Bool → List Bool
 left_out zero choice = false ∷ choice
 left_out (suc at) [] = []

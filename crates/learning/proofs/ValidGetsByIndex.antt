@@ -1,4 +1,4 @@
--- The gets of a body, index by index.
+-- Lemmas about the validity of each get of a body, by index.
 use Rattle.std.proofs.Common.{◌≡◌, ◌<◌, ℕ, true, List, length, refl, sym, ap, ◌∙◌}
 use Rattle.std.specs.Prelude.{Option, None, Some, slice_get}
 use Rattle.std.proofs.lemmas.Option.{slice_get_within}

@@ -100,7 +100,7 @@ pools_make_a_plan text pools same few =
       clients = refl;
     }
 
--- If the parts do not form a plan, there is a class or a kind, and the lines name it.
+-- If the pools, classes and client kinds do not form a valid plan, there is a class or a client kind, so the lines have a job or a round.
 pub unplanned_actors : (text : List ℕ) (pools : List Pool) (classes : List Class) (clients : List Client) → pools ≡ recorded_pools (lines_of text) → length pools ≤ MAX_POOLS → All (IsNamedClass (lines_of text)) classes
     → All (IsNamedClient (lines_of text)) clients → (IsWellFormed (plan_of_lists pools classes clients) → ⊥) → HasActors (lines_of text)
 unplanned_actors text pools [] [] same few class_names client_names none = absurd (none (pools_make_a_plan text pools same few))

@@ -1,4 +1,4 @@
--- The number of clients of a kind, by its rounds.
+-- The number of clients of a client kind, computed from the rounds of the kind.
 use Rattle.std.specs.Prelude.{◌≡◌, ◌≤◌, ◌<◌, ℕ, ◌-◌, ◌==◌, Bool, false, max, nat_lt, List, map, take, slice_get, Option, Some, None, count_by, ⊤}
 use Rattle.std.specs.List.{All}
 use Rattle.job_bodies.specs.declared.limits.TheConstants.{MAX_SIZE}
@@ -6,19 +6,22 @@ use Rattle.job_bodies.specs.Plan.{Client}
 use Rattle.conformance.specs.Family.{IsOfFamily}
 use Rattle.recordings.specs.RecordingLine.{RecordedLine, RoundBegins, RoundEnds}
 
--- The kind of each round, by round number.
+-- The client kind of each round, by round number; `None` for a round without a kind.
 abbrev pub Kinds : Type 0
 Kinds = ℕ → Option ℕ
 
+-- The optional kind is present and equals `kind`.
 abbrev pub is_kind : ℕ → Option ℕ → Bool
 is_kind kind None = false
 is_kind kind (Some one) = one == kind
 
 -- ---- one line
+-- The line begins a round of the kind.
 abbrev pub begins_one : Kinds → ℕ → RecordedLine → Bool
 begins_one kinds kind (RoundBegins round label) = is_kind kind (kinds round)
 begins_one kinds kind line = false
 
+-- The line ends a round of the kind.
 abbrev pub ends_one : Kinds → ℕ → RecordedLine → Bool
 ends_one kinds kind (RoundEnds round) = is_kind kind (kinds round)
 ends_one kinds kind line = false
@@ -28,6 +31,7 @@ ends_one kinds kind line = false
 unfoldable pub begun_of : Kinds → ℕ → List RecordedLine → ℕ
 begun_of kinds kind lines = count_by (begins_one kinds kind) lines
 
+-- The number of rounds of the kind that ended.
 unfoldable pub ended_of : Kinds → ℕ → List RecordedLine → ℕ
 ended_of kinds kind lines = count_by (ends_one kinds kind) lines
 
@@ -35,13 +39,14 @@ ended_of kinds kind lines = count_by (ends_one kinds kind) lines
 abbrev pub open_of : Kinds → ℕ → List RecordedLine → ℕ
 open_of kinds kind lines = begun_of kinds kind lines - ended_of kinds kind lines
 
--- The maximum number of rounds that were open at once: a bound that is reached.
+-- `most` is the maximum number of rounds of the kind that were open at once: no prefix of the lines leaves more of them open, and some
+-- prefix leaves this many open.
 pub record IsMostAtOnce (kinds : Kinds) (kind : ℕ) (lines : List RecordedLine) (most : ℕ) : Type 0 where
   pub never_more : (n : ℕ) → open_of kinds kind (take n lines) ≤ most
   pub once : (n : ℕ) × (open_of kinds kind (take n lines) ≡ most)
 
 -- ---- the names of the kinds
--- The round has a kind whose name is of the family of `label`.
+-- The round has a kind, and the kind's name belongs to the family of `label`.
 pub record IsOfKind (kinds : Kinds) (names : List (List ℕ)) (round : ℕ) (label : List ℕ) : Type 0 where
   pub kind : ℕ
   pub is_kind : kinds round ≡ Some kind
@@ -49,16 +54,16 @@ pub record IsOfKind (kinds : Kinds) (names : List (List ℕ)) (round : ℕ) (lab
   pub is_name : slice_get names kind ≡ Some name
   pub named : IsOfFamily label name
 
--- The same for the round that the line begins, if it begins one.
+-- If the line begins a round, the round has a kind whose name belongs to the family of the round's label.
 abbrev pub BeginsOfKind : Kinds → List (List ℕ) → RecordedLine → Type 0
 BeginsOfKind kinds names (RoundBegins round label) = IsOfKind kinds names round label
 BeginsOfKind kinds names line = ⊤
 
--- Each round that began has a kind whose name is of the family of its label.
+-- Each round that began has a kind whose name belongs to the family of the round's label.
 abbrev pub AreOfKinds : Kinds → List (List ℕ) → List RecordedLine → Type 0
 AreOfKinds kinds names lines = All (BeginsOfKind kinds names) lines
 
--- For some assignment of kinds, more rounds of one kind were open at once than a plan may have clients.
+-- For some assignment of kinds to rounds, more rounds of one kind were open at once than a plan may have clients.
 pub record IsCrowded (lines : List RecordedLine) : Type 0 where
   pub kinds : Kinds
   pub names : List (List ℕ)
@@ -69,7 +74,8 @@ pub record IsCrowded (lines : List RecordedLine) : Type 0 where
   pub beyond : MAX_SIZE < most
 
 -- ---- the clients of a kind
--- `count` is the maximum number of rounds open at once, and at least one. The kind repeats if more rounds began in all.
+-- The client kind's count is the maximum number of its rounds that were open at once, and at least 1. The client kind repeats exactly when
+-- more of its rounds began than were open at once.
 pub record IsCounted (kinds : Kinds) (lines : List RecordedLine) (kind : ℕ) (client : Client) : Type 0 where
   pub most : ℕ
   pub concurrent : IsMostAtOnce kinds kind lines most
@@ -79,7 +85,8 @@ pub record IsCounted (kinds : Kinds) (lines : List RecordedLine) (kind : ℕ) (c
 abbrev pub client_names : List Client → List (List ℕ)
 client_names clients = map (λ client. client.name) clients
 
--- Each round has a kind whose name is of the family of its label, and each client kind is counted by its rounds.
+-- Each round has a client kind whose name belongs to the family of the round's label. The count of each client kind, and whether it
+-- repeats, are those of its rounds.
 pub record AreCounted (lines : List RecordedLine) (clients : List Client) : Type 0 where
   pub kinds : Kinds
   pub of_kinds : AreOfKinds kinds (client_names clients) lines

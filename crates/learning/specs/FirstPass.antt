@@ -1,4 +1,4 @@
--- The first pass: the names in the lines, or the first invalid line.
+-- The result of the first pass over a recording: the names in the lines, or the first invalid line.
 use Rattle.std.specs.Prelude.{◌≡◌, ◌+◌, ℕ, List, if◌then◌else◌, Option, Some, None, Result, Ok, Err}
 use Rattle.std.specs.List.{All, filter_map}
 use Rattle.recordings.specs.RecordingLine.{RecordedLine, lines_read}
@@ -20,27 +20,29 @@ use Rattle.learning.specs.Names.{IsNamedClass, IsNamedClient}
 use Rattle.learning.specs.Pools.{recorded_pools}
 use Rattle.learning.specs.Unfinished.{is_round_end, is_job_start, is_job_end, unfinished_rounds, unfinished_jobs}
 
--- The well-formed lines.
+-- The well-formed lines, in order.
 abbrev pub well_formed : List (Option RecordedLine) → List RecordedLine
 well_formed lines = filter_map (λ line. line) lines
 
--- No line is invalid, and the state is that of all lines.
+-- No line is invalid, and `names` has the names and counts of all lines.
 pub record AreNamesOfAll (all : List (Option RecordedLine)) (names : RecordedNames) : Type 0 where
   pub no_fault : IsFirstFault all None
   pub named : AreNamesOf names (well_formed all)
   pub rounds : AreLabelRoundsOf names.label_rounds (well_formed all)
   pub draft : IsDraftOf (well_formed all) names.draft
 
+-- The result is the names of all lines if no line is invalid, and otherwise the first invalid line.
 abbrev pub IsNamed : List (Option RecordedLine) → Result RecordedNames RecordingFault → Type 0
 IsNamed all (Ok names) = AreNamesOfAll all names
 IsNamed all (Err fault) = IsFirstFault all (Some fault)
 
--- If learning stops because a limit is exceeded, no line is invalid.
+-- The error may occur for these lines. If it is an exceeded limit, no line is invalid.
 abbrev pub IsLearnErrorAt : List (Option RecordedLine) → LearnError → Type 0
 IsLearnErrorAt all (Memory error) = IsLearnError (well_formed all) (Memory error)
 IsLearnErrorAt all (InferenceLimit reason) = IsFirstFault all None × IsLearnError (well_formed all) (InferenceLimit reason)
 
--- Each counter is incremented if it counts the line.
+-- The new counters are the old ones, each incremented if the line is one that it counts. The pools, the draft and the rounds of each label
+-- are unchanged.
 pub record Counts (old : RecordedNames) (line : RecordedLine) (new : RecordedNames) : Type 0 where
   pub pools : new.pools ≡ old.pools
   pub draft : new.draft ≡ old.draft
@@ -52,7 +54,7 @@ pub record Counts (old : RecordedNames) (line : RecordedLine) (new : RecordedNam
   pub ended_jobs : new.ended_jobs ≡ old.ended_jobs + (if is_job_end line then 1 else 0)
 
 -- ---- the result
--- The facts that hold of the returned plan.
+-- What the contract of `learn` promises about a learned plan.
 pub record IsInferredFrom (lines : List RecordedLine) (inferred : InferredPlan) : Type 0 where
   pub pools : inferred.plan.pools ≡ recorded_pools lines
   pub counts : AreCounted lines inferred.plan.clients
@@ -63,6 +65,8 @@ pub record IsInferredFrom (lines : List RecordedLine) (inferred : InferredPlan) 
   pub unfinished_rounds : inferred.unfinished_rounds ≡ unfinished_rounds lines
   pub unfinished_jobs : inferred.unfinished_jobs ≡ unfinished_jobs lines
 
+-- The result is the first invalid line, or a learned plan if no line is invalid. It is never an `InferenceLimit`, which is returned as an
+-- error.
 abbrev pub IsCorrectResult : List ℕ → InferenceResult → Type 0
 IsCorrectResult text (reported.Invalid fault) = IsFirstFault (lines_read text) (Some fault)
 IsCorrectResult text (reported.Inferred inferred) = IsFirstFault (lines_read text) None × IsInferredFrom (lines_of text) inferred

@@ -12,19 +12,19 @@ use Rattle.learning.specs.declared.inference_limit.InferenceLimit.{InferenceLimi
 abbrev pub lines_of : List ℕ → List RecordedLine
 lines_of text = filter_map (λ line. line) (lines_read text)
 
--- The fault of the first invalid line, if there is one.
+-- The fault of the first invalid line; `None` if the result is not an invalid line.
 abbrev pub fault_of : InferenceResult → Option RecordingFault
 fault_of (Invalid fault) = Some fault
 fault_of (Inferred inferred) = None
 fault_of (InferenceLimit reason) = None
 
--- `P` holds of the plan, if there is one.
+-- If the result is a plan, `P` holds for the plan.
 abbrev pub IfInferred : (InferredPlan → Type 0) → InferenceResult → Type 0
 IfInferred P (Inferred inferred) = P inferred
 IfInferred P (Invalid fault) = ⊤
 IfInferred P (InferenceLimit reason) = ⊤
 
--- `P` holds of the reason, if there is no plan.
+-- If the result is a reason why there is no plan, `P` holds for the reason.
 abbrev pub IfLimit : (InferenceLimitReason → Type 0) → InferenceResult → Type 0
 IfLimit P (InferenceLimit reason) = P reason
 IfLimit P (Inferred inferred) = ⊤

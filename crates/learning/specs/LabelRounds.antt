@@ -9,8 +9,9 @@ use Rattle.learning.specs.LearningState.{AreCountsOf}
 abbrev pub labels_of : LabelRounds → List (List ℕ)
 labels_of rounds = map string_bytes rounds.labels.items
 
--- Each round has the kind that its label's number stands for, and the counters of each kind count its rounds. This holds
--- whatever rounds and labels follow, because the lines so far name none of them. The kind of each open round is stored.
+-- `kinds` has the number of the label of each round. If this number is taken as the round's kind, the name of the kind belongs to the
+-- family of the round's label, and the counters of each kind count its rounds. Both hold for any rounds `more` and labels `names` that
+-- follow, because the lines so far name none of them. Each entry of `open_labels` is the label number of its round.
 pub record AreLabelRoundsOf (rounds : LabelRounds) (lines : List RecordedLine) : Type 0 where
   pub kinds : List ℕ
   pub begun : length kinds ≡ rounds.begun

@@ -17,12 +17,12 @@ HasBegun lines label = (round : ℕ) × Contains lines (RoundBegins round label)
 abbrev pub WasSubmitted : List RecordedLine → List ℕ → List ℕ → Type 0
 WasSubmitted lines label pool = (actor : RecordedActor) × (job : ℕ) × Contains lines (Submits actor job label pool)
 
--- One of LABEL_2, LABEL_3 and so on is too long, within the number of names that a plan may need.
+-- One of the names LABEL_2, LABEL_3 and so on that a plan may need is too long.
 abbrev pub IsLong : List ℕ → Type 0
 IsLong label = (n : ℕ) × (n ≤ MAX_CLASSES) × (MAX_NAME_BYTES < length (label ++ codes "_" ++ decimal n))
 
 -- ---- names
--- The name of the class is of the family of a label whose jobs were submitted to the pool of the class.
+-- The name of the class belongs to the family of some label, and a job of that label was submitted to the class's pool.
 pub record IsNamedClass (lines : List RecordedLine) (class : Class) : Type 0 where
   pub pool : Pool
   pub is_pool : slice_get (recorded_pools lines) class.pool ≡ Some pool
@@ -30,7 +30,7 @@ pub record IsNamedClass (lines : List RecordedLine) (class : Class) : Type 0 whe
   pub submitted : WasSubmitted lines label pool.name
   pub named : IsOfFamily label class.name
 
--- The name of the client kind is of the family of a label whose rounds began.
+-- The name of the client kind belongs to the family of some label, and a round of that label began.
 pub record IsNamedClient (lines : List RecordedLine) (client : Client) : Type 0 where
   pub label : List ℕ
   pub begun : HasBegun lines label

@@ -16,12 +16,12 @@ action_of (step.Gets place) = Get place
 abbrev pub body_of : List PathStep → List Action
 body_of path = map action_of path
 
--- The job can belong to some class.
+-- The step is a get, or a submit of a job that can belong to some class.
 abbrev pub HasClass : PathStep → Type 0
 HasClass (step.Submits classes) = 1 ≤ length classes.items
 HasClass (step.Gets place) = Unit {0}
 
--- The path has a body: it is not too long, each job can belong to some class, and each get names an earlier submit that no
+-- The path has a body: it is not longer than a body may be, each job can belong to some class, and each get names an earlier submit that no
 -- earlier get names.
 pub record HasBody (path : List PathStep) : Type 0 where
   pub short : length path ≤ MAX_ACTIONS

@@ -13,11 +13,11 @@ use Rattle.recordings.specs.RecordingLine.{RecordedLine}
 abbrev pub into_range : ℕ → ℕ → ℕ
 into_range low number = max (min number MAX_SIZE) low
 
--- The pool had core threads when its recording began, and all of them.
+-- When its recording began, the pool had all its core threads, and at least one.
 abbrev pub has_core_threads : PoolSizes → Bool
 has_core_threads sizes = not (sizes.prestarted == 0) && (sizes.prestarted == sizes.core)
 
--- The pool of a `pool` line, with sizes that a plan can have.
+-- The pool of a `pool` line, with each size clamped to its range in a plan.
 abbrev pub recorded_pool : List ℕ → PoolSizes → Pool
 recorded_pool name sizes = let core = into_range 1 sizes.core in
     record { name = name; core = core; max = into_range core sizes.max; queue = into_range 1 sizes.capacity; prestart = has_core_threads sizes }
@@ -28,10 +28,11 @@ abbrev pub pool_of_line : RecordedLine → Option Pool
 pool_of_line (line.Pool name sizes) = Some (recorded_pool name sizes)
 pool_of_line other = None
 
+-- The two pools have different names.
 abbrev pub has_other_name : Pool → Pool → Bool
 has_other_name pool other = not (bytes_eq pool.name other.name)
 
--- The pools without those whose name an earlier one has.
+-- The first pool of each name, in order.
 abbrev pub firsts : List Pool → List Pool
 firsts [] = []
 firsts (pool ∷ pools) = pool ∷ filter (has_other_name pool) (firsts pools)
@@ -41,13 +42,15 @@ unfoldable pub recorded_pools : List RecordedLine → List Pool
 recorded_pools lines = firsts (filter_map pool_of_line lines)
 
 -- ---- one more pool
+-- Some pool has this name.
 abbrev pub has_name : List ℕ → List Pool → Bool
 has_name name pools = list_any (λ pool. bytes_eq pool.name name) pools
 
--- The pool is appended, unless there is one of its name.
+-- The list with the pool appended, unless a pool of the list has its name.
 abbrev pub with_first : List Pool → Pool → List Pool
 with_first pools pool = if has_name pool.name pools then pools else pools ++ pool ∷ []
 
+-- The list with the pool appended, if there is one and no pool of the list has its name.
 abbrev pub with_first_of : Option Pool → List Pool → List Pool
 with_first_of (Some pool) pools = with_first pools pool
 with_first_of None pools = pools

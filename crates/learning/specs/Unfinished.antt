@@ -18,12 +18,15 @@ is_job_end (JobThrew job) = true
 is_job_end line = false
 
 -- ---- all lines
+-- The number of lines that end a round.
 unfoldable pub round_ends : List RecordedLine → ℕ
 round_ends lines = count_by is_round_end lines
 
+-- The number of lines that start a job.
 unfoldable pub job_starts : List RecordedLine → ℕ
 job_starts lines = count_by is_job_start lines
 
+-- The number of lines that end a job, with a value or with an exception.
 unfoldable pub job_ends : List RecordedLine → ℕ
 job_ends lines = count_by is_job_end lines
 

@@ -1,4 +1,4 @@
--- Validity of the gets of a body.
+-- The validity of the gets of a body.
 use Rattle.std.specs.Prelude.{◌≡◌, ℕ, Bool, true, List, Option, Some, slice_get, IsTrue}
 use Rattle.job_bodies.specs.declared.action.Action.{Action}
 use Rattle.job_bodies.specs.declared.action.Action.TheVariants.{Get}
@@ -8,7 +8,7 @@ use Rattle.job_bodies.specs.WellFormed.{is_valid_get}
 abbrev pub HasValidGets : List Action → Type 0
 HasValidGets body = (position submit : ℕ) → slice_get body position ≡ Some (Get submit) → IsTrue (is_valid_get body position submit)
 
--- The action at this index is a valid get, or not a get.
+-- The action at this index is a valid get, or is no get.
 abbrev pub is_valid_at : List Action → ℕ → Option Action → Bool
 is_valid_at body position (Some (Get submit)) = is_valid_get body position submit
 is_valid_at body position _ = true

@@ -5,12 +5,13 @@ use recordings::RecordedStep;
 use std::alloc::{AllocError, Global};
 use std::collections::{HashMap, HashSet};
 
-/// The class assigned to each classified job whose submitter is not yet classified, by number. The
-/// class is `None` if none was found.
+/// The classes assigned to the classified jobs whose submitters are not yet classified.
 #[derive(Drop)]
 pub(crate) struct AssignedClasses {
+    /// The class of each job, by job number. It is `None` if no class was found.
     jobs: HashMap<usize, Option<usize>>,
-    /// The refused jobs that are not yet classified. They belong to no path.
+    /// The refused jobs that are not yet classified. A refused job is no part of its submitter's
+    /// path.
     refused: HashSet<usize>,
 }
 
@@ -33,7 +34,7 @@ impl AssignedClasses {
         Ok(())
     }
 
-    /// Assigns the class to the job once it is classified.
+    /// Assigns the class to a job that was classified. Drops the job if it was refused.
     ///
     /// # Errors
     ///
@@ -45,7 +46,8 @@ impl AssignedClasses {
         Ok(())
     }
 
-    /// Removes the jobs of a path once their submitter is classified.
+    /// Removes the jobs that this path submits. Their submitter was classified, so they are not
+    /// needed any longer.
     pub(crate) fn forget(&mut self, path: &[RecordedStep]) {
         for step in path {
             if let RecordedStep::Submits(job) = *step {
@@ -54,8 +56,8 @@ impl AssignedClasses {
         }
     }
 
-    /// Returns the path with the class assigned to each of its jobs, or `None` if a job has no
-    /// class.
+    /// Returns the path, in which each submit has the class assigned to its job. Returns `None` if
+    /// a job has no class.
     ///
     /// # Errors
     ///

@@ -5,9 +5,10 @@ use conformance::PathStep;
 use job_bodies::Action;
 use std::alloc::{AllocError, Global};
 
-/// Returns, for each step of the path, the index of the corresponding action in the body, or `None`
-/// if the body has none. The indices are ascending. A submit has a partner exactly when its get has
-/// one, and then the partner of the get is the get of that partner.
+/// Returns the partner of each step of the path: the index of the corresponding action of the body,
+/// or `None` if no action corresponds. The indices are ascending. A submit that has a get has a
+/// partner exactly when its get has one. The partner of the get is then the get of the submit's
+/// partner.
 pub(crate) fn partners_of(
     alloc: Global,
     body: &[Action],
@@ -19,7 +20,8 @@ pub(crate) fn partners_of(
     Ok(partners)
 }
 
-/// Returns the partners in a longest common subsequence of the body and the path.
+/// Returns the partner of each step of the path in a longest common subsequence of the body and the
+/// path. If `known` is given, a submit can only have the partner that `known` has for it.
 fn longest_common(
     alloc: Global,
     body: &[Action],
@@ -53,8 +55,8 @@ fn length_at(lengths: &[Vec<usize>], position: usize, place: usize) -> usize {
     }
 }
 
-/// Returns the lengths of the longest common subsequences, for each prefix of the body and each
-/// prefix of the path.
+/// Returns the length of the longest common subsequence of each prefix of the body and each prefix
+/// of the path. The outer index is the length of the prefix of the body.
 fn common_lengths(
     alloc: Global,
     body: &[Action],
@@ -70,7 +72,8 @@ fn common_lengths(
     Ok(rows)
 }
 
-/// Returns the next row of lengths, for the prefix of the body that ends with this action.
+/// Returns the row of lengths for the prefix of the body that ends with the action at index
+/// `position`. `rows` has the rows of the shorter prefixes.
 fn next_row(
     alloc: Global,
     body: &[Action],
@@ -93,8 +96,8 @@ fn next_row(
     Ok(row)
 }
 
-/// Removes the partners of a submit and its get, unless these partners are also a submit and its
-/// get.
+/// Removes the partners of a submit and of its get, unless these partners are a submit and the get
+/// of that submit.
 fn drop_unpaired(body: &[Action], path: &[PathStep], partners: &mut [Option<usize>]) {
     for place in 0..path.len() {
         if let Some(get) = get_of(path, place) {

@@ -1,4 +1,4 @@
-//! The pairs of an action of a body and a step of a path that may correspond.
+//! The condition under which an action of a body and a step of a path may correspond.
 
 use conformance::PathStep;
 use job_bodies::{Action, has_get_of};
@@ -16,8 +16,9 @@ pub(crate) fn get_in_body(body: &[Action], submit: usize) -> Option<usize> {
 /// Returns true if the action at index `position` of the body and the step at index `place` of the
 /// path may correspond.
 ///
-/// Two submits may correspond if they are of one class, and both or neither have a get. Two gets
-/// may correspond if their submits may. If `known` is given, it decides which submits correspond.
+/// Two submits may correspond if they submit the same class, and both or neither have a get. Two
+/// gets may correspond if their submits may. If `known` is given, a submit of the path may only
+/// correspond to the submit of the body that is its partner in `known`.
 pub(crate) fn may_correspond(
     body: &[Action],
     path: &[PathStep],

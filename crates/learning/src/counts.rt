@@ -1,4 +1,4 @@
-//! The number of clients of each kind.
+//! Counters for the rounds of each client kind.
 
 ghost use Rattle.std.specs.Prelude.{◌≡◌, ◌++◌, ◌∷◌, [], ℕ, List, Some, true, false, length, slice_get, OnOk, IfOk, IfErr, IsTrue};
 ghost use Rattle.conformance.specs.Family.{IsOfFamily};
@@ -56,7 +56,8 @@ impl KindCount {
 ///
 /// # Errors
 ///
-/// - [`LearnError::InferenceLimit`] if a round has no kind, or one whose name is not of its label's family.
+/// - [`LearnError::InferenceLimit`] if a round has no kind, or if the name of its kind does not
+///   belong to the family of its label.
 /// - [`LearnError::Memory`] if memory runs out.
 pub(crate) fn kind_counts(
     alloc: Global,
@@ -83,8 +84,8 @@ pub(crate) fn kind_counts(
     Ok(counts)
 }
 
-// Returns false if the line begins a round that has no kind, or one whose name is not of the family
-// of its label.
+// Returns false if the line begins a round that has no kind, or whose kind has a name that does not
+// belong to the family of the round's label.
 fn begins_of_kind(kinds: &[Option<usize>], entries: &[Entry], line: &Line<'_>) -> bool
     ensures of_kind { IsTrue result
         → BeginsOfKind (kinds_in kinds.now) (names_of entries.now) (line_view line.now) }
@@ -105,7 +106,7 @@ fn is_of_kind(kinds: &[Option<usize>], entries: &[Entry], round: usize, label: &
     }
 }
 
-// Returns true if there is an entry with this number and its name is of the label's family.
+// Returns true if there is an entry with this number, and its name belongs to the label's family.
 fn has_family_name(entries: &[Entry], number: usize, label: &str) -> bool
     ensures { IsTrue result
         → (name : List ℕ)
@@ -176,7 +177,7 @@ fn kind_of(kinds: &[Option<usize>], round: usize) -> Option<usize>
     *kinds.get(round)?
 }
 
-/// Counts the begin of a round, unless `kind` is `None` or out of range.
+/// Counts a round of the kind that began. Does nothing if `kind` is `None` or out of range.
 ///
 /// # Errors
 ///
@@ -191,7 +192,7 @@ pub(crate) fn count_begin(counts: &mut [KindCount], kind: Option<usize>) -> Resu
     }
 }
 
-/// Counts the end of a round, unless `kind` is `None` or out of range.
+/// Counts a round of the kind that ended. Does nothing if `kind` is `None` or out of range.
 ///
 /// # Errors
 ///

@@ -16,12 +16,12 @@ use job_bodies::{Action, MAX_ACTIONS, MAX_PATH_STEPS};
 use std::alloc::{AllocError, Global};
 
 /// Returns a body that the path matches, and that every path of the given body matches too. The
-/// result is the given body with insertions of the submits and gets of the path that it lacks in
-/// this order. If the path already matches the given body, that is the result.
+/// result is the given body, into which the submits and gets of the path are inserted that it lacks
+/// in this order. If the path already matches the given body, the result is the given body.
 ///
 /// Returns `None` if no such body was found. The reasons are a result longer than a plan allows, a
 /// get of the body or path that names no earlier submit, a second get of one submit, or a submit of
-/// the path that cannot belong to any class.
+/// the path whose job cannot belong to any class.
 ///
 /// # Errors
 ///
@@ -38,7 +38,8 @@ pub fn covering_body(
     ensures short { IfOk result (λ found. IfSome found (λ new. length new.items ≤ MAX_ACTIONS)) }
     ensures valid_gets { IfOk result (λ found. IfSome found (λ new. HasValidGets new.items)) }
 
-    // If the path already matches the body, and the body is short, the result is the body.
+    // The result is the given body if the path matches it, it is valid in a plan, and it has so few
+    // submits that the search for a match is always decided.
     ensures same { IsSurelyOf body.now path.now
         → IfOk result (λ found. IsSomeAnd found (λ new. new.items ≡ body.now)) }
 {
@@ -51,7 +52,8 @@ pub fn covering_body(
     }
 }
 
-/// Returns the body if the path matches it, or the body extended by the path.
+/// Returns the body if the path matches it, and otherwise the body extended by the steps of the
+/// path that it lacks.
 fn extend_body(
     alloc: Global,
     body: &[Action],
@@ -70,7 +72,8 @@ fn extend_body(
     }
 }
 
-/// Returns true if the path matches the body. Returns false if this is undecided.
+/// Returns true if the path matches the body. Returns false if it does not match, or if the search
+/// for a match ended without a decision.
 fn is_path_of(body: &[Action], path: &[PathStep]) -> bool
     requires { length body.now ≤ MAX_ACTIONS }
     ensures yes { IsTrue result → IsPathOf Whole body.now path.now }
@@ -82,7 +85,8 @@ fn is_path_of(body: &[Action], path: &[PathStep]) -> bool
     }
 }
 
-/// Returns the body extended by the steps of the path that it lacks.
+/// Returns the body extended by the steps of the path that it lacks, or `None` if no such body that
+/// the path matches was found.
 fn with_path(
     alloc: Global,
     body: &[Action],

@@ -1,4 +1,5 @@
-//! Repeated passes over a recording, until every actor matches a class or kind of the plan.
+//! Repeated passes over a part of a recording, until every actor matches a class or client kind of
+//! the plan.
 
 ghost use Rattle.std.specs.Prelude.{◌≡◌, List, OnOk, IfErr};
 ghost use Rattle.recordings.specs.RecordingLine.{RecordedLine};
@@ -17,12 +18,14 @@ use std::alloc::Global;
 /// actor matches a body in the second one.
 const MAX_PASSES: usize = 600;
 
-/// Extends the bodies until every actor matches one. Returns the kind of each round, by number.
+/// Extends the bodies until every actor of the part matches one. Returns the client kind of each
+/// round, by round number.
 ///
 /// # Errors
 ///
-/// - [`LearnError::InferenceLimit`] if the bodies stop changing before that, or after [`MAX_PASSES`] passes.
-///   This happens for example if the part is cut and an open actor matches no body.
+/// - [`LearnError::InferenceLimit`] if an actor still matches no body when the bodies stop
+///   changing, or after [`MAX_PASSES`] passes. An example is an open actor that matches no body, if
+///   the recording continues after the part. Also if the actors need more than a plan may have.
 /// - [`LearnError::Memory`] if memory runs out.
 pub(crate) fn cover_all(
     alloc: Global,

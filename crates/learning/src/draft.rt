@@ -1,4 +1,4 @@
-//! The plan, while its bodies are learned.
+//! The draft of a plan, whose bodies are being learned.
 
 ghost use Rattle.std.specs.Prelude.{◌≡◌, ◌==◌, ◌&&◌, length, List, OnOk, IfOk, IfErr, string_bytes};
 ghost use Rattle.std.specs.List.{All, Contains};
@@ -17,7 +17,7 @@ use job_bodies::{Class, Client, MAX_CLASSES, MAX_CLIENT_KINDS, Plan, Pool};
 use recordings::Line;
 use std::alloc::{AllocError, Global};
 
-/// The classes and client kinds, with their current bodies.
+/// The classes and client kinds of a plan, with the bodies learned so far.
 #[derive(Drop)]
 pub(crate) struct PlanDraft {
     pub(crate) classes: Entries,
@@ -26,7 +26,7 @@ pub(crate) struct PlanDraft {
 }
 
 impl PlanDraft {
-    /// Creates an empty plan.
+    /// Creates an empty draft.
     pub(crate) fn new(alloc: Global) -> PlanDraft
         ensures { (lines : List RecordedLine) → IsDraftOf lines result }
     {
@@ -37,11 +37,12 @@ impl PlanDraft {
         }
     }
 
-    /// Adds the class or kind that the line names, unless it is there.
+    /// Adds the class or client kind that the line names, unless the plan already has it.
     ///
     /// # Errors
     ///
-    /// - [`LearnError::InferenceLimit`] if a plan cannot have one more.
+    /// - [`LearnError::InferenceLimit`] if a plan cannot have one more class or client kind, or if
+    ///   its name would be too long.
     /// - [`LearnError::Memory`] if memory runs out.
     pub(crate) fn note(&mut self, pools: &[Pool], line: &Line<'_>) -> Result<(), LearnError>
         ensures ok { (lines : List RecordedLine)
@@ -74,11 +75,13 @@ impl PlanDraft {
         self.classes.entries.is_empty() && self.kinds.entries.is_empty()
     }
 
-    /// Returns the current plan. Each kind has one client, which does not repeat.
+    /// Returns a plan with the bodies learned so far. Each client kind has one client, which does
+    /// not repeat.
     ///
     /// # Errors
     ///
-    /// - [`LearnError::InferenceLimit`] if the parts do not form a plan.
+    /// - [`LearnError::InferenceLimit`] if the pools, classes and client kinds do not form a valid
+    ///   plan.
     /// - [`LearnError::Memory`] if memory runs out.
     pub(crate) fn plan(&self, pools: &[Pool]) -> Result<Plan, LearnError>
         ensures { (lines : List RecordedLine) → HasActors lines → IfErr result (IsLearnError lines) }
@@ -112,12 +115,14 @@ impl PlanDraft {
         Ok(clients)
     }
 
-    /// Returns the class assigned to a job of this label and pool with this path, or `None` if no
-    /// body covers the path.
+    /// Returns the class of a job with this label, pool and path. If the path matches no body of
+    /// the label's classes, extends one of these bodies or adds a class. Returns `None` if no body
+    /// was found that covers the path.
     ///
     /// # Errors
     ///
-    /// - [`LearnError::InferenceLimit`] if a plan cannot have one more class.
+    /// - [`LearnError::InferenceLimit`] if a plan cannot have one more class, or if its name would
+    ///   be too long.
     /// - [`LearnError::Memory`] if memory runs out.
     pub(crate) fn learn_job(
         &mut self,
@@ -139,12 +144,14 @@ impl PlanDraft {
         self.classes.grow(label, pool, observed_path, &reachable)
     }
 
-    /// Returns the kind assigned to a round of this label with this path, or `None` if no body
-    /// covers the path.
+    /// Returns the client kind of a round with this label and path. If the path matches no body of
+    /// the label's kinds, extends one of these bodies or adds a kind. Returns `None` if no body was
+    /// found that covers the path.
     ///
     /// # Errors
     ///
-    /// - [`LearnError::InferenceLimit`] if a plan cannot have one more kind.
+    /// - [`LearnError::InferenceLimit`] if a plan cannot have one more client kind, or if its name
+    ///   would be too long.
     /// - [`LearnError::Memory`] if memory runs out.
     pub(crate) fn learn_round(
         &mut self,
@@ -185,7 +192,7 @@ fn class_of(alloc: Global, entry: &Entry) -> Result<Class, AllocError>
     })
 }
 
-/// Returns the client kind of an entry, with this count.
+/// Returns the client kind of an entry, with this count and this value of `repeat`.
 ///
 /// # Errors
 ///

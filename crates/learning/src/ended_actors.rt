@@ -1,10 +1,10 @@
-//! The actors that have ended.
+//! The set of actors that have ended and are not yet classified.
 
 use recordings::{Line, RecordedActor};
 use std::alloc::{AllocError, Global};
 use std::collections::HashSet;
 
-/// The actors that have ended and are not yet classified.
+/// A set of actors that have ended and are not yet classified.
 #[derive(Drop)]
 pub(crate) struct EndedActors {
     jobs: HashSet<usize>,
@@ -20,7 +20,7 @@ impl EndedActors {
         }
     }
 
-    /// Adds the actor that the line ends, if there is one.
+    /// Adds the actor that the line ends, if the line ends one.
     ///
     /// # Errors
     ///
@@ -46,7 +46,7 @@ impl EndedActors {
         }
     }
 
-    /// Removes the actor once it is classified.
+    /// Removes an actor that was classified.
     pub(crate) fn remove(&mut self, actor: RecordedActor) {
         match actor {
             RecordedActor::Job(job) => self.jobs.remove(&job),

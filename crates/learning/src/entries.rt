@@ -14,14 +14,14 @@ use crate::names::free_name;
 use job_bodies::Action;
 use std::alloc::{AllocError, Global};
 
-/// A class of jobs, or a kind of clients.
+/// A class or client kind, while its body is learned.
 #[derive(Drop)]
 pub(crate) struct Entry {
     /// The name in the recording.
     pub(crate) label: String,
-    /// The number of its pool, or 0 for a client kind.
+    /// The number of the class's pool, or 0 for a client kind.
     pub(crate) pool: usize,
-    /// The name in the plan: the label, or the label and a number.
+    /// The name in the plan: the label, or the label followed by `_` and a number.
     pub(crate) name: String,
     pub(crate) body: Vec<Action>,
 }
@@ -51,11 +51,11 @@ impl Entries {
         }
     }
 
-    /// Adds an entry with an empty body, unless there is one of this label in this pool.
+    /// Adds an entry with an empty body, unless an entry already has this label and pool.
     ///
     /// # Errors
     ///
-    /// As for [`add`](Entries::add).
+    /// The errors of [`add`](Entries::add).
     pub(crate) fn note(&mut self, label: &str, pool: usize) -> Result<(), LearnError>
         ensures ok { (lines : List RecordedLine) (beyond : Reason)
             → IsGiven lines beyond label.now pool
@@ -72,7 +72,7 @@ impl Entries {
         self.add(label, pool, Vec::new(self.alloc))
     }
 
-    /// Returns true if there is an entry of this label in this pool.
+    /// Returns true if an entry has this label and pool.
     pub(crate) fn has(&self, label: &str, pool: usize) -> bool
         ensures { (lines : List RecordedLine) (beyond : Reason)
             → AreEntriesOf lines beyond self.now
@@ -82,7 +82,8 @@ impl Entries {
         self.entries.iter().any(|entry| entry.is_of(label, pool))
     }
 
-    /// Adds an entry with this body and the next free name of the label.
+    /// Adds an entry with this body. Its name is the first of LABEL, LABEL_2, LABEL_3 and so on
+    /// that no entry has.
     ///
     /// # Errors
     ///
@@ -127,7 +128,7 @@ impl Entries {
         Ok(())
     }
 
-    /// Returns the body of an entry, or an empty one if there is no such entry.
+    /// Returns the body of the entry with this number, or an empty body if there is no such entry.
     pub(crate) fn body(&self, number: usize) -> &[Action] {
         match self.entries.get(number) {
             Some(entry) => entry.body.as_slice(),
@@ -135,7 +136,7 @@ impl Entries {
         }
     }
 
-    /// Replaces the body of an entry, if there is one with this number.
+    /// Replaces the body of the entry with this number, if there is such an entry.
     pub(crate) fn set_body(&mut self, number: usize, body: Vec<Action>)
         ensures { (lines : List RecordedLine) (beyond : Reason)
             → AreEntriesOf lines beyond self.old
@@ -148,7 +149,7 @@ impl Entries {
 }
 
 impl Entry {
-    /// Returns true if the entry has this label in the recording, in this pool.
+    /// Returns true if the entry has this label and pool.
     pub(crate) fn is_of(&self, label: &str, pool: usize) -> bool
         ensures { result
             ≡ (bytes_eq (string_bytes self.now.label) label.now && self.now.pool == pool) }

@@ -4,16 +4,16 @@
 /// learned from the whole recording.
 #[derive(Clone, Copy, PartialEq, Eq)]
 pub enum Extent {
-    /// The whole lines within the first [`START_BYTES`]. No plan is learned if they do not explain
-    /// every actor that they begin.
+    /// The complete lines in the first [`START_BYTES`] bytes. No plan is learned if an actor that
+    /// begins in these lines matches no learned body.
     Start,
-    /// All lines.
+    /// The whole recording.
     Whole,
 }
 
-/// The maximum size of the start of a recording, in bytes. Within that size a service has usually
-/// done everything that it does, several times. A few passes over it cost little compared with one
-/// pass over a long recording.
+/// The maximum size of the start of a recording, in bytes. A start of this size usually has each path
+/// of the recording several times. A few passes over it cost little compared with one pass over a
+/// long recording.
 pub const START_BYTES: usize = 262_144;
 
 /// A prefix of a recording. It may end within a line, which is then not read.

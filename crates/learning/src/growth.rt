@@ -19,11 +19,12 @@ pub(crate) struct ObservedPath {
     pub(crate) path_state: PathState,
 }
 
-/// The class or kind assigned to an actor, by number.
+/// The class or client kind assigned to an actor.
 #[derive(Clone, Copy)]
 pub(crate) struct Assignment {
+    /// The number of the class or client kind.
     pub(crate) number: usize,
-    /// True if its body changed.
+    /// True if the body of the class or client kind changed.
     pub(crate) is_changed: bool,
 }
 
@@ -43,13 +44,15 @@ impl Entries {
         })
     }
 
-    /// Extends the first entry of this label and pool whose body can be made to cover the path, or
-    /// adds a new entry for it. Skips each entry that is marked in `reachable`: jobs of that class
-    /// would submit jobs of their own class without end. Returns `None` if no body covers the path.
+    /// Extends the body of the first entry with this label and pool for which a body that covers
+    /// the path is found. If there is none, adds an entry whose body is the path itself. Skips each
+    /// entry that is marked in `reachable`, because a job of that class would submit jobs of its
+    /// own class without end. Returns `None` if no body was found for the path, or if no entry has
+    /// this label and pool.
     ///
     /// # Errors
     ///
-    /// As for [`add`](Entries::add).
+    /// The errors of [`add`](Entries::add).
     pub(crate) fn grow(
         &mut self,
         label: &str,
@@ -86,7 +89,7 @@ impl Entries {
         }
     }
 
-    // Adds an entry for a label that already has one.
+    // Adds a further entry for a label and pool that already have an entry.
     fn add_further_entry(
         &mut self,
         label: &str,
@@ -110,7 +113,7 @@ impl Entries {
         }))
     }
 
-    // Returns true if the entry has this label and pool and may be extended.
+    // Returns true if the entry has this label and pool, and is not marked in `reachable`.
     fn is_free(&self, number: usize, label: &str, pool: usize, reachable: &[bool]) -> bool {
         match self.entries.get(number) {
             Some(entry) => entry.is_of(label, pool) && !is_marked(reachable, number),
@@ -129,8 +132,8 @@ fn is_path_of(body: &[Action], observed_path: &ObservedPath) -> bool {
         ) == PathMatch::Fits
 }
 
-/// Returns, for each class, whether jobs of it are submitted by these steps, directly or through
-/// jobs that they submit.
+/// Returns, for each class, whether these steps submit jobs of the class, directly or through the
+/// bodies of the classes that they submit.
 ///
 /// # Errors
 ///
@@ -160,7 +163,8 @@ fn mark_step(reachable: &mut [bool], step: &PathStep) {
     }
 }
 
-/// Marks the classes that marked classes submit. Returns true if a class was newly marked.
+/// Marks each class that the body of a marked class submits. Returns true if a class was newly
+/// marked.
 fn propagate(classes: &Entries, reachable: &mut [bool]) -> bool {
     let mut is_more = false;
     for number in 0..classes.entries.len() {

@@ -27,17 +27,20 @@ use crate::recorded_names::{RecordedNames, recorded_names};
 use job_bodies::{Client, MAX_SIZE, Plan};
 use std::alloc::{AllocError, Global};
 
-/// Derives the plan that a recording shows.
+/// Derives a plan from a recording.
 ///
 /// `extent` selects the part of the recording from which bodies are learned. `budget` limits the
 /// steps of each check of one path against one body.
 ///
-/// The whole recording is read once, for its names, counts and first invalid line. The selected
-/// part is read a few more times, usually twice, while the bodies grow. If a label has several
-/// kinds, the bodies must come from all lines, and one more pass counts the rounds of each kind.
-/// The memory grows with the open actors, the plan and the rounds of the part. The contract
-/// promises that the bodies form a plan, and not that the recording matches them: the caller
-/// compares the recording with the plan. Nor does it promise a plan whenever one exists.
+/// The whole recording is read once, for its names, its counts and its first invalid line. The
+/// selected part is read a few more times, usually twice, while the bodies grow. If a label has
+/// several client kinds, the selected part must be the whole recording, and one more pass counts
+/// the rounds of each kind. The memory grows with the open actors, the plan and the rounds of the
+/// selected part.
+///
+/// The contract promises that the bodies form a plan. It does not promise that the recording
+/// matches them: the caller compares the recording with the plan. It does not promise that a plan
+/// is found whenever one exists.
 ///
 /// # Errors
 ///
@@ -116,9 +119,9 @@ fn infer_plan(
     }
 }
 
-// Extends the bodies, and returns the kind of each round of the part, by number. If the part is cut
-// and a label has several kinds, there is no plan: the kinds of the rounds after the part are
-// unknown.
+// Extends the bodies so that they cover the paths of the part. Returns the client kind of each
+// round of the part, by round number. Fails if the recording continues after the part and a label
+// has several kinds, because the kinds of the rounds after the part are then unknown.
 fn learn_round_kinds(
     alloc: Global,
     part: RecordingPart<'_>,

@@ -14,7 +14,7 @@ pub enum InferenceLimit {
     Classes,
     /// More client kinds than a plan may have.
     Kinds,
-    /// A class or a kind whose name would be too long.
+    /// A class or client kind whose name would be too long.
     Names,
     /// More rounds of a kind at once than a plan may have clients.
     Rounds,

@@ -9,14 +9,14 @@ use recordings::RecordingFault;
 pub enum InferenceResult {
     /// The first invalid line of the recording.
     Invalid(RecordingFault),
-    /// The plan that the recording shows.
+    /// The plan that was learned from the recording.
     Inferred(InferredPlan),
     /// The reason why there is no plan: the recording exceeds the limits of a plan, or no bodies
     /// were found for its paths.
     InferenceLimit(InferenceLimit),
 }
 
-/// The plan that a recording shows, with the size of the recording.
+/// A plan that was learned from a recording, with counts of the recording's rounds and jobs.
 #[derive(Drop)]
 pub struct InferredPlan {
     pub plan: Plan,

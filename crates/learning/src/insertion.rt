@@ -20,8 +20,9 @@ pub(crate) fn with_submit(
     with_action(alloc, body, at, Action::Submit(class))
 }
 
-/// Returns the body with a submit of this class inserted at index `at`, and then its get at index
-/// `get_at`. Returns `None` if an index is past the end or `get_at` is not after `at`.
+/// Returns the body with a submit of this class inserted at index `at`, and then the get of this
+/// submit inserted at index `get_at`. Returns `None` if an index is past the end or `get_at` is not
+/// after `at`.
 pub(crate) fn with_submit_and_get(
     alloc: Global,
     body: &[Action],
@@ -63,8 +64,8 @@ fn with_action(
     }
 }
 
-/// Returns the actions with the indices of their gets adjusted for an insertion at index `at`, or
-/// `None` if an index overflows.
+/// Returns the actions of the body as they are after an insertion at index `at`: each get names the
+/// new index of its submit. Returns `None` if an index overflows.
 fn shifted_actions(
     alloc: Global,
     body: &[Action],
@@ -83,7 +84,8 @@ fn shifted_actions(
     Ok(Some(new))
 }
 
-/// Returns the action with the index of its get adjusted for an insertion at index `at`.
+/// Returns the action as it is after an insertion at index `at`: a get names the new index of its
+/// submit. Returns `None` if the index overflows.
 fn shifted_action(at: usize, action: Action) -> Option<Action>
     ensures { IfSome result (λ new. new ≡ spec.shifted_action at action) }
 {
@@ -94,7 +96,8 @@ fn shifted_action(at: usize, action: Action) -> Option<Action>
     }
 }
 
-/// Returns the index of an action after an insertion at index `at`, or `None` on overflow.
+/// Returns the index of the action at `position` after an insertion at index `at`, or `None` if it
+/// overflows.
 pub(crate) fn shifted_index(at: usize, position: usize) -> Option<usize>
     ensures { IfSome result (λ new. new ≡ spec.shifted_index at position) }
 {

@@ -1,4 +1,4 @@
-//! The number of rounds of each label.
+//! Counters for the rounds of each label.
 
 ghost use Rattle.std.specs.Prelude.{◌≡◌, ◌+◌, ◌++◌, ◌∷◌, ◌==◌, [], ℕ, List, None, Some, if◌then◌else◌, slice_get, map, string_bytes, OnOk, IfOk, IfErr, IsTrue};
 ghost use Rattle.std.specs.List.{position};
@@ -20,22 +20,23 @@ use recordings::Line;
 use std::alloc::{AllocError, Global};
 use support::IdMap;
 
-/// Counters for the rounds of each label. As long as each label has one kind, these are also the
+/// Counters for the rounds of each label. If each label has one client kind, they also count the
 /// rounds of each kind.
 #[derive(Drop)]
 pub(crate) struct LabelRounds {
     labels: Vec<String>,
-    /// The label number of each open round, by round number.
+    /// The number of the label of each open round, by round number.
     open_labels: IdMap<usize>,
     /// The number of rounds that have begun.
     begun: usize,
-    /// The counters of each label that a plan has room for, by label number.
+    /// The counters for the rounds of each label, by label number. Only the first labels have
+    /// counters: as many as a plan can have client kinds.
     pub(crate) counts: Vec<KindCount>,
     alloc: Global,
 }
 
 impl LabelRounds {
-    /// Creates the counters, before the first line.
+    /// Creates the counters, all zero.
     ///
     /// # Errors
     ///
@@ -53,7 +54,7 @@ impl LabelRounds {
         })
     }
 
-    /// Reads the next line.
+    /// Updates the counters for the next line.
     ///
     /// # Errors
     ///
@@ -75,7 +76,8 @@ impl LabelRounds {
         }
     }
 
-    // A valid recording numbers its rounds consecutively, so this never returns `LearnError::InferenceLimit`.
+    // Records that a round of this label began. A valid recording numbers its rounds consecutively.
+    // For such a recording, this function never returns `LearnError::InferenceLimit`.
     fn begin(&mut self, round: usize, label: &str) -> Result<(), LearnError>
         ensures ok { (before : List RecordedLine)
             → AreLabelRoundsOf self.old before
@@ -93,7 +95,8 @@ impl LabelRounds {
         Ok(())
     }
 
-    // In a valid recording only an open round ends, so this never returns `LearnError::InferenceLimit`.
+    // Records that the round ended. In a valid recording only an open round ends. For such a
+    // recording, this function never returns `LearnError::InferenceLimit`.
     fn end(&mut self, round: usize) -> Result<(), LearnError>
         ensures ok { (before : List RecordedLine)
             → AreLabelRoundsOf self.old before
@@ -139,7 +142,7 @@ impl LabelRounds {
         Ok(())
     }
 
-    // Records the next round as open, with this kind.
+    // Records the next round as open, with the number of its label.
     fn push(&mut self, kind: usize) -> Result<(), AllocError>
         ensures open_labels { OnOk result
             ((round : ℕ)
@@ -154,8 +157,8 @@ impl LabelRounds {
         Ok(())
     }
 
-    /// Returns true if each label has one kind, and the entries are these kinds in the order of the
-    /// labels.
+    /// Returns true if each label has one client kind, and the entries are these kinds in the order
+    /// of the labels.
     pub(crate) fn are_of(&self, entries: &[Entry]) -> bool
         ensures { IsTrue result → names_of entries.now ≡ labels_of self.now }
     {
@@ -167,7 +170,7 @@ impl LabelRounds {
     }
 }
 
-// Returns the index of the label.
+// Returns the index of the label in the list.
 fn place_of(labels: &[String], label: &str) -> Option<usize>
     ensures { result ≡ position (λ one. bytes_eq (string_bytes one) label.now) labels.now }
 {
@@ -198,7 +201,8 @@ fn is_named(entries: &[Entry], number: usize, name: &str) -> bool
     }
 }
 
-// Returns the number of entries with a name of the label's family.
+// Returns the number of entries whose names belong to the label's family: LABEL, LABEL_2, LABEL_3 and
+// so on.
 fn kinds_of(label: &str, entries: &[Entry]) -> usize {
     entries
         .iter()

@@ -1,11 +1,11 @@
-//! Reasons to stop learning early.
+//! The error of a learning step.
 
 ghost use Rattle.std.specs.Prelude.{◌≡◌};
 
 use crate::inference_limit::InferenceLimit;
 use std::alloc::AllocError;
 
-/// A reason to stop before there is a plan.
+/// The error of a learning step: out of memory, or the reason why no plan can be learned.
 #[derive(Drop)]
 pub(crate) enum LearnError {
     Memory(AllocError),

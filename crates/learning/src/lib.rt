@@ -1,7 +1,7 @@
-//! The plan that a recording shows.
+//! Derivation of a plan from a recording.
 //!
-//! [`learn`] infers a body for each class and client kind from the recorded paths, and compares the plan with the whole
-//! recording.
+//! [`learn`] infers a body for each class and client kind from the recorded paths. It does not
+//! compare the plan with the whole recording: the caller does.
 #![tactic(auto)]
 
 mod assigned_classes;

@@ -10,8 +10,9 @@ use conformance::PathStep;
 use job_bodies::Action;
 use std::alloc::{AllocError, Global};
 
-/// Returns true if the path corresponds to the actions of the body that remain when only the
-/// submits at these indices are kept, with their gets. The path then matches the body.
+/// Returns true if the steps of the path correspond one by one to the kept actions of the body. The
+/// kept actions are the submits whose indices are in `places`, and the gets of these submits. If
+/// the result is true, the path matches the body.
 pub(crate) fn matches_at(
     alloc: Global,
     body: &[Action],
@@ -25,7 +26,7 @@ pub(crate) fn matches_at(
     Ok(are_steps_of(&kept, path))
 }
 
-/// Returns, for each index of a body, whether it is one of `places`.
+/// Returns, for each index of a body of this length, whether the index is in `places`.
 fn choice_of(alloc: Global, len: usize, places: &[Option<usize>]) -> Result<Vec<bool>, AllocError> {
     let mut choice = Vec::new(alloc);
     for position in 0..len {
@@ -65,7 +66,7 @@ fn keeps(choice: &[bool], position: usize) -> bool
     choice.get(position).copied().unwrap_or(false)
 }
 
-/// Returns true if the steps correspond to these actions one by one.
+/// Returns true if the steps of the path correspond one by one to the kept actions.
 fn are_steps_of(kept: &[(usize, Action)], path: &[PathStep]) -> bool
     ensures { IsTrue result → AllZip (spec.IsStepOf kept.now) path.now kept.now }
 {
@@ -90,7 +91,7 @@ fn is_step_at(kept: &[(usize, Action)], path: &[PathStep], place: usize) -> bool
     }
 }
 
-/// Returns true if the step corresponds to this action.
+/// Returns true if the step corresponds to this action, which is one of the kept actions.
 fn is_step_of(kept: &[(usize, Action)], step: &PathStep, action: Action) -> bool
     ensures { IsTrue result → (position : ℕ) → spec.IsStepOf kept.now step.now (position, action) }
 {

@@ -9,11 +9,12 @@ use conformance::PathStep;
 use job_bodies::Action;
 use std::alloc::{AllocError, Global};
 
-/// Returns the body with insertions of the submits and gets of the path that it lacks, or `None` if
-/// one of them cannot be inserted, such as a submit that cannot belong to any class.
+/// Inserts into the body the submits and gets of the path that the body lacks, and returns the
+/// result. Returns `None` if one of them cannot be inserted, for example if the job of a submit
+/// cannot belong to any class.
 ///
-/// `places` has the index in the body of each step of the path, or `None` for a missing one. The
-/// function updates it for the insertions.
+/// `places` has the index in the body of each step of the path, or `None` if the body lacks the
+/// step. The function updates it for the insertions.
 pub(crate) fn with_missing_steps(
     alloc: Global,
     body: &[Action],
@@ -39,8 +40,8 @@ pub(crate) fn with_missing_steps(
     Ok(Some(new))
 }
 
-/// Returns the body with the submit at index `place` of the path inserted, and its get if it has
-/// one.
+/// Returns the body with the submit at index `place` of the path inserted, and with the submit's
+/// get inserted if the path has one. Updates `places`.
 fn with_step(
     alloc: Global,
     body: &[Action],
@@ -66,12 +67,13 @@ fn with_step(
     }
 }
 
-/// Returns the index in the body of the step at index `place` of the path.
+/// Returns the index in the body of the step at index `place` of the path, or `None` if the body
+/// lacks the step.
 fn place_at(places: &[Option<usize>], place: usize) -> Option<usize> {
     *places.get(place)?
 }
 
-/// Returns the first index in the body after all steps before index `place` of the path.
+/// Returns the smallest index of the body that is after all steps of the path before index `place`.
 fn insertion_index(places: &[Option<usize>], place: usize) -> usize {
     let mut after = 0;
     for at in places.iter().take(place).flatten() {
@@ -80,7 +82,8 @@ fn insertion_index(places: &[Option<usize>], place: usize) -> usize {
     after
 }
 
-/// Records that the step at index `place` of the path is inserted at index `at` of the body.
+/// Updates `places` for the insertion of the step at index `place` of the path at index `at` of the
+/// body.
 fn record_insertion(places: &mut [Option<usize>], place: usize, at: usize) {
     for other in places.iter_mut() {
         *other = match *other {

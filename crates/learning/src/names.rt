@@ -11,7 +11,7 @@ use crate::learn_error::LearnError;
 use job_bodies::MAX_NAME_BYTES;
 use std::alloc::{AllocError, Global};
 
-/// Returns the first unused name of LABEL, LABEL_2, LABEL_3 and so on.
+/// Returns the first of the names LABEL, LABEL_2, LABEL_3 and so on that no entry has.
 ///
 /// # Errors
 ///
@@ -25,8 +25,8 @@ pub(crate) fn free_name(alloc: Global, entries: &[Entry], label: &str) -> Result
     if !has_name(entries, label) {
         return Ok(String::from_str(alloc, label)?);
     }
-    // The loop always finds a free name: with the label it tries one name more than there are
-    // entries.
+    // The loop always finds a free name, because the label and the names of the loop are one name
+    // more than there are entries.
     for step in 0..entries.len() {
         let number = step.saturating_add(2);
         let name = format!(in alloc; "{label}_{number}")?;

@@ -1,4 +1,4 @@
-//! A pass over a recording that extends the bodies.
+//! A pass over a part of a recording, which extends the bodies of a plan.
 
 ghost use Rattle.std.specs.Prelude.{◌≡◌, List, OnOk, IfErr};
 ghost use Rattle.recordings.specs.RecordingLine.{RecordedLine};
@@ -16,14 +16,14 @@ use job_bodies::{Plan, Pool};
 use recordings::{Line, RecordedActor, RecordingLines};
 use std::alloc::{AllocError, Global};
 
-/// The state of a pass.
+/// The state of a pass over a part of a recording.
 #[derive(Drop)]
 pub(crate) struct Pass {
-    /// The first kind that each round can belong to, by round number.
+    /// The first client kind of the plan that each round can belong to, by round number.
     pub(crate) kinds: Vec<Option<usize>>,
-    /// True if a body changed.
+    /// True if the pass changed a body.
     pub(crate) is_changed: bool,
-    /// True if each actor matched a class or kind of the plan.
+    /// True if each actor matched a class or client kind of the plan.
     pub(crate) is_explained: bool,
     /// True if the recording continues after the part.
     is_cut: bool,
@@ -34,9 +34,10 @@ pub(crate) struct Pass {
 
 /// Runs one pass over the part of the recording.
 ///
-/// If an actor matches no class or kind of the plan, and all jobs that it submitted do, a body is
-/// extended to cover its path. An actor without an end may continue. Its path therefore extends a
-/// body only if no other body changed and the part is not cut.
+/// If an actor matches no class or client kind of the plan, and each job that it submitted has a
+/// class, the pass extends a body to cover the actor's path. The path of an actor that has not
+/// ended may be incomplete. It extends a body only if no path of an ended actor did in this pass,
+/// and the recording does not continue after the part.
 ///
 /// # Errors
 ///
@@ -70,7 +71,7 @@ pub(crate) fn run_pass(
     Ok(pass)
 }
 
-/// The classification of the actors along the lines.
+/// The classifier of a pass, with the actors that the current line classified.
 #[derive(Drop)]
 struct PassClassifier {
     classes: ActorClassifier,
@@ -85,7 +86,7 @@ impl PassClassifier {
         }
     }
 
-    // Returns the actors that are still unclassified at the end of the lines.
+    // Classifies the actors that are still unclassified at the end of the lines, and returns them.
     fn finish(self, plan: &Plan) -> Result<Vec<ClassifiedActor>, AllocError> {
         let PassClassifier {
             classes,
@@ -118,7 +119,7 @@ impl Pass {
         self.ended.note(line)
     }
 
-    // Reads the next line, and processes each actor that it classifies.
+    // Processes the next line, and the actors that can be classified after it.
     fn process_line(
         &mut self,
         pools: &[Pool],
@@ -143,7 +144,7 @@ impl Pass {
         Ok(())
     }
 
-    // Processes the classified actors, all of which have ended.
+    // Processes actors that were classified before the end of the lines. All of them have ended.
     fn process_classified(
         &mut self,
         pools: &[Pool],
@@ -166,7 +167,8 @@ impl Pass {
         Ok(())
     }
 
-    // Processes the actors that are classified at the end of the lines.
+    // Processes the actors that are classified at the end of the lines. Some of them may not have
+    // ended.
     fn process_unclassified(
         &mut self,
         pools: &[Pool],
@@ -199,12 +201,13 @@ impl Pass {
         Ok(())
     }
 
-    // Returns true if actors without an end may not extend a body.
+    // Returns true if the paths of actors that have not ended must not extend a body.
     fn skips_open_actors(&self) -> bool {
         self.is_changed || self.is_cut
     }
 
-    // Records the kind of a round, or assigns the class to a job.
+    // Records the first client kind that a round can belong to, or assigns the class to a job. Also
+    // records if the actor matches no class or client kind of the plan.
     fn record_assignment(
         &mut self,
         one: &ClassifiedActor,
@@ -225,8 +228,8 @@ impl Pass {
         }
     }
 
-    // Returns the class or kind assigned to the actor. Extends a body if the actor matches none and
-    // all jobs that it submitted have a class.
+    // Returns the class or client kind of the actor. Extends a body if the actor matches none, and
+    // each job that it submitted has a class.
     fn learn(
         &mut self,
         pools: &[Pool],

@@ -12,11 +12,11 @@ use conformance::PathStep;
 use job_bodies::{Action, MAX_ACTIONS};
 use std::alloc::{AllocError, Global};
 
-/// Returns the body that consists of the steps of a path. Each submit gets the first class that its
-/// job can belong to.
+/// Returns the body whose actions are the steps of the path. Each submit has the first class that
+/// its job can belong to.
 ///
-/// Returns `None` if the path is longer than a body may be, a submit cannot belong to any class, or
-/// a get names no earlier submit or one that an earlier get names.
+/// Returns `None` if the path is longer than a body may be, if the job of a submit cannot belong to
+/// any class, or if a get names no earlier submit or a submit that an earlier get names.
 ///
 /// # Errors
 ///

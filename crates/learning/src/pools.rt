@@ -44,7 +44,7 @@ fn has_core_threads(sizes: PoolSizes) -> bool
     sizes.prestarted != 0 && sizes.prestarted == sizes.core
 }
 
-/// Adds the pool of a `pool` line, unless there is one of that name.
+/// Adds the pool of a `pool` line, unless a pool already has its name.
 ///
 /// # Errors
 ///
@@ -102,7 +102,7 @@ fn has_name(pools: &[Pool], name: &str) -> bool
     pools.iter().any(|pool| pool.name.as_str() == name)
 }
 
-/// Returns the number of the pool with this name.
+/// Returns the number of the pool with this name, or `None` if there is none.
 pub(crate) fn pool_number(pools: &[Pool], name: &str) -> Option<usize>
     ensures { result ≡ position (λ pool. bytes_eq pool.name name.now) pools.now }
 {

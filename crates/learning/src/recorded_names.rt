@@ -1,4 +1,4 @@
-//! The names in the lines of a recording.
+//! The names in the lines of a recording, and the counts of its rounds and jobs.
 
 ghost use Rattle.std.specs.Prelude.{◌≡◌, ◌+◌, ◌++◌, ◌∷◌, [], List, None, OnOk, IfOk, IfErr, if◌then◌else◌};
 ghost use Rattle.recordings.specs.LineParts as parts;
@@ -17,7 +17,8 @@ use job_bodies::Pool;
 use recordings::{CheckedLines, Line, RecordingFault, first_fault};
 use std::alloc::{AllocError, Global};
 
-/// The pools, classes and client kinds that the lines name, and counts of rounds and jobs.
+/// The pools, classes and client kinds that the lines name, and the counts of their rounds and
+/// jobs.
 #[derive(Drop)]
 pub(crate) struct RecordedNames {
     pub(crate) pools: Vec<Pool>,
@@ -31,8 +32,8 @@ pub(crate) struct RecordedNames {
     alloc: Global,
 }
 
-/// Collects the names in all lines, with an empty body for each class and kind, or returns the
-/// first invalid line.
+/// Collects the names in all lines, with an empty body for each class and client kind. If a line is
+/// invalid, returns the first such line instead.
 ///
 /// # Errors
 ///
@@ -77,7 +78,7 @@ fn fault_or_error(
 }
 
 impl RecordedNames {
-    // Creates the state before the first line.
+    // Creates the names and counts of an empty recording.
     fn new(alloc: Global) -> Result<RecordedNames, AllocError>
         ensures names { IfOk result (λ names. AreNamesOf names []) }
         ensures rounds { IfOk result (λ names. AreLabelRoundsOf names.label_rounds []) }

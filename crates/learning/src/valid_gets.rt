@@ -1,4 +1,4 @@
-//! Validity of the gets of a body.
+//! The validity of the gets of a body.
 
 ghost use Rattle.std.specs.Prelude.{◌≡◌, ◌↔◌, IsTrue, take, slice_get};
 ghost use Rattle.job_bodies.specs.WellFormed as spec;
@@ -19,7 +19,7 @@ pub(crate) fn has_valid_gets(body: &[Action]) -> bool
     true
 }
 
-/// Returns true if the action at this index is a valid get, or not a get.
+/// Returns true if the action at this index is a valid get, or is no get.
 fn is_valid_at(body: &[Action], position: usize) -> bool
     ensures { result ≡ is_valid_at body.now position (slice_get body.now position) }
 {

@@ -1,4 +1,4 @@
--- The text so far and the remaining lines are all lines.
+-- The text so far, followed by the lines of the remaining faults, is the text at the start followed by the lines of all faults.
 use Rattle.std.proofs.Common.{◌≡◌, ◌++◌, length}
 use Rattle.std.specs.Prelude.{string_bytes}
 use Rattle.diagnostics.specs.Diagnostic.{diagnostic_lines}

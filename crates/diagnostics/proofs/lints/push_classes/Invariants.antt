@@ -1,4 +1,4 @@
--- The lints of the classes so far and of the remaining ones are those of all.
+-- The list so far, followed by the lints of the remaining classes, is the list at the start followed by the lints of all classes.
 use Rattle.std.proofs.Common.{◌≡◌, ◌++◌, ℕ}
 use Rattle.job_bodies.specs.Plan.{Class}
 use Rattle.diagnostics.specs.Lints.{lints_of_class, lints_of_classes}

@@ -1,4 +1,4 @@
--- The lints of the kinds of clients so far and of the remaining ones are those of all.
+-- The list so far, followed by the lints of the remaining client kinds, is the list at the start followed by the lints of all client kinds.
 use Rattle.std.proofs.Common.{◌≡◌, ◌++◌, ℕ}
 use Rattle.job_bodies.specs.Plan.{Client}
 use Rattle.diagnostics.specs.Lints.{lints_of_client, lints_of_clients}

@@ -1,4 +1,4 @@
--- The lints of the pools so far and of the remaining ones are those of all.
+-- The list so far, followed by the lints of the remaining pools, is the list at the start followed by the lints of all pools.
 use Rattle.std.proofs.Common.{◌≡◌, ◌++◌, ℕ}
 use Rattle.job_bodies.specs.Plan.{Pool}
 use Rattle.diagnostics.specs.Lints.{lints_of_pool, lints_of_pools}

@@ -1,4 +1,4 @@
--- The lints of the actions so far and of the remaining ones are those of all.
+-- The list so far, followed by the lints of the remaining actions, is the list at the start followed by the lints of all actions.
 use Rattle.std.proofs.Common.{◌≡◌, ◌++◌, ℕ}
 use Rattle.job_bodies.specs.declared.action.Action.{Action}
 use Rattle.diagnostics.specs.Lints.{lints_of_action, lints_of_body}

@@ -1,4 +1,4 @@
--- Each lint so far has its warning.
+-- The warnings so far are for the lints before the current index, in order.
 use Rattle.std.proofs.Common.{◌≡◌, take}
 use Rattle.diagnostics.specs.Lints.{lints_in}
 use Rattle.diagnostics.proofs.warnings.warnings_about.Given as goal

@@ -11,7 +11,7 @@ use Rattle.learning.specs.LabelRounds.{AreLabelRoundsOf}
 use Rattle.learning.specs.FirstPass.{well_formed}
 use Rattle.learning.proofs.recorded_names.recorded_names.Goals as goal
 
--- The well-formed lines of all lines, once this one is read.
+-- The well-formed lines are the lines before the line that was read, that line, and the well-formed lines after it.
 with_next : (all : List (Option RecordedLine)) (number : ℕ) (before : List RecordedLine) (line : RecordedLine) → lines_before all number ≡ before ++ line ∷ [] → well_formed all ≡ before ++ line ∷ well_formed (drop number all)
 with_next all number before line taken =
     ap well_formed (sym (take-append-drop number all)) ∙ filter_map-append (λ one. one) (take number all) (drop number all)
