@@ -1,9 +1,9 @@
-"""A reader of test rows, in the form that crates/row_tests/src/files.rt describes. It skips rows with sample plans."""
+"""A reader of test rows, in the form that crates/tests/src/files.rt describes. It skips rows with sample plans."""
 
 import re
 from pathlib import Path
 
-DATA = Path(__file__).resolve().parent.parent / "crates" / "row_tests" / "data"
+DATA = Path(__file__).resolve().parent.parent / "crates" / "tests" / "data"
 REPEATED = re.compile(r"\^<(\d+) (.*?)\^>", re.DOTALL)
 SPELLED = {"^n": "\n", "^r": "\r", "^t": "\t", "^s": " "}
 

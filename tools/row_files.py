@@ -1,7 +1,7 @@
-"""Reads rows: inputs, each with an expected answer written by hand. The crate row_tests also runs the rows of crates/row_tests/data.
+"""Reads rows: inputs, each with an expected answer written by hand. The crate row_tests also runs the rows of crates/tests/data.
 Only the built program runs the rows of checks/rows.
 
-crates/row_tests/src/files.rt describes the form of a row. This module reads the same form, and takes the sample plans and
+crates/tests/src/files.rt describes the form of a row. This module reads the same form, and takes the sample plans and
 certificates from the sources of that crate."""
 import functools
 import os
@@ -10,8 +10,8 @@ from typing import NamedTuple
 
 from crates import ROOT
 
-FOLDERS = (f"{ROOT}/crates/row_tests/data", f"{ROOT}/checks/rows")
-SOURCES = f"{ROOT}/crates/row_tests/src/files"
+FOLDERS = (f"{ROOT}/crates/tests/data", f"{ROOT}/checks/rows")
+SOURCES = f"{ROOT}/crates/tests/src/files"
 SAMPLE = re.compile(r'const (\w+): &str = r#"(.*?)"#;', re.S)
 TEMPLATE = re.compile(r'((?:"\w+"(?: \| )?)+) => (?:Some\()?(\w+)\)?,')
 SPELLED = {b"n": b"\n", b"r": b"\r", b"t": b"\t", b"s": b" "}

@@ -1,0 +1,13 @@
+//! Tests of calls that the rows of `row_tests` cannot express.
+mod bytes;
+mod cert_texts;
+mod event_texts;
+mod fits;
+mod help_texts;
+mod judged_plans;
+mod limits;
+mod note_lines;
+mod pools;
+mod stairs;
+mod witnesses;
+mod words_and_files;

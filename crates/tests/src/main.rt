@@ -1,0 +1,79 @@
+//! Tests in files of rows: the inputs in `data/`, with answers written by hand.
+#![tactic(auto)]
+
+#[cfg(test)]
+mod calls;
+mod files;
+mod found;
+mod on_threads;
+mod plan_texts;
+mod served;
+#[cfg(test)]
+mod threads;
+mod worlds;
+
+use files::run_files;
+use on_threads::{OnThreads, answered};
+use plan_texts::PlanTexts;
+use served::Served;
+use std::alloc::Global;
+use std::io;
+use worlds::Worlds;
+
+const PLAN_TEXTS: [&str; 9] = [
+    "plan_slots",
+    "plan_numbers",
+    "plan_names",
+    "plan_shapes",
+    "plan_orders",
+    "plan_spellings",
+    "plan_documents",
+    "plan_lists",
+    "plan_written",
+];
+
+const WORLDS: [&str; 6] = [
+    "world_lookups",
+    "world_absent",
+    "world_children",
+    "world_refused",
+    "world_rounds",
+    "world_stuck",
+];
+
+const SERVED: [&str; 12] = [
+    "served_replays",
+    "served_examples",
+    "served_faults",
+    "served_lines",
+    "served_numbers",
+    "served_parts",
+    "served_checks",
+    "served_explanations",
+    "served_certificates",
+    "served_words",
+    "recorded_conforms",
+    "recorded_learns",
+];
+
+const ON_THREADS: [&str; 7] = [
+    "threads_certify",
+    "threads_checks",
+    "threads_fits",
+    "threads_runs",
+    "threads_refutes",
+    "threads_asks",
+    "found_sizes",
+];
+
+fn main(rt: HostRuntime) -> io::Result<()> {
+    run_files(&rt, &PlanTexts, &PLAN_TEXTS)?;
+    run_files(&rt, &Worlds, &WORLDS)?;
+    run_files(&rt, &Served, &SERVED)?;
+    let answer = move |alloc: Global, kind: &str, input: &[u8]| answered(&rt, alloc, kind, input);
+    let suite = OnThreads::new(Box::new(rt.alloc(), answer)?);
+    run_files(&rt, &suite, &ON_THREADS)?;
+    run_files(&rt, &PlanTexts, &["long_plans"])?;
+    run_files(&rt, &Served, &["long_served"])?;
+    run_files(&rt, &suite, &["long_threads"])
+}
