@@ -1,5 +1,5 @@
-"""Reads rows: inputs, each with an expected answer written by hand. The crate row_tests also runs the rows of crates/tests/data.
-Only the built program runs the rows of checks/rows.
+"""Reads rows: inputs, each with an expected answer written by hand. The program of the crate tests
+also runs the rows of crates/tests/data, and only the built program of sizing those of checks/rows.
 
 crates/tests/src/files.rt describes the form of a row. This module reads the same form, and takes the sample plans and
 certificates from the sources of that crate."""

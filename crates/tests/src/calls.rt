@@ -1,4 +1,5 @@
-//! Tests of calls that the rows of `row_tests` cannot express.
+//! Tests of calls that rows cannot express.
+
 mod bytes;
 mod cert_texts;
 mod event_texts;
