@@ -21,7 +21,11 @@ pub mod DoneWeights
 pub mod SkippedSubmits
 pub mod Choices
 pub mod SkipCosts
+pub mod ExchangedJobs
+pub mod ExchangeCosts
+pub mod AnyOrder
 pub mod WorkedSkipping
+pub mod WorkedExchanges
 pub mod CertLaws
 pub mod Faults
 pub mod Bounded

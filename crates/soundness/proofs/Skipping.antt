@@ -1,6 +1,6 @@
--- Accepted plans are safe and make progress if actors skip submits together with their gets and submits are the steps of
--- Java's execute.
-use Rattle.std.proofs.Common.{◌≡◌, ℕ, List, Some, arith}
+-- Accepted plans are safe and make progress if actors skip submits together with their gets and exchange alike jobs, and
+-- submits are the steps of Java's execute.
+use Rattle.std.proofs.Common.{◌≡◌, ℕ, List, Some, subst, arith}
 use Rattle.job_bodies.specs.declared.action.Action.{Action}
 use Rattle.job_bodies.specs.declared.action.Action.TheVariants as action
 use Rattle.job_bodies.specs.Plan.{Plan}
@@ -24,10 +24,12 @@ use Rattle.soundness.proofs.BoundLaws.{bound_vector_laws}
 use Rattle.soundness.proofs.NeverRises.{IsBalanced, balanced_step}
 use Rattle.soundness.proofs.RankLaws.{RankLaws}
 use Rattle.soundness.specs.Execute.{JavaState, without_calls}
+use Rattle.soundness.specs.Exchange.{after_exchange}
 use Rattle.soundness.specs.Skipping.{Choice, choice_step, ChoicesReach}
-use Rattle.soundness.specs.Skipping.Choice.{Acts, Skips}
+use Rattle.soundness.specs.Skipping.Choice.{Acts, Skips, Exchanges}
 use Rattle.soundness.proofs.DoneWeights.{done-le-queued}
 use Rattle.soundness.proofs.SkippedSubmits.{left, kept_left, change_skipped, have_jobs_left, no_heavier_left}
+use Rattle.soundness.proofs.ExchangedJobs.{AreAlike, IsExchange, is_exchange, kept_exchanged, threads-exchanged, jobs_made-exchanged, have_jobs_exchanged, no_heavier_exchanged}
 use Rattle.soundness.proofs.Choices.{IsSkipped, leaves, is_skipped, choices_keep}
 use Rattle.soundness.specs.Headline.{AcceptedPlansMaySkip, AcceptedPlansMakeProgressWithSkips}
 use Rattle.soundness.proofs.CertLaws.{CertLaws, cert_laws}
@@ -78,11 +80,46 @@ left_keeps plan cert s e s' ordered laws held (leaves a body i k at not_offering
   calls = calls_left plan (bound_of cert) s a body i k at held.calls;
 }
 
+-- ---- an exchange
+
+balanced_exchanged : (get_return : GetReturn) (plan : Plan) (v : Vector) (s : State) (a : Parent) (t u : ℕ) → IsBalanced get_return plan v s → IsBalanced get_return plan v (after_exchange a t u s)
+balanced_exchanged get_return plan v s a t u balanced = balanced_step get_return plan v s (after_exchange a t u s) (no_heavier_exchanged get_return plan v s a t u) balanced
+
+-- the state stays sound in an exchange
+sound_exchanged : (plan : Plan) (cert : Cert) (s : State) (a : Parent) (t u : ℕ) → AreAlike s a t u → Sound plan cert s → Sound plan cert (after_exchange a t u s)
+sound_exchanged plan cert s a t u alike held = record {
+  bounded = record {
+    kept = kept_exchanged plan s a t u alike held.bounded.kept;
+    have_jobs = have_jobs_exchanged plan s a t u held.bounded.have_jobs;
+    balanced = λ p inside. balanced_exchanged (bound_get_return (bound_of cert p)) plan (bound_vector (bound_of cert p)) s a t u (held.bounded.balanced p inside);
+    none_refused = held.bounded.none_refused;
+  };
+  blocked = λ p inside. balanced_exchanged DoneWeight plan (pool_cert_at cert p).blocked s a t u (held.blocked p inside);
+}
+
+-- a queue that was full at some time still counts as such after an exchange
+full_exchanged : (plan : Plan) (bound : Bound) (s : State) (a : Parent) (t u p : ℕ) → QueueWasFull plan bound s p → QueueWasFull plan bound (after_exchange a t u s) p
+full_exchanged plan (Standing v) s a t u p full = full
+full_exchanged plan (Lifetime v) s a t u p full = omega (arith, threads-exchanged plan s a t u p, jobs_made-exchanged plan s a t u p)
+
+-- the invariants of the calls still hold after an exchange
+calls_exchanged : (plan : Plan) (bounds : ℕ → Bound) (s : JavaState) (a : Parent) (t u : ℕ) → CallsKept plan bounds s → CallsKept plan bounds (record s { machine = after_exchange a t u s.machine })
+calls_exchanged plan bounds s a t u calls = record {
+  offering = λ b p inside is_there. let at_core = calls.offering b p inside is_there in omega (arith, threads-exchanged plan s.machine a t u p);
+  requesting = λ b p inside is_there. full_exchanged plan (bounds p) s.machine a t u p (calls.requesting b p inside is_there);
+}
+
+exchange_keeps : (plan : Plan) (cert : Cert) (s : JavaState) (a : Parent) (t u : ℕ) (s' : JavaState) → JavaSound plan cert s → IsExchange s a t u s' → JavaSound plan cert s'
+exchange_keeps plan cert s a t u s' held done =
+    subst (JavaSound plan cert) done.after
+    (record { sound = sound_exchanged plan cert s.machine a t u done.alike held.sound; calls = calls_exchanged plan (bound_of cert) s a t u held.calls })
+
 -- ---- every choice
 
 pub choice_keeps : (plan : Plan) (cert : Cert) → HasValidBodies plan → CertLaws plan cert → (s : JavaState) (x : Choice) (s' : JavaState) → JavaSound plan cert s → choice_step plan s x ≡ Some s' → JavaSound plan cert s'
 choice_keeps plan cert ordered laws s (Acts e) s' held is_step = java_sound_step plan cert ordered laws s e s' held is_step
 choice_keeps plan cert ordered laws s (Skips e) s' held is_step = left_keeps plan cert s e s' ordered laws held (is_skipped plan s e s' is_step)
+choice_keeps plan cert ordered laws s (Exchanges a t u) s' held is_step = exchange_keeps plan cert s a t u s' held (is_exchange plan s a t u s' is_step)
 
 -- every reachable state is sound
 choices_sound : (plan : Plan) (cert : Cert) → HasValidBodies plan → CertLaws plan cert → (choices : List Choice) (s : JavaState) → ChoicesReach plan choices s → JavaSound plan cert s

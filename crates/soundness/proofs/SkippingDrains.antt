@@ -1,4 +1,4 @@
--- Accepted plans drain if actors skip submits together with their gets.
+-- Accepted plans drain if actors skip submits together with their gets and exchange alike jobs.
 use Rattle.std.proofs.Common.{◌≡◌, ⊎_elim, true, false, List, [], ◌∷◌, Option, Some, None, is_some, refl, sym, ap, subst, ◌∙◌, arith}
 use Rattle.std.specs.List.{list_all, count_by}
 use Rattle.std.proofs.lemmas.Bool.{false≢true, and_parts, false_from_ne_true}
@@ -11,15 +11,16 @@ use Rattle.written_machine.specs.Reach.{start}
 use Rattle.written_machine.specs.Safe.{is_of_job_or_pool}
 use Rattle.written_machine.proofs.Busy.{one_if}
 use Rattle.cert_text.specs.Cert.{Cert}
-use Rattle.soundness.specs.Drain.{is_of_no_client}
 use Rattle.soundness.proofs.Draining.{ends_thread, no_client_cases}
 use Rattle.soundness.specs.Execute.{JavaState, java_step, without_calls}
-use Rattle.soundness.proofs.JobCalls.{job_calls_start}
+use Rattle.soundness.proofs.JobCalls.{JobCalls, job_calls_start}
 use Rattle.soundness.proofs.Costs.{calls_done-le}
-use Rattle.soundness.specs.Skipping.{Choice, choice_step, choices_replay, ChoicesReach, event_in, is_of_jobs}
-use Rattle.soundness.specs.Skipping.Choice.{Acts, Skips}
+use Rattle.soundness.specs.Skipping.{Choice, choice_step, choices_replay, ChoicesReach, is_of_jobs, no_client_acts}
+use Rattle.soundness.specs.Skipping.Choice.{Acts, Skips, Exchanges}
 use Rattle.soundness.proofs.Choices.{is_skipped, choices_none, choices_keep}
 use Rattle.soundness.proofs.SkipCosts.{left_costs}
+use Rattle.soundness.proofs.ExchangedJobs.{is_exchange}
+use Rattle.soundness.proofs.ExchangeCosts.{job_calls_exchanged, todo-exchanged, calls_done-exchanged}
 use Rattle.soundness.specs.Headline.{AcceptedPlansDrainWithSkips}
 use Rattle.soundness.proofs.CertLaws.{CertLaws, cert_laws}
 use Rattle.soundness.proofs.JavaTheorem.{java_sound_start, java_makes_progress}
@@ -35,6 +36,10 @@ choice_held plan cert ordered laws s (Skips e) s' held is_step = record {
   java = choice_keeps plan cert ordered laws s (Skips e) s' held.java is_step;
   jobs = (left_costs plan cert.ranks s e s' (is_skipped plan s e s' is_step)).calls held.jobs;
 }
+choice_held plan cert ordered laws s (Exchanges a t u) s' held is_step = record {
+  java = choice_keeps plan cert ordered laws s (Exchanges a t u) s' held.java is_step;
+  jobs = subst (JobCalls plan) (is_exchange plan s a t u s' is_step).after (job_calls_exchanged plan s a t u held.jobs);
+}
 
 -- in every reachable state
 choices_held : (plan : Plan) (cert : Cert) → HasValidBodies plan → CertLaws plan cert → (choices : List Choice) (s : JavaState) → ChoicesReach plan choices s → JavaHeld plan cert s
@@ -43,7 +48,7 @@ choices_held plan cert ordered laws choices s reached =
     (record { java = java_sound_start plan cert ordered; jobs = job_calls_start plan (start plan) }) reached
 
 -- a choice that is not of a client is paid for by the remaining work
-choice_pays : (plan : Plan) (cert : Cert) (s : JavaState) (x : Choice) (s' : JavaState) → HasValidBodies plan → CertLaws plan cert → JavaHeld plan cert s → JavaHeld plan cert s' → is_of_no_client (event_in x) ≡ true → choice_step plan s x ≡ Some s' → Pays plan cert (one_if (is_of_jobs x)) s s'
+choice_pays : (plan : Plan) (cert : Cert) (s : JavaState) (x : Choice) (s' : JavaState) → HasValidBodies plan → CertLaws plan cert → JavaHeld plan cert s → JavaHeld plan cert s' → no_client_acts x ≡ true → choice_step plan s x ≡ Some s' → Pays plan cert (one_if (is_of_jobs x)) s s'
 choice_pays plan cert s (Acts e) s' ordered laws held held' of_no_client is_step = event_pays plan cert s e s' ordered laws held held' of_no_client is_step
 choice_pays plan cert s (Skips e) s' ordered laws held held' of_no_client is_step =
     let left = left_costs plan cert.ranks s e s' (is_skipped plan s e s' is_step) in
@@ -51,11 +56,13 @@ choice_pays plan cert s (Skips e) s' ordered laws held held' of_no_client is_ste
     (λ (counted : is_of_job_or_pool e ≡ true). omega (arith, ap one_if counted, left.costs counted))
     (λ (is_end : ends_thread e ≡ true). absurd (false≢true (sym left.by_actor ∙ is_end)))
     (no_client_cases e of_no_client)
+choice_pays plan cert s (Exchanges a t u) s' ordered laws held held' of_no_client is_step =
+    subst (Pays plan cert 0 s) (is_exchange plan s a t u s' is_step).after (omega (arith, todo-exchanged plan cert.ranks s.machine a t u, calls_done-exchanged s a t u))
 
 -- ---- lists of choices
 
 -- the first of several choices, and then the others
-after_first : (plan : Plan) (cert : Cert) (s : JavaState) (x : Choice) (choices : List Choice) (s' : JavaState) → HasValidBodies plan → CertLaws plan cert → JavaHeld plan cert s → is_of_no_client (event_in x) ≡ true
+after_first : (plan : Plan) (cert : Cert) (s : JavaState) (x : Choice) (choices : List Choice) (s' : JavaState) → HasValidBodies plan → CertLaws plan cert → JavaHeld plan cert s → no_client_acts x ≡ true
     → ((next : JavaState) → JavaHeld plan cert next → choices_replay plan (Some next) choices ≡ Some s' → Pays plan cert (count_by is_of_jobs choices) next s')
     → (found : Option JavaState) → choice_step plan s x ≡ found → choices_replay plan found choices ≡ Some s' → Pays plan cert (count_by is_of_jobs (x ∷ choices)) s s'
 after_first plan cert s x choices s' ordered laws held of_no_client onward None is_step replayed =
@@ -65,11 +72,11 @@ after_first plan cert s x choices s' ordered laws held of_no_client onward (Some
     let held' = choice_held plan cert ordered laws s x next held is_step in
     omega (arith, choice_pays plan cert s x next ordered laws held held' of_no_client is_step, onward next held' replayed, sum_by-cons (λ (y : Choice). one_if (is_of_jobs y)) x choices)
 
-choices_pay : (plan : Plan) (cert : Cert) (choices : List Choice) (s s' : JavaState) → HasValidBodies plan → CertLaws plan cert → JavaHeld plan cert s → list_all (λ (x : Choice). is_of_no_client (event_in x)) choices ≡ true → choices_replay plan (Some s) choices ≡ Some s'
+choices_pay : (plan : Plan) (cert : Cert) (choices : List Choice) (s s' : JavaState) → HasValidBodies plan → CertLaws plan cert → JavaHeld plan cert s → list_all no_client_acts choices ≡ true → choices_replay plan (Some s) choices ≡ Some s'
     → Pays plan cert (count_by is_of_jobs choices) s s'
 choices_pay plan cert [] s s' ordered laws held each replayed = subst (λ (x : JavaState). Pays plan cert 0 s x) (same_Some s s' replayed) (omega arith)
 choices_pay plan cert (x ∷ choices) s s' ordered laws held each replayed =
-    let parts = and_parts (is_of_no_client (event_in x)) (list_all (λ (y : Choice). is_of_no_client (event_in y)) choices) each in
+    let parts = and_parts (no_client_acts x) (list_all no_client_acts choices) each in
     after_first plan cert s x choices s' ordered laws held parts.0 (λ next held' rest. choices_pay plan cert choices next s' ordered laws held' parts.1 rest) (choice_step plan s x) refl replayed
 
 -- the number of choices is bounded, and when none is possible, no job is unfinished

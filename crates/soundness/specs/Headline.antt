@@ -21,7 +21,7 @@ use Rattle.soundness.specs.Accepted.{accepted}
 
 -- The guarantees of an accepted certificate for its plan: every state that any list of events reaches is safe, and makes
 -- progress while a job is unfinished; and work that has begun ends. All of this holds for atomic submits, for submits in the
--- steps of Java's execute, and for the latter also if actors skip submits together with their gets.
+-- steps of Java's execute, and for the latter also if actors skip submits together with their gets and exchange alike jobs.
 pub record Promises (plan : Plan) (cert : Cert) : Type 0 where
   pub safe : Safe plan
   pub makes_progress : MakesProgress plan
@@ -90,7 +90,7 @@ StandingPoolsAreNotAsked = (plan : Plan) (bounds : ℕ → Bound) (p : ℕ) (v :
     → ((q : ℕ) → q < length plan.pools → IsTrue (vector_fits plan (bound_vector (bounds q))) × AllHold (bound_rows plan q (bounds q)))
     → p < length plan.pools → bounds p ≡ Standing v → JavaReaches plan events s → IsFalse (is_calling s.requesting a p)
 
--- ---- actors that skip submits together with their gets
+-- ---- actors that skip submits together with their gets and exchange alike jobs
 
 -- accepted plans are safe
 abbrev pub AcceptedPlansMaySkip : Type 0

@@ -6,6 +6,7 @@ pub mod Drain
 pub mod Execute
 pub mod JavaSafe
 pub mod WithRoom
+pub mod Exchange
 pub mod Skipping
 pub mod Conditions
 pub mod Accepted

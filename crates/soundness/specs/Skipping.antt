@@ -1,7 +1,9 @@
--- Actors that skip submits of their bodies together with their gets, like an `if` around both. An actor decides each time
--- anew which submits to skip.
-use Rattle.std.specs.Prelude.{◌≡◌, ◌≤◌, ◌<◌, ◌+◌, ◌*◌, ◌||◌, if◌then◌else◌, ℕ, Bool, IsTrue, IsFalse, List, [], ◌∷◌, length, Option, Some, None, count_by}
+-- Actors that skip submits of their bodies together with their gets, like an `if` around both, and that get jobs of one class
+-- in another order than their bodies. An actor decides each time anew which submits to skip, and in which order to get.
+use Rattle.std.specs.Prelude.{◌≡◌, ◌≤◌, ◌<◌, ◌+◌, ◌*◌, ◌||◌, if◌then◌else◌, ℕ, Bool, true, false, IsTrue, IsFalse, List, [], ◌∷◌, length, Option, Some, None, slice_get, count_by}
 use Rattle.std.specs.List.{list_all}
+use Rattle.job_bodies.specs.declared.action.Action.{Action}
+use Rattle.job_bodies.specs.declared.action.Action.TheVariants.{Get}
 use Rattle.job_bodies.specs.Plan.{Plan}
 use Rattle.job_bodies.specs.WellFormed.{IsWellFormed}
 use Rattle.weights.specs.declared.get_return.GetReturn.{GetReturn}
@@ -10,18 +12,24 @@ use Rattle.weights.specs.Vector.{Vector, queued_weight, done_weight}
 use Rattle.weights.specs.Rows.{rows}
 use Rattle.weights.specs.Ranks.{Ranks, rank_rows}
 use Rattle.written_machine.specs.declared.event.Event.{Event}
-use Rattle.written_machine.specs.State.{Stage, State, job_at, pool_of, is_unfinished}
-use Rattle.written_machine.specs.Step.{with_position, with_job, new_job}
+use Rattle.written_machine.specs.declared.event.Event.TheVariants as event
+use Rattle.written_machine.specs.declared.parent.Parent.{Parent}
+use Rattle.written_machine.specs.declared.parent.Parent.TheVariants as parent
+use Rattle.written_machine.specs.State.{Stage, State, job_at, pool_of, is_unfinished, child}
+use Rattle.written_machine.specs.Step.{point, with_stage, with_position, with_job, new_job}
 use Rattle.written_machine.specs.Reach.{start}
 use Rattle.written_machine.specs.Safe.{IsSafe, is_of_job_or_pool}
 use Rattle.soundness.specs.Drain.{todo, is_of_no_client}
 use Rattle.soundness.specs.Execute.{JavaState, Submission, is_calling, submission, java_step, without_calls}
 use Rattle.soundness.specs.JavaSafe.{JavaCanProgress, IsJavaQuiescent}
+use Rattle.soundness.specs.Exchange.{after_exchange, can_exchange}
 
--- an event, or its actor skips the submit at which it is
+-- an event; or in its place the actor skips the submit at which it is; or the jobs that an actor submitted at two positions are
+-- exchanged
 pub data Choice : Type 0 where
   Acts : Event → Choice
   Skips : Event → Choice
+  Exchanges : Parent → ℕ → ℕ → Choice
 
 -- the actor is after the submit, no pool changes, and a get of the submit finds a done job
 abbrev pub after_skip : State → Submission → State
@@ -36,10 +44,15 @@ abbrev pub skip_submit : Plan → JavaState → Option Submission → Option Jav
 skip_submit plan s None = None
 skip_submit plan s (Some x) = if has_begun plan s x then None else Some (record s { machine = after_skip s.machine x })
 
+-- only alike jobs can be exchanged
+abbrev pub exchange_jobs : JavaState → Parent → ℕ → ℕ → Option JavaState
+exchange_jobs s a t u = if can_exchange s.machine a t u then Some (record s { machine = after_exchange a t u s.machine }) else None
+
 -- the state after the choice, or None if it is not possible
 abbrev pub choice_step : Plan → JavaState → Choice → Option JavaState
 choice_step plan s (Acts e) = java_step plan s e
 choice_step plan s (Skips e) = skip_submit plan s (submission plan s.machine e)
+choice_step plan s (Exchanges a t u) = exchange_jobs s a t u
 
 -- the state after all choices, or None if one is not possible
 abbrev pub choices_replay : Plan → Option JavaState → List Choice → Option JavaState
@@ -54,33 +67,52 @@ ChoicesReach plan choices s = choices_replay plan (Some (without_calls (start pl
 abbrev pub SkippingIsSafe : Plan → Type 0
 SkippingIsSafe plan = (choices : List Choice) (s : JavaState) → ChoicesReach plan choices s → IsSafe plan s.machine
 
--- in every such state, if a job is unfinished, an event of a job or a take is possible without a skip
+-- in every such state, if a job is unfinished, an event of a job or a take is possible without a skip or an exchange
 abbrev pub SkippingMakesProgress : Plan → Type 0
 SkippingMakesProgress plan = (choices : List Choice) (s : JavaState) → ChoicesReach plan choices s → (j : ℕ) → IsTrue (is_unfinished (job_at s.machine j).stage) → JavaCanProgress plan s
 
 -- ---- draining
 
-abbrev pub event_in : Choice → Event
-event_in (Acts e) = e
-event_in (Skips e) = e
-
--- a job's event, a take, or a job that skips a submit
+-- a job's event, a take, or a job that skips a submit; exchanges are not counted
 abbrev pub is_of_jobs : Choice → Bool
-is_of_jobs x = is_of_job_or_pool (event_in x)
+is_of_jobs (Acts e) = is_of_job_or_pool e
+is_of_jobs (Skips e) = is_of_job_or_pool e
+is_of_jobs (Exchanges a t u) = false
+
+-- no client acts, and none skips a submit; an exchange of a client's jobs is not an action of the client
+abbrev pub no_client_acts : Choice → Bool
+no_client_acts (Acts e) = is_of_no_client e
+no_client_acts (Skips e) = is_of_no_client e
+no_client_acts (Exchanges a t u) = true
 
 -- the choices lead from the reached state s to s', and none of them is of a client
 pub record ChoicesLeadTo (plan : Plan) (s : JavaState) (choices : List Choice) (s' : JavaState) : Type 0 where
   pub before : List Choice
   pub reached : ChoicesReach plan before s
-  pub of_no_client : IsTrue (list_all (λ x. is_of_no_client (event_in x)) choices)
+  pub of_no_client : IsTrue (list_all no_client_acts choices)
   pub replayed : choices_replay plan (Some s) choices ≡ Some s'
 
--- If no client acts, the number of such choices that follow is at most three times the remaining work of the first state,
--- and when no job event and no take is possible, no job is unfinished. Threads above core may end in between.
+-- If no client acts, the number of counted choices that follow is at most three times the remaining work of the first state,
+-- and when no job event and no take is possible, no job is unfinished. In between, threads above core may end and jobs may be
+-- exchanged.
 pub record SkippingDrains (plan : Plan) (ranks : Ranks) : Type 0 where
   pub bounded : (s s' : JavaState) (choices : List Choice) → ChoicesLeadTo plan s choices s' → count_by is_of_jobs choices ≤ 3 * todo plan ranks s.machine
   pub drained : (s s' : JavaState) (choices : List Choice) → ChoicesLeadTo plan s choices s' → IsJavaQuiescent plan s' → (j : ℕ) → IsFalse (is_unfinished (job_at s'.machine j).stage)
 
+-- ---- laws
+
 -- if the rows of a vector and of the ranks hold, the weight of a done job is at most that of a queued job
 abbrev pub DoneWithinQueued : Type 0
 DoneWithinQueued = (get_return : GetReturn) (plan : Plan) (v : Vector) (ranks : Ranks) (k : ℕ) → IsWellFormed plan → AllHold (rank_rows plan ranks) → AllHold (rows get_return plan v) → k < length plan.classes → done_weight plan v k ≤ queued_weight v k
+
+-- the event in which the actor acts
+abbrev pub event_of_actor : Parent → Event
+event_of_actor (parent.Client c) = event.Client c
+event_of_actor (parent.Job j) = event.Job j
+
+-- at a get of the submit at position t, an actor can get its job of position u if the jobs of the two positions are alike and
+-- that one is done
+abbrev pub AlikeJobsAreGotInAnyOrder : Type 0
+AlikeJobsAreGotInAnyOrder = (plan : Plan) (s : JavaState) (a : Parent) (body : List Action) (i t u j : ℕ) → point plan s.machine a ≡ Some (record { body = body; position = i }) → slice_get body i ≡ Some (Get t)
+    → IsTrue (can_exchange s.machine a t u) → child s.machine a u ≡ Some j → (job_at s.machine j).stage ≡ Stage.Done
+    → choices_replay plan (Some s) (Exchanges a t u ∷ Acts (event_of_actor a) ∷ []) ≡ Some (record s { machine = with_stage j Stage.Claimed (with_position a (i + 1) (after_exchange a t u s.machine)) })

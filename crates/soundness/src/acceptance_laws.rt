@@ -75,21 +75,23 @@ pub fn standing_pools_are_not_asked()
 {}
 
 /// Proves that every reachable state is safe if a certificate accepts a well-formed plan, even if a
-/// submit takes the separate steps of Java's `execute` and each client and each job may skip any
-/// submit of its body together with its get. An actor decides anew each time it reaches the submit.
+/// submit takes the separate steps of Java's `execute`, each client and each job may skip any
+/// submit of its body together with its get, and may get its jobs of one class in any order. An
+/// actor decides anew each time it reaches the submit or the get.
 pub fn accepted_plans_may_skip()
     ensures { AcceptedPlansMaySkip }
 {}
 
 /// Proves that in every such state with an unfinished job an event of a job or a take is possible
-/// without a skip.
+/// without a skip or an exchange.
 pub fn accepted_plans_make_progress_with_skips()
     ensures { AcceptedPlansMakeProgressWithSkips }
 {}
 
 /// Proves that such a plan drains. If no client acts, the number of job events, takes and skips by
 /// jobs after such a state is at most three times the remaining work of its jobs, and when no job
-/// event and no take is possible, no job is unfinished. Threads above core may end in between.
+/// event and no take is possible, no job is unfinished. Threads above core may end and jobs may be
+/// exchanged in between.
 pub fn accepted_plans_drain_with_skips()
     ensures { AcceptedPlansDrainWithSkips }
 {}

@@ -1,8 +1,8 @@
 //! What the conditions on a certificate promise of every state that a plan reaches.
 //!
 //! Each theorem is the contract of a function with nothing to do. The definitions are in `specs/`, and apart from [`Note`]
-//! nothing here runs. The theorems hold also if a submit takes several steps, as in Java's `execute`, and if a client skips a
-//! submit together with its get.
+//! nothing here runs. The theorems hold also if a submit takes several steps, as in Java's `execute`, if a client or a job
+//! skips a submit together with its get, and if it gets jobs of one class in any order.
 #![tactic(auto)]
 
 mod acceptance_laws;
@@ -22,7 +22,9 @@ pub use java_laws::{
     atomic_states_are_reached, java_may_refuse_with_room, java_may_start_with_room,
 };
 pub use note::{Note, Section};
-pub use skipping_laws::done_within_queued;
+pub use skipping_laws::{
+    alike_jobs_are_got_in_any_order, done_within_queued, exchanges_swap_two_gets,
+};
 pub use starvation_laws::{
     fewer_than_core_are_blocked, full_is_of_the_plan, full_is_whole, ranks_descend,
 };

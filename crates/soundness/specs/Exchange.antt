@@ -1,0 +1,46 @@
+-- Exchanges of the jobs that an actor submitted at two positions of its body. A get of one submit then finds the job of the
+-- other one, so an actor can get jobs of one class in any order.
+use Rattle.std.specs.Prelude.{◌≡◌, ◌≢◌, ◌==◌, ◌&&◌, not, if◌then◌else◌, ℕ, Bool, true, false, map, Option, Some}
+use Rattle.written_machine.specs.declared.parent.Parent.{Parent}
+use Rattle.written_machine.specs.State.{Stage, CreatedJob, State, job_at, is_made_by, child}
+use Rattle.written_machine.specs.State.Stage.{Claimed}
+
+-- the job after the exchange: a job that the actor created at one of the two positions counts as created at the other
+abbrev pub exchanged_job : Parent → ℕ → ℕ → CreatedJob → CreatedJob
+exchanged_job a t u job = record job { slot = if is_made_by a t job then u else (if is_made_by a u job then t else job.slot) }
+
+-- the state after the exchange: only the positions at which these jobs were submitted change
+abbrev pub after_exchange : Parent → ℕ → ℕ → State → State
+after_exchange a t u s = record s { jobs = map (exchanged_job a t u) s.jobs }
+
+abbrev pub is_claimed : Stage → Bool
+is_claimed Claimed = true
+is_claimed _ = false
+
+-- the two jobs have the same class, and neither of them was got
+abbrev pub are_alike : CreatedJob → CreatedJob → Bool
+are_alike job other = job.class == other.class && (not (is_claimed job.stage) && not (is_claimed other.stage))
+
+-- both jobs exist and are alike
+abbrev pub both_alike : State → Option ℕ → Option ℕ → Bool
+both_alike s (Some i) (Some j) = are_alike (job_at s i) (job_at s j)
+both_alike s _ _ = false
+
+-- the actor's latest jobs of the two positions exist and are alike
+abbrev pub can_exchange : State → Parent → ℕ → ℕ → Bool
+can_exchange s a t u = both_alike s (child s a t) (child s a u)
+
+-- in the second state the gets of the actor at the two positions find each other's job, and every other get finds the job that
+-- it found before; each job keeps its class, its creator and its stage
+pub record AreExchanged (s : State) (a : Parent) (t u : ℕ) (s' : State) : Type 0 where
+  pub first : child s' a t ≡ child s a u
+  pub second : child s' a u ≡ child s a t
+  pub positions : (w : ℕ) → w ≢ t → w ≢ u → child s' a w ≡ child s a w
+  pub actors : (b : Parent) (w : ℕ) → b ≢ a → child s' b w ≡ child s b w
+  pub classes : (j : ℕ) → (job_at s' j).class ≡ (job_at s j).class
+  pub creators : (j : ℕ) → (job_at s' j).parent ≡ (job_at s j).parent
+  pub stages : (j : ℕ) → (job_at s' j).stage ≡ (job_at s j).stage
+
+-- an exchange makes two gets find each other's job, and changes nothing else that a get or a pool sees
+abbrev pub ExchangesSwapTwoGets : Type 0
+ExchangesSwapTwoGets = (s : State) (a : Parent) (t u : ℕ) → AreExchanged s a t u (after_exchange a t u s)
