@@ -1,11 +1,11 @@
 -- An exchange of alike jobs preserves the invariants of reachable states, and changes neither weights nor threads.
-use Rattle.std.proofs.Common.{◌≡◌, ◌≢◌, ℕ, zero, suc, ◌+◌, ◌<◌, ◌≤◌, ◌⊎◌, inl, inr, Bool, true, false, cond, eqb, ◌&&◌, not, List, [], ◌∷◌, length, map, get_or, Option, Some, None, refl, sym, ap, subst, ◌∙◌, arith}
+use Rattle.std.proofs.Common.{◌≡◌, ◌≢◌, ℕ, zero, suc, ◌+◌, ◌<◌, ◌⊎◌, inl, inr, Bool, true, false, cond, eqb, ◌&&◌, not, List, [], ◌∷◌, length, map, get_or, Option, Some, None, refl, sym, ap, subst, ◌∙◌, arith}
 use Rattle.std.proofs.lemmas.Bool.{false≢true, and_parts, and_left, cases_eq, eqb-true, false_from_ne_true}
 use Rattle.std.proofs.lemmas.Bool.Decides.{nat_tests}
 use Rattle.std.proofs.lemmas.List.{length-map}
 use Rattle.std.proofs.lemmas.List.Elements.{All-map}
 use Rattle.std.proofs.lemmas.Option.{same_Some, cond_some}
-use Rattle.support.specs.Places.{places_where, last_of}
+use Rattle.support.specs.Places.{last_of}
 use Rattle.support.proofs.PassingPlaces.{places_where-map, places_where-agree}
 use Rattle.support.proofs.Sums.{sum_by-map, count_by-map}
 use Rattle.job_bodies.specs.Plan.{Plan, pool_at}

@@ -5,9 +5,7 @@ pub mod WithinTotal
 pub mod NoRefusal
 pub mod ReachedLaws
 pub mod BlockedLaws
-pub mod BlockedCounts
 pub mod RankLaws
-pub mod Descent
 pub mod Draining
 pub mod ThreadChanges
 pub mod JavaEvents
@@ -17,7 +15,10 @@ pub mod CompletedSteps
 pub mod JobCalls
 pub mod Costs
 pub mod WorkedJava
-pub mod DoneWeights
+pub mod Walks
+pub mod Debts
+pub mod CountedGets
+pub mod Descent
 pub mod SkippedSubmits
 pub mod Choices
 pub mod SkipCosts

@@ -27,7 +27,7 @@ use Rattle.soundness.specs.Execute.{JavaState, without_calls}
 use Rattle.soundness.specs.Exchange.{after_exchange}
 use Rattle.soundness.specs.Skipping.{Choice, choice_step, ChoicesReach}
 use Rattle.soundness.specs.Skipping.Choice.{Acts, Skips, Exchanges}
-use Rattle.soundness.proofs.DoneWeights.{done-le-queued}
+use Rattle.soundness.proofs.Walks.{done-le-queued}
 use Rattle.soundness.proofs.SkippedSubmits.{left, kept_left, change_skipped, have_jobs_left, no_heavier_left}
 use Rattle.soundness.proofs.ExchangedJobs.{AreAlike, IsExchange, is_exchange, kept_exchanged, threads-exchanged, jobs_made-exchanged, have_jobs_exchanged, no_heavier_exchanged}
 use Rattle.soundness.proofs.Choices.{IsSkipped, leaves, is_skipped, choices_keep}

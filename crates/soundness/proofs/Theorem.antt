@@ -12,19 +12,20 @@ use Rattle.written_machine.specs.State.{State, job_at, is_unfinished}
 use Rattle.written_machine.specs.Step.{step}
 use Rattle.written_machine.specs.Reach.{start, state_after, replay, IsReached}
 use Rattle.written_machine.specs.Waiting.{IsWaitingSet}
+use Rattle.written_machine.specs.LooseWaiting.{IsLooseWaitingSet}
 use Rattle.written_machine.specs.Safe.{IsSafe, Safe, is_of_job_or_pool, MakesProgress}
 use Rattle.written_machine.proofs.Busy.{one_if}
 use Rattle.written_machine.proofs.Events.{Happens, happens}
+use Rattle.written_machine.proofs.LooseWaitingSets.{waiting_is_loose}
 use Rattle.written_machine.proofs.Reached.{replay_none, replay_keeps, reached_keeps}
 use Rattle.written_machine.proofs.Progress.{makes_progress}
 use Rattle.weights.specs.declared.bound.Bound.{Bound}
 use Rattle.weights.specs.declared.get_return.GetReturn.TheVariants.{DoneWeight}
-use Rattle.weights.specs.Ranks.{is_counted}
 use Rattle.cert_text.specs.Cert.{Cert, pool_cert_at}
 use Rattle.soundness.proofs.NeverRises.{IsBalanced, balanced_start, never_rises, balanced_step}
 use Rattle.soundness.specs.Drain.{todo, is_of_no_client, Drains}
-use Rattle.soundness.proofs.BlockedCounts.{blocked-below_core}
-use Rattle.soundness.proofs.Descent.{none_waits}
+use Rattle.soundness.proofs.CountedGets.{may_block-below_core}
+use Rattle.soundness.proofs.Descent.{none_waits_loosely}
 use Rattle.soundness.proofs.Draining.{lowers, ends_thread, no_client_cases, not_counted, same_todo}
 use Rattle.soundness.specs.Accepted.{accepted}
 use Rattle.soundness.specs.Headline.{AcceptedPlansAreSafe, AcceptedPlansMakeProgress, AcceptedPlansDrain}
@@ -64,11 +65,15 @@ sound plan cert s ordered laws reached = reached_keeps plan (Sound plan cert) (s
 
 -- ---- safety and progress
 
--- in a sound state no set of jobs waits only for its own members
+-- in a sound state no set of jobs waits only for its own members, now or at later gets
+pub sound_waits_loosely : (plan : Plan) (cert : Cert) (s : State) → HasValidBodies plan → CertLaws plan cert → Sound plan cert s → (members : List ℕ) → ¬ IsLooseWaitingSet plan s members
+sound_waits_loosely plan cert s ordered laws held members =
+    none_waits_loosely plan cert.ranks s members ordered laws.ranks held.bounded.kept
+    (λ p inside. may_block-below_core plan cert.ranks (pool_cert_at cert p).blocked p s ordered laws.ranks (laws.blocked p inside) held.bounded.kept inside (held.blocked p inside))
+
+-- in a sound state no set of jobs waits only for its own members at their current positions, since such a set is a loose one
 pub sound_waits : (plan : Plan) (cert : Cert) (s : State) → HasValidBodies plan → CertLaws plan cert → Sound plan cert s → (members : List ℕ) → ¬ IsWaitingSet plan s members
-sound_waits plan cert s ordered laws held members =
-    none_waits plan cert.ranks s members ordered laws.ranks held.bounded.kept
-    (λ p inside. blocked-below_core plan (is_counted plan cert.ranks) (pool_cert_at cert p).blocked s p ordered inside (laws.blocked p inside) held.bounded.kept (held.blocked p inside))
+sound_waits plan cert s ordered laws held members waiting = sound_waits_loosely plan cert s ordered laws held members (waiting_is_loose plan s members ordered held.bounded.kept waiting)
 
 -- a sound state is safe
 pub sound_safe : (plan : Plan) (cert : Cert) (s : State) → HasValidBodies plan → CertLaws plan cert → Sound plan cert s → IsSafe plan s
@@ -79,6 +84,7 @@ sound_safe plan cert s ordered laws held =
       within_max = sizes.within_max;
       within_queue = sizes.within_queue;
       none_waits = sound_waits plan cert s ordered laws held;
+      none_waits_loosely = sound_waits_loosely plan cert s ordered laws held;
     }
 
 -- safety: every reachable state is safe

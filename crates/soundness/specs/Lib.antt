@@ -1,7 +1,6 @@
 pub mod WeightedSum
 pub mod WeightLaws
-pub mod BlockedJobs
-pub mod Descent
+pub mod CountedGets
 pub mod Drain
 pub mod Execute
 pub mod JavaSafe

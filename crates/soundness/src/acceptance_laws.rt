@@ -15,7 +15,7 @@ ghost use Rattle.soundness.specs.Headline.{AcceptedPlansMaySkip, AcceptedPlansMa
 
 /// Proves that every reachable state is safe if a certificate accepts a well-formed plan: no submit
 /// was rejected, each pool is within its limits, and no set of unfinished jobs waits only for its
-/// own members.
+/// own members, now or at later gets.
 pub fn accepted_plans_are_safe()
     ensures { AcceptedPlansAreSafe }
 {}

@@ -26,7 +26,7 @@ pub use skipping_laws::{
     alike_jobs_are_got_in_any_order, done_within_queued, exchanges_swap_two_gets,
 };
 pub use starvation_laws::{
-    fewer_than_core_are_blocked, full_is_of_the_plan, full_is_whole, ranks_descend,
+    fewer_than_core_may_block, full_is_of_the_plan, full_is_whole, no_loose_waiting_sets,
 };
 pub use weight_laws::{
     bounds_refuse_nothing, jobs_stay_within_total, sum_never_rises, sum_stays_within_total,

@@ -1,20 +1,19 @@
 //! Laws of blocked vectors and of ranks, each as the contract of an empty function.
 
-ghost use Rattle.soundness.specs.BlockedJobs.{FewerThanCoreAreBlocked};
-ghost use Rattle.soundness.specs.Descent.{RanksDescend};
+ghost use Rattle.soundness.specs.CountedGets.{FewerThanCoreMayBlock, NoLooseWaitingSets};
 ghost use Rattle.soundness.specs.Drain.{FullIsWhole, FullIsOfThePlan};
 
-/// Proves that fewer jobs of a pool than core are at counted gets in every reachable state if the
-/// rows of the pool's blocked vector hold.
-pub fn fewer_than_core_are_blocked()
-    ensures { FewerThanCoreAreBlocked }
+/// Proves that fewer jobs of a pool than core are at a counted get or before one in every reachable
+/// state if the rows of the ranks and of the pool's blocked vector hold.
+pub fn fewer_than_core_may_block()
+    ensures { FewerThanCoreMayBlock }
 {}
 
-/// Proves that the chain from a job at an uncounted get to the jobs that it waits for ends at a job
-/// that is queued in a pool of lower rank, or at a job that waits for none, if the rows of the
-/// ranks hold.
-pub fn ranks_descend()
-    ensures { RanksDescend }
+/// Proves that no set of unfinished jobs waits only for its own members, now or at later gets, in
+/// any reachable state if the rows of the ranks and of a blocked vector for each pool hold. Each
+/// running member would have an unfinished child in the set, and still to get a job of its class.
+pub fn no_loose_waiting_sets()
+    ensures { NoLooseWaitingSets }
 {}
 
 /// Proves that the work of a whole job is its actions, its take and its end, and the work of the

@@ -17,5 +17,7 @@ pub mod Preserves
 pub mod FullWaitingSets
 pub mod JobsMade
 pub mod ReachedLaws
+pub mod LooseWaitingSets
 pub mod Progress
 pub mod WorkedReplays
+pub mod WorkedLooseSets

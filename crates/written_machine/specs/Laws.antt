@@ -10,6 +10,7 @@ use Rattle.written_machine.specs.State.{State, Stage, job_at, pool_part, threads
 use Rattle.written_machine.specs.Step.{point}
 use Rattle.written_machine.specs.Reach.{IsReached}
 use Rattle.written_machine.specs.Waiting.{IsWaitingSet, is_waiting_set}
+use Rattle.written_machine.specs.LooseWaiting.{IsLooseWaitingSet}
 
 -- the property holds in every reachable state of every well-formed plan
 abbrev pub HoldsWhereReached : (Plan → State → Type 0) → Type 0
@@ -48,3 +49,7 @@ GetsHaveChildren = HoldsWhereReached (λ plan s. (a : Parent) (body : List Actio
 -- the test `is_waiting_set` holds exactly for the waiting sets
 abbrev pub WaitingSetsAreTested : Type 0
 WaitingSetsAreTested = (plan : Plan) (s : State) (members : List ℕ) → IsTrue (is_waiting_set plan s members) ↔ IsWaitingSet plan s members
+
+-- each waiting set is a loose one
+abbrev pub WaitingSetsAreLoose : Type 0
+WaitingSetsAreLoose = HoldsWhereReached (λ plan s. (members : List ℕ) → IsWaitingSet plan s members → IsLooseWaitingSet plan s members)

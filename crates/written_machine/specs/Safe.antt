@@ -1,5 +1,5 @@
--- The safety of a plan: in every reachable state no submit has been refused, each pool is within its maximum and its capacity, and no set
--- of unfinished jobs waits only for its own members.
+-- The safety of a plan: in every reachable state no submit has been refused, each pool is within its maximum and its capacity,
+-- and no set of unfinished jobs waits only for its own members, now or at later gets.
 use Rattle.std.specs.Prelude.{◌≡◌, ◌≤◌, ◌<◌, ℕ, Bool, true, false, IsTrue, is_some, List, length}
 use Rattle.job_bodies.specs.Plan.{Plan, pool_at}
 use Rattle.written_machine.specs.declared.event.Event.{Event}
@@ -8,12 +8,14 @@ use Rattle.written_machine.specs.State.{State, job_at, pool_part, threads, is_un
 use Rattle.written_machine.specs.Step.{step}
 use Rattle.written_machine.specs.Reach.{Reaches}
 use Rattle.written_machine.specs.Waiting.{IsWaitingSet}
+use Rattle.written_machine.specs.LooseWaiting.{IsLooseWaitingSet}
 
 pub record IsSafe (plan : Plan) (s : State) : Type 0 where
   pub none_refused : s.refusals ≡ 0
   pub within_max : (p : ℕ) → p < length plan.pools → threads plan s p ≤ (pool_at plan p).max
   pub within_queue : (p : ℕ) → p < length plan.pools → length (pool_part s p).queue ≤ (pool_at plan p).queue
   pub none_waits : (members : List ℕ) → ¬ IsWaitingSet plan s members
+  pub none_waits_loosely : (members : List ℕ) → ¬ IsLooseWaitingSet plan s members
 
 -- every reachable state of the plan is safe
 abbrev pub Safe : Plan → Type 0

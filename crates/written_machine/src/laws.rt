@@ -7,6 +7,7 @@ ghost use Rattle.written_machine.specs.Laws.{
   QueuesOnlyAtCore,
   GetsHaveChildren,
   WaitingSetsAreTested,
+  WaitingSetsAreLoose,
 };
 
 /// Proves that, in every reachable state of a well-formed plan, each pool has at most its maximum
@@ -35,6 +36,12 @@ pub fn gets_have_children()
 /// for members of the set.
 pub fn waiting_sets_are_tested()
     ensures { WaitingSetsAreTested }
+{}
+
+/// Proves that, in every reachable state of a well-formed plan, each waiting set is a loose waiting
+/// set: each running member waits for a member that it created and gets at its position or later.
+pub fn waiting_sets_are_loose()
+    ensures { WaitingSetsAreLoose }
 {}
 
 /// Proves that a waiting set is permanent if each pool with a queued member has its maximum of
