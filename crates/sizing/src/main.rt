@@ -28,8 +28,8 @@ fn main(rt: HostRuntime) -> ExitCode {
     }
     let mut source = StdSource::new(rt.stdin());
     let mut sink = StdSink::new(rt.stdout());
-    let files = StdFiles::new(&rt);
-    match serve_words(&rt, rt.alloc(), &parts, &files, &mut source, &mut sink) {
+    let mut files = StdFiles::new(&rt);
+    match serve_words(&rt, rt.alloc(), &parts, &mut files, &mut source, &mut sink) {
         Ok(status) => ExitCode::from(status.code()),
         Err(fault) if asks_for_version(&fault) => print_version(&rt),
         Err(fault) => ended(&rt, &fault),

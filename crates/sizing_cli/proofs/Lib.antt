@@ -19,3 +19,4 @@ pub mod LinesInOrder
 mod JoinedTexts
 mod KnownTexts
 mod WrittenBefore
+pub mod SavedTexts

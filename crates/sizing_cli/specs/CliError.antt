@@ -23,6 +23,16 @@ is_of_sink (Occupied name) = false
 is_of_sink (Unwritten name) = true
 is_of_sink (Serve fault) = fault.number == WRITE_FAILED
 
+-- the certificate could not be written to its file
+abbrev pub is_unwritten : CliError → Bool
+is_unwritten (Words error) = false
+is_unwritten NoCommand = false
+is_unwritten InputTwice = false
+is_unwritten (Unread name) = false
+is_unwritten (Occupied name) = false
+is_unwritten (Unwritten name) = true
+is_unwritten (Serve fault) = false
+
 -- the exit status: 2 for bad arguments and for help, 3 if there is no answer
 abbrev pub IsCode : CliError → ℕ → Type 0
 IsCode (Words error) status = ((kind_of error ≡ OutOfMemory) × (status ≡ 3)) ⊎ ((kind_of error ≢ OutOfMemory) × (status ≡ 2))

@@ -19,3 +19,4 @@ pub mod DeclaredSizes
 pub mod Texts
 pub mod CliError
 pub mod SavedCertificate
+pub mod FileWrites

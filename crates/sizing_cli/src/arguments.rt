@@ -1,14 +1,16 @@
 //! The entry point that serves the arguments of a command line.
 
-ghost use Rattle.std.specs.Prelude.{◌≡◌, ◌≢◌, ℕ, IfOk, IfErr, IfSome, map, take, option_map, [], is_some, true, false, None};
+ghost use Rattle.std.specs.Prelude.{◌≡◌, ◌≢◌, ℕ, IfOk, IfErr, IfSome, is_ok, map, take, option_map, [], is_some, true, false, None};
 ghost use Rattle.std.specs.Io.KnownBytes.{Keeps};
 ghost use Rattle.command_line.specs.Command.{IsInRange, certificate_of, command_of, faults_of, files_of_cli, files_of};
 ghost use Rattle.sizing_cli.specs.CommandResult.{WritesWithCertificate, MeansSafe, WritesAnswer};
 ghost use Rattle.command_line.specs.declared.command.Command.{Command as CommandValue};
-ghost use Rattle.sizing_cli.specs.SavedCertificate.{IsSaved, IsReplaceable, WritesCertificateFile};
+ghost use Rattle.sizing_cli.specs.FileWrites.{AppendsWrites, WritesAtMostOnce, file_writes};
+ghost use Rattle.sizing_cli.specs.SavedCertificate.{IsReplaceable, WritesCertificateFile};
 ghost use Rattle.sizing_cli.specs.SavedCertificate as replaceable;
+ghost use Rattle.sizing_cli.specs.declared.status.Status.{Status as StatusValue};
 ghost use Rattle.sizing_cli.specs.Texts as spec;
-ghost use Rattle.sizing_cli.specs.CliError.{IsFaultOf, IsOccupied, IsOfFile, IsOfReading, IsOfReplacing, IsOfTexts, IsUnwritten, IsWrittenBefore, is_of_sink};
+ghost use Rattle.sizing_cli.specs.CliError.{IsFaultOf, IsOccupied, IsOfFile, IsOfReading, IsOfReplacing, IsOfTexts, IsUnwritten, IsWrittenBefore, is_of_sink, is_unwritten};
 
 use crate::fault::CliError;
 use crate::join::join_texts;
@@ -41,11 +43,12 @@ const NO_FILE: &str = "<stdin>";
 ///
 /// Returns the [`CliError`] of the first failure. Nothing was written then, except a prefix of
 /// the answer if the sink failed, and the whole answer if writing the certificate's file failed.
+#[tactic(auto, using(crate::proofs::SavedTexts::no_writes, crate::proofs::SavedTexts::texts_untouched, crate::proofs::SavedTexts::calm_untouched))]
 pub fn serve_words<'a, R: Threads + Wait + Sync, F: TextFiles, S: Source, K: Sink>(
     rt: &R,
     alloc: Global,
     words: &'a [&'a str],
-    files: &F,
+    files: &mut F,
     input: &mut S,
     sink: &mut K,
 ) -> Result<Status, CliError<'a>>
@@ -59,7 +62,7 @@ pub fn serve_words<'a, R: Threads + Wait + Sync, F: TextFiles, S: Source, K: Sin
         (command_of (map (λ word. word.now) words.now))
         (λ command.
         IfSome
-        (spec.input_named command (F.content files.now) (S.remaining input.old) (files_of (map (λ word. word.now) words.now)))
+        (spec.input_named command (F.content files.old) (S.remaining input.old) (files_of (map (λ word. word.now) words.now)))
         (λ text.
         WritesAnswer command text status
         (K.written sink.old) (K.written sink.new)))) }
@@ -69,27 +72,47 @@ pub fn serve_words<'a, R: Threads + Wait + Sync, F: TextFiles, S: Source, K: Sin
         (command_of (map (λ word. word.now) words.now))
         (λ command.
         IfSome
-        (spec.input_named command (F.content files.now) (S.remaining input.old) (files_of (map (λ word. word.now) words.now)))
+        (spec.input_named command (F.content files.old) (S.remaining input.old) (files_of (map (λ word. word.now) words.now)))
         (λ text.
         MeansSafe command text (K.written sink.old)
         (K.written sink.new)))) }
 
-    // The file named for the certificate holds the text of the certificate that the answer rests
-    // on.
+    // The certificate that the answer rests on, if there is one, is all that is written to files.
     ensures kept { IfOk result (λ status.
         IfSome
         (command_of (map (λ word. word.now) words.now))
         (λ command.
         IfSome
-        (spec.input_named command (F.content files.now) (S.remaining input.old) (files_of (map (λ word. word.now) words.now)))
+        (spec.input_named command (F.content files.old) (S.remaining input.old) (files_of (map (λ word. word.now) words.now)))
         (λ text.
-        WritesCertificateFile (F.made files.now)
-        (certificate_of (map (λ word. word.now) words.now))
+        WritesCertificateFile (F.writes files.old) (F.writes files.new)
+        (certificate_of (map (λ word. word.now) words.now)) true
         command text status (K.written sink.old)
         (K.written sink.new)))) }
+    ensures attempted { IfErr result (λ fault.
+        is_unwritten fault ≡ true
+        → IfSome
+        (command_of (map (λ word. word.now) words.now))
+        (λ command.
+        IfSome
+        (spec.input_named command (F.content files.old) (S.remaining input.old) (files_of (map (λ word. word.now) words.now)))
+        (λ text.
+        (status : StatusValue) × WritesCertificateFile (F.writes files.old) (F.writes files.new)
+        (certificate_of (map (λ word. word.now) words.now)) false
+        command text status (K.written sink.old)
+        (K.written sink.new)))) }
+    ensures untouched { IfErr result
+        (λ fault. is_unwritten fault ≡ false → AppendsWrites (F.writes files.old) (F.writes files.new) []) }
+    ensures once { IfOk result (λ _.
+        WritesAtMostOnce (F.writes files.old) (F.writes files.new)
+        (certificate_of (map (λ word. word.now) words.now)) true) }
+    ensures once_failed { IfErr result (λ fault.
+        is_unwritten fault ≡ true
+        → WritesAtMostOnce (F.writes files.old) (F.writes files.new)
+        (certificate_of (map (λ word. word.now) words.now)) false) }
     ensures replaceable { IfOk result
-        (λ _. IsReplaceable (F.content files.now) (certificate_of (map (λ word. word.now) words.now))) }
-    ensures occupied { IfErr result (IsOccupied (F.content files.now)) }
+        (λ _. IsReplaceable (F.content files.old) (certificate_of (map (λ word. word.now) words.now))) }
+    ensures occupied { IfErr result (IsOccupied (F.content files.old)) }
     ensures fault { IfErr result (IsFaultOf (map (λ word. word.now) words.now)) }
     ensures nothing { IfErr result
         (λ fault. is_of_sink fault ≡ false → Keeps (K.written sink.old) (K.written sink.new)) }
@@ -101,7 +124,7 @@ pub fn serve_words<'a, R: Threads + Wait + Sync, F: TextFiles, S: Source, K: Sin
         (command_of (map (λ word. word.now) words.now))
         (λ command.
         IfSome
-        (spec.input_named command (F.content files.now) (S.remaining input.old) (files_of (map (λ word. word.now) words.now)))
+        (spec.input_named command (F.content files.old) (S.remaining input.old) (files_of (map (λ word. word.now) words.now)))
         (λ text.
         IsWrittenBefore fault command text
         (K.written sink.old) (K.written sink.new)))) }
@@ -109,9 +132,9 @@ pub fn serve_words<'a, R: Threads + Wait + Sync, F: TextFiles, S: Source, K: Sin
     let Some(cli) = read_words(alloc, words)? else {
         return Err(CliError::NoCommand);
     };
-    ensure_replaceable(alloc, files, cli.certificate)?;
+    ensure_replaceable(alloc, &*files, cli.certificate)?;
     let mut found = None;
-    let status = serve_parsed(rt, alloc, cli, files, &mut found, input, sink)?;
+    let status = serve_parsed(rt, alloc, cli, &*files, &mut found, input, sink)?;
     write_certificate(files, cli.certificate, &found)?;
     Ok(status)
 }
@@ -157,21 +180,21 @@ fn may_be_certificate(text: &[u8]) -> bool
 }
 
 /// Writes the certificate that was found to the file named for it.
+#[tactic(auto, using(crate::proofs::SavedTexts::no_writes))]
 fn write_certificate<'a, F: TextFiles>(
-    files: &F,
+    files: &mut F,
     name: Option<&'a str>,
     found: &Option<Vec<u8>>,
 ) -> Result<(), CliError<'a>>
-    ensures kept { IfOk result (λ _.
-        IsSaved (F.made files.now) (option_map (λ name. name.now) name.entry)
-        (option_map (λ text. text.items) found.now)) }
+    ensures kept { AppendsWrites (F.writes files.old) (F.writes files.new)
+        (file_writes (option_map (λ text. text.items) found.now) (option_map (λ name. name.now) name.entry) (is_ok result)) }
     ensures fault { IfErr result (IsUnwritten (option_map (λ name. name.now) name.entry)) }
-    ensures behind { IfErr result (λ fault. is_of_sink fault ≡ true) }
+    ensures behind { IfErr result (λ fault. is_unwritten fault ≡ true) }
 {
-    let Some(name) = name else {
+    let Some(text) = found else {
         return Ok(());
     };
-    let Some(text) = found else {
+    let Some(name) = name else {
         return Ok(());
     };
     match files.write(name, text) {

@@ -8,7 +8,7 @@ use std::alloc::Global;
 use std::fs;
 use std::fs::{File, Files};
 
-/// The files of the operating system. Contracts know nothing of their content.
+/// The files of the operating system. Contracts know nothing of their content, and list no writes.
 #[derive(Clone, Copy)]
 pub struct StdFiles<'a, R> {
     files: &'a R,
@@ -24,7 +24,7 @@ impl<'a, R: Files> StdFiles<'a, R> {
 impl<R: Files> TextFiles for StdFiles<'_, R> {
     ghost content = { λ _ _. None };
 
-    ghost made = { λ _ _ _. Unit {0} };
+    ghost writes = { λ _. None };
 
     fn read(&self, alloc: Global, name: &str, limit: usize) -> Result<Vec<u8>, InputError> {
         match File::open(self.files, name) {
@@ -45,7 +45,7 @@ impl<R: Files> TextFiles for StdFiles<'_, R> {
         }
     }
 
-    fn write(&self, name: &str, bytes: &[u8]) -> Result<(), IoFault> {
+    fn write(&mut self, name: &str, bytes: &[u8]) -> Result<(), IoFault> {
         match File::create(self.files, name) {
             Ok(file) => write_all(&mut StdSink::new(file), bytes),
             Err(_) => Err(IoFault),

@@ -1,6 +1,7 @@
 //! The interface to files.
 
-ghost use Rattle.std.specs.Prelude.{◌≡◌, ℕ, List, Option, Some, IfOk, IfSome, option_map, take};
+ghost use Rattle.std.specs.Prelude.{◌≡◌, ℕ, [], ◌∷◌, List, Option, Some, IfOk, IfSome, is_ok, option_map, take};
+ghost use Rattle.sizing_cli.specs.FileWrites.{AppendsWrites, FileWrite};
 
 use byte_streams::{InputError, IoFault};
 use std::alloc::Global;
@@ -10,8 +11,8 @@ pub trait TextFiles {
     // The bytes of the file of this name, if they are known.
     ghost content: { Self → List ℕ → Option (List ℕ) };
 
-    // A file of this name was made of these bytes.
-    ghost made: { Self → List ℕ → List ℕ → Type 0 };
+    // The writes so far, if they are known.
+    ghost writes: { Self → Option (List FileWrite) };
 
     /// Reads the first bytes of a file, at most `limit`.
     ///
@@ -41,6 +42,7 @@ pub trait TextFiles {
     /// # Errors
     ///
     /// [`IoFault`] if that fails. The file may then hold a prefix of the bytes.
-    fn write(&self, name: &str, bytes: &[u8]) -> Result<(), IoFault>
-        ensures { IfOk result (λ _. made self.now name.now bytes.now) };
+    fn write(&mut self, name: &str, bytes: &[u8]) -> Result<(), IoFault>
+        ensures { AppendsWrites (writes self.old) (writes self.new)
+            ((record { name = name.now; bytes = bytes.now; is_done = is_ok result }) ∷ []) };
 }

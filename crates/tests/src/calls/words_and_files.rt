@@ -40,7 +40,7 @@ struct FakeFiles;
 impl TextFiles for FakeFiles {
     ghost content = { λ _ _. None };
 
-    ghost made = { λ _ _ _. Unit {0} };
+    ghost writes = { λ _. None };
 
     fn read(&self, alloc: Global, name: &str, limit: usize) -> Result<Vec<u8>, InputError> {
         let text = match name {
@@ -68,7 +68,7 @@ impl TextFiles for FakeFiles {
         }
     }
 
-    fn write(&self, name: &str, bytes: &[u8]) -> Result<(), IoFault> {
+    fn write(&mut self, name: &str, bytes: &[u8]) -> Result<(), IoFault> {
         if name == "kept.json" && bytes == CERT_FOUND.as_bytes() {
             Ok(())
         } else {
@@ -189,7 +189,14 @@ fn texts_come_from_files(rt: HostRuntime) -> Result<(), Fail> {
     for (words, given, status, written) in ANSWERS.iter().copied() {
         let mut source = MemorySource::new(given.as_bytes());
         let mut sink = MemorySink::new(rt.alloc());
-        let ended = serve_words(&rt, rt.alloc(), words, &FakeFiles, &mut source, &mut sink);
+        let ended = serve_words(
+            &rt,
+            rt.alloc(),
+            words,
+            &mut FakeFiles,
+            &mut source,
+            &mut sink,
+        );
         let text = String::from_utf8_lossy(rt.alloc(), sink.written())?;
         assert_eq!(rt; text.as_str(), written, "{words:?}");
         assert!(rt; matches!(ended, Ok(found) if found == status), "{words:?}");
@@ -253,7 +260,14 @@ fn words_without_an_answer(rt: HostRuntime) -> Result<(), Fail> {
     for (words, wanted, code) in NO_ANSWERS.iter().copied() {
         let mut source = MemorySource::new(b"");
         let mut sink = MemorySink::new(rt.alloc());
-        let ended = serve_words(&rt, rt.alloc(), words, &FakeFiles, &mut source, &mut sink);
+        let ended = serve_words(
+            &rt,
+            rt.alloc(),
+            words,
+            &mut FakeFiles,
+            &mut source,
+            &mut sink,
+        );
         let Err(fault) = ended else {
             return Err(Fail::from("an answer"));
         };
@@ -281,7 +295,14 @@ fn an_unwritten_certificate(rt: HostRuntime) -> Result<(), Fail> {
         let words = ["sizing", "ask", "--certificate", name, "plan.toml"];
         let mut source = MemorySource::new(b"");
         let mut sink = MemorySink::new(rt.alloc());
-        let ended = serve_words(&rt, rt.alloc(), &words, &FakeFiles, &mut source, &mut sink);
+        let ended = serve_words(
+            &rt,
+            rt.alloc(),
+            &words,
+            &mut FakeFiles,
+            &mut source,
+            &mut sink,
+        );
         let text = String::from_utf8_lossy(rt.alloc(), sink.written())?;
         assert_eq!(rt; text.as_str(), ASKED);
         assert!(rt; matches!(ended, Err(CliError::Unwritten(file)) if file == name));
