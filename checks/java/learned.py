@@ -122,10 +122,10 @@ def voids(found):
 
 
 def learned(tools, recording):
-    """Returns the answer of `learn`, or None if it derives no plan."""
+    """Returns the answer of `learn`, or None if it derives no plan or its status does not say whether the plan has comments."""
     status, text = tools.sizing("learn", recording)
     head = HEAD.match(text)
-    if status or not head or list(map(int, head.groups())) != [len(read(recording).rounds), len(read(recording).jobs)]:
+    if status != ("\n# line " in text) or not head or list(map(int, head.groups())) != [len(read(recording).rounds), len(read(recording).jobs)]:
         return None
     comments = text[head.end():].split("\n\n")[0].splitlines() if text[head.end()] != "\n" else []
     return Learned(text, [line.removeprefix("# ") for line in comments], read_plan(text))

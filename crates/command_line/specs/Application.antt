@@ -91,7 +91,7 @@ conform_shape = (of_both (codes "conform")).top
 
 -- the subcommand `learn`, whose first argument names a recording instead of a plan
 abbrev pub learn_shape : Shape
-learn_shape = (of_plan (codes "learn")).top
+learn_shape = (with_rule (of_plan (codes "learn")) strict_option).top
 
 -- the application with the further subcommands `replay`, `check` and `explain`
 abbrev pub with_review_commands : App → App

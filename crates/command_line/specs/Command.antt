@@ -14,6 +14,7 @@ use Rattle.command_line.specs.declared.command.Cli.{Cli}
 use Rattle.command_line.specs.declared.command.Command.{Command}
 use Rattle.command_line.specs.declared.command.Command.TheVariants.{Sequential, OnRecording, OnThreads}
 use Rattle.command_line.specs.declared.command.ReviewCommand.TheVariants.{Replay, Check, Explain}
+use Rattle.command_line.specs.declared.command.RecordingCommand.{RecordingCommand}
 use Rattle.command_line.specs.declared.command.RecordingCommand.TheVariants.{Conform, Learn}
 use Rattle.command_line.specs.declared.command.Task.{Task}
 use Rattle.command_line.specs.declared.command.Task.TheVariants.{Certify, Fit, Run, Refute, Ask}
@@ -77,6 +78,10 @@ task_of name rows =
     else (if bytes_eq name (codes "refute") then refute_with (is_set (codes "bundle") rows) (number_of (codes "states") 1 MAX_STATES rows)
     else (if bytes_eq name (codes "ask") then ask_named rows else None))))
 
+-- the command `learn`, with or without `--strict`
+abbrev pub learn_with : Bool → RecordingCommand
+learn_with strict = Learn strict
+
 -- the command of the subcommand with this name and these parsed arguments; None if their values are invalid
 abbrev pub command_named : Text × List Row → Option Command
 command_named (name, rows) =
@@ -84,7 +89,7 @@ command_named (name, rows) =
     else (if bytes_eq name (codes "check") then Some (Sequential Check)
     else (if bytes_eq name (codes "explain") then Some (Sequential Explain)
     else (if bytes_eq name (codes "conform") then Some (OnRecording Conform)
-    else (if bytes_eq name (codes "learn") then Some (OnRecording Learn) else option_map (λ task. OnThreads task) (task_of name rows)))))
+    else (if bytes_eq name (codes "learn") then Some (OnRecording (learn_with (is_set (codes "strict") rows))) else option_map (λ task. OnThreads task) (task_of name rows)))))
 
 -- the command of the subcommand that was entered; None if no subcommand was entered or its values are invalid
 abbrev pub command_among : Option (Text × List Row) → Option Command

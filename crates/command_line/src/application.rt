@@ -201,7 +201,7 @@ fn ask<'a>(alloc: Global) -> Result<Command<'a>, AllocError>
     ensures local { IfOk result (λ made. (fields_of made).has_globals ≡ false) }
 {
     of_both(alloc, "ask", help::ASK)?
-    .arg(strict(alloc))?
+    .arg(strict(alloc, "Exit with status 1 if there is a warning"))?
     .arg(json(alloc))?
     .arg(dot(alloc))?
     .arg(certificate(alloc))
@@ -219,7 +219,11 @@ fn learn<'a>(alloc: Global) -> Result<Command<'a>, AllocError>
     ensures local { IfOk result (λ made. (fields_of made).has_globals ≡ false) }
 {
     subcommand(alloc, "learn", help::LEARN)
-    .arg(recording(alloc))
+        .arg(recording(alloc))?
+        .arg(strict(
+            alloc,
+            "Write no plan if the recording does not conform to it",
+        ))
 }
 
 // Creates the argument that names the file of a recording. It has the id of the argument for a
@@ -235,14 +239,14 @@ fn recording<'a>(alloc: Global) -> Arg<'a>
 }
 
 // Creates the option `--strict`, with which a warning changes the exit status of a safe plan to 1.
-fn strict<'a>(alloc: Global) -> Arg<'a>
+fn strict<'a>(alloc: Global, help: &'a str) -> Arg<'a>
     ensures rule { rule_of result ≡ strict_option }
     ensures local { result.global ≡ false }
 {
     Arg::new(alloc, "strict")
         .long("strict")
         .action(ArgAction::SetTrue)
-        .help("Exit with status 1 if there is a warning")
+        .help(help)
 }
 
 // Creates the option `--json`, with which the answer is a JSON object.

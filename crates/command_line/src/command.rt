@@ -39,7 +39,10 @@ pub enum RecordingCommand {
     /// Compares a recording with the plan that precedes it in the input.
     Conform,
     /// Derives a plan from a recording.
-    Learn,
+    Learn {
+        /// Whether no plan is written if the recording does not conform to it.
+        strict: bool,
+    },
 }
 
 /// A command that searches, or runs a plan.
@@ -218,7 +221,7 @@ fn command_among(matches: &ArgMatches<'_>) -> Option<Command>
         ("check", _) => Some(Command::Sequential(ReviewCommand::Check)),
         ("explain", _) => Some(Command::Sequential(ReviewCommand::Explain)),
         ("conform", _) => Some(Command::OnRecording(RecordingCommand::Conform)),
-        ("learn", _) => Some(Command::OnRecording(RecordingCommand::Learn)),
+        ("learn", options) => Some(Command::OnRecording(learn(options))),
         (name, options) => Some(Command::OnThreads(task_of(name, options)?)),
     }
 }
@@ -235,6 +238,15 @@ fn task_of(name: &str, options: &ArgMatches<'_>) -> Option<Task>
         "refute" => refute(options),
         "ask" => ask(options),
         _ => None,
+    }
+}
+
+fn learn(options: &ArgMatches<'_>) -> RecordingCommand
+    ensures { result
+        ≡ spec.learn_with (spec.is_set (codes "strict") (rows_of (found_of options.now))) }
+{
+    RecordingCommand::Learn {
+        strict: is_set(options, "strict"),
     }
 }
 

@@ -291,8 +291,8 @@ pub(crate) const LEARN: Help = Help {
     position: 2,
     about: "Derive a plan from a recording of a service",
     usage: "\
-sizing learn RECORDING
-       sizing learn < RECORDING",
+sizing learn [--strict] RECORDING
+       sizing learn [--strict] < RECORDING",
     notes: "\
 RECORDING has a line for each event of the service's pools, as the recorder in `java/` writes it
 (docs/RECORDING.md).
@@ -301,14 +301,15 @@ The answer is a plan in TOML: the pools with their recorded sizes, a class for e
 and a kind of client for each label of rounds. Each body covers all recorded paths of its label; if
 no single body does, there are several classes NAME, NAME_2 and so on. `count` is the largest number
 of rounds that were open at once, and a kind repeats if more rounds began in all. Comments at the top
-list what the plan leaves out, and what invalidates the answer of `ask` for this service.
+list what the plan leaves out, and what invalidates the answer of `ask` for this service. With
+--strict only these differences are written, and no plan.
 
 A path that was not taken, and a pool or class that was not used, is not in the plan. Review the plan
 before you rely on it.
 
 Exit status:
-  0  a plan was written
-  1  none was found, and why
+  0  a plan was written, and the recording conforms to it
+  1  a plan was written whose comments list differences, or none was found, and why
   2 or 3 after an error (see `sizing --help`)
 
 Example: sizing learn shop.recording | sizing ask",

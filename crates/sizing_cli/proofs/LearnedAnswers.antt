@@ -1,25 +1,41 @@
 -- The meaning of status 0 of `learn`.
-use Rattle.std.proofs.Common.{◌≡◌, ℕ, inl, inr, Bool, true, false, List, length, sym, ap, ◌∙◌}
+use Rattle.std.proofs.Common.{◌≡◌, ℕ, inl, inr, Bool, true, false, List, [], ◌∷◌, length, refl, subst, sym, ap, ◌∙◌}
 use Rattle.std.specs.Prelude.{MatchBool, nat_lt}
+use Rattle.job_bodies.specs.Plan.{Plan}
 use Rattle.job_bodies.specs.declared.limits.TheConstants.{MAX_RECORDED_BYTES}
+use Rattle.conformance.specs.declared.finding.Finding.{Finding}
 use Rattle.sizing_cli.specs.declared.status.Status.TheVariants.{Done, Refused, BadText}
 use Rattle.sizing_cli.specs.Answer.{Answer, input_too_long}
-use Rattle.sizing_cli.specs.Learn.{AnswersLines, IsLearnAnswer, IsLearnedText}
+use Rattle.sizing_cli.specs.Learn.{AnswersLines, IsConformingText, IsLearnAnswer, IsLearnedText, learned_answer}
 
-by_lines : (input : List ℕ) (answer : Answer) → AnswersLines input answer → answer.status ≡ Done → IsLearnedText input answer.text
-by_lines input answer (inl bad) done =
+-- an answer with a learned plan and status 0 is the text of that plan, and there is no finding
+conforming : (strict : Bool) (recording text : List ℕ) (answer : Answer) (learned : IsLearnedText recording text) (findings : List Finding)
+    → learned.findings ≡ findings → answer ≡ learned_answer strict text learned.seen.plan findings → answer.status ≡ Done
+    → IsConformingText recording answer.text
+conforming strict recording text answer learned [] none is done =
+    subst (λ (a : Answer). IsConformingText recording a.text) (sym is) (record { learned = learned; conforms = none })
+conforming false recording text answer learned (finding ∷ others) some is done =
+    let no : Refused ≡ Done = sym (ap (λ (a : Answer). a.status) is) ∙ done in
+    absurd cc
+conforming true recording text answer learned (finding ∷ others) some is done =
+    let no : Refused ≡ Done = sym (ap (λ (a : Answer). a.status) is) ∙ done in
+    absurd cc
+
+by_lines : (strict : Bool) (input : List ℕ) (answer : Answer) → AnswersLines strict input answer → answer.status ≡ Done → IsConformingText input answer.text
+by_lines strict input answer (inl bad) done =
     let no : BadText ≡ Done = sym (ap (λ (a : Answer). a.status) bad.answer_is) ∙ done in
     absurd cc
-by_lines input answer (inr (inl none)) done =
+by_lines strict input answer (inr (inl none)) done =
     let no : Refused ≡ Done = sym (ap (λ (a : Answer). a.status) none.answer_is) ∙ done in
     absurd cc
-by_lines input answer (inr (inr found)) done = found.learned
+by_lines strict input answer (inr (inr found)) done =
+    conforming strict input found.text answer found.learned found.learned.findings refl found.answer_is done
 
-pub learned : (input : List ℕ) (answer : Answer) → IsLearnAnswer input answer → answer.status ≡ Done → IsLearnedText input answer.text
-learned input answer is done = by_length (nat_lt MAX_RECORDED_BYTES (length input)) is
+pub learned : (strict : Bool) (input : List ℕ) (answer : Answer) → IsLearnAnswer strict input answer → answer.status ≡ Done → IsConformingText input answer.text
+learned strict input answer is done = by_length (nat_lt MAX_RECORDED_BYTES (length input)) is
   where
-    by_length : (long : Bool) → MatchBool long (answer ≡ input_too_long) (AnswersLines input answer) → IsLearnedText input answer.text
+    by_length : (long : Bool) → MatchBool long (answer ≡ input_too_long) (AnswersLines strict input answer) → IsConformingText input answer.text
     by_length true too_long =
         let no : BadText ≡ Done = sym (ap (λ (a : Answer). a.status) too_long) ∙ done in
         absurd cc
-    by_length false answers = by_lines input answer answers done
+    by_length false answers = by_lines strict input answer answers done

@@ -73,8 +73,8 @@ pub recorded_by_front : (remaining : Option (List ℕ)) (items slice : List ℕ)
     → IsRecordingAnswer reading slice answer → IfSome remaining (λ input. IsRecordingAnswer reading input answer)
 recorded_by_front remaining items slice Conform answer front same is =
     answered_within MAX_RECORDED_BYTES (answer ≡ input_too_long) (λ bytes. AnswersBundle (bundle_of bytes) answer) remaining items front (subst (λ (bytes : List ℕ). IsConformAnswer bytes answer) same is)
-recorded_by_front remaining items slice Learn answer front same is =
-    answered_within MAX_RECORDED_BYTES (answer ≡ input_too_long) (λ bytes. AnswersLines bytes answer) remaining items front (subst (λ (bytes : List ℕ). IsLearnAnswer bytes answer) same is)
+recorded_by_front remaining items slice (Learn strict) answer front same is =
+    answered_within MAX_RECORDED_BYTES (answer ≡ input_too_long) (λ bytes. AnswersLines strict bytes answer) remaining items front (subst (λ (bytes : List ℕ). IsLearnAnswer strict bytes answer) same is)
 
 asked_by_front : (remaining : Option (List ℕ)) (items : List ℕ) (given : AskInput) (options : AskOptions) (left : Option (List ℕ)) (answer : Answer)
     → IfSome remaining (λ input. items ≡ take (MAX_INPUT_BYTES + 1) input) → IsAskAnswer given options items left answer → IfSome remaining (λ input. IsAskAnswer given options input left answer)
@@ -163,8 +163,8 @@ means_safe (Sequential Replay) input status old new writes done = tt
 means_safe (Sequential Check) input status old new writes done = yes_means_safe input (sym (ap (λ (a : Answer). a.status) writes.is_answer) ∙ (sym writes.status_is ∙ done))
 means_safe (Sequential Explain) input status old new writes done = tt
 means_safe (OnRecording Conform) input status old new writes done = conformed input writes.answer writes.is_answer (sym writes.status_is ∙ done)
-means_safe (OnRecording Learn) input status old new writes done =
-    record { text = writes.answer.text; learned = learned input writes.answer writes.is_answer (sym writes.status_is ∙ done); written = writes.written }
+means_safe (OnRecording (Learn strict)) input status old new writes done =
+    record { text = writes.answer.text; learned = learned strict input writes.answer writes.is_answer (sym writes.status_is ∙ done); written = writes.written }
 means_safe (OnThreads (Fit Sizes)) input status old new writes done = sizes_mean_safe input writes.answer writes.is_answer (sym writes.status_is ∙ done)
 means_safe (OnThreads (Fit Bundle)) input status old new writes done =
     let fitted = bundle_means_fitted input writes.answer writes.is_answer (sym writes.status_is ∙ done) in

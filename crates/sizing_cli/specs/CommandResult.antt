@@ -28,7 +28,7 @@ use Rattle.sizing_cli.specs.Fit.{IsFitAnswer, IsFittedBundle}
 use Rattle.sizing_cli.specs.Refute.{IsRefuteAnswer, IsWitnessBundle}
 use Rattle.sizing_cli.specs.Ask.{IsAskAnswer, IsSafeAskInput}
 use Rattle.sizing_cli.specs.Conform.{IsConformAnswer, IsConformingInput}
-use Rattle.sizing_cli.specs.Learn.{IsLearnAnswer, IsLearnedText}
+use Rattle.sizing_cli.specs.Learn.{IsConformingText, IsLearnAnswer}
 
 -- the answer is a possible one of the task
 abbrev pub IsTaskAnswer : Task → List ℕ → Answer → Type 0
@@ -41,7 +41,7 @@ IsTaskAnswer (Ask given options) input answer = (left : Option (List ℕ)) × Is
 -- the answer is a possible one for an input with a recording
 abbrev pub IsRecordingAnswer : RecordingCommand → List ℕ → Answer → Type 0
 IsRecordingAnswer Conform input answer = IsConformAnswer input answer
-IsRecordingAnswer Learn input answer = IsLearnAnswer input answer
+IsRecordingAnswer (Learn strict) input answer = IsLearnAnswer strict input answer
 
 -- the answer is a possible one of the command
 abbrev pub IsAnswer : Command → List ℕ → Answer → Type 0
@@ -82,10 +82,10 @@ pub record WritesWitness (input : List ℕ) (old new : Option (List ℕ)) : Type
   pub shows : IsWitnessBundle input text
   pub written : Appends old new text
 
--- a plan was written to which the recording conforms, except for what the comments at its head list
+-- a plan was written to which the recording conforms
 pub record WritesLearned (input : List ℕ) (old new : Option (List ℕ)) : Type 0 where
   pub text : List ℕ
-  pub learned : IsLearnedText input text
+  pub learned : IsConformingText input text
   pub written : Appends old new text
 
 -- what status 0 means. For `check`, `run`, `ask`, the sizes of `fit` and the story of `refute`: the input's plan is safe.
@@ -97,7 +97,7 @@ MeansSafe (Sequential Replay) input old new = Unit {0}
 MeansSafe (Sequential Check) input old new = IsSafeInput input
 MeansSafe (Sequential Explain) input old new = Unit {0}
 MeansSafe (OnRecording Conform) input old new = IsConformingInput input
-MeansSafe (OnRecording Learn) input old new = WritesLearned input old new
+MeansSafe (OnRecording (Learn strict)) input old new = WritesLearned input old new
 MeansSafe (OnThreads (Certify workers)) input old new = WritesCertified input old new
 MeansSafe (OnThreads (Fit Sizes)) input old new = IsSafePlan input
 MeansSafe (OnThreads (Fit Bundle)) input old new = WritesFitted input old new

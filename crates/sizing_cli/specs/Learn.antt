@@ -1,5 +1,5 @@
 -- The possible answers of `learn` to a recording: a relation, since it does not fix which bodies are found.
-use Rattle.std.specs.Prelude.{◌≡◌, ◌⊎◌, ◌&&◌, ℕ, false, if◌then◌else◌, nat_lt, nat_eq, List, [], ◌∷◌, ◌++◌, length, flat_map, codes, decimal, None, Some, Ok, MatchBool}
+use Rattle.std.specs.Prelude.{◌≡◌, ◌⊎◌, ◌&&◌, ℕ, Bool, true, false, if◌then◌else◌, nat_lt, nat_eq, List, [], ◌∷◌, ◌++◌, length, flat_map, codes, decimal, None, Some, Ok, MatchBool}
 use Rattle.std.specs.List.{All, list_any}
 use Rattle.job_bodies.specs.Plan.{Plan}
 use Rattle.plan_text.specs.PlanOf.{plan_of}
@@ -11,7 +11,7 @@ use Rattle.recordings.specs.declared.fault.RecordingFault.{RecordingFault}
 use Rattle.conformance.specs.declared.finding.Finding.{Finding}
 use Rattle.conformance.specs.Conforms.{DoAsPlanned}
 use Rattle.conformance.specs.Findings.{AreFindingsOf, is_of_actors}
-use Rattle.conformance.specs.FindingText.{finding_line}
+use Rattle.conformance.specs.FindingText.{finding_line, findings_text}
 use Rattle.conformance.specs.Lines.{lines_of}
 use Rattle.conformance.specs.Outcome.{AreInOrder}
 use Rattle.learning.specs.Counts.{AreCounted}
@@ -86,10 +86,27 @@ pub record IsLearnedText (recording text : List ℕ) : Type 0 where
   pub conforms : AreAllFindings seen.plan recording findings
   pub is_text : IsTextOf seen findings text
 
-pub record IsLearned (recording : List ℕ) (answer : Answer) : Type 0 where
+-- The text is a plan's, as above, and the recording conforms to the plan: no comment at its head is about a finding.
+pub record IsConformingText (recording text : List ℕ) : Type 0 where
+  pub learned : IsLearnedText recording text
+  pub conforms : learned.findings ≡ []
+
+-- the findings of a recording to whose plan it does not conform, as --strict writes them
+abbrev pub differences : Plan → List Finding → List ℕ
+differences plan findings = codes "no plan was written: the recording does not conform to it" ++ 10 ∷ findings_text plan findings
+
+-- the answer with a learned plan of this text and these findings: a yes only if there is none
+abbrev pub learned_answer : Bool → List ℕ → Plan → List Finding → Answer
+learned_answer strict text plan [] = record { text = text; status = Done }
+learned_answer false text plan (finding ∷ others) = record { text = text; status = Refused }
+learned_answer true text plan (finding ∷ others) = record { text = differences plan (finding ∷ others); status = Refused }
+
+-- a plan was learned
+pub record IsLearned (strict : Bool) (recording : List ℕ) (answer : Answer) : Type 0 where
   pub no_fault : IsFirstFault (lines_read recording) None
-  pub learned : IsLearnedText recording answer.text
-  pub status : answer.status ≡ Done
+  pub text : List ℕ
+  pub learned : IsLearnedText recording text
+  pub answer_is : answer ≡ learned_answer strict text learned.seen.plan learned.findings
 
 abbrev pub not_learned : InferenceLimit → Answer
 not_learned reason = record { text = codes "no plan was learned: " ++ inference_limit_text reason ++ 10 ∷ []; status = Refused }
@@ -107,9 +124,9 @@ pub record IsBadRecording (recording : List ℕ) (answer : Answer) : Type 0 wher
   pub is_first : IsFirstFault (lines_read recording) (Some found)
   pub answer_is : answer ≡ bad_recording found
 
-abbrev pub AnswersLines : List ℕ → Answer → Type 0
-AnswersLines recording answer = IsBadRecording recording answer ⊎ (IsNotLearned recording answer ⊎ IsLearned recording answer)
+abbrev pub AnswersLines : Bool → List ℕ → Answer → Type 0
+AnswersLines strict recording answer = IsBadRecording recording answer ⊎ (IsNotLearned recording answer ⊎ IsLearned strict recording answer)
 
 -- the possible answers to an input, which is a recording
-abbrev pub IsLearnAnswer : List ℕ → Answer → Type 0
-IsLearnAnswer input answer = MatchBool (nat_lt MAX_RECORDED_BYTES (length input)) (answer ≡ input_too_long) (AnswersLines input answer)
+abbrev pub IsLearnAnswer : Bool → List ℕ → Answer → Type 0
+IsLearnAnswer strict input answer = MatchBool (nat_lt MAX_RECORDED_BYTES (length input)) (answer ≡ input_too_long) (AnswersLines strict input answer)

@@ -14,13 +14,14 @@ ghost use Rattle.sizing_cli.specs.Learn as spec;
 use crate::Status;
 use crate::answer::{Answer, bad_recording, input_too_long};
 use crate::texts::plan_in;
-use conformance::{Conformance, Finding, conform, push_finding};
+use conformance::{Conformance, Finding, conform, push_finding, push_findings};
 use job_bodies::{MAX_PATH_STEPS, MAX_PLAN_BYTES, MAX_RECORDED_BYTES, Plan};
 use learning::{Extent, InferenceLimit, InferenceResult, InferredPlan, START_BYTES, learn};
 use plan_text::write_plan;
 use std::alloc::{AllocError, Global};
 
-/// Returns the plan that a recording shows. The input is the recording.
+/// Returns the plan that a recording shows. The input is the recording. If `strict`, the answer has
+/// no plan to which the recording does not conform.
 ///
 /// The bodies of a long recording are first derived from its start and compared with all of it.
 /// They are derived from the whole recording only if they do not explain all of it.
@@ -28,40 +29,44 @@ use std::alloc::{AllocError, Global};
 /// # Errors
 ///
 /// [`AllocError`] if memory runs out.
-pub fn learn_report(alloc: Global, input: &[u8]) -> Result<Answer, AllocError>
-    ensures { IfOk result (spec.IsLearnAnswer input.now) }
+pub fn learn_report(alloc: Global, strict: bool, input: &[u8]) -> Result<Answer, AllocError>
+    ensures { IfOk result (spec.IsLearnAnswer strict input.now) }
 {
     if input.len() > MAX_RECORDED_BYTES {
         return input_too_long(alloc);
     }
     if input.len() > START_BYTES {
-        if let Some(answer) = learn_from_start(alloc, input)? {
+        if let Some(answer) = learn_from_start(alloc, strict, input)? {
             return Ok(answer);
         }
     }
-    learn_from_all(alloc, input)
+    learn_from_all(alloc, strict, input)
 }
 
 /// Returns the answer with bodies derived from the start of the recording, if they explain all of
 /// it.
-fn learn_from_start(alloc: Global, recording: &[u8]) -> Result<Option<Answer>, AllocError>
-    ensures { IfOk result (λ found. IfSome found (spec.AnswersLines recording.now)) }
+fn learn_from_start(
+    alloc: Global,
+    strict: bool,
+    recording: &[u8],
+) -> Result<Option<Answer>, AllocError>
+    ensures { IfOk result (λ found. IfSome found (spec.AnswersLines strict recording.now)) }
 {
     match learn(alloc, recording, Extent::Start, MAX_PATH_STEPS)? {
         InferenceResult::Invalid(fault) => Ok(Some(bad_recording(alloc, fault)?)),
         InferenceResult::InferenceLimit(_) => Ok(None),
-        InferenceResult::Inferred(seen) => plan_answer(alloc, recording, &seen),
+        InferenceResult::Inferred(seen) => plan_answer(alloc, strict, recording, &seen),
     }
 }
 
 /// Returns the answer with bodies derived from the whole recording.
-fn learn_from_all(alloc: Global, recording: &[u8]) -> Result<Answer, AllocError>
-    ensures { IfOk result (spec.AnswersLines recording.now) }
+fn learn_from_all(alloc: Global, strict: bool, recording: &[u8]) -> Result<Answer, AllocError>
+    ensures { IfOk result (spec.AnswersLines strict recording.now) }
 {
     match learn(alloc, recording, Extent::Whole, MAX_PATH_STEPS)? {
         InferenceResult::Invalid(fault) => bad_recording(alloc, fault),
         InferenceResult::InferenceLimit(reason) => not_learned(alloc, reason),
-        InferenceResult::Inferred(seen) => match plan_answer(alloc, recording, &seen)? {
+        InferenceResult::Inferred(seen) => match plan_answer(alloc, strict, recording, &seen)? {
             Some(answer) => Ok(answer),
             None => not_learned(alloc, InferenceLimit::Paths),
         },
@@ -73,12 +78,13 @@ fn learn_from_all(alloc: Global, recording: &[u8]) -> Result<Answer, AllocError>
 /// the plan allows.
 fn plan_answer(
     alloc: Global,
+    strict: bool,
     recording: &[u8],
     seen: &InferredPlan,
 ) -> Result<Option<Answer>, AllocError>
     requires no_fault { IsFirstFault (lines_read recording.now) None }
     requires seen { spec.IsSeen (lines_of recording.now) seen.now }
-    ensures { IfOk result (λ found. IfSome found (spec.AnswersLines recording.now)) }
+    ensures { IfOk result (λ found. IfSome found (spec.AnswersLines strict recording.now)) }
 {
     let Conformance::Compared(findings) = conform(alloc, &seen.plan, recording, MAX_PATH_STEPS)?
     else {
@@ -88,10 +94,10 @@ fn plan_answer(
         return Ok(None);
     }
     match commented_plan(alloc, seen, &findings)? {
-        Some(text) => Ok(Some(Answer {
-            text,
-            status: Status::Done,
-        })),
+        Some(text) => {
+            let answer = learned_answer(alloc, strict, text, &seen.plan, &findings)?;
+            Ok(Some(answer))
+        }
         None => Ok(Some(not_learned(alloc, InferenceLimit::Text)?)),
     }
 }
@@ -194,6 +200,47 @@ fn push_comment(text: &mut String, plan: &Plan, finding: &Finding) -> Result<(),
     text.push_str("# ")?;
     push_finding(text, plan, finding)?;
     text.push('\n')
+}
+
+/// Returns the answer with a learned plan, whose text is given. If there are findings, the status is
+/// a no, and if `strict` they are written in place of the plan.
+fn learned_answer(
+    alloc: Global,
+    strict: bool,
+    text: String,
+    plan: &Plan,
+    findings: &[Finding],
+) -> Result<Answer, AllocError>
+    ensures { IfOk result (λ answer.
+        answer ≡ spec.learned_answer strict (string_bytes text) plan.now findings.now) }
+{
+    if findings.first().is_none() {
+        return Ok(Answer {
+            text,
+            status: Status::Done,
+        });
+    }
+    let text = if strict {
+        differences(alloc, plan, findings)?
+    } else {
+        text
+    };
+    Ok(Answer {
+        text,
+        status: Status::Refused,
+    })
+}
+
+/// Returns the findings of a recording to whose plan it does not conform, a line each.
+fn differences(alloc: Global, plan: &Plan, findings: &[Finding]) -> Result<String, AllocError>
+    ensures { IfOk result (λ text. string_bytes text ≡ spec.differences plan.now findings.now) }
+{
+    let mut text = String::from_str(
+        alloc,
+        "no plan was written: the recording does not conform to it\n",
+    )?;
+    push_findings(&mut text, plan, findings)?;
+    Ok(text)
 }
 
 fn are_of_actors(findings: &[Finding]) -> bool

@@ -44,6 +44,6 @@ fn report(alloc: Global, reading: RecordingCommand, input: &[u8]) -> Result<Answ
 {
     match reading {
         RecordingCommand::Conform => conform_report(alloc, input),
-        RecordingCommand::Learn => learn_report(alloc, input),
+        RecordingCommand::Learn { strict } => learn_report(alloc, strict, input),
     }
 }

@@ -15,7 +15,7 @@ use std::alloc::{AllocError, Global};
 
 /// The suite for commands that use no threads.
 ///
-/// - `replay`, `check`, `explain`, `conform` and `learn`: the whole input of the command. The
+/// - `replay`, `check`, `explain`, `conform`, `learn` and `learn strict`: the whole input. The
 ///   answer is the output, with the exit status on the last line. The test repeats the command in
 ///   pieces and, if the input is short, with a source and a sink that fail at each call in turn.
 /// - `check and explain`: an input of both commands. The answer is that of `check`, followed by
@@ -58,7 +58,12 @@ impl Suite for Served {
             ),
             "learn" => answered(
                 alloc,
-                Query::RecordingCommand(RecordingCommand::Learn),
+                Query::RecordingCommand(RecordingCommand::Learn { strict: false }),
+                input,
+            ),
+            "learn strict" => answered(
+                alloc,
+                Query::RecordingCommand(RecordingCommand::Learn { strict: true }),
                 input,
             ),
             "words" => asked(alloc, input),

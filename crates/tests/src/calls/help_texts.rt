@@ -82,7 +82,7 @@ const TABLE: &[(&[&str], &[&str])] = &[
     (
         &["sizing", "learn", "--help"],
         &[
-            "\nUsage: sizing learn RECORDING\n       sizing learn < RECORDING\n",
+            "\nUsage: sizing learn [--strict] RECORDING\n       sizing learn [--strict] < RECORDING\n",
             "[RECORDING]",
             "\nExample: sizing learn shop.recording | sizing ask",
         ],

@@ -13,5 +13,5 @@ pub returns : goal.returns
 returns c =
     let lines = lines_read c.args.recording.now in
     let no_fault : IsFirstFault lines None = subst (λ (reported : InferenceResult). IsFirstFault lines (fault_of reported)) c.in-Inferred.is c.in_ok-fault.ensures.bad in
-    if_ok_map c.not_learned-in-None.result (λ (answer : Answer). answer ≡ not_learned Paths) (AnswersLines c.args.recording.now)
+    if_ok_map c.not_learned-in-None.result (λ (answer : Answer). answer ≡ not_learned Paths) (AnswersLines c.args.strict c.args.recording.now)
     (λ answer is. inr (inl (record { no_fault = no_fault; reason = Paths; because = inr (inl refl); answer_is = is }))) c.not_learned-in-None.ensures
