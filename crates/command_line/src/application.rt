@@ -98,9 +98,7 @@ fn plan<'a>(alloc: Global) -> Arg<'a>
     ensures rule { rule_of result ≡ file_argument (codes "PLAN") }
     ensures local { result.global ≡ false }
 {
-    file(alloc, "PLAN").help(
-        "The file of the plan, or of both texts; `-` is standard input",
-    )
+    file(alloc, "PLAN").help("The file of the plan, or of both texts; `-` is standard input")
 }
 
 // Creates the argument that names the file of the second text.
@@ -123,8 +121,7 @@ fn certify<'a>(alloc: Global) -> Result<Command<'a>, AllocError>
     ensures shape { IfOk result (λ made. shape_of made ≡ certify_shape) }
     ensures local { IfOk result (λ made. (fields_of made).has_globals ≡ false) }
 {
-    of_plan(alloc, "certify", help::CERTIFY)?
-    .arg(workers(alloc))
+    of_plan(alloc, "certify", help::CERTIFY)?.arg(workers(alloc))
 }
 
 fn workers<'a>(alloc: Global) -> Arg<'a>
@@ -140,8 +137,7 @@ fn fit<'a>(alloc: Global) -> Result<Command<'a>, AllocError>
     ensures shape { IfOk result (λ made. shape_of made ≡ fit_shape) }
     ensures local { IfOk result (λ made. (fields_of made).has_globals ≡ false) }
 {
-    of_plan(alloc, "fit", help::FIT)?
-    .arg(bundle(
+    of_plan(alloc, "fit", help::FIT)?.arg(bundle(
         alloc,
         "Write the plan with the new sizes, and its certificate",
     ))
@@ -162,8 +158,7 @@ fn run<'a>(alloc: Global) -> Result<Command<'a>, AllocError>
     ensures shape { IfOk result (λ made. shape_of made ≡ run_shape) }
     ensures local { IfOk result (λ made. (fields_of made).has_globals ≡ false) }
 {
-    of_both(alloc, "run", help::RUN)?
-    .arg(rounds(alloc))
+    of_both(alloc, "run", help::RUN)?.arg(rounds(alloc))
 }
 
 fn rounds<'a>(alloc: Global) -> Arg<'a>
@@ -180,11 +175,11 @@ fn refute<'a>(alloc: Global) -> Result<Command<'a>, AllocError>
     ensures local { IfOk result (λ made. (fields_of made).has_globals ≡ false) }
 {
     of_plan(alloc, "refute", help::REFUTE)?
-    .arg(states(alloc))?
-    .arg(bundle(
-        alloc,
-        "Write the plan and the events of the witness, for `sizing replay`",
-    ))
+        .arg(states(alloc))?
+        .arg(bundle(
+            alloc,
+            "Write the plan and the events of the witness, for `sizing replay`",
+        ))
 }
 
 fn states<'a>(alloc: Global) -> Arg<'a>
@@ -201,10 +196,10 @@ fn ask<'a>(alloc: Global) -> Result<Command<'a>, AllocError>
     ensures local { IfOk result (λ made. (fields_of made).has_globals ≡ false) }
 {
     of_both(alloc, "ask", help::ASK)?
-    .arg(strict(alloc, "Exit with status 1 if there is a warning"))?
-    .arg(json(alloc))?
-    .arg(dot(alloc))?
-    .arg(certificate(alloc))
+        .arg(strict(alloc, "Exit with status 1 if there is a warning"))?
+        .arg(json(alloc))?
+        .arg(dot(alloc))?
+        .arg(certificate(alloc))
 }
 
 fn conform<'a>(alloc: Global) -> Result<Command<'a>, AllocError>
@@ -315,10 +310,7 @@ fn subcommand<'a>(alloc: Global, name: &'a str, help: Help) -> Command<'a>
     ensures shape { shape_of result ≡ (new_app name.entry.now).top }
     ensures local { (fields_of result).has_globals ≡ false }
 {
-    with_help(
-        Command::new(alloc, name).display_order(help.position),
-        help,
-    )
+    with_help(Command::new(alloc, name).display_order(help.position), help)
 }
 
 // Sets the texts of the help.

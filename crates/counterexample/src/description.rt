@@ -89,13 +89,17 @@ fn push_why(text: &mut String, ending: &Ending) -> Result<(), AllocError>
     match ending {
         Ending::Refused(_) => Ok(()),
         Ending::StuckForever(_, Reason::PoolsAreFull) => {
-            text.push_str("forever: each pool in whose queue one of them waits has all its threads\n")
+            text.push_str(
+                "forever: each pool in whose queue one of them waits has all its threads\n",
+            )
         }
         Ending::StuckForever(_, Reason::PoolsStayAtCore) => text.push_str(
             "forever: each pool in whose queue one of them waits has all its threads, or never starts one above core\n",
         ),
         Ending::StuckNow(_) => {
-            text.push_str("until a pool in whose queue one of them waits starts a thread above core\n")
+            text.push_str(
+                "until a pool in whose queue one of them waits starts a thread above core\n",
+            )
         }
     }
 }

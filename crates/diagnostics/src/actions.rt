@@ -101,9 +101,7 @@ fn work_error(alloc: Global, units: &str, count: usize) -> Result<String, AllocE
             "work needs a number: write work 5; the number has no effect on the answer",
         );
     }
-    format!(in alloc;
-        "work takes a whole number from 1 to {MAX_WORK}, not {units}"
-    )
+    format!(in alloc; "work takes a whole number from 1 to {MAX_WORK}, not {units}")
 }
 
 fn get_error(alloc: Global, slot: &str, count: usize) -> Result<String, AllocError> {

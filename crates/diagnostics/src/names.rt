@@ -24,9 +24,7 @@ pub(crate) fn name(
         if other.text("name") == Some(name) {
             let line = other.value_place("name").line;
             let list = list_of(entry.part);
-            let words = format!(in collector.alloc;
-                "line {line} has a {list} with this name"
-            )?;
+            let words = format!(in collector.alloc; "line {line} has a {list} with this name")?;
             return entry.report(collector, DOUBLE_NAME, place, &words);
         }
     }
@@ -37,7 +35,8 @@ pub(crate) fn name(
 /// there is one.
 pub(crate) fn name_rule(alloc: Global, name: &str) -> Result<String, AllocError> {
     let similar = well_formed_name(alloc, name)?;
-    let rule = "a name has 1 to 32 characters: a lower-case letter, then lower-case letters, digits or _";
+    let rule =
+        "a name has 1 to 32 characters: a lower-case letter, then lower-case letters, digits or _";
     if is_valid_name(&similar) {
         format!(in alloc; "{rule}, as {similar}")
     } else {

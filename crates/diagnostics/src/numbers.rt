@@ -47,9 +47,7 @@ pub(crate) fn sizes(
         return Ok(());
     };
     if max < core {
-        let words = format!(in collector.alloc;
-            "max {max} is less than core {core}"
-        )?;
+        let words = format!(in collector.alloc; "max {max} is less than core {core}")?;
         return pool.report(collector, BAD_NUMBER, pool.value_place("max"), &words);
     }
     Ok(())

@@ -13,7 +13,8 @@ pub(crate) fn rule_of(number: u8) -> &'static str {
         UNKNOWN_KEY => "unknown key",
         MISSING_KEY => "a key is missing",
         WRONG_TYPE => "a value has the wrong type",
-        BAD_NAME => "a name has 1 to 32 characters: a lower-case letter, then lower-case letters, digits or _",
+        BAD_NAME =>
+            "a name has 1 to 32 characters: a lower-case letter, then lower-case letters, digits or _",
         DOUBLE_NAME => "an earlier entry has this name",
         BAD_NUMBER => "a number is not from 1 to 1000000, or max is less than core",
         NO_SUCH_POOL => "unknown pool",

@@ -215,9 +215,7 @@ fn body(
     for (number, action) in actions.iter().enumerate() {
         if !action.is_str() {
             let found = action.type_str();
-            let words = format!(in collector.alloc;
-                "it is a {found}, but must be a string"
-            )?;
+            let words = format!(in collector.alloc; "it is a {found}, but must be a string")?;
             entry.report_action(collector, number, WRONG_TYPE, "..", &words)?;
         }
     }

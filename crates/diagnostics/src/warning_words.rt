@@ -63,7 +63,9 @@ fn words_of_queue(
     };
     let name = pool.name.as_str();
     let queue = pool.queue;
-    format!(in alloc; "pool {name}: queue {queue} is far more than needed: at most {most} jobs wait at once")
+    format!(in alloc;
+        "pool {name}: queue {queue} is far more than needed: at most {most} jobs wait at once"
+    )
 }
 
 fn words_of_class(alloc: Global, plan: &Plan, number: usize) -> Result<String, AllocError> {
@@ -71,7 +73,9 @@ fn words_of_class(alloc: Global, plan: &Plan, number: usize) -> Result<String, A
         return Ok(String::new(alloc));
     };
     let name = class.name.as_str();
-    format!(in alloc; "class {name} is never submitted, neither by a client nor by a job that a client causes")
+    format!(in alloc;
+        "class {name} is never submitted, neither by a client nor by a job that a client causes"
+    )
 }
 
 fn words_of_rounds(alloc: Global, plan: &Plan, number: usize) -> Result<String, AllocError> {

@@ -44,8 +44,7 @@ impl fmt::Display for LineRule {
                 "O5: a job has at most one `start` line; its own lines come after it, and the last of them is `end` or `threw`",
             LineRule::Refusals =>
                 "O6: `refused` follows the actor's `submit` of the job, with no other line of the actor between them, and comes before the job's `start`",
-            LineRule::Gets =>
-                "O7: `got` comes after an `end`, `threw` or `cancel` line of the job",
+            LineRule::Gets => "O7: `got` comes after an `end`, `threw` or `cancel` line of the job",
         })
     }
 }

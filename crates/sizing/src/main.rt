@@ -48,7 +48,12 @@ fn asks_for_version(fault: &CliError<'_>) -> bool {
 fn print_version(rt: &(impl Print + Eprint)) -> ExitCode {
     match println!(rt; "sizing {VERSION}") {
         Ok(()) => ExitCode::SUCCESS,
-        Err(_) => ended(rt, &CliError::Serve(ServeFault { number: WRITE_FAILED })),
+        Err(_) => ended(
+            rt,
+            &CliError::Serve(ServeFault {
+                number: WRITE_FAILED,
+            }),
+        ),
     }
 }
 

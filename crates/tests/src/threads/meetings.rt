@@ -48,7 +48,13 @@ fn all_work_at_once(rt: HostRuntime) -> Result<(), Fail> {
         for plan in [plan, prestarted] {
             let certified = with_certificate(rt.alloc(), &plan, cert);
             let gate = Rendezvous::new(&rt, held_actors, enough);
-            let run = run(&rt, rt.alloc(), &certified.expect(&rt, "it is accepted"), 1, &gate);
+            let run = run(
+                &rt,
+                rt.alloc(),
+                &certified.expect(&rt, "it is accepted"),
+                1,
+                &gate,
+            );
             let run = run.map(|report| (report.jobs, report.units));
             assert_eq!(rt; run, Ok(numbers), "{plan}");
         }
