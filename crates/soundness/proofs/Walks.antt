@@ -44,14 +44,14 @@ below-le_next t i w other = elim (cases_lt t i) [
   | inr past ↦ omega (arith, ap (λ b. cond b w 0) (le-ltb t (i + 1) (omega arith)))
 ]
 
--- an action that is not a get of the submit at i returns no more if that submit counts as earlier
+-- an action that is not a get of the submit at i returns at most the same if that submit counts as earlier
 returned_by-le : (get_return : GetReturn) (plan : Plan) (v : Vector) (body : List Action) (i : ℕ) (next : Option Action) → next ≢ Some (action.Get i) → returned_by get_return plan v body (i + 1) next ≤ returned_by get_return plan v body i next
 returned_by-le get_return plan v body i None other = omega arith
 returned_by-le get_return plan v body i (Some (action.Work u)) other = omega arith
 returned_by-le get_return plan v body i (Some (action.Submit k)) other = omega arith
 returned_by-le get_return plan v body i (Some (action.Get t)) other = below-le_next t i (returned_weight get_return plan v (submitted_class body t)) (λ same. other (ap (λ (u : ℕ). Some (action.Get u)) same))
 
--- the actions from position h on return no more if the submit at i counts as earlier, provided that none of them gets it
+-- the actions from position h on return at most the same if the submit at i counts as earlier and none of them gets it
 returned-le : (get_return : GetReturn) (plan : Plan) (v : Vector) (body : List Action) (i h n : ℕ) → ((u : ℕ) → h ≤ u → slice_get body u ≢ Some (action.Get i)) → returned get_return plan v body (i + 1) h n ≤ returned get_return plan v body i h n
 returned-le get_return plan v body i h zero ungot = omega arith
 returned-le get_return plan v body i h (suc n) ungot =
@@ -87,7 +87,7 @@ no_submit plan body i next valid is_next fails u gets =
 
 -- ---- a walk along a body
 
--- each class that the body submits weighs no more done than queued
+-- the done weight of each class that the body submits is at most its queued weight
 abbrev pub SubmitsCoverDone : Plan → Vector → List Action → Type 0
 SubmitsCoverDone plan v body = (i k : ℕ) → slice_get body i ≡ Some (action.Submit k) → done_weight plan v k ≤ queued_weight v k
 
@@ -139,7 +139,7 @@ none_returned : (get_return : GetReturn) (plan : Plan) (v : Vector) (body : List
 none_returned get_return plan v body h zero = refl
 none_returned get_return plan v body h (suc n) = omega (arith, none_before get_return plan v body (slice_get body h), none_returned get_return plan v body (h + 1) n)
 
--- each class below this level weighs no more done than queued
+-- the done weight of each class below this level is at most its queued weight
 done_below : (get_return : GetReturn) (plan : Plan) (v : Vector) (ranks : Ranks) (n k : ℕ) → HasValidBodies plan → RankLaws plan ranks → VectorLaws get_return plan v → level ranks k < n → k < length plan.classes → done_weight plan v k ≤ queued_weight v k
 done_below get_return plan v ranks zero k ordered ranked laws low inside = absurd (omega arith)
 done_below get_return plan v ranks (suc n) k ordered ranked laws low inside =
@@ -155,7 +155,7 @@ done_below get_return plan v ranks (suc n) k ordered ranked laws low inside =
 pub done-le-queued : (get_return : GetReturn) (plan : Plan) (v : Vector) (ranks : Ranks) (k : ℕ) → HasValidBodies plan → RankLaws plan ranks → VectorLaws get_return plan v → k < length plan.classes → done_weight plan v k ≤ queued_weight v k
 done-le-queued get_return plan v ranks k ordered ranked laws inside = done_below get_return plan v ranks (level ranks k + 1) k ordered ranked laws (omega arith) inside
 
--- each class that a body submits weighs no more done than queued
+-- the submits of each body cover the done weights of their classes
 pub submits_cover_done : (get_return : GetReturn) (plan : Plan) (v : Vector) (ranks : Ranks) (k : ℕ) → HasValidBodies plan → RankLaws plan ranks → VectorLaws get_return plan v → SubmitsCoverDone plan v (class_at plan k).body
 submits_cover_done get_return plan v ranks k ordered ranked laws i k' is_there = done-le-queued get_return plan v ranks k' ordered ranked laws ((ordered.classes k).submit i k' is_there)
 

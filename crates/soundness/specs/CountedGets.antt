@@ -1,4 +1,5 @@
--- The jobs of a pool that are at a counted get or before one, and what that means for sets of jobs that wait for each other.
+-- The number of jobs of a pool that are at a counted get or before one, and the theorem that no set of unfinished jobs waits only
+-- for its own members.
 use Rattle.std.specs.Prelude.{◌<◌, ◌==◌, ◌+◌, ◌-◌, ◌&&◌, ◌||◌, ℕ, zero, suc, Bool, false, List, length, count_by}
 use Rattle.job_bodies.specs.Plan.{Plan, pool_at, class_at}
 use Rattle.job_bodies.specs.WellFormed.{IsWellFormed}
@@ -11,12 +12,12 @@ use Rattle.written_machine.specs.State.Stage.{At}
 use Rattle.written_machine.specs.Reach.{IsReached}
 use Rattle.written_machine.specs.LooseWaiting.{IsLooseWaitingSet}
 
--- the test passes at one of the n positions from i on
+-- the test passes for at least one of the n positions that start at i
 abbrev pub passes_from : (ℕ → Bool) → ℕ → ℕ → Bool
 passes_from test i zero = false
 passes_from test i (suc n) = test i || passes_from test (i + 1) n
 
--- a job of class k at this stage is at a counted get or before one
+-- a job of class k at this stage is running, and its current action or a later one is a counted get
 abbrev pub may_block_at : Plan → Ranks → ℕ → Stage → Bool
 may_block_at plan ranks k (At i) = passes_from (is_counted plan ranks k) i (length (class_at plan k).body - i)
 may_block_at plan ranks k _ = false
@@ -29,14 +30,14 @@ may_block_in plan ranks p job = may_block_at plan ranks job.class job.stage && p
 abbrev pub may_block : Plan → Ranks → State → ℕ → ℕ
 may_block plan ranks s p = count_by (may_block_in plan ranks p) s.jobs
 
--- if the rows of the ranks and of a pool's blocked vector hold, fewer of its jobs than core are at a counted get or before one,
--- in every reachable state
+-- if the rows of the ranks and of a pool's blocked vector hold, then in every reachable state fewer jobs of this pool than its
+-- core size are at a counted get or before one
 abbrev pub FewerThanCoreMayBlock : Type 0
 FewerThanCoreMayBlock = (plan : Plan) (ranks : Ranks) (p : ℕ) (v : Vector) (s : State) → IsWellFormed plan → p < length plan.pools → AllHold (rank_rows plan ranks) → AllHold (blocked_rows plan p (is_counted plan ranks) v) → IsReached plan s
     → may_block plan ranks s p < (pool_at plan p).core
 
--- if the rows of the ranks and of a blocked vector for each pool hold, no set of unfinished jobs waits only for its own members,
--- now or at later gets, in every reachable state
+-- if the rows of the ranks and of a blocked vector for each pool hold, then in no reachable state does a set of unfinished jobs
+-- wait only for its own members, now or at later gets
 abbrev pub NoLooseWaitingSets : Type 0
 NoLooseWaitingSets = (plan : Plan) (ranks : Ranks) (vectors : ℕ → Vector) (s : State) → IsWellFormed plan → AllHold (rank_rows plan ranks) → ((p : ℕ) → p < length plan.pools → AllHold (blocked_rows plan p (is_counted plan ranks) (vectors p))) → IsReached plan s
     → (members : List ℕ) → ¬ IsLooseWaitingSet plan s members

@@ -5,11 +5,13 @@ use Rattle.written_machine.specs.declared.parent.Parent.{Parent}
 use Rattle.written_machine.specs.State.{Stage, CreatedJob, State, job_at, is_made_by, child}
 use Rattle.written_machine.specs.State.Stage.{Claimed}
 
--- the job after the exchange: a job that the actor created at one of the two positions counts as created at the other
+-- the job after an exchange of positions t and u of actor a: if a created the job at one of these positions, its position becomes
+-- the other one
 abbrev pub exchanged_job : Parent → ℕ → ℕ → CreatedJob → CreatedJob
 exchanged_job a t u job = record job { slot = if is_made_by a t job then u else (if is_made_by a u job then t else job.slot) }
 
--- the state after the exchange: only the positions at which these jobs were submitted change
+-- the state after an exchange of positions t and u of actor a; only the recorded positions of the jobs that a submitted there
+-- change
 abbrev pub after_exchange : Parent → ℕ → ℕ → State → State
 after_exchange a t u s = record s { jobs = map (exchanged_job a t u) s.jobs }
 
@@ -17,21 +19,22 @@ abbrev pub is_claimed : Stage → Bool
 is_claimed Claimed = true
 is_claimed _ = false
 
--- the two jobs have the same class, and neither of them was got
+-- the two jobs have the same class, and neither of them was got: they are alike
 abbrev pub are_alike : CreatedJob → CreatedJob → Bool
 are_alike job other = job.class == other.class && (not (is_claimed job.stage) && not (is_claimed other.stage))
 
--- both jobs exist and are alike
+-- both numbers are present, and the jobs with these numbers are alike
 abbrev pub both_alike : State → Option ℕ → Option ℕ → Bool
 both_alike s (Some i) (Some j) = are_alike (job_at s i) (job_at s j)
 both_alike s _ _ = false
 
--- the actor's latest jobs of the two positions exist and are alike
+-- the actor submitted a job at each of the two positions, and its latest jobs there are alike
 abbrev pub can_exchange : State → Parent → ℕ → ℕ → Bool
 can_exchange s a t u = both_alike s (child s a t) (child s a u)
 
--- in the second state the gets of the actor at the two positions find each other's job, and every other get finds the job that
--- it found before; each job keeps its class, its creator and its stage
+-- the effect of an exchange of positions t and u of actor a, from state s to state s'. In s', a get of a's submit at one of the
+-- two positions finds the job that a get of the other submit finds in s. Every other get finds the same job in both states. Each
+-- job has the same class, creator and stage in both states.
 pub record AreExchanged (s : State) (a : Parent) (t u : ℕ) (s' : State) : Type 0 where
   pub first : child s' a t ≡ child s a u
   pub second : child s' a u ≡ child s a t
@@ -41,6 +44,7 @@ pub record AreExchanged (s : State) (a : Parent) (t u : ℕ) (s' : State) : Type
   pub creators : (j : ℕ) → (job_at s' j).parent ≡ (job_at s j).parent
   pub stages : (j : ℕ) → (job_at s' j).stage ≡ (job_at s j).stage
 
--- an exchange makes two gets find each other's job, and changes nothing else that a get or a pool sees
+-- the law that an exchange makes the gets of the two submits find each other's job, and changes nothing else that a get or a pool
+-- depends on
 abbrev pub ExchangesSwapTwoGets : Type 0
 ExchangesSwapTwoGets = (s : State) (a : Parent) (t u : ℕ) → AreExchanged s a t u (after_exchange a t u s)

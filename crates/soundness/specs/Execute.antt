@@ -1,6 +1,6 @@
--- A submit in the steps of Java's execute. Each step reads or changes the pool at one moment, and other events can occur
--- between two steps. The steps are the check below core, the offer to the queue, and, if that fails, the request for a
--- thread.
+-- A submit as the separate steps of Java's `execute`. Each step reads or changes the pool at one moment, and other events can
+-- occur between two steps. The first step starts a thread if the pool has fewer than core threads. Otherwise the second step
+-- offers the job to the queue. If the queue is full, the third step requests a thread.
 use Rattle.std.specs.Prelude.{ℕ, ◌==◌, ◌&&◌, not, nat_lt, Bool, List, [], ◌∷◌, length, filter, Option, Some, None, slice_get, if◌then◌else◌}
 use Rattle.std.specs.List.{list_any}
 use Rattle.job_bodies.specs.declared.action.Action.{Action}
@@ -16,29 +16,29 @@ use Rattle.written_machine.specs.declared.event.Outcome.{Outcome}
 use Rattle.written_machine.specs.State.{State, same_parent, pool_of, pool_part, threads}
 use Rattle.written_machine.specs.Step.{Point, point, answered, step}
 
--- a call of execute in progress: its actor, and the pool
+-- a call of `execute` in progress: the actor that submits, and the pool to which it submits
 pub record Call : Type 0 where
   pub actor : Parent
   pub pool : ℕ
 
--- the machine; the calls that found core threads and offer their job to the queue next; and the calls whose offer failed and
--- that request a thread next
+-- a state of the machine with the calls in progress: `offering` are the calls that found at least core threads and whose next
+-- step offers the job to the queue; `requesting` are the calls that found the queue full and whose next step requests a thread
 pub record JavaState : Type 0 where
   pub machine : State
   pub offering : List Call
   pub requesting : List Call
 
--- one of these calls is the actor's call to this pool
+-- the list contains a call of actor a to pool p
 abbrev pub is_calling : List Call → Parent → ℕ → Bool
 is_calling calls a p = list_any (λ call. same_parent a call.actor && p == call.pool) calls
 
--- the calls of other actors
+-- the list without the calls of actor a
 abbrev pub without_calls_of : Parent → List Call → List Call
 without_calls_of a calls = filter (λ call. not (same_parent a call.actor)) calls
 
 -- ---- the steps of a submit of a job of class k by an actor at position i
 
--- the call ends with this answer of the pool
+-- the state after a call ends with this answer of the pool
 abbrev pub answers : Plan → JavaState → Parent → ℕ → ℕ → Offer → JavaState
 answers plan s a i k answer = record {
   machine = (answered plan s.machine a i k answer).0;
@@ -46,24 +46,26 @@ answers plan s a i k answer = record {
   requesting = without_calls_of a s.requesting;
 }
 
--- the check: if there are fewer than core threads, a new thread runs the job
+-- the state after the first step: if the pool has fewer than core threads, a new thread runs the job, and otherwise the call
+-- offers the job next
 abbrev pub checks_core : Plan → JavaState → Parent → ℕ → ℕ → JavaState
 checks_core plan s a i k =
     if nat_lt (threads plan s.machine (pool_of plan k)) (pool_at plan (pool_of plan k)).core then answers plan s a i k Started
     else record s { offering = record { actor = a; pool = pool_of plan k } ∷ s.offering }
 
--- the offer: if the queue has room, the job is queued
+-- the state after the second step: if the queue has room, the job is queued, and otherwise the call requests a thread next
 abbrev pub offers_job : Plan → JavaState → Parent → ℕ → ℕ → JavaState
 offers_job plan s a i k =
     if nat_lt (length (pool_part s.machine (pool_of plan k)).queue) (pool_at plan (pool_of plan k)).queue then answers plan s a i k Queued
     else record s { offering = without_calls_of a s.offering; requesting = record { actor = a; pool = pool_of plan k } ∷ s.requesting }
 
--- the request: if there are fewer than max threads, a new thread runs the job, and otherwise the job is rejected; in both
--- cases the queue may have room again
+-- the state after the third step: if the pool has fewer than max threads, a new thread runs the job, and otherwise the job is
+-- refused; this step does not check the queue, which may have room again
 abbrev pub requests_thread : Plan → JavaState → Parent → ℕ → ℕ → JavaState
 requests_thread plan s a i k = answers plan s a i k (if nat_lt (threads plan s.machine (pool_of plan k)) (pool_at plan (pool_of plan k)).max then Started else Refused)
 
--- the next of these steps
+-- the state after the next step of the submit: the third step if the actor's call is requesting, the second if it is offering,
+-- and otherwise the first
 abbrev pub executes : Plan → JavaState → Parent → ℕ → ℕ → JavaState
 executes plan s a i k =
     if is_calling s.requesting a (pool_of plan k) then requests_thread plan s a i k
@@ -72,7 +74,7 @@ executes plan s a i k =
 
 -- ---- events
 
--- a submit: its actor, its position, and the class of the job
+-- a submit in a body: the actor, the position of the submit, and the class of the submitted job
 pub record Submission : Type 0 where
   pub actor : Parent
   pub position : ℕ
@@ -86,7 +88,7 @@ abbrev pub submission_of : Parent → Option Point → Option Submission
 submission_of a None = None
 submission_of a (Some at) = submission_at a at.position (slice_get at.body at.position)
 
--- the submit at which the event's actor is, if it is at one
+-- the submit at which the event's actor is, or None if the actor is at no submit or the event is a pool's
 abbrev pub submission : Plan → State → Event → Option Submission
 submission plan s (Client c) = submission_of (parent.Client c) (point plan s (parent.Client c))
 submission plan s (Job j) = submission_of (parent.Job j) (point plan s (parent.Job j))
@@ -100,17 +102,17 @@ abbrev pub java_stepped : Plan → JavaState → Event → Option Submission →
 java_stepped plan s e None = as_atomic s (step plan s.machine e)
 java_stepped plan s e (Some x) = Some (executes plan s x.actor x.position x.class)
 
--- the state after the event, or None if it is not possible; the event of an actor at a submit is the next step of that
--- submit, and every other event is that of the machine
+-- the state after the event, or None if the event is not possible; if the event's actor is at a submit, the event is the next
+-- step of that submit, and otherwise it is the event of the machine
 abbrev pub java_step : Plan → JavaState → Event → Option JavaState
 java_step plan s e = java_stepped plan s e (submission plan s.machine e)
 
--- the state after the events, or None if one of them is not possible
+-- the state after all events in order, or None if one of them is not possible
 abbrev pub java_replay : Plan → Option JavaState → List Event → Option JavaState
 java_replay plan s [] = s
 java_replay plan None (e ∷ events) = None
 java_replay plan (Some s) (e ∷ events) = java_replay plan (java_step plan s e) events
 
--- no call is in progress
+-- the state of the machine with no call in progress
 abbrev pub without_calls : State → JavaState
 without_calls s = record { machine = s; offering = []; requesting = [] }

@@ -19,9 +19,10 @@ use Rattle.weights.specs.Bound.{bound_vector, bound_rows}
 use Rattle.cert_text.specs.Cert.{Cert}
 use Rattle.soundness.specs.Accepted.{accepted}
 
--- The guarantees of an accepted certificate for its plan: every state that any list of events reaches is safe, and makes
--- progress while a job is unfinished; and work that has begun ends. All of this holds for atomic submits, for submits in the
--- steps of Java's execute, and for the latter also if actors skip submits together with their gets and exchange alike jobs.
+-- The guarantees of an accepted certificate for its plan: every reachable state is safe; in every reachable state with an
+-- unfinished job an event of a job or a take is possible; and if no client acts, all jobs finish. These three hold if each submit
+-- is one event (the first three fields), if each submit is the steps of Java's `execute` (the `java` fields), and if, in addition
+-- to these steps, actors skip submits together with their gets and exchange alike jobs (the `skipping` fields).
 pub record Promises (plan : Plan) (cert : Cert) : Type 0 where
   pub safe : Safe plan
   pub makes_progress : MakesProgress plan
@@ -33,58 +34,65 @@ pub record Promises (plan : Plan) (cert : Cert) : Type 0 where
   pub skipping_makes_progress : SkippingMakesProgress plan
   pub skipping_drains : SkippingDrains plan cert.ranks
 
--- accepted plans are safe
+-- if a certificate accepts a well-formed plan, every reachable state is safe
 abbrev pub AcceptedPlansAreSafe : Type 0
 AcceptedPlansAreSafe = (plan : Plan) (cert : Cert) → IsWellFormed plan → IsTrue (accepted plan cert) → Safe plan
 
--- they make progress while a job is unfinished
+-- if a certificate accepts a well-formed plan, an event of a job or a take is possible in every reachable state with an
+-- unfinished job
 abbrev pub AcceptedPlansMakeProgress : Type 0
 AcceptedPlansMakeProgress = (plan : Plan) (cert : Cert) → IsWellFormed plan → IsTrue (accepted plan cert) → MakesProgress plan
 
--- they drain
+-- if a certificate accepts a well-formed plan, the plan drains: if no client acts, all jobs finish after a bounded number of
+-- events
 abbrev pub AcceptedPlansDrain : Type 0
 AcceptedPlansDrain = (plan : Plan) (cert : Cert) → IsWellFormed plan → IsTrue (accepted plan cert) → Drains plan cert.ranks
 
--- no submit was rejected, and each pool is within its limits of threads and queued jobs
+-- in the state, no submit was refused, no pool has more threads than its maximum, and no queue is longer than its capacity
 pub record KeepsSizes (plan : Plan) (s : State) : Type 0 where
   pub none_refused : s.refusals ≡ 0
   pub within_max : (p : ℕ) → p < length plan.pools → threads plan s p ≤ (pool_at plan p).max
   pub within_queue : (p : ℕ) → p < length plan.pools → length (pool_part s p).queue ≤ (pool_at plan p).queue
 
--- no reachable state of the plan has a rejected submit, and each pool is within its limits
+-- in every reachable state of the plan no submit was refused, and each pool is within its maximum and its queue's capacity
 abbrev pub RefusesNothing : Plan → Type 0
 RefusesNothing plan = (events : List Event) (s : State) → Reaches plan events s → KeepsSizes plan s
 
--- a plan whose pools all have a bound that holds rejects nothing, whatever its jobs wait for
+-- if each pool of a well-formed plan has a standing or a lifetime vector whose rows hold, no submit is refused in any reachable
+-- state, whatever the jobs wait for
 abbrev pub BoundedPlansRefuseNothing : Type 0
 BoundedPlansRefuseNothing = (plan : Plan) (bounds : ℕ → Bound) → IsWellFormed plan
     → ((p : ℕ) → p < length plan.pools → IsTrue (vector_fits plan (bound_vector (bounds p))) × AllHold (bound_rows plan p (bounds p))) → RefusesNothing plan
 
 -- ---- submits in the steps of Java's execute
 
--- accepted plans are safe
+-- if a certificate accepts a well-formed plan, every state that is reachable in Java's steps is safe
 abbrev pub AcceptedPlansAreJavaSafe : Type 0
 AcceptedPlansAreJavaSafe = (plan : Plan) (cert : Cert) → IsWellFormed plan → IsTrue (accepted plan cert) → JavaSafe plan
 
--- they make progress while a job is unfinished
+-- if a certificate accepts a well-formed plan, an event of a job or a take is possible in every state with an unfinished job that
+-- is reachable in Java's steps
 abbrev pub AcceptedPlansMakeJavaProgress : Type 0
 AcceptedPlansMakeJavaProgress = (plan : Plan) (cert : Cert) → IsWellFormed plan → IsTrue (accepted plan cert) → JavaMakesProgress plan
 
--- they drain
+-- if a certificate accepts a well-formed plan, the plan drains in Java's steps: if no client acts, all jobs finish after a
+-- bounded number of events
 abbrev pub AcceptedPlansJavaDrain : Type 0
 AcceptedPlansJavaDrain = (plan : Plan) (cert : Cert) → IsWellFormed plan → IsTrue (accepted plan cert) → JavaDrains plan cert.ranks
 
--- in every state that any list of events reaches, no submit was rejected, and each pool is within its limits
+-- in every state that is reachable in Java's steps no submit was refused, and each pool is within its maximum and its queue's
+-- capacity
 abbrev pub JavaRefusesNothing : Plan → Type 0
 JavaRefusesNothing plan = (events : List Event) (s : JavaState) → JavaReaches plan events s → KeepsSizes plan s.machine
 
--- a plan whose pools all have a bound that holds rejects nothing
+-- if each pool of a well-formed plan has a standing or a lifetime vector whose rows hold, no submit is refused in any state that
+-- is reachable in Java's steps
 abbrev pub BoundedPlansJavaRefuseNothing : Type 0
 BoundedPlansJavaRefuseNothing = (plan : Plan) (bounds : ℕ → Bound) → IsWellFormed plan
     → ((p : ℕ) → p < length plan.pools → IsTrue (vector_fits plan (bound_vector (bounds p))) × AllHold (bound_rows plan p (bounds p))) → JavaRefusesNothing plan
 
--- if the bound of a pool is a standing vector, no call ever finds its queue full, so no call requests a thread above core
--- from it
+-- if each pool of a well-formed plan has a vector whose rows hold, and the vector of pool p is a standing one, no call ever finds
+-- the queue of p full, so no call requests a thread above core from p
 abbrev pub StandingPoolsAreNotAsked : Type 0
 StandingPoolsAreNotAsked = (plan : Plan) (bounds : ℕ → Bound) (p : ℕ) (v : Vector) (events : List Event) (s : JavaState) (a : Parent) → IsWellFormed plan
     → ((q : ℕ) → q < length plan.pools → IsTrue (vector_fits plan (bound_vector (bounds q))) × AllHold (bound_rows plan q (bounds q)))
@@ -92,14 +100,16 @@ StandingPoolsAreNotAsked = (plan : Plan) (bounds : ℕ → Bound) (p : ℕ) (v :
 
 -- ---- actors that skip submits together with their gets and exchange alike jobs
 
--- accepted plans are safe
+-- if a certificate accepts a well-formed plan, every state that choices reach is safe
 abbrev pub AcceptedPlansMaySkip : Type 0
 AcceptedPlansMaySkip = (plan : Plan) (cert : Cert) → IsWellFormed plan → IsTrue (accepted plan cert) → SkippingIsSafe plan
 
--- they make progress while a job is unfinished
+-- if a certificate accepts a well-formed plan, an event of a job or a take is possible in every state with an unfinished job that
+-- choices reach
 abbrev pub AcceptedPlansMakeProgressWithSkips : Type 0
 AcceptedPlansMakeProgressWithSkips = (plan : Plan) (cert : Cert) → IsWellFormed plan → IsTrue (accepted plan cert) → SkippingMakesProgress plan
 
--- they drain
+-- if a certificate accepts a well-formed plan, the plan drains after choices: if no client acts, all jobs finish after a bounded
+-- number of events and skips
 abbrev pub AcceptedPlansDrainWithSkips : Type 0
 AcceptedPlansDrainWithSkips = (plan : Plan) (cert : Cert) → IsWellFormed plan → IsTrue (accepted plan cert) → SkippingDrains plan cert.ranks

@@ -1,5 +1,6 @@
--- Actors that skip submits of their bodies together with their gets, like an `if` around both, and that get jobs of one class
--- in another order than their bodies. An actor decides each time anew which submits to skip, and in which order to get.
+-- Actors that skip submits of their bodies together with the gets of these submits, as with an `if` around both, and that get
+-- jobs of one class in another order than their bodies. An actor decides anew each time which submits to skip and in which order
+-- to get its jobs.
 use Rattle.std.specs.Prelude.{◌≡◌, ◌≤◌, ◌<◌, ◌+◌, ◌*◌, ◌||◌, if◌then◌else◌, ℕ, Bool, true, false, IsTrue, IsFalse, List, [], ◌∷◌, length, Option, Some, None, slice_get, count_by}
 use Rattle.std.specs.List.{list_all}
 use Rattle.job_bodies.specs.declared.action.Action.{Action}
@@ -24,37 +25,38 @@ use Rattle.soundness.specs.Execute.{JavaState, Submission, is_calling, submissio
 use Rattle.soundness.specs.JavaSafe.{JavaCanProgress, IsJavaQuiescent}
 use Rattle.soundness.specs.Exchange.{after_exchange, can_exchange}
 
--- an event; or in its place the actor skips the submit at which it is; or the jobs that an actor submitted at two positions are
--- exchanged
+-- a choice of an actor: `Acts` is an event; `Skips` skips the submit at which the actor of this event is; `Exchanges` exchanges
+-- the jobs that this actor submitted at two positions
 pub data Choice : Type 0 where
   Acts : Event → Choice
   Skips : Event → Choice
   Exchanges : Parent → ℕ → ℕ → Choice
 
--- the actor is after the submit, no pool changes, and a get of the submit finds a done job
+-- the state after an actor skips a submit: the actor is after the submit, a get of the submit finds a new job that is done, and
+-- the pools are unchanged
 abbrev pub after_skip : State → Submission → State
 after_skip s x = with_job (new_job x.class x.actor x.position Stage.Done) (with_position x.actor (x.position + 1) s)
 
--- the submit has begun
+-- a call of the actor to the submit's pool is in progress, so the submit has begun
 abbrev pub has_begun : Plan → JavaState → Submission → Bool
 has_begun plan s x = is_calling s.offering x.actor (pool_of plan x.class) || is_calling s.requesting x.actor (pool_of plan x.class)
 
--- only a submit that has not begun can be skipped
+-- the state after a skip of the submit, or None if there is no submit or it has begun
 abbrev pub skip_submit : Plan → JavaState → Option Submission → Option JavaState
 skip_submit plan s None = None
 skip_submit plan s (Some x) = if has_begun plan s x then None else Some (record s { machine = after_skip s.machine x })
 
--- only alike jobs can be exchanged
+-- the state after an exchange of the actor's jobs at positions t and u, or None if these jobs are not alike
 abbrev pub exchange_jobs : JavaState → Parent → ℕ → ℕ → Option JavaState
 exchange_jobs s a t u = if can_exchange s.machine a t u then Some (record s { machine = after_exchange a t u s.machine }) else None
 
--- the state after the choice, or None if it is not possible
+-- the state after the choice, or None if the choice is not possible
 abbrev pub choice_step : Plan → JavaState → Choice → Option JavaState
 choice_step plan s (Acts e) = java_step plan s e
 choice_step plan s (Skips e) = skip_submit plan s (submission plan s.machine e)
 choice_step plan s (Exchanges a t u) = exchange_jobs s a t u
 
--- the state after all choices, or None if one is not possible
+-- the state after all choices in order, or None if one of them is not possible
 abbrev pub choices_replay : Plan → Option JavaState → List Choice → Option JavaState
 choices_replay plan s [] = s
 choices_replay plan None (x ∷ xs) = None
@@ -67,51 +69,52 @@ ChoicesReach plan choices s = choices_replay plan (Some (without_calls (start pl
 abbrev pub SkippingIsSafe : Plan → Type 0
 SkippingIsSafe plan = (choices : List Choice) (s : JavaState) → ChoicesReach plan choices s → IsSafe plan s.machine
 
--- in every such state, if a job is unfinished, an event of a job or a take is possible without a skip or an exchange
+-- in every state with an unfinished job that choices reach, an event of a job or a take is possible without a skip or an exchange
 abbrev pub SkippingMakesProgress : Plan → Type 0
 SkippingMakesProgress plan = (choices : List Choice) (s : JavaState) → ChoicesReach plan choices s → (j : ℕ) → IsTrue (is_unfinished (job_at s.machine j).stage) → JavaCanProgress plan s
 
 -- ---- draining
 
--- a job's event, a take, or a job that skips a submit; exchanges are not counted
+-- the choice is a job event, a take, or a skip by a job; an exchange is not counted
 abbrev pub is_of_jobs : Choice → Bool
 is_of_jobs (Acts e) = is_of_job_or_pool e
 is_of_jobs (Skips e) = is_of_job_or_pool e
 is_of_jobs (Exchanges a t u) = false
 
--- no client acts, and none skips a submit; an exchange of a client's jobs is not an action of the client
+-- the choice is neither an event of a client nor a skip by a client; an exchange of a client's jobs does not count as an action
+-- of the client
 abbrev pub no_client_acts : Choice → Bool
 no_client_acts (Acts e) = is_of_no_client e
 no_client_acts (Skips e) = is_of_no_client e
 no_client_acts (Exchanges a t u) = true
 
--- the choices lead from the reached state s to s', and none of them is of a client
+-- the choices lead from the state s, which the choices `before` reach, to the state s', and no client acts in them
 pub record ChoicesLeadTo (plan : Plan) (s : JavaState) (choices : List Choice) (s' : JavaState) : Type 0 where
   pub before : List Choice
   pub reached : ChoicesReach plan before s
   pub of_no_client : IsTrue (list_all no_client_acts choices)
   pub replayed : choices_replay plan (Some s) choices ≡ Some s'
 
--- If no client acts, the number of counted choices that follow is at most three times the remaining work of the first state,
--- and when no job event and no take is possible, no job is unfinished. In between, threads above core may end and jobs may be
--- exchanged.
+-- If no client acts after a state that choices reach, the number of job events, takes and skips by jobs that follow is at most
+-- three times the remaining work of that state. When no job event and no take is possible any longer, no job is unfinished. In
+-- between, threads above core may end and jobs may be exchanged.
 pub record SkippingDrains (plan : Plan) (ranks : Ranks) : Type 0 where
   pub bounded : (s s' : JavaState) (choices : List Choice) → ChoicesLeadTo plan s choices s' → count_by is_of_jobs choices ≤ 3 * todo plan ranks s.machine
   pub drained : (s s' : JavaState) (choices : List Choice) → ChoicesLeadTo plan s choices s' → IsJavaQuiescent plan s' → (j : ℕ) → IsFalse (is_unfinished (job_at s'.machine j).stage)
 
 -- ---- laws
 
--- if the rows of a vector and of the ranks hold, the weight of a done job is at most that of a queued job
+-- if the rows of a vector and of the ranks hold, a done job of a class weighs at most as much as a queued job of that class
 abbrev pub DoneWithinQueued : Type 0
 DoneWithinQueued = (get_return : GetReturn) (plan : Plan) (v : Vector) (ranks : Ranks) (k : ℕ) → IsWellFormed plan → AllHold (rank_rows plan ranks) → AllHold (rows get_return plan v) → k < length plan.classes → done_weight plan v k ≤ queued_weight v k
 
--- the event in which the actor acts
+-- the event in which this actor acts
 abbrev pub event_of_actor : Parent → Event
 event_of_actor (parent.Client c) = event.Client c
 event_of_actor (parent.Job j) = event.Job j
 
--- at a get of the submit at position t, an actor can get its job of position u if the jobs of the two positions are alike and
--- that one is done
+-- an actor at a get of its submit at position t can get its job of position u instead, if that job is done and the actor's jobs
+-- of the two positions are alike: the actor exchanges the two jobs and then performs the get
 abbrev pub AlikeJobsAreGotInAnyOrder : Type 0
 AlikeJobsAreGotInAnyOrder = (plan : Plan) (s : JavaState) (a : Parent) (body : List Action) (i t u j : ℕ) → point plan s.machine a ≡ Some (record { body = body; position = i }) → slice_get body i ≡ Some (Get t)
     → IsTrue (can_exchange s.machine a t u) → child s.machine a u ≡ Some j → (job_at s.machine j).stage ≡ Stage.Done

@@ -1,4 +1,4 @@
--- The guarantees of the rows of a vector for every reachable state.
+-- The guarantees of a vector for every reachable state if the vector's rows hold.
 use Rattle.std.specs.Prelude.{◌≡◌, ◌≢◌, ◌≤◌, ℕ, IsTrue, Some}
 use Rattle.job_bodies.specs.Plan.{Plan}
 use Rattle.job_bodies.specs.WellFormed.{IsWellFormed}
@@ -18,20 +18,21 @@ use Rattle.weights.specs.Lifetime.{lifetime_rows}
 use Rattle.weights.specs.Bound.{bound_vector, bound_rows}
 use Rattle.soundness.specs.WeightedSum.{sum_of}
 
--- no event increases the weight of a reachable state
+-- if the rows of a vector hold, no event increases the weight of a reachable state
 abbrev pub SumNeverRises : Type 0
 SumNeverRises = (get_return : GetReturn) (plan : Plan) (v : Vector) (s s' : State) (event : Event) (outcome : Outcome) → IsWellFormed plan → AllHold (rows get_return plan v) → IsReached plan s → step plan s event ≡ Some (s', outcome)
     → sum_of get_return plan v s' ≤ sum_of get_return plan v s
 
--- the weight of a reachable state is at most the total
+-- if the rows of a vector hold, the weight of every reachable state is at most the vector's total
 abbrev pub SumStaysWithinTotal : Type 0
 SumStaysWithinTotal = (get_return : GetReturn) (plan : Plan) (v : Vector) (s : State) → IsWellFormed plan → AllHold (rows get_return plan v) → IsReached plan s → sum_of get_return plan v s ≤ total plan v
 
--- a pool whose bound holds rejects no job, whatever the other pools do
+-- a pool that has a standing or a lifetime vector whose rows hold refuses no job in any reachable state, whatever the other pools
+-- do
 abbrev pub BoundsRefuseNothing : Type 0
 BoundsRefuseNothing = (plan : Plan) (p : ℕ) (bound : Bound) (s s' : State) (event : Event) → IsWellFormed plan → IsTrue (vector_fits plan (bound_vector bound)) → AllHold (bound_rows plan p bound) → IsReached plan s
     → step plan s event ≢ Some (s', Refused p)
 
--- if the rows of a pool's lifetime vector hold, the number of jobs ever submitted to the pool is at most the total
+-- if the rows of a pool's lifetime vector hold, the number of jobs ever submitted to the pool is at most the vector's total
 abbrev pub JobsStayWithinTotal : Type 0
 JobsStayWithinTotal = (plan : Plan) (p : ℕ) (v : Vector) (s : State) → IsWellFormed plan → IsTrue (vector_fits plan v) → AllHold (lifetime_rows plan p v) → IsReached plan s → jobs_made plan s p ≤ total plan v

@@ -1,5 +1,5 @@
--- Behavior of Java's steps that atomic submits never show: a call that found the queue full requests a thread, without
--- another check of the queue and the threads.
+-- Behavior of Java's steps that atomic submits never show. A call that found the queue full requests a thread without checking
+-- the queue and the idle threads again.
 use Rattle.std.specs.Prelude.{◌≡◌, ◌≤◌, ◌<◌, ◌+◌, ℕ, length, Some}
 use Rattle.job_bodies.specs.Plan.{Plan, pool_at}
 use Rattle.job_bodies.specs.WellFormed.{IsWellFormed}
@@ -8,8 +8,8 @@ use Rattle.written_machine.specs.State.{pool_part, threads}
 use Rattle.soundness.specs.Execute.{JavaState, java_step}
 use Rattle.soundness.specs.JavaSafe.{IsJavaReached}
 
--- an event that is possible in a reached state in which the queue of pool p has room and the pool has its core threads, one
--- of them idle
+-- an event that is possible in a reachable state in which the queue of pool p has room, the pool has at least core threads, and
+-- at least one of them is idle
 pub record WithRoom (plan : Plan) (p : ℕ) : Type 0 where
   pub before : JavaState
   pub reached : IsJavaReached plan before
@@ -20,10 +20,10 @@ pub record WithRoom (plan : Plan) (p : ℕ) : Type 0 where
   pub after : JavaState
   pub step : java_step plan before event ≡ Some after
 
--- a submit is rejected while the queue has room and a thread is idle
+-- in some plan a submit is refused while the queue has room and a thread is idle
 abbrev pub RefusedWithRoom : Type 0
 RefusedWithRoom = (plan : Plan) × (p : ℕ) × (x : WithRoom plan p) × IsWellFormed plan × (x.after.machine.refusals ≡ x.before.machine.refusals + 1)
 
--- a thread above core starts while the queue has room and a thread is idle
+-- in some plan a thread above core starts while the queue has room and a thread is idle
 abbrev pub StartedWithRoom : Type 0
 StartedWithRoom = (plan : Plan) × (p : ℕ) × (x : WithRoom plan p) × IsWellFormed plan × (threads plan x.after.machine p ≡ threads plan x.before.machine p + 1)
