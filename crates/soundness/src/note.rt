@@ -1,4 +1,4 @@
-//! The failing conditions of a certificate, as reported.
+//! The conditions of a certificate.
 
 use weights::{Place, Rule};
 
@@ -11,7 +11,8 @@ pub enum Section {
     Blocked(usize),
 }
 
-/// A rule at its place, and its section of the certificate: the inequality `left <= right`.
+/// A condition of a certificate: the inequality `left <= right` that a rule requires at a place,
+/// and the section to which it belongs.
 #[derive(Clone, Copy, Debug, PartialEq, Eq)]
 pub struct Note {
     pub section: Section,

@@ -7,20 +7,20 @@ pub fn sum_never_rises()
     ensures { SumNeverRises }
 {}
 
-/// Proves that the weight of a reachable state is at most the vector's total if the rows of the
+/// Proves that the weight of every reachable state is at most the vector's total if the rows of the
 /// vector hold.
 pub fn sum_stays_within_total()
     ensures { SumStaysWithinTotal }
 {}
 
-/// Proves that a pool whose bound holds, by a standing or a lifetime vector, rejects no job in any
+/// Proves that a pool with a standing or a lifetime vector whose rows hold refuses no job in any
 /// reachable state. Nothing is assumed about the other pools.
 pub fn bounds_refuse_nothing()
     ensures { BoundsRefuseNothing }
 {}
 
 /// Proves that the number of jobs ever submitted to a pool is at most the total of its lifetime
-/// vector if the rows of the vector hold.
+/// vector if the rows of that vector hold.
 pub fn jobs_stay_within_total()
     ensures { JobsStayWithinTotal }
 {}
