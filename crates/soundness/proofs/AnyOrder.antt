@@ -1,4 +1,4 @@
--- An actor can get alike jobs in any order: after an exchange its get finds the other job.
+-- An actor can get alike jobs in any order: after an exchange of two alike jobs its get finds the other one.
 use Rattle.std.proofs.Common.{◌≡◌, Bool, cond, [], ◌∷◌, Some, None, refl, ap, ◌∙◌}
 use Rattle.job_bodies.specs.Plan.{Plan}
 use Rattle.written_machine.specs.declared.parent.Parent.{Parent}
@@ -11,7 +11,7 @@ use Rattle.soundness.specs.Skipping.{choices_replay, event_of_actor, AlikeJobsAr
 use Rattle.soundness.specs.Skipping.Choice.{Acts}
 use Rattle.soundness.proofs.ExchangedJobs.{stage-exchanged, point-exchanged, exchanges_swap_two_gets}
 
--- the submit and the step of an actor's event are those of the actor's position
+-- the submit at which the actor of an event is, is the submit at this actor's position
 submission_of_actor : (plan : Plan) (s : State) (a : Parent) → submission plan s (event_of_actor a) ≡ submission_of a (point plan s a)
 submission_of_actor plan s (parent.Client c) = refl
 submission_of_actor plan s (parent.Job j) = refl
@@ -20,7 +20,7 @@ step_of_actor : (plan : Plan) (s : State) (a : Parent) → step plan s (event_of
 step_of_actor plan s (parent.Client c) = refl
 step_of_actor plan s (parent.Job j) = refl
 
--- the law that alike jobs are got in any order: after the exchange the get finds the done job
+-- the law that an actor can get alike jobs in any order: after the exchange its get finds the job that is done
 pub alike_jobs_are_got_in_any_order : AlikeJobsAreGotInAnyOrder
 alike_jobs_are_got_in_any_order plan s a body i t u j stands is_get alike is_child done =
     let machine : State = after_exchange a t u s.machine in

@@ -1,5 +1,5 @@
--- Each state that the machine with atomic submits reaches is reachable in Java's steps, without other events between the
--- steps of a submit.
+-- Each state that the machine reaches with atomic submits is also reachable in Java's steps: the steps of each submit follow each
+-- other without other events between them.
 use Rattle.std.proofs.Common.{◌≡◌, ℕ, Bool, true, false, cond, not, ◌&&◌, eqb, ltb, List, [], ◌∷◌, ◌++◌, length, Option, Some, None, refl, sym, ap, subst, ◌∙◌}
 use Rattle.std.proofs.lemmas.Bool.{and_from, or_left, eq-eqb}
 use Rattle.std.proofs.lemmas.Option.{same_Some}
@@ -23,46 +23,47 @@ use Rattle.soundness.proofs.JavaReplays.{java_replay-append}
 
 -- ---- the call of one actor
 
--- its call alone
+-- the list with one call only, of actor a to pool p
 abbrev own : Parent → ℕ → List Call
 own a p = record { actor = a; pool = p } ∷ []
 
--- it is one of the actor's calls
+-- the list with one call of actor a to pool p contains a call of a to p
 own_is_calling : (a : Parent) (p : ℕ) → is_calling (own a p) a p ≡ true
 own_is_calling a p = or_left (same_parent a a && eqb p p) false (and_from (same_parent a a) (eqb p p) (same_actor_refl a) (eq-eqb p p refl))
 
--- and not a call of another actor
+-- the list with one call of actor a is empty without the calls of a
 own_is_over : (a : Parent) (p : ℕ) → without_calls_of a (own a p) ≡ []
 own_is_over a p = ap (λ (b : Bool). cond (not b) (own a p) []) (same_actor_refl a)
 
 -- ---- the steps of a submit without other events between them
 
--- some list of events leads from s to s', with no call in progress at either
+-- some list of events leads from s to s' in Java's steps, with no call in progress in either state
 abbrev Follows : Plan → State → State → Type 0
 Follows plan s s' = (events : List Event) × (java_replay plan (Some (without_calls s)) events ≡ Some (without_calls s'))
 
--- in each state of the machine s, the event is the next step of the actor's submit
+-- in the machine's state s, the event is the next step of a submit of a job of class k by actor a at position i, whatever calls
+-- are in progress
 abbrev IsNextStep : Plan → State → Event → Parent → ℕ → ℕ → Type 0
 IsNextStep plan s e a i k = (offering requesting : List Call) → java_step plan (record { machine = s; offering = offering; requesting = requesting }) e ≡ Some (executes plan (record { machine = s; offering = offering; requesting = requesting }) a i k)
 
--- the actor found core threads, and then a full queue
+-- the state after the first step, if the pool had at least core threads: the actor's call offers its job next
 abbrev offers_job_next : State → Parent → ℕ → JavaState
 offers_job_next s a p = record { machine = s; offering = own a p; requesting = [] }
 
 abbrev requests_thread_next : State → Parent → ℕ → JavaState
 requests_thread_next s a p = record { machine = s; offering = []; requesting = own a p }
 
--- the pool gave this answer
+-- the state after the pool gave this answer to the submit, with no call in progress
 abbrev is_answered : Plan → State → Parent → ℕ → ℕ → Offer → JavaState
 is_answered plan s a i k answer = without_calls (answered plan s a i k answer).0
 
--- first the check
+-- the first step starts the job if the pool has fewer than core threads, and otherwise the call offers the job next
 look : (plan : Plan) (s : State) (e : Event) (a : Parent) (i k : ℕ) (below : Bool) → IsNextStep plan s e a i k → ltb (threads plan s (pool_of plan k)) (pool_at plan (pool_of plan k)).core ≡ below
     → java_step plan (without_calls s) e ≡ Some (cond below (is_answered plan s a i k offer.Started) (offers_job_next s a (pool_of plan k)))
 look plan s e a i k below next is_below =
     next [] [] ∙ ap (λ (b : Bool). Some (cond b (is_answered plan s a i k offer.Started) (offers_job_next s a (pool_of plan k)))) is_below
 
--- then the offer
+-- the second step queues the job if the queue has room, and otherwise the call requests a thread next
 offer_it : (plan : Plan) (s : State) (e : Event) (a : Parent) (i k : ℕ) (room : Bool) → IsNextStep plan s e a i k → ltb (length (pool_part s (pool_of plan k)).queue) (pool_at plan (pool_of plan k)).queue ≡ room
     → java_step plan (offers_job_next s a (pool_of plan k)) e ≡ Some (cond room (is_answered plan s a i k offer.Queued) (requests_thread_next s a (pool_of plan k)))
 offer_it plan s e a i k room next has_room =
@@ -73,7 +74,7 @@ offer_it plan s e a i k room next has_room =
     ∙ ap (λ (b : Bool). Some (cond b (answers plan now a i k offer.Queued) (record now { offering = without_calls_of a now.offering; requesting = own a p }))) has_room
     ∙ ap (λ (calls : List Call). Some (cond room (record (is_answered plan s a i k offer.Queued) { offering = calls }) (record (requests_thread_next s a p) { offering = calls }))) (own_is_over a p)
 
--- then the request
+-- the third step starts the job if the pool has fewer than max threads, and otherwise refuses it
 ask : (plan : Plan) (s : State) (e : Event) (a : Parent) (i k : ℕ) (below : Bool) → IsNextStep plan s e a i k → ltb (threads plan s (pool_of plan k)) (pool_at plan (pool_of plan k)).max ≡ below
     → java_step plan (requests_thread_next s a (pool_of plan k)) e ≡ Some (is_answered plan s a i k (cond below offer.Started offer.Refused))
 ask plan s e a i k below next is_below =
@@ -84,7 +85,7 @@ ask plan s e a i k below next is_below =
     ∙ ap (λ (b : Bool). Some (answers plan now a i k (cond b offer.Started offer.Refused))) is_below
     ∙ ap (λ (calls : List Call). Some (record (is_answered plan s a i k (cond below offer.Started offer.Refused)) { requesting = calls })) (own_is_over a p)
 
--- the submit has the same answer as the atomic submit
+-- the steps of a submit lead to the state after the atomic submit
 submit_follows : (plan : Plan) (s : State) (e : Event) (a : Parent) (i k : ℕ) (below_core room below_max : Bool) → IsNextStep plan s e a i k
     → ltb (threads plan s (pool_of plan k)) (pool_at plan (pool_of plan k)).core ≡ below_core
     → ltb (length (pool_part s (pool_of plan k)).queue) (pool_at plan (pool_of plan k)).queue ≡ room
@@ -102,7 +103,7 @@ submit_follows plan s e a i k false false below_max next is_below has_room is_be
 
 -- ---- an event of the machine
 
--- the event of an actor
+-- the machine's step for an actor's event is the step at the actor's position
 step_of : (plan : Plan) (s : State) (a : Parent) → step plan s (event_of a) ≡ step_at_point plan s a (point plan s a)
 step_of plan s (parent.Client c) = refl
 step_of plan s (parent.Job j) = refl
@@ -121,7 +122,7 @@ event_follows plan s e x (Some y) is_found is_step =
 
 -- ---- lists of events
 
--- two lists of events in order
+-- if some events lead from s to s₁ and some events from s₁ to s₂, some events lead from s to s₂
 follows_twice : (plan : Plan) (s s₁ s₂ : State) → Follows plan s s₁ → Follows plan s₁ s₂ → Follows plan s s₂
 follows_twice plan s s₁ s₂ first second = (
   first.0 ++ second.0,

@@ -1,4 +1,4 @@
--- The inequalities that hold if the rows of a blocked vector hold.
+-- The inequalities that a blocked vector satisfies if its rows hold.
 use Rattle.std.proofs.Common.{◌≡◌, ℕ, ◌-◌, ◌≤◌, Bool, true, ◌&&◌, [], ◌∷◌, ◌++◌, flat_map, slice_get, Some, zero-add}
 use Rattle.support.specs.In.{here}
 use Rattle.support.proofs.Members.{In-append_left, In-append_right, In-map, In-flat_map, In-filter, In-enumerate_from}
@@ -14,13 +14,13 @@ use Rattle.weights.specs.Rows.{rows, classes_of}
 use Rattle.weights.specs.Blocked.{is_get, counted_rows, blocked_rows}
 use Rattle.soundness.proofs.VectorLaws.{VectorLaws, vector_laws, numbered_class_of, class_of_action}
 
--- B1 and B2
+-- the inequalities of the rules V2 to V7, B1 and B2
 pub record BlockedLaws (plan : Plan) (counted : ℕ → ℕ → Bool) (p : ℕ) (v : Vector) : Type 0 where
   pub laws : VectorLaws DoneWeight plan v
   pub blocked : (k i t : ℕ) → (class_at plan k).pool ≡ p → slice_get (class_at plan k).body i ≡ Some (action.Get t) → counted k i ≡ true → 1 ≤ job_weight v k i
   pub within : total plan v ≤ (pool_at plan p).core - 1
 
--- they hold if the rows hold
+-- if the rows of a blocked vector hold, the inequalities hold
 pub blocked_laws : (plan : Plan) (counted : ℕ → ℕ → Bool) (p : ℕ) (v : Vector) → AllHold (blocked_rows plan p counted v) → BlockedLaws plan counted p v
 blocked_laws plan counted p v hold =
     let of_class = λ (entry : ℕ × Class). counted_rows counted v entry.0 entry.1 in

@@ -1,4 +1,4 @@
--- The inequalities that hold if the rows of a standing vector or of a lifetime vector hold.
+-- The inequalities that a standing vector or a lifetime vector satisfies if its rows hold.
 use Rattle.std.proofs.Common.{◌≡◌, ℕ, ◌+◌, ◌<◌, ◌≤◌, true, [], ◌∷◌, ◌++◌, length, map, flat_map, get_or, arith}
 use Rattle.std.specs.List.{enumerate_from}
 use Rattle.support.specs.In.{here}
@@ -20,13 +20,13 @@ use Rattle.soundness.proofs.VectorLaws.{VectorLaws, numbered_class_of, vector_la
 
 -- ---- a standing vector
 
--- S1 and S2
+-- the inequalities of the rules V2 to V7, S1 and S2
 pub record StandingLaws (plan : Plan) (p : ℕ) (v : Vector) : Type 0 where
   pub laws : VectorLaws DoneWeight plan v
   pub queued : (k : ℕ) → k < length plan.classes → (class_at plan k).pool ≡ p → 1 ≤ queued_weight v k
   pub within : total plan v ≤ (pool_at plan p).queue
 
--- they hold if the rows hold
+-- if the rows of a standing vector hold, the inequalities hold
 pub standing_laws : (plan : Plan) (p : ℕ) (v : Vector) → AllHold (standing_rows plan p v) → StandingLaws plan p v
 standing_laws plan p v hold =
     let queued_row = λ (entry : ℕ × Class). row S1 (place.Class entry.0) 1 (queued_weight v entry.0) in
@@ -40,7 +40,7 @@ standing_laws plan p v hold =
 
 -- ---- a lifetime vector
 
--- L2 and L3
+-- the inequalities of the rules V2 to V7 with L5 in place of V5, and of L2 and L3
 pub record LifetimeLaws (plan : Plan) (p : ℕ) (v : Vector) : Type 0 where
   pub laws : VectorLaws NoWeight plan v
   pub queued : (k : ℕ) → k < length plan.classes → (class_at plan k).pool ≡ p → 1 ≤ queued_weight v k
@@ -48,14 +48,14 @@ pub record LifetimeLaws (plan : Plan) (p : ℕ) (v : Vector) : Type 0 where
   pub done : (k : ℕ) → k < length plan.classes → (class_at plan k).pool ≡ p → 1 ≤ done_weight plan v k
   pub within : total plan v ≤ lifetime_limit (pool_at plan p)
 
--- they hold if the vector fits the plan and its rows hold
+-- if a lifetime vector fits the plan and its rows hold, the inequalities hold
 pub lifetime_laws : (plan : Plan) (p : ℕ) (v : Vector) → vector_fits plan v ≡ true → AllHold (lifetime_rows plan p v) → LifetimeLaws plan p v
 lifetime_laws plan p v fit hold =
     let of_workers = map (λ (entry : ℕ × Pool). row L1 (place.Worker entry.0) (workers_weight v entry.0) 0) (enumerate_from 0 plan.pools) in
     let of_class = λ (entry : ℕ × Class). map (λ (weight : ℕ). row L2 (place.Class entry.0) 1 weight) (class_weights v entry.0) in
     let of_classes = flat_map of_class (classes_of plan p) in
     let last = row L3 place.Total (total plan v) (lifetime_limit (pool_at plan p)) in
-    -- the weight at index n of the class's weights
+    -- the weight at index n of the weights of class k is at least 1
     let each : (k n : ℕ) → k < length plan.classes → (class_at plan k).pool ≡ p → n < length (class_weights v k) → 1 ≤ get_or (class_weights v k) n 0 = λ k n inside of_pool there_is.
     hold (row L2 (place.Class k) 1 (get_or (class_weights v k) n 0))
     (In-append_left (last ∷ []) (In-append_right (of_workers ++ rows NoWeight plan v)
@@ -70,17 +70,17 @@ lifetime_laws plan p v fit hold =
 
 -- ---- either
 
--- the inequalities for a pool's bound
+-- the inequalities of a pool's bound, which is a standing vector or a lifetime vector
 abbrev pub BoundLaws : Plan → ℕ → Bound → Type 0
 BoundLaws plan p (Standing v) = StandingLaws plan p v
 BoundLaws plan p (Lifetime v) = LifetimeLaws plan p v
 
--- they hold if the bound fits the plan and its rows hold
+-- if a bound's vector fits the plan and the rows of the bound hold, the inequalities of the bound hold
 pub bound_laws : (plan : Plan) (p : ℕ) (bound : Bound) → vector_fits plan (bound_vector bound) ≡ true → AllHold (bound_rows plan p bound) → BoundLaws plan p bound
 bound_laws plan p (Standing v) fit hold = standing_laws plan p v hold
 bound_laws plan p (Lifetime v) fit hold = lifetime_laws plan p v fit hold
 
--- its vector satisfies V2 to V7, or L5 in place of V5
+-- the vector of a bound satisfies V2 to V7, with L5 in place of V5 if it is a lifetime vector
 pub bound_vector_laws : (plan : Plan) (p : ℕ) (bound : Bound) → BoundLaws plan p bound → VectorLaws (bound_get_return bound) plan (bound_vector bound)
 bound_vector_laws plan p (Standing v) of_bound = of_bound.laws
 bound_vector_laws plan p (Lifetime v) of_bound = of_bound.laws

@@ -1,4 +1,4 @@
--- The invariants of the reachable states of a plan whose pools all have a bound that holds.
+-- The invariants of the reachable states of a plan in which each pool has a bound whose rows hold.
 use Rattle.std.proofs.Common.{◌≡◌, ℕ, ◌<◌, length, refl}
 use Rattle.job_bodies.specs.Plan.{Plan}
 use Rattle.job_bodies.proofs.Bodies.{HasValidBodies, ordered}
@@ -20,7 +20,7 @@ use Rattle.soundness.proofs.NeverRises.{IsBalanced, balanced_start, never_rises,
 use Rattle.soundness.proofs.NoRefusal.{not_refused}
 use Rattle.soundness.specs.Headline.{KeepsSizes, BoundedPlansRefuseNothing}
 
--- the invariants of reachable states hold, each pool's bound is balanced, and no submit was rejected
+-- the invariants: those of every reachable state; the weights of each pool's bound are balanced; and no submit was refused
 pub record Bounded (plan : Plan) (bounds : ℕ → Bound) (s : State) : Type 0 where
   pub kept : StateInvariant plan s
   pub have_jobs : HaveJobs plan s
@@ -31,7 +31,7 @@ pub record Bounded (plan : Plan) (bounds : ℕ → Bound) (s : State) : Type 0 w
 abbrev pub BoundsHold : Plan → (ℕ → Bound) → Type 0
 BoundsHold plan bounds = (p : ℕ) → p < length plan.pools → BoundLaws plan p (bounds p)
 
--- the initial state satisfies them
+-- the initial state satisfies the invariants
 pub bounded_start : (plan : Plan) (bounds : ℕ → Bound) → HasValidBodies plan → Bounded plan bounds (start plan)
 bounded_start plan bounds ordered = record {
   kept = kept_start plan ordered;
@@ -40,7 +40,7 @@ bounded_start plan bounds ordered = record {
   none_refused = refl;
 }
 
--- no event is a rejection
+-- no event refuses a submit if the invariants hold before the event
 refuses_nothing : (plan : Plan) (bounds : ℕ → Bound) (s s' : State) (o : Outcome) {e : Event} → HasValidBodies plan → BoundsHold plan bounds → Bounded plan bounds s → Happens plan s e s' o → s'.refusals ≡ 0
 refuses_nothing plan bounds s s' o ordered laws bounded (works a body i u at) = bounded.none_refused
 refuses_nothing plan bounds s s' o ordered laws bounded (starts a body i k at below) = bounded.none_refused
@@ -55,7 +55,7 @@ refuses_nothing plan bounds s s' o ordered laws bounded (loops c client body i a
 refuses_nothing plan bounds s s' o ordered laws bounded (takes p j queue idle is_queue is_idle) = bounded.none_refused
 refuses_nothing plan bounds s s' o ordered laws bounded (retires p idle is_idle above_core) = bounded.none_refused
 
--- every event preserves them
+-- each event preserves the invariants
 pub bounded_step : (plan : Plan) (bounds : ℕ → Bound) (s s' : State) (o : Outcome) {e : Event} → HasValidBodies plan → BoundsHold plan bounds → Bounded plan bounds s → Happens plan s e s' o → Bounded plan bounds s'
 bounded_step plan bounds s s' o ordered laws bounded happened = record {
   kept = kept_step plan s s' o ordered bounded.kept happened;
@@ -67,7 +67,7 @@ bounded_step plan bounds s s' o ordered laws bounded happened = record {
   none_refused = refuses_nothing plan bounds s s' o ordered laws bounded happened;
 }
 
--- no submit was rejected, and the machine keeps each pool within its limits
+-- if the invariants hold, no submit was refused, and each pool is within its maximum and its queue's capacity
 pub keeps_sizes : (plan : Plan) (bounds : ℕ → Bound) (s : State) → Bounded plan bounds s → KeepsSizes plan s
 keeps_sizes plan bounds s bounded = record {
   none_refused = bounded.none_refused;
@@ -75,7 +75,7 @@ keeps_sizes plan bounds s bounded = record {
   within_queue = λ p inside. (bounded.kept.pools p inside).within_queue;
 }
 
--- the same in terms of the rows of the bounds
+-- the law that a plan in which each pool has a bound whose rows hold refuses nothing
 pub bounded_plans_refuse_nothing : BoundedPlansRefuseNothing
 bounded_plans_refuse_nothing plan bounds well_formed hold events s reached =
     let is_ordered = ordered plan well_formed in

@@ -1,4 +1,4 @@
--- The pools with calls in progress, and that no call is rejected.
+-- The invariants of the calls in progress, and the proof that no call is refused.
 use Rattle.std.proofs.Common.{◌≡◌, ℕ, ◌+◌, ◌<◌, ◌≤◌, ⊎_elim, true, List, length, Some, sym, subst, arith}
 use Rattle.std.proofs.lemmas.Bool.{false≢true}
 use Rattle.job_bodies.specs.declared.action.Action.{Action}
@@ -27,13 +27,14 @@ use Rattle.soundness.proofs.Bounded.{Bounded, BoundsHold}
 
 -- ---- a pool whose queue was full at some time
 
--- the queue of a pool with a standing vector never was; if the queue of a pool with a lifetime vector was full, jobs were
--- submitted for its threads and its queue
+-- an invariant of a pool after a call found its queue full. With a standing vector the queue is never full, so there is no such
+-- state. With a lifetime vector the queue's capacity and the threads together are at most the jobs submitted to the pool and its
+-- prestarted threads.
 abbrev pub QueueWasFull : Plan → Bound → State → ℕ → Type 0
 QueueWasFull plan (Standing v) s p = ⊥
 QueueWasFull plan (Lifetime v) s p = (pool_at plan p).queue + threads plan s p ≤ jobs_made plan s p + first_workers (pool_at plan p)
 
--- a queue that is full now
+-- if a submit finds the queue of its pool full, the invariant of such a pool holds
 queue_was_full : (plan : Plan) (bound : Bound) (s : State) (a : Parent) (body : List Action) (i k : ℕ) → HasValidBodies plan → BoundLaws plan (pool_of plan k) bound → StateInvariant plan s → HaveJobs plan s → IsBalanced (bound_get_return bound) plan (bound_vector bound) s
     → IsAtAction plan s a body i (Some (action.Submit k)) → (pool_at plan (pool_of plan k)).queue ≤ length (pool_part s (pool_of plan k)).queue → QueueWasFull plan bound s (pool_of plan k)
 queue_was_full plan (Standing v) s a body i k ordered laws kept have balanced at no_room = standing_refuses_nothing plan v s a body i k ordered laws kept balanced at no_room
@@ -41,14 +42,15 @@ queue_was_full plan (Lifetime v) s a body i k ordered laws kept have balanced at
     let had = have (pool_of plan k) (ordered.pools k (class_exists plan s a body i k ordered at)) in
     omega arith
 
--- the property is preserved by an event: the number of threads grows at most with the number of jobs submitted
+-- each event preserves the invariant of a pool whose queue was full, because the number of threads grows at most with the number
+-- of submitted jobs
 stays_full : (plan : Plan) (bound : Bound) (s s' : State) (o : Outcome) (p : ℕ) {e : Event} → StateInvariant plan s → p < length plan.pools → Happens plan s e s' o → QueueWasFull plan bound s p → QueueWasFull plan bound s' p
 stays_full plan (Standing v) s s' o p kept inside happened full = full
 stays_full plan (Lifetime v) s s' o p kept inside happened full =
     let by_jobs = (threads_change plan s s' o kept happened p inside).by_jobs in
     omega arith
 
--- a submit to the pool finds fewer than max threads
+-- a submit to a pool whose queue was full finds fewer than max threads
 leaves_room : (plan : Plan) (bound : Bound) (s : State) (a : Parent) (body : List Action) (i k : ℕ) → HasValidBodies plan → BoundLaws plan (pool_of plan k) bound → StateInvariant plan s → IsBalanced (bound_get_return bound) plan (bound_vector bound) s → IsAtAction plan s a body i (Some (action.Submit k))
     → QueueWasFull plan bound s (pool_of plan k) → (pool_at plan (pool_of plan k)).max ≤ threads plan s (pool_of plan k) → ⊥
 leaves_room plan (Standing v) s a body i k ordered laws kept balanced at full all_started = full
@@ -56,16 +58,17 @@ leaves_room plan (Lifetime v) s a body i k ordered laws kept balanced at full al
 
 -- ---- the calls
 
--- calls that offer found core threads, and calls that request found a full queue
+-- the invariants of the calls in progress: the pool of a call that offers its job has at least core threads, and the queue of the
+-- pool of a call that requests a thread was full
 pub record CallsKept (plan : Plan) (bounds : ℕ → Bound) (s : JavaState) : Type 0 where
   pub offering : OfferAtCore plan s
   pub requesting : (a : Parent) (p : ℕ) → p < length plan.pools → is_calling s.requesting a p ≡ true → QueueWasFull plan (bounds p) s.machine p
 
--- no call is in progress
+-- a state with no call in progress satisfies the invariants of the calls
 pub calls_none : (plan : Plan) (bounds : ℕ → Bound) (s : State) → CallsKept plan bounds (without_calls s)
 calls_none plan bounds s = record { offering = λ a p inside is_there. absurd (false≢true is_there); requesting = λ a p inside is_there. absurd (false≢true is_there) }
 
--- no call that requests a thread is rejected
+-- no call that requests a thread is refused
 pub refused_never : (plan : Plan) (bounds : ℕ → Bound) (s : JavaState) (a : Parent) (body : List Action) (i k : ℕ) → HasValidBodies plan → BoundsHold plan bounds → Bounded plan bounds s.machine → CallsKept plan bounds s → IsAtAction plan s.machine a body i (Some (action.Submit k))
     → is_calling s.requesting a (pool_of plan k) ≡ true → (pool_at plan (pool_of plan k)).max ≤ threads plan s.machine (pool_of plan k) → ⊥
 refused_never plan bounds s a body i k ordered laws bounded calls at requesting all_started =
@@ -73,7 +76,7 @@ refused_never plan bounds s a body i k ordered laws bounded calls at requesting 
     let inside = ordered.pools k (class_exists plan s.machine a body i k ordered at) in
     leaves_room plan (bounds p) s.machine a body i k ordered (laws p inside) bounded.kept (bounded.balanced p inside) at (calls.requesting a p inside requesting) all_started
 
--- a property that each event of the machine preserves is preserved by each event here
+-- a property that each event of the machine preserves is also preserved by each event in Java's steps
 pub machine_keeps : (plan : Plan) (bounds : ℕ → Bound) (holds : State → Type 0) (s s' : JavaState) {e : Event} → HasValidBodies plan → BoundsHold plan bounds → Bounded plan bounds s.machine → CallsKept plan bounds s
     → ((e' : Event) (after : State) (o : Outcome) → Happens plan s.machine e' after o → holds after) → holds s.machine → JavaHappens plan s e s' → holds s'.machine
 machine_keeps plan bounds holds s s' ordered laws bounded calls each held (is_atomic e after o none happened) = each e after o happened
@@ -82,7 +85,7 @@ machine_keeps plan bounds holds s s' ordered laws bounded calls each held (finds
 machine_keeps plan bounds holds s s' ordered laws bounded calls each held (finds_full a body i k at not_requesting no_room) = held
 machine_keeps plan bounds holds s s' ordered laws bounded calls each held (finds_all a body i k at requesting all_started) = absurd (refused_never plan bounds s a body i k ordered laws bounded calls at requesting all_started)
 
--- and so is this one
+-- each event in Java's steps preserves the invariants of the calls
 pub calls_step : (plan : Plan) (bounds : ℕ → Bound) (s s' : JavaState) {e : Event} → HasValidBodies plan → BoundsHold plan bounds → Bounded plan bounds s.machine → CallsKept plan bounds s → JavaHappens plan s e s' → CallsKept plan bounds s'
 calls_step plan bounds s s' ordered laws bounded calls (is_atomic e after o none happened) = record {
   offering = λ b p inside is_there. (threads_change plan s.machine after o bounded.kept happened p inside).at_core (calls.offering b p inside is_there);

@@ -1,4 +1,4 @@
--- The inequalities that hold if a certificate is accepted, rule by rule.
+-- The inequalities that an accepted certificate satisfies, rule by rule.
 use Rattle.std.proofs.Common.{◌≡◌, ℕ, ◌<◌, true, ltb, List, [], ◌∷◌, length, flat_map, IsTrue, refl, zero-add}
 use Rattle.std.specs.List.{enumerate_from}
 use Rattle.std.proofs.lemmas.Bool.{and_parts, ltb-false}
@@ -33,18 +33,18 @@ pub is_nil_means : (notes : List Note) → is_nil notes ≡ true → notes ≡ [
 is_nil_means [] nil = refl
 is_nil_means (x ∷ xs) nil = absurd cc
 
--- each row of a section holds
+-- if no condition of the certificate fails, each row of a section holds
 pub section_holds : (plan : Plan) (cert : Cert) (part : Section) (rows : List Row) → failing plan cert ≡ [] → ((x : Note) → In x (in_section part rows) → In x (conditions plan cert)) → AllHold rows
 section_holds plan cert part rows none among x i =
     ltb-false x.right x.left (test_of_none (λ (y : Note). ltb y.right y.left) (conditions plan cert) (note part x) none (among (note part x) (In-map (note part) i)))
 
--- the conditions of a pool are among all conditions
+-- each condition of a pool is one of the conditions of the certificate
 pub pool_inside : (plan : Plan) (cert : Cert) (p : ℕ) (x : Note) → p < length plan.pools → In x (pool_conditions plan cert p) → In x (conditions plan cert)
 pool_inside plan cert p x inside i =
     In-append_right (in_section section.Ranks (rank_rows plan cert.ranks))
     (In-flat_map (λ (entry : ℕ × Pool). pool_conditions plan cert entry.0) (In-enumerate_from 0 plan.pools p (pool_at plan p) p (slice_get-get_or plan.pools p no_pool inside) (zero-add p)) i)
 
--- if the certificate is accepted, all of them hold
+-- if the certificate is accepted, the inequalities of its vectors and of its ranks hold
 pub cert_laws : (plan : Plan) (cert : Cert) → IsTrue (accepted plan cert) → CertLaws plan cert
 cert_laws plan cert is_accepted =
     let parts = and_parts (cert_fits plan cert) (is_nil (failing plan cert)) is_accepted in

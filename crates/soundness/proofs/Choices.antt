@@ -17,7 +17,7 @@ use Rattle.soundness.proofs.SkippedSubmits.{left}
 
 -- ---- a skipped submit
 
--- its actor is at it and has not begun it
+-- the event's actor is at a submit that has not begun, and s' is the state after the actor skips this submit
 pub data IsSkipped (plan : Plan) (s : JavaState) : Event → JavaState → Type 0 where
   leaves : (a : Parent) (body : List Action) (i k : ℕ) → IsAtAction plan s.machine a body i (Some (action.Submit k)) → is_calling s.offering a (pool_of plan k) ≡ false → is_calling s.requesting a (pool_of plan k) ≡ false
       → IsSkipped plan s (event_of a) (record s { machine = left s.machine a i k })
@@ -39,7 +39,7 @@ is_skipped plan s e s' is_after = found_left plan s e (submission plan s.machine
 
 -- ---- lists of choices
 
--- after an impossible choice there is no state
+-- no state follows an impossible choice
 pub choices_none : (plan : Plan) (choices : List Choice) → choices_replay plan None choices ≡ None
 choices_none plan [] = refl
 choices_none plan (x ∷ choices) = refl

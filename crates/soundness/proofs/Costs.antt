@@ -1,4 +1,4 @@
--- The cost of a job event or a take: how much it reduces the remaining work, counting the steps of calls.
+-- The cost of a job event or a take: three times the remaining work, minus the completed steps of calls, falls by at least one.
 use Rattle.std.proofs.Common.{◌≡◌, ◌≢◌, ℕ, ◌+◌, ◌*◌, ◌<◌, ◌≤◌, ⊎_elim, Bool, true, false, List, ◌∷◌, length, get_or, slice_get, Some, refl, sym, ap, ap₂, subst, ◌∙◌, arith, zero-add}
 use Rattle.std.specs.List.{enumerate_from}
 use Rattle.std.proofs.lemmas.Bool.{false≢true, false_from_ne_true, cases_eq, ne_eqb}
@@ -47,7 +47,7 @@ no_fewer_jobs plan s s' o (retires p idle is_idle above_core) = omega arith
 abbrev pub calls_done : JavaState → ℕ
 calls_done s = by_place (mark s) 0 s.machine.jobs
 
--- if the calls of one job end, the number of completed steps falls by at most two
+-- if the calls of one job end, the total number of completed steps falls by at most two
 calls_done-ended : (s s' : JavaState) (n : ℕ) → s'.offering ≡ without_calls_of (parent.Job n) s.offering → s'.requesting ≡ without_calls_of (parent.Job n) s.requesting → length s.machine.jobs ≤ length s'.machine.jobs → calls_done s ≤ calls_done s' + 2
 calls_done-ended s s' n offering requesting longer =
     let fewer = by_place-but_one (mark s) (mark s') n 2 (omega (arith, mark-le_two s n))
@@ -59,14 +59,14 @@ calls_done-ended s s' n offering requesting longer =
         subst (λ (x : List Call). has_call x i ≡ true) (sym are_others)
         (others_have_call (parent.Job n) calls i (ne_eqb n i (λ (same : n ≡ i). other (sym same))) has_this_call)
 
--- if a job reaches the next step of its call, the number of completed steps rises by one
+-- if one job reaches the next step of its call, the total number of completed steps rises by at least one
 calls_done-more : (s s' : JavaState) (n : ℕ) → n < length s.machine.jobs → s'.machine ≡ s.machine → mark s n + 1 ≤ mark s' n → ((i : ℕ) → i ≢ n → mark s i ≤ mark s' i) → calls_done s + 1 ≤ calls_done s'
 calls_done-more s s' n inside same here others =
     subst (λ (x : State). calls_done s + 1 ≤ by_place (mark s') 0 x.jobs) (sym same)
     (by_place-more (mark s) (mark s') n 0 s.machine.jobs (omega arith) (omega arith) here
     (λ i. ⊎_elim (λ (own : i ≡ n). subst (λ (x : ℕ). mark s x ≤ mark s' x) (sym own) (omega arith)) (λ other. others i other) (cases_eq i n)))
 
--- a job calls at most one pool at a time
+-- a job is at a submit to one pool only
 pub one_pool : (plan : Plan) (job : CreatedJob) (p q : ℕ) → StandsBefore plan job p → StandsBefore plan job q → p ≡ q
 one_pool plan job p q first second =
     let stages : Stage.At first.position ≡ Stage.At second.position = sym first.stage ∙ second.stage in
@@ -75,7 +75,7 @@ one_pool plan job p q first second =
     let class : first.submitted ≡ second.submitted = cc in
     first.to_pool ∙ ap (pool_of plan) class ∙ sym second.to_pool
 
--- a job without a call to that pool among these has no call among them
+-- if a job is at a submit to a pool and has no call to that pool in the list, it has no call in the list
 has_no_call : (plan : Plan) (job : CreatedJob) (n p : ℕ) (calls : List Call) → ((q : ℕ) → is_calling calls (parent.Job n) q ≡ true → StandsBefore plan job q) → StandsBefore plan job p → is_calling calls (parent.Job n) p ≡ false → has_call calls n ≡ false
 has_no_call plan job n p calls each here not_calling =
     false_from_ne_true (has_call calls n)
@@ -84,7 +84,7 @@ has_no_call plan job n p calls each here not_calling =
     let same = one_pool plan job to.0 p (each to.0 to.1) here in
     false≢true (sym not_calling ∙ ap (is_calling calls (parent.Job n)) (sym same) ∙ to.1))
 
--- a job that finds core threads completes a step
+-- if a job's first step finds at least core threads, the total number of completed steps rises by at least one
 core_found : (plan : Plan) (s : JavaState) (n : ℕ) (body : List Action) (i k : ℕ) → JobCalls plan s → IsAtAction plan s.machine (parent.Job n) body i (Some (action.Submit k)) → is_calling s.requesting (parent.Job n) (pool_of plan k) ≡ false
     → is_calling s.offering (parent.Job n) (pool_of plan k) ≡ false → calls_done s + 1 ≤ calls_done (record s { offering = record { actor = parent.Job n; pool = pool_of plan k } ∷ s.offering })
 core_found plan s n body i k calls at not_requesting not_offering =
@@ -99,7 +99,7 @@ core_found plan s n body i k calls at not_requesting not_offering =
     let after_is : mark after n ≡ 1 = ap₂ steps_done requests_thread (new_has_call n p s.offering) in
     calls_done-more s after n (standing_made plan s.machine n body i at.stands) refl (omega arith) (λ j other. mark-le s after j (λ it. it) (λ it. more_has_call call s.offering j it))
 
--- and so does a job that finds a full queue
+-- if a job's second step finds the queue full, the total number of completed steps rises by at least one
 full_found : (plan : Plan) (s : JavaState) (n : ℕ) (body : List Action) (i k : ℕ) → JobCalls plan s → IsAtAction plan s.machine (parent.Job n) body i (Some (action.Submit k)) → is_calling s.requesting (parent.Job n) (pool_of plan k) ≡ false
     → calls_done s + 1 ≤ calls_done (record s { offering = without_calls_of (parent.Job n) s.offering; requesting = record { actor = parent.Job n; pool = pool_of plan k } ∷ s.requesting })
 full_found plan s n body i k calls at not_requesting =
@@ -117,7 +117,7 @@ full_found plan s n body i k calls at not_requesting =
 abbrev pub Costs : Plan → Ranks → JavaState → JavaState → Type 0
 Costs plan ranks s s' = 3 * todo plan ranks s'.machine + calls_done s + 1 ≤ 3 * todo plan ranks s.machine + calls_done s'
 
--- every job event and every take
+-- each job event and each take costs at least one
 pub costs : (plan : Plan) (ranks : Ranks) (s s' : JavaState) (e : Event) → RankLaws plan ranks → StateInvariant plan s.machine → s.machine.refusals ≡ 0 → s'.machine.refusals ≡ 0 → JobCalls plan s → is_of_job_or_pool e ≡ true → JavaHappens plan s e s' → Costs plan ranks s s'
 costs plan ranks s s' e laws kept none none' calls of_job_or_pool (is_atomic f after o no_submit happened) =
     omega (arith, lowers plan ranks s.machine after o f laws kept none none' of_job_or_pool happened, by_place-longer (mark s) 0 s.machine.jobs after.jobs (no_fewer_jobs plan s.machine after o happened))
@@ -132,7 +132,7 @@ costs plan ranks s s' e laws kept none none' calls of_job_or_pool (finds_all a b
 
 -- ---- the end of a thread
 
--- it has no cost
+-- the end of a thread changes neither the remaining work nor the completed steps, so it costs nothing
 pub costs_nothing : (plan : Plan) (ranks : Ranks) (s s' : JavaState) (e : Event) → ends_thread e ≡ true → JavaHappens plan s e s' → 3 * todo plan ranks s'.machine + calls_done s ≤ 3 * todo plan ranks s.machine + calls_done s'
 costs_nothing plan ranks s s' e is_end (is_atomic f after o no_submit happened) =
     let todo_is = same_todo plan ranks s.machine after o is_end happened in
@@ -145,7 +145,7 @@ costs_nothing plan ranks s s' e is_end (finds_all a body i k at requesting all_s
 
 -- ---- a job in a call has remaining work
 
--- the remaining work of a job before a submit includes that submit
+-- a job at a submit has remaining work
 todo_before_submit : (plan : Plan) (ranks : Ranks) (job : CreatedJob) (p : ℕ) → StandsBefore plan job p → 1 ≤ stage_todo plan ranks job.class job.stage
 todo_before_submit plan ranks job p before =
     let inside = slice_get_within (class_at plan job.class).body before.position (action.Submit before.submitted) before.submits in

@@ -1,4 +1,5 @@
--- Fewer jobs of a pool than core may block, that is, are at a counted get or before one.
+-- Fewer jobs of a pool than its core size may block in any reachable state. A job *may block* if it is at a counted get or before
+-- one.
 use Rattle.std.proofs.Common.{◌≡◌, ℕ, zero, suc, ◌+◌, ◌-◌, ◌<◌, ◌≤◌, Bool, true, false, cond, ◌&&◌, ◌||◌, inl, inr, ltb, eqb, length, get_or, slice_get, sum_by, Option, Some, None, refl, sym, ap, subst, ◌∙◌, arith, zero-add}
 use Rattle.std.specs.List.{enumerate_from}
 use Rattle.std.proofs.lemmas.Bool.{false≢true, cases_lt, cases_eq, cases_Bool, and_parts, and_right, or_parts, le-ltb, ltb-true, eqb-true, ne_eqb, not-false}
@@ -30,7 +31,7 @@ use Rattle.soundness.proofs.Debts.{cond-le, open_weight, debt, debt_to, returned
 
 -- ---- the first counted get
 
--- the first position from i on at which the test passes, and its distance from i
+-- the first of the n positions from i on at which the test passes, and its distance from i
 record FirstFrom (test : ℕ → Bool) (i n : ℕ) : Type 0 where
   steps : ℕ
   below : steps < n
@@ -62,7 +63,7 @@ first_from test i (suc n) some = elim (cases_Bool (test i)) [
       }
 ]
 
--- a test that passes at none of the n positions from i on fails at each of them
+-- if the test passes at none of the n positions from i on, it fails at each of them
 pub fails_from : (test : ℕ → Bool) (i n g : ℕ) → passes_from test i n ≡ false → i ≤ g → g < i + n → test g ≡ false
 fails_from test i zero g none from below = absurd (omega arith)
 fails_from test i (suc n) g none from below =
@@ -72,28 +73,29 @@ fails_from test i (suc n) g none from below =
       | inr other ↦ fails_from test (i + 1) n g parts.1 (omega arith) (omega arith)
     ]
 
--- an action that is counted is a get
+-- a counted action is a get
 counted_get : (plan : Plan) (ranks : Ranks) (k : ℕ) (next : Option Action) → is_counted_action plan ranks k next ≡ true → (t : ℕ) × (next ≡ Some (action.Get t))
 counted_get plan ranks k None e = absurd (false≢true e)
 counted_get plan ranks k (Some (action.Work u)) e = absurd (false≢true e)
 counted_get plan ranks k (Some (action.Submit k')) e = absurd (false≢true e)
 counted_get plan ranks k (Some (action.Get t)) e = (t, refl)
 
--- an uncounted get gets a class with a reach below the rank of the pool
+-- if a get is not counted, the reach of the class of its job is below the rank of the pool of class k
 pub uncounted_reach : (plan : Plan) (ranks : Ranks) (k u t : ℕ) → slice_get (class_at plan k).body u ≡ Some (action.Get t) → is_counted plan ranks k u ≡ false → reach ranks (submitted_class (class_at plan k).body t) < rank ranks (pool_of plan k)
 uncounted_reach plan ranks k u t is_get uncounted =
     let low = reach ranks (submitted_class (class_at plan k).body t) in
     let r = rank ranks (pool_of plan k) in
     ltb-true low r (not-false (ltb low r) (ap (is_counted_action plan ranks k) (sym is_get) ∙ uncounted))
 
--- ---- each job pays for itself
+-- ---- the weight of each job and the debts of its children cover its price
 
--- what a job of class k at this stage must pay for: 1 if it may block in pool p, and what it owes to its creator
+-- the price of a job of class k at this stage: 1 if it may block in pool p, and what it owes to its creator
 abbrev price : Plan → Ranks → Vector → ℕ → ℕ → Stage → ℕ
 price plan ranks v p k stage = one_if (may_block_at plan ranks k stage && eqb (pool_of plan k) p) + cond (ltb (reach ranks k) (rank ranks p)) (open_weight plan v k stage) 0
 
 module _ (plan : Plan) (ranks : Ranks) (v : Vector) (p : ℕ) (s : State) (ordered : HasValidBodies plan) (ranked : RankLaws plan ranks) (laws : BlockedLaws plan (is_counted plan ranks) p v) (kept : StateInvariant plan s) where
-  -- a running job with a reach below the pool's rank pays: it does not belong to the pool, and its weight lasts to its end
+  -- the price of a running job with a reach below the pool's rank is covered: the job does not belong to the pool, and its weight
+  -- and the debts of its children cover its weight at its end
   pays_low : (j i : ℕ) → j < length s.jobs → (job_at s j).stage ≡ Stage.At i → reach ranks (job_at s j).class < rank ranks p → price plan ranks v p (job_at s j).class (Stage.At i) ≤ job_weight v (job_at s j).class i + sum_by (debt_to plan ranks v (rank ranks p) j) s.jobs
   pays_low j i made at low =
       let k = (job_at s j).class in
@@ -112,7 +114,8 @@ module _ (plan : Plan) (ranks : Ranks) (v : Vector) (p : ℕ) (s : State) (order
       let back = returned-le-owed plan ranks v r s j i (length body - i) body (ordered.classes k) actor.ready (λ u t from below is_get. let falls = ranked.falls k u t is_get in omega arith) in
       omega (arith, ap one_if free, owes, along, last, back, vector.ends k exists)
 
-  -- a running job with a higher reach pays: it owes nothing, and its weight lasts to its first counted get if it has one
+  -- the price of a running job with a reach of at least the pool's rank is covered: the job owes nothing, and before its first
+  -- counted get its weight and the debts of its children cover its weight at that get
   pays_high : (j i : ℕ) → j < length s.jobs → (job_at s j).stage ≡ Stage.At i → rank ranks p ≤ reach ranks (job_at s j).class → price plan ranks v p (job_at s j).class (Stage.At i) ≤ job_weight v (job_at s j).class i + sum_by (debt_to plan ranks v (rank ranks p) j) s.jobs
   pays_high j i made at high =
       let k = (job_at s j).class in
@@ -138,7 +141,7 @@ module _ (plan : Plan) (ranks : Ranks) (v : Vector) (p : ℕ) (s : State) (order
             omega (arith, owes, ap one_if both, weighs, along, back)
       ]
 
-  -- a job at any stage pays: its weight and what its children owe to it are enough
+  -- the price of a job at any stage is at most its weight and the debts of its children to it
   pays : (j : ℕ) (stage : Stage) → j < length s.jobs → (job_at s j).stage ≡ stage → price plan ranks v p (job_at s j).class stage ≤ stage_weight DoneWeight plan v (job_at s j).class stage + sum_by (debt_to plan ranks v (rank ranks p) j) s.jobs
   pays j Stage.Queued made is_stage =
       let k = (job_at s j).class in
@@ -157,7 +160,8 @@ module _ (plan : Plan) (ranks : Ranks) (v : Vector) (p : ℕ) (s : State) (order
 
   -- ---- all jobs together
 
-  -- the number of jobs of the pool that may block is at most the weight of all jobs, because the debts cancel in the sum
+  -- the number of jobs of the pool that may block is at most the weight of all jobs, because each debt is part of the price of
+  -- one job and is owed to at most one job
   may_block-le-weight : may_block plan ranks s p ≤ jobs_weight DoneWeight plan v s.jobs
   may_block-le-weight =
       let r = rank ranks p in
@@ -182,7 +186,7 @@ module _ (plan : Plan) (ranks : Ranks) (v : Vector) (p : ℕ) (s : State) (order
       let limit = laws.within in
       omega (arith, may_block-le-weight, actors_weight-le-total DoneWeight plan v s ordered kept balanced)
 
--- the law that fewer jobs than core may block in every reachable state
+-- the law that in every reachable state fewer jobs of a pool than its core size may block
 pub fewer_than_core_may_block : FewerThanCoreMayBlock
 fewer_than_core_may_block plan ranks p v s well_formed inside ranks_hold hold reached =
     let laws = blocked_laws plan (is_counted plan ranks) p v hold in
