@@ -114,8 +114,8 @@ module _ (plan : Plan) (ranks : Ranks) (v : Vector) (p : ℕ) (s : State) (order
       let back = returned-le-owed plan ranks v r s j i (length body - i) body (ordered.classes k) actor.ready (λ u t from below is_get. let falls = ranked.falls k u t is_get in omega arith) in
       omega (arith, ap one_if free, owes, along, last, back, vector.ends k exists)
 
-  -- the price of a running job with a reach of at least the pool's rank is covered: the job owes nothing, and before its first
-  -- counted get its weight and the debts of its children cover its weight at that get
+  -- the price of a running job with a reach of at least the pool's rank is covered: the job owes nothing, and if it is at a counted
+  -- get or before one, its weight and the debts of its children cover its weight at the first such get
   pays_high : (j i : ℕ) → j < length s.jobs → (job_at s j).stage ≡ Stage.At i → rank ranks p ≤ reach ranks (job_at s j).class → price plan ranks v p (job_at s j).class (Stage.At i) ≤ job_weight v (job_at s j).class i + sum_by (debt_to plan ranks v (rank ranks p) j) s.jobs
   pays_high j i made at high =
       let k = (job_at s j).class in

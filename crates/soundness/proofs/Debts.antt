@@ -22,7 +22,7 @@ use Rattle.soundness.proofs.Walks.{returned_by, returned}
 
 -- ---- sums
 
--- a sum grows by at least as much as the term of one element, if no term falls
+-- if no term falls and the term of one element grows by at least `more`, the sum grows by at least `more`
 sum_grows : {X : Type 0} (f g : X → ℕ) (xs : List X) (i more : ℕ) (d : X) → i < length xs → ((x : X) → f x ≤ g x) → f (get_or xs i d) + more ≤ g (get_or xs i d) → sum_by f xs + more ≤ sum_by g xs
 sum_grows f g [] i more d inside each here = absurd (omega arith)
 sum_grows f g (x ∷ xs) zero more d inside each here = omega (arith, sum_by-cons f x xs, sum_by-cons g x xs, here, sum_by-le-sum_by f g xs each)
@@ -43,39 +43,39 @@ cond-le_cond false b x implies = omega arith
 
 -- ---- debts
 
--- the weight that a later get of a job of class k returns if the job is at this stage
+-- the weight that a later get of a job of class k can return if the job is at this stage: its done weight, or 0 if it was got
 abbrev pub open_weight : Plan → Vector → ℕ → Stage → ℕ
 open_weight plan v k Stage.Claimed = 0
 open_weight plan v k _ = done_weight plan v k
 
--- what a job owes to its creator: that weight if the reach of its class is below r, and nothing otherwise
+-- what a job owes to its creator: its open weight if the reach of its class is below r, and nothing otherwise
 abbrev pub debt : Plan → Ranks → Vector → ℕ → CreatedJob → ℕ
 debt plan ranks v r job = cond (ltb (reach ranks job.class) r) (open_weight plan v job.class job.stage) 0
 
--- what a job owes to job j, which is nothing unless j created it
+-- what a job owes to job j: its debt if j created it, and nothing otherwise
 abbrev pub debt_to : Plan → Ranks → Vector → ℕ → ℕ → CreatedJob → ℕ
 debt_to plan ranks v r j job = cond (same_parent (parent.Job j) job.parent) (debt plan ranks v r job) 0
 
--- the action gets the submit at position t
+-- the action is a get of the submit at position t
 abbrev is_get_of : ℕ → Option Action → Bool
 is_get_of t (Some (action.Get u)) = eqb t u
 is_get_of t _ = false
 
--- one of the n actions from position h on gets the submit at position t
+-- one of the n actions from position h on is a get of the submit at position t
 abbrev is_got_from : List Action → ℕ → ℕ → ℕ → Bool
 is_got_from body h n t = passes_from (λ u. is_get_of t (slice_get body u)) h n
 
--- what a job owes to job j, if one of the n actions of this body from position h on gets it
+-- what a job owes to job j if one of the n actions of the body from position h on gets it, and nothing otherwise
 abbrev debt_got : Plan → Ranks → Vector → ℕ → List Action → ℕ → ℕ → ℕ → CreatedJob → ℕ
 debt_got plan ranks v r body h n j job = cond (is_got_from body h n job.slot) (debt_to plan ranks v r j job) 0
 
--- ---- the weight that later gets return is owed by the jobs that they get
+-- ---- the jobs that later gets find owe the weight that these gets return
 
--- each get from position i on, of a submit before i, finds its job
+-- each get of job j at position i or later, of a submit before i, finds its job
 abbrev pub FindsChildren : State → ℕ → ℕ → List Action → Type 0
 FindsChildren s j i body = (g t : ℕ) → i ≤ g → t < i → slice_get body g ≡ Some (action.Get t) → HasChild s.jobs (parent.Job j) t (submitted_class body t)
 
--- each of the n actions from position h on that is a get gets a class with a reach below r
+-- each get among the n actions from position h on is a get of a class with a reach below r
 abbrev pub GetsReachBelow : Ranks → ℕ → List Action → ℕ → ℕ → Type 0
 GetsReachBelow ranks r body h n = (u t : ℕ) → h ≤ u → u < h + n → slice_get body u ≡ Some (action.Get t) → reach ranks (submitted_class body t) < r
 
@@ -96,7 +96,7 @@ open_weight_is plan v k Stage.Done unclaimed = refl
 open_weight_is plan v k Stage.Claimed unclaimed = absurd (unclaimed refl)
 
 module _ (plan : Plan) (ranks : Ranks) (v : Vector) (r : ℕ) (s : State) (j : ℕ) where
-  -- the job that a get finds owes the weight that the get returns
+  -- the job that a get of job j finds owes to j the weight that the get returns
   child_owes : (t k : ℕ) (child : HasChild s.jobs (parent.Job j) t k) → reach ranks k < r → debt_to plan ranks v r j (job_at s child.number) ≡ done_weight plan v k
   child_owes t k child low =
       let job = job_at s child.number in
@@ -108,14 +108,14 @@ module _ (plan : Plan) (ranks : Ranks) (v : Vector) (r : ℕ) (s : State) (j : �
       ∙ open_weight_is plan v job.class job.stage child.unclaimed
       ∙ ap (done_weight plan v) child.of_class
 
-  -- with one more action no job has a smaller debt that the actions get
+  -- with one more action, the debt of each job that the actions get does not fall
   more_got : (body : List Action) (h n : ℕ) (job : CreatedJob) → debt_got plan ranks v r body (h + 1) n j job ≤ debt_got plan ranks v r body h (suc n) j job
   more_got body h n job = cond-le_cond (is_got_from body (h + 1) n job.slot) (is_got_from body h (suc n) job.slot) (debt_to plan ranks v r j job) (λ later. or_right (is_get_of job.slot (slice_get body h)) (is_got_from body (h + 1) n job.slot) later)
 
   more_got_all : (body : List Action) (h n : ℕ) → sum_by (debt_got plan ranks v r body (h + 1) n j) s.jobs ≤ sum_by (debt_got plan ranks v r body h (suc n) j) s.jobs
   more_got_all body h n = sum_by-le-sum_by (debt_got plan ranks v r body (h + 1) n j) (debt_got plan ranks v r body h (suc n) j) s.jobs (more_got body h n)
 
-  -- a get at position h adds the debt of its job, because no later action gets the same submit
+  -- a get at position h adds the debt of the job that it finds, because no later action gets the same submit
   owed_at_get : (i h n t : ℕ) (body : List Action) → IsValidBody plan body → FindsChildren s j i body → i ≤ h → t < i → reach ranks (submitted_class body t) < r → slice_get body h ≡ Some (action.Get t)
       → sum_by (debt_got plan ranks v r body (h + 1) n j) s.jobs + done_weight plan v (submitted_class body t) ≤ sum_by (debt_got plan ranks v r body h (suc n) j) s.jobs
   owed_at_get i h n t body valid finds past before low is_next =
@@ -134,7 +134,7 @@ module _ (plan : Plan) (ranks : Ranks) (v : Vector) (r : ℕ) (s : State) (j : �
       let all : debt_got plan ranks v r body h (suc n) j job ≡ done_weight plan v (submitted_class body t) = ap (λ b. cond b (debt_to plan ranks v r j job) 0) now ∙ owes in
       sum_grows (debt_got plan ranks v r body (h + 1) n j) (debt_got plan ranks v r body h (suc n) j) s.jobs child.number (done_weight plan v (submitted_class body t)) no_job is_child.0 (more_got body h n) (omega (arith, nothing, all))
 
-  -- the action at position h and the n actions after it return at most the debts that they get
+  -- the action at position h and the n actions after it return at most the debts of the jobs that they get
   owed_at : (i h n : ℕ) (body : List Action) (next : Option Action) → IsValidBody plan body → FindsChildren s j i body → i ≤ h → ((t : ℕ) → next ≡ Some (action.Get t) → reach ranks (submitted_class body t) < r)
       → returned DoneWeight plan v body i (h + 1) n ≤ sum_by (debt_got plan ranks v r body (h + 1) n j) s.jobs → slice_get body h ≡ next
       → returned_by DoneWeight plan v body i next + returned DoneWeight plan v body i (h + 1) n ≤ sum_by (debt_got plan ranks v r body h (suc n) j) s.jobs
@@ -156,7 +156,7 @@ module _ (plan : Plan) (ranks : Ranks) (v : Vector) (r : ℕ) (s : State) (j : �
       owed_at i h n body (slice_get body h) valid finds past (λ t is_get. low h t (omega arith) (omega arith) is_get)
       (owed_from i (h + 1) n body valid finds (omega arith) (λ u t from below. low u t (omega arith) (omega arith))) refl
 
-  -- the next n actions of job j return at most what all jobs owe to it, if they get only classes with a reach below r
+  -- if the next n actions of job j get only classes with a reach below r, they return at most what all jobs together owe to j
   pub returned-le-owed : (i n : ℕ) (body : List Action) → IsValidBody plan body → FindsChildren s j i body → GetsReachBelow ranks r body i n → returned DoneWeight plan v body i i n ≤ sum_by (debt_to plan ranks v r j) s.jobs
   returned-le-owed i n body valid finds low =
       let all = sum_by-le-sum_by (debt_got plan ranks v r body i n j) (debt_to plan ranks v r j) s.jobs (λ job. cond-le (is_got_from body i n job.slot) (debt_to plan ranks v r j job) (debt_to plan ranks v r j job) (omega arith)) in
@@ -170,7 +170,7 @@ owed_to_creator {X = X} (parent.Job q) w xs =
     let at_most = by_place-but_one (λ i. cond (eqb i q) w 0) (λ i. 0) q w (omega (arith, cond-le (eqb q q) w w (omega arith))) (λ i other. omega (arith, ap (λ b. cond b w 0) (ne_eqb i q other))) 0 xs in
     omega (arith, at_most, sum_of_zeros (λ (e : ℕ × X). 0) (enumerate_from 0 xs) (λ e. refl))
 
--- what jobs owe to these creators together is at most what they owe, since each job has one creator
+-- the sum of what the jobs owe to these creators is at most the sum of the debts of the jobs, because each job has one creator
 pub owed-le-debts : (plan : Plan) (ranks : Ranks) (v : Vector) (r : ℕ) (creators jobs : List CreatedJob) → sum_by (λ (e : ℕ × CreatedJob). sum_by (debt_to plan ranks v r e.0) jobs) (enumerate_from 0 creators) ≤ sum_by (debt plan ranks v r) jobs
 owed-le-debts plan ranks v r creators [] = omega (arith, sum_of_zeros (λ (e : ℕ × CreatedJob). 0) (enumerate_from 0 creators) (λ e. refl))
 owed-le-debts plan ranks v r creators (job ∷ jobs) =

@@ -1,5 +1,5 @@
--- No set of jobs waits only for its own members, now or at later gets: below each queued member there is another one in a
--- pool of lower rank. A job *may block* if it is at a counted get or before one.
+-- No set of unfinished jobs waits only for its own members, now or at later gets: for each queued member there would be a queued
+-- member in a pool of lower rank. A job *may block* if it is at a counted get or before one.
 use Rattle.std.proofs.Common.{◌≡◌, ℕ, zero, suc, ◌+◌, ◌-◌, ◌<◌, ◌≤◌, true, false, eqb, List, length, refl, sym, ap, subst, ◌∙◌, arith}
 use Rattle.std.proofs.lemmas.Bool.{and_parts, and_from, eqb-true, eq-eqb, false_from_ne_true}
 use Rattle.std.proofs.lemmas.Option.{slice_get_within}
@@ -21,13 +21,13 @@ use Rattle.soundness.specs.CountedGets.{passes_from, may_block_at, may_block_in,
 use Rattle.soundness.proofs.RankLaws.{RankLaws, rank_laws}
 use Rattle.soundness.proofs.CountedGets.{fails_from, uncounted_reach, fewer_than_core_may_block}
 
--- in each pool fewer jobs than core may block
+-- in each pool fewer jobs than its core size may block
 abbrev pub FewMayBlock : Plan → Ranks → State → Type 0
 FewMayBlock plan ranks s = (p : ℕ) → p < length plan.pools → may_block plan ranks s p < (pool_at plan p).core
 
 -- ---- queued and running members
 
--- the job runs in pool p, at this position of its body
+-- the job is running in pool p, at `position` of its body
 record IsRunningIn (plan : Plan) (p : ℕ) (job : CreatedJob) : Type 0 where
   position : ℕ
   stands : job.stage ≡ Stage.At position
@@ -45,7 +45,7 @@ is_running plan p job busy =
     let at = position_of job.stage parts.0 in
     record { position = at.0; stands = at.1; of_pool = eqb-true (pool_of plan job.class) p parts.1 }
 
--- a queued member of a pool of a rank below r
+-- a queued member in a pool whose rank is below r
 record QueuedBelow (plan : Plan) (ranks : Ranks) (s : State) (members : List ℕ) (r : ℕ) : Type 0 where
   number : ℕ
   member : IsMember members number
@@ -58,25 +58,28 @@ module _ (plan : Plan) (ranks : Ranks) (s : State) (members : List ℕ) (laws : 
   waits_at : (j : ℕ) (stage : Stage) → IsMember members j → (job_at s j).stage ≡ stage → WaitsLoosely plan s members j stage
   waits_at j stage member is_stage = subst (WaitsLoosely plan s members j) is_stage (waiting.each j member)
 
-  -- a member is not claimed, so it exists
+  -- each member is one of the state's jobs, because it is not claimed
   member_made : (j : ℕ) → IsMember members j → j < length s.jobs
   member_made j member = job_made s j (λ claimed. waits_at j Stage.Claimed member claimed)
 
   -- ---- each chain of children ends
 
-  -- the child has a greater number than the job
+  -- the child for which a job waits has a greater number than the job
   child_later : (j i : ℕ) (waits : WaitsForChild plan s members j i) → j < waits.child_number
   child_later j i waits = subst (λ (a : Parent). HasGreaterNumber a waits.child_number) waits.is_child (kept.parents waits.child_number (member_made waits.child_number waits.member))
 
-  -- from every later member of a class with a reach below r, children lead to a queued member of a pool of a rank below r
+  -- for each member with a greater number than j and a class whose reach is below r there is a queued member in a pool of rank
+  -- below r
   abbrev LaterLead : ℕ → ℕ → Type 0
   LaterLead r j = (n : ℕ) → j < n → IsMember members n → reach ranks (job_at s n).class < r → QueuedBelow plan ranks s members r
 
-  -- children lead from a running member to such a queued member if they do from the child that it waits for
+  -- if a running member waits for a child whose class has a reach below r, and this holds for the members with greater numbers,
+  -- there is a queued member in a pool of rank below r
   lead_by_child : (r j i : ℕ) → LaterLead r j → (waits : WaitsForChild plan s members j i) → reach ranks (submitted_class (class_at plan (job_at s j).class).body waits.submit) < r → QueuedBelow plan ranks s members r
   lead_by_child r j i onward waits low = onward waits.child_number (child_later j i waits) waits.member (subst (λ (k : ℕ). reach ranks k < r) (sym waits.of_class) low)
 
-  -- children lead from a member to such a queued member if they do from all later members
+  -- if the reach of a member's class is below r, and this holds for the members with greater numbers, there is a queued member in
+  -- a pool of rank below r
   one_step : (r j : ℕ) (stage : Stage) → LaterLead r j → IsMember members j → (job_at s j).stage ≡ stage → WaitsLoosely plan s members j stage → reach ranks (job_at s j).class < r → QueuedBelow plan ranks s members r
   one_step r j Stage.Queued onward member is_stage waits low =
       let reaches = laws.reaches (job_at s j).class (kept.classes j no_job (member_made j member)) in
@@ -87,7 +90,8 @@ module _ (plan : Plan) (ranks : Ranks) (s : State) (members : List ℕ) (laws : 
   one_step r j Stage.Done onward member is_stage waits low = absurd waits
   one_step r j Stage.Claimed onward member is_stage waits low = absurd waits
 
-  -- children lead from each member to such a queued member, in at most as many steps as there are later jobs
+  -- for each member with a class whose reach is below r there is a queued member in a pool of rank below r, by induction on the
+  -- number of jobs with greater numbers
   leads_within : (r later j : ℕ) → length s.jobs ≤ j + later → IsMember members j → reach ranks (job_at s j).class < r → QueuedBelow plan ranks s members r
   leads_within r zero j few member low = let made = member_made j member in absurd (omega arith)
   leads_within r (suc later) j few member low = one_step r j (job_at s j).stage (λ n after member' low'. leads_within r later n (omega arith) member' low') member refl (waiting.each j member) low
@@ -97,7 +101,7 @@ module _ (plan : Plan) (ranks : Ranks) (s : State) (members : List ℕ) (laws : 
 
   -- ---- ranks decrease
 
-  -- a running member that may not block waits for a child of a class with a reach below the rank of its pool
+  -- a running member that may not block waits for a child whose class has a reach below the rank of the member's pool
   child_below : (m i : ℕ) → (job_at s m).stage ≡ Stage.At i → may_block_in plan ranks (pool_of plan (job_at s m).class) (job_at s m) ≡ false → (waits : WaitsForChild plan s members m i)
       → reach ranks (submitted_class (class_at plan (job_at s m).class).body waits.submit) < rank ranks (pool_of plan (job_at s m).class)
   child_below m i at free waits =
@@ -112,7 +116,7 @@ module _ (plan : Plan) (ranks : Ranks) (s : State) (members : List ℕ) (laws : 
       cc) in
       uncounted_reach plan ranks k waits.get waits.submit waits.stands (fails_from (is_counted plan ranks k) i (length body - i) waits.get none ahead (omega arith))
 
-  -- children lead from a running member that may not block to a queued member of a pool of lower rank
+  -- for each running member that may not block there is a queued member in a pool of a rank below the rank of its own pool
   leads_below_own : (m i : ℕ) → IsMember members m → (job_at s m).stage ≡ Stage.At i → may_block_in plan ranks (pool_of plan (job_at s m).class) (job_at s m) ≡ false → QueuedBelow plan ranks s members (rank ranks (pool_of plan (job_at s m).class))
   leads_below_own m i member at free =
       let r = rank ranks (pool_of plan (job_at s m).class) in
@@ -120,7 +124,8 @@ module _ (plan : Plan) (ranks : Ranks) (s : State) (members : List ℕ) (laws : 
       lead_by_child r m i (λ n after member' low. leads r n member' low) waits (child_below m i at free waits)
 
   module _ (valid : HasValidBodies plan) (few : FewMayBlock plan ranks s) where
-    -- below each queued member there is another one, since its pool has a running job that may not block
+    -- for each queued member there is a queued member in a pool of lower rank, because a running job of its pool is a member that
+    -- may not block
     next_below : (n : ℕ) → IsMember members n → (job_at s n).stage ≡ Stage.Queued → QueuedBelow plan ranks s members (rank ranks (pool_of plan (job_at s n).class))
     next_below n member queued =
         let p = pool_of plan (job_at s n).class in
@@ -135,7 +140,7 @@ module _ (plan : Plan) (ranks : Ranks) (s : State) (members : List ℕ) (laws : 
         let free = subst (λ (q : ℕ). may_block_in plan ranks q (job_at s m) ≡ false) (sym running.of_pool) (found.fails no_job) in
         subst (λ (q : ℕ). QueuedBelow plan ranks s members (rank ranks q)) running.of_pool (leads_below_own m running.position (waits.all_at_work m (found.passes no_job)) running.stands free)
 
-    -- there is no queued member, since ranks cannot decrease forever
+    -- there is no queued member, because ranks cannot decrease forever
     none_below : (most r : ℕ) → r ≤ most → QueuedBelow plan ranks s members r → ⊥
     none_below zero r within found = omega (arith, found.below)
     none_below (suc most) r within found = none_below most (rank ranks (pool_of plan (job_at s found.number).class)) (omega (arith, found.below)) (next_below found.number found.member found.queued)
@@ -145,7 +150,7 @@ module _ (plan : Plan) (ranks : Ranks) (s : State) (members : List ℕ) (laws : 
         let r = reach ranks (job_at s waiting.first).class + 1 in
         none_below r r (omega arith) (leads r waiting.first waiting.not_empty (omega arith))
 
--- no set of jobs waits only for its own members, now or at later gets
+-- no set of unfinished jobs waits only for its own members, now or at later gets
 pub none_waits_loosely : (plan : Plan) (ranks : Ranks) (s : State) (members : List ℕ) → HasValidBodies plan → RankLaws plan ranks → StateInvariant plan s → FewMayBlock plan ranks s → ¬ IsLooseWaitingSet plan s members
 none_waits_loosely plan ranks s members valid laws kept few waiting = impossible plan ranks s members laws kept waiting valid few
 

@@ -1,4 +1,5 @@
--- Each job event and each take reduces the remaining work of a state, and the end of a thread leaves it unchanged.
+-- Each job event and each take reduces the remaining work of a state by at least one, and the end of a thread leaves it
+-- unchanged.
 use Rattle.std.proofs.Common.{◌≡◌, ◌≢◌, ℕ, zero, suc, ◌+◌, ◌<◌, ◌≤◌, ◌⊎◌, inl, inr, Bool, true, false, List, [], ◌∷◌, ◌++◌, length, get_or, slice_get, sum_by, Some, None, refl, sym, ap, ◌∙◌, add-one, arith}
 use Rattle.std.proofs.lemmas.List.Sums.{sum_by-cons, sum_by_push, sum_by-set, sum_by-drop_more}
 use Rattle.std.proofs.lemmas.Option.{slice_get_within, get_or_from_slice_get}
@@ -23,9 +24,9 @@ use Rattle.weights.specs.Ranks.{Ranks, level}
 use Rattle.soundness.specs.Drain.{of_submit, full_within, full, FullIsWhole, FullIsOfThePlan, stage_todo, todo, is_of_no_client}
 use Rattle.soundness.proofs.RankLaws.{RankLaws, rank_laws}
 
--- ---- whole jobs
+-- ---- the work of a new job
 
--- two sums whose terms agree for each element
+-- two sums over a list are equal if their terms agree for each element
 sum_by-agree_each : {X : Type 0} (f g : X → ℕ) (xs : List X) → ((i : ℕ) (x : X) → slice_get xs i ≡ Some x → f x ≡ g x) → sum_by f xs ≡ sum_by g xs
 sum_by-agree_each f g [] same = refl
 sum_by-agree_each f g (x ∷ xs) same =
@@ -33,17 +34,18 @@ sum_by-agree_each f g (x ∷ xs) same =
     let rest = sum_by-agree_each f g xs (λ i y e. same (suc i) y e) in
     omega (arith, sum_by-cons f x xs, sum_by-cons g x xs)
 
--- for one action, if the two functions agree for the class that it submits
+-- two functions give the same for an action if they agree for the class that it submits
 of_submit-agree : (f g : ℕ → ℕ) (x : Action) → ((k : ℕ) → x ≡ action.Submit k → f k ≡ g k) → of_submit f x ≡ of_submit g x
 of_submit-agree f g (action.Work u) same = refl
 of_submit-agree f g (action.Submit k) same = same k refl
 of_submit-agree f g (action.Get t) same = refl
 
--- for the submits of a body, if the two functions agree for each class that it submits
+-- two functions give the same sum over the submits of a body if they agree for each class that the body submits
 submits-agree : (f g : ℕ → ℕ) (body : List Action) → ((i k : ℕ) → slice_get body i ≡ Some (action.Submit k) → f k ≡ g k) → sum_by (of_submit f) body ≡ sum_by (of_submit g) body
 submits-agree f g body same = sum_by-agree_each (of_submit f) (of_submit g) body (λ i x e. of_submit-agree f g x (λ k is_submit. same i k (e ∙ ap Some is_submit)))
 
--- any two sufficient numbers of generations, for any ranks, give the same
+-- any two numbers of generations above the class's level give the same work of a new job, even if the levels belong to different
+-- ranks
 full_within-agree : (plan : Plan) (ranks ranks' : Ranks) (n m k : ℕ) → RankLaws plan ranks → RankLaws plan ranks' → level ranks k < n → level ranks' k < m → full_within plan n k ≡ full_within plan m k
 full_within-agree plan ranks ranks' zero m k laws laws' low low' = absurd (omega arith)
 full_within-agree plan ranks ranks' (suc n) zero k laws laws' low low' = absurd (omega arith)
@@ -56,11 +58,11 @@ full_within-agree plan ranks ranks' (suc n) (suc m) k laws laws' low low' =
     let sinks' = laws'.sinks k i k' e in
     full_within-agree plan ranks ranks' n m k' laws laws' (omega arith) (omega arith)))
 
--- the work of a whole job is the same for all ranks
+-- the work of a new job of class k is the same for all ranks that satisfy the rules
 pub full_is_of_plan : (plan : Plan) (ranks ranks' : Ranks) (k : ℕ) → RankLaws plan ranks → RankLaws plan ranks' → full plan ranks k ≡ full plan ranks' k
 full_is_of_plan plan ranks ranks' k laws laws' = full_within-agree plan ranks ranks' (level ranks k + 1) (level ranks' k + 1) k laws laws' (omega arith) (omega arith)
 
--- the work of a whole job is its actions, its take and its end, and the work of the whole jobs that it submits
+-- the work of a new job is its actions, its take and its end, and the work of the jobs that it submits
 pub full_is : (plan : Plan) (ranks : Ranks) → RankLaws plan ranks → (k : ℕ) → full plan ranks k ≡ length (class_at plan k).body + 2 + sum_by (of_submit (full plan ranks)) (class_at plan k).body
 full_is plan ranks laws k =
     let body = (class_at plan k).body in
@@ -71,21 +73,21 @@ full_is plan ranks laws k =
     let sinks = laws.sinks k i k' e in
     full_within-agree plan ranks ranks (level ranks k) (level ranks k' + 1) k' laws laws (omega arith) (omega arith)))
 
--- the same if the rows hold
+-- the law that states what the work of a new job is
 pub full_is_whole : FullIsWhole
 full_is_whole plan ranks k hold = full_is plan ranks (rank_laws plan ranks hold) k
 
--- and for all ranks whose rows hold
+-- the law that the work of a new job is the same for all ranks whose rows hold
 pub full_is_of_the_plan : FullIsOfThePlan
 full_is_of_the_plan plan ranks ranks' k hold hold' = full_is_of_plan plan ranks ranks' k (rank_laws plan ranks hold) (rank_laws plan ranks' hold')
 
 -- ---- the remaining work after a change of the jobs
 
--- the remaining work of these jobs
+-- the sum of the remaining work of the jobs of a list
 abbrev jobs_todo : Plan → Ranks → List CreatedJob → ℕ
 jobs_todo plan ranks jobs = sum_by (λ (job : CreatedJob). stage_todo plan ranks job.class job.stage) jobs
 
--- the remaining work changes by the difference of the two stages
+-- if one job changes its stage, the remaining work changes by the difference between the two stages
 jobs_todo-staged : (plan : Plan) (ranks : Ranks) (jobs : List CreatedJob) (j : ℕ) (stage was : Stage) → j < length jobs → (get_or jobs j no_job).stage ≡ was
     → jobs_todo plan ranks (staged jobs j stage) + stage_todo plan ranks (get_or jobs j no_job).class was ≡ jobs_todo plan ranks jobs + stage_todo plan ranks (get_or jobs j no_job).class stage
 jobs_todo-staged plan ranks jobs j stage was inside e =
@@ -97,7 +99,8 @@ jobs_todo-staged plan ranks jobs j stage was inside e =
 jobs_todo_push : (plan : Plan) (ranks : Ranks) (jobs : List CreatedJob) (job : CreatedJob) → jobs_todo plan ranks (jobs ++ job ∷ []) ≡ jobs_todo plan ranks jobs + stage_todo plan ranks job.class job.stage
 jobs_todo_push plan ranks jobs job = sum_by_push (λ (x : CreatedJob). stage_todo plan ranks x.class x.stage) jobs job
 
--- before an action, the remaining work is that action, the jobs that it submits, and the rest
+-- the remaining work of a job before an action is one for the action, the work of the job that it submits, and the remaining work
+-- after it
 todo_before : (plan : Plan) (ranks : Ranks) (k i : ℕ) (x : Action) → slice_get (class_at plan k).body i ≡ Some x → stage_todo plan ranks k (Stage.At i) ≡ stage_todo plan ranks k (Stage.At (i + 1)) + 1 + of_submit (full plan ranks) x
 todo_before plan ranks k i x e =
     let body = (class_at plan k).body in
@@ -105,7 +108,7 @@ todo_before plan ranks k i x e =
     let now = ap (of_submit (full plan ranks)) (get_or_from_slice_get body i x x e) in
     omega (arith, now, sum_by-drop_more (of_submit (full plan ranks)) body i x inside)
 
--- passing an action reduces the remaining work by that amount
+-- if a job passes an action, the remaining work falls by one for the action and by the work of a job that it submits
 pub todo-passed : (plan : Plan) (ranks : Ranks) (s : State) (j : ℕ) (body : List Action) (i : ℕ) (x : Action) → IsAtAction plan s (parent.Job j) body i (Some x)
     → todo plan ranks (with_position (parent.Job j) (i + 1) s) + 1 + of_submit (full plan ranks) x ≡ todo plan ranks s
 todo-passed plan ranks s j body i x at =
@@ -114,7 +117,7 @@ todo-passed plan ranks s j body i x at =
     let is_next : slice_get (class_at plan k).body i ≡ Some x = ap (λ (b : List Action). slice_get b i) (sym was.1) ∙ at.is_there in
     omega (arith, todo_before plan ranks k i x is_next, jobs_todo-staged plan ranks s.jobs j (Stage.At (i + 1)) (Stage.At i) (standing_made plan s j body i at.stands) was.0)
 
--- after its take, a job has all its work left except the take
+-- a job that was just taken has all its work left except the take
 todo_taken : (plan : Plan) (ranks : Ranks) (k : ℕ) → RankLaws plan ranks → stage_todo plan ranks k (Stage.At 0) + 1 ≡ full plan ranks k
 todo_taken plan ranks k laws = omega (arith, full_is plan ranks laws k)
 
@@ -124,7 +127,7 @@ todo_taken plan ranks k laws = omega (arith, full_is plan ranks laws k)
 abbrev HasLess : Plan → Ranks → State → State → Type 0
 HasLess plan ranks s s' = todo plan ranks s' + 1 ≤ todo plan ranks s
 
--- a job at a get passes one action
+-- a get by a job reduces the remaining work
 lowers_gets : (plan : Plan) (ranks : Ranks) (s : State) (n : ℕ) (body : List Action) (i t j : ℕ) → IsAtAction plan s (parent.Job n) body i (Some (action.Get t)) → (job_at s j).stage ≡ Stage.Done → HasLess plan ranks s (with_stage j Stage.Claimed (with_position (parent.Job n) (i + 1) s))
 lowers_gets plan ranks s n body i t j at done =
     let moved : State = with_position (parent.Job n) (i + 1) s in
@@ -132,7 +135,7 @@ lowers_gets plan ranks s n body i t j at done =
     let inside : j < length moved.jobs = job_made moved j (λ claimed. cc) in
     omega (arith, todo-passed plan ranks s n body i (action.Get t) at, jobs_todo-staged plan ranks moved.jobs j Stage.Claimed Stage.Done inside still)
 
--- a job that finishes performs its end
+-- the end of a job reduces the remaining work
 lowers_finishes : (plan : Plan) (ranks : Ranks) (s : State) (j : ℕ) (body : List Action) (i : ℕ) → StateInvariant plan s → IsAtAction plan s (parent.Job j) body i None → HasLess plan ranks s (finished_job plan s j (pool_of plan (job_at s j).class))
 lowers_finishes plan ranks s j body i kept at =
     let k = (job_at s j).class in
@@ -141,13 +144,13 @@ lowers_finishes plan ranks s j body i kept at =
     let long = ap (λ (b : List Action). length b) was.1 in
     omega (arith, jobs_todo-staged plan ranks s.jobs j Stage.Done (Stage.At i) (standing_made plan s j body i at.stands) was.0)
 
--- a job that is taken performs its take
+-- a take reduces the remaining work
 lowers_takes : (plan : Plan) (ranks : Ranks) (s : State) (p j : ℕ) (queue : List ℕ) (idle : ℕ) → RankLaws plan ranks → StateInvariant plan s → (pool_part s p).queue ≡ j ∷ queue → HasLess plan ranks s (with_part p queue idle (with_stage j (Stage.At 0) s))
 lowers_takes plan ranks s p j queue idle laws kept is_queue =
     let head = head_of_queue plan s p j queue kept is_queue in
     omega (arith, todo_taken plan ranks (job_at s j).class laws, jobs_todo-staged plan ranks s.jobs j (Stage.At 0) Stage.Queued head.inside head.queued)
 
--- every job event and every take
+-- each job event and each take reduces the remaining work by at least one
 pub lowers : (plan : Plan) (ranks : Ranks) (s s' : State) (o : Outcome) (e : Event) → RankLaws plan ranks → StateInvariant plan s → s.refusals ≡ 0 → s'.refusals ≡ 0 → is_of_job_or_pool e ≡ true → Happens plan s e s' o → todo plan ranks s' + 1 ≤ todo plan ranks s
 lowers plan ranks s s' o e laws kept none none' of_job_or_pool (works (parent.Client c) body i u at) = absurd cc
 lowers plan ranks s s' o e laws kept none none' of_job_or_pool (works (parent.Job j) body i u at) = omega (arith, todo-passed plan ranks s j body i (action.Work u) at)
@@ -169,7 +172,7 @@ lowers plan ranks s s' o e laws kept none none' of_job_or_pool (retires p idle i
 
 -- ---- the end of a thread
 
--- the end of a thread is the only event that is not an event of a client or a job, or a take
+-- the event is the end of a thread; every other event is a client's, a job's, or a take
 abbrev pub ends_thread : Event → Bool
 ends_thread (event.Retire p) = true
 ends_thread _ = false
@@ -180,19 +183,19 @@ no_client_cases (event.Job j) of_no_client = inl refl
 no_client_cases (event.Take p) of_no_client = inl refl
 no_client_cases (event.Retire p) of_no_client = inr refl
 
--- it is not a job event or a take
+-- the end of a thread is neither a job event nor a take
 pub not_counted : (e : Event) → ends_thread e ≡ true → is_of_job_or_pool e ≡ false
 not_counted (event.Client c) is_end = refl
 not_counted (event.Job j) is_end = absurd cc
 not_counted (event.Take p) is_end = absurd cc
 not_counted (event.Retire p) is_end = refl
 
--- no actor's event is the end of a thread
+-- an actor's event is not the end of a thread
 pub no_actor : (a : Parent) → ends_thread (event_of a) ≢ true
 no_actor (parent.Client c) is_end = cc
 no_actor (parent.Job j) is_end = cc
 
--- the jobs are unchanged
+-- the end of a thread leaves the jobs unchanged
 pub same_jobs : (plan : Plan) (s s' : State) (o : Outcome) {e : Event} → ends_thread e ≡ true → Happens plan s e s' o → s'.jobs ≡ s.jobs
 same_jobs plan s s' o is_end (works a body i u at) = absurd (no_actor a is_end)
 same_jobs plan s s' o is_end (starts a body i k at below) = absurd (no_actor a is_end)
@@ -204,6 +207,6 @@ same_jobs plan s s' o is_end (loops c client body i at is_client repeats) = absu
 same_jobs plan s s' o is_end (takes p j queue idle is_queue is_idle) = absurd cc
 same_jobs plan s s' o is_end (retires p idle is_idle above_core) = refl
 
--- their remaining work is unchanged
+-- the end of a thread leaves the remaining work unchanged
 pub same_todo : (plan : Plan) (ranks : Ranks) (s s' : State) (o : Outcome) {e : Event} → ends_thread e ≡ true → Happens plan s e s' o → todo plan ranks s' ≡ todo plan ranks s
 same_todo plan ranks s s' o is_end happened = ap (jobs_todo plan ranks) (same_jobs plan s s' o is_end happened)

@@ -14,7 +14,7 @@ use Rattle.soundness.proofs.CompletedSteps.{mark, by_place-longer}
 use Rattle.soundness.proofs.Costs.{calls_done}
 use Rattle.soundness.proofs.ExchangedJobs.{job_at-exchanged}
 
--- a job at a submit stays at it in an exchange
+-- a job at a submit is still at it after an exchange
 before_exchanged : (plan : Plan) (s : State) (a : Parent) (t u n p : ℕ) → StandsBefore plan (job_at s n) p → StandsBefore plan (job_at (after_exchange a t u s) n) p
 before_exchanged plan s a t u n p before =
     subst (λ (job : CreatedJob). StandsBefore plan job p) (sym (job_at-exchanged s a t u n))
@@ -29,6 +29,6 @@ job_calls_exchanged plan s a t u calls = record {
 pub todo-exchanged : (plan : Plan) (ranks : Ranks) (s : State) (a : Parent) (t u : ℕ) → todo plan ranks (after_exchange a t u s) ≡ todo plan ranks s
 todo-exchanged plan ranks s a t u = sum_by-map (λ (job : CreatedJob). stage_todo plan ranks job.class job.stage) (exchanged_job a t u) s.jobs
 
--- the number of completed steps of the calls in progress does not fall in an exchange
+-- an exchange does not reduce the number of completed steps of the calls in progress
 pub calls_done-exchanged : (s : JavaState) (a : Parent) (t u : ℕ) → calls_done s ≤ calls_done (record s { machine = after_exchange a t u s.machine })
 calls_done-exchanged s a t u = by_place-longer (mark s) 0 s.machine.jobs (map (exchanged_job a t u) s.machine.jobs) (omega (arith, length-map s.machine.jobs (exchanged_job a t u)))

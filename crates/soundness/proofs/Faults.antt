@@ -1,4 +1,4 @@
--- Lists of rows without a failing one, and certificates without a failing condition.
+-- A list of rows has no failing row exactly when all its rows hold, and a certificate without a failing condition is accepted.
 use Rattle.std.proofs.Common.{◌≡◌, ℕ, ◌+◌, ◌<◌, ◌≤◌, ⊎_elim, Bool, true, false, cond, ltb, List, [], ◌∷◌, length, filter, flat_map, Option, Some, None, refl, sym, ap, subst, ◌∙◌, arith}
 use Rattle.std.specs.List.{enumerate_from}
 use Rattle.std.proofs.lemmas.Bool.{and_from, ltb-false, le-ltb}
@@ -19,12 +19,12 @@ use Rattle.soundness.specs.Accepted.{is_nil, accepted}
 
 -- ---- the first row that fails
 
--- if the first row holds, the first failing row is among the others
+-- if no row of a list fails, its first row holds and none of the others fails
 first_holds : (b : Bool) (x : Row) (rest : Option Row) → cond b (Some x) rest ≡ None → (b ≡ false) × (rest ≡ None)
 first_holds true x rest none = absurd cc
 first_holds false x rest none = (refl, none)
 
--- if there is no first failing row, all rows hold
+-- if a list of rows has no failing row, all its rows hold
 pub all_hold : (rows : List Row) → first_failing rows ≡ None → AllHold rows
 all_hold [] none x i = absurd (not_In_nil i)
 all_hold (y ∷ rows) none x i =
@@ -34,7 +34,7 @@ all_hold (y ∷ rows) none x i =
     (λ later. all_hold rows parts.1 x later)
     (In-cons_cases i)
 
--- if all rows hold, there is no first failing row
+-- if all rows of a list hold, it has no failing row
 pub none_fails : (rows : List Row) → AllHold rows → first_failing rows ≡ None
 none_fails [] hold = refl
 none_fails (y ∷ rows) hold =
@@ -42,7 +42,7 @@ none_fails (y ∷ rows) hold =
 
 -- ---- the failing conditions
 
--- the index of an element of an enumerated list is in range
+-- the number of an element of a list that is numbered from n is at least n and below n plus the list's length
 pub pool_numbers : {X : Type 0} (n : ℕ) (xs : List X) (entry : ℕ × X) → In entry (enumerate_from n xs) → (n ≤ entry.0) × (entry.0 < n + length xs)
 pool_numbers n [] entry i = absurd (not_In_nil i)
 pool_numbers {X} n (x ∷ xs) entry i =
@@ -51,18 +51,18 @@ pool_numbers {X} n (x ∷ xs) entry i =
     (λ later. let within = pool_numbers (n + 1) xs entry later in (omega (arith, within.0), omega (arith, within.1)))
     (In-cons_cases i)
 
--- a filter that no element passes removes all
+-- if no element passes the test, the filtered list is empty
 filter_none : {X : Type 0} (test : X → Bool) (xs : List X) → ((x : X) → In x xs → test x ≡ false) → filter test xs ≡ []
 filter_none test [] each = refl
 filter_none test (x ∷ xs) each = ap (λ (b : Bool). cond b (x ∷ filter test xs) (filter test xs)) (each x here) ∙ filter_none test xs (λ y i. each y (there i))
 
--- if the rows of a section hold, none of its notes fails
+-- if the rows of a section hold, none of the section's conditions fails
 holds_in_section : (part : Section) (rows : List Row) (x : Note) → AllHold rows → In x (in_section part rows) → ltb x.right x.left ≡ false
 holds_in_section part rows x hold i =
     let found = In-map_from (note part) rows i in
     subst (λ (y : Note). ltb y.right y.left ≡ false) found.2 (le-ltb found.0.right found.0.left (hold found.0 found.1))
 
--- a certificate that fits and whose conditions all hold is accepted
+-- a certificate is accepted if it fits the plan and all its conditions hold
 pub accepted_from_parts : (plan : Plan) (cert : Cert) → cert_fits plan cert ≡ true → AllHold (rank_rows plan cert.ranks)
     → ((p : ℕ) → p < length plan.pools → AllHold (bound_rows plan p (pool_cert_at cert p).bound))
     → ((p : ℕ) → p < length plan.pools → AllHold (blocked_rows plan p (is_counted plan cert.ranks) (pool_cert_at cert p).blocked))

@@ -1,5 +1,5 @@
--- Plans whose pools all have a bound that holds reject nothing, and no call requests a thread from a pool with a standing
--- vector, if submits are the steps of Java's execute.
+-- In a plan in which each pool has a bound whose rows hold, no submit is refused in Java's steps, and no call requests a thread
+-- from a pool with a standing vector.
 use Rattle.std.proofs.Common.{◌≡◌, ℕ, List, Some, subst}
 use Rattle.std.proofs.lemmas.Bool.{false_from_ne_true}
 use Rattle.job_bodies.specs.Plan.{Plan}
@@ -16,12 +16,12 @@ use Rattle.soundness.specs.Headline.{BoundedPlansJavaRefuseNothing, StandingPool
 use Rattle.soundness.proofs.Bounded.{Bounded, BoundsHold, bounded_start, bounded_step, keeps_sizes}
 use Rattle.soundness.proofs.Calls.{QueueWasFull, CallsKept, calls_none, machine_keeps, calls_step}
 
--- the invariants of reachable states
+-- the invariants of the states that are reachable in Java's steps
 record JavaBounded (plan : Plan) (bounds : ℕ → Bound) (s : JavaState) : Type 0 where
   bounded : Bounded plan bounds s.machine
   calls : CallsKept plan bounds s
 
--- every event preserves them
+-- each event in Java's steps preserves the invariants
 java_bounded_step : (plan : Plan) (bounds : ℕ → Bound) → HasValidBodies plan → BoundsHold plan bounds → (s : JavaState) (e : Event) (s' : JavaState) → JavaBounded plan bounds s → java_step plan s e ≡ Some s' → JavaBounded plan bounds s'
 java_bounded_step plan bounds ordered laws s e s' held is_step =
     let happened = java_happens plan s e s' ordered held.calls.offering is_step in
@@ -35,12 +35,12 @@ java_bounded plan bounds ordered laws events s reached =
     java_replay_keeps plan (JavaBounded plan bounds) (java_bounded_step plan bounds ordered laws) events (without_calls (start plan)) s
     (record { bounded = bounded_start plan bounds ordered; calls = calls_none plan bounds (start plan) }) reached
 
--- no submit was rejected, and each pool is within its limits
+-- the law that no submit is refused and each pool is within its maximum and its queue's capacity
 pub bounded_plans_java_refuse_nothing : BoundedPlansJavaRefuseNothing
 bounded_plans_java_refuse_nothing plan bounds well_formed hold events s reached =
     keeps_sizes plan bounds s.machine (java_bounded plan bounds (ordered plan well_formed) (λ p inside. bound_laws plan p (bounds p) (hold p inside).0 (hold p inside).1) events s reached).bounded
 
--- no call requests a thread from a pool with a standing vector
+-- the law that no call requests a thread from a pool with a standing vector
 pub standing_pools_are_not_asked : StandingPoolsAreNotAsked
 standing_pools_are_not_asked plan bounds p v events s a well_formed hold inside is_standing reached =
     let held = java_bounded plan bounds (ordered plan well_formed) (λ q within. bound_laws plan q (bounds q) (hold q within).0 (hold q within).1) events s reached in

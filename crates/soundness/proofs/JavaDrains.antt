@@ -1,4 +1,4 @@
--- Accepted plans drain if submits are the steps of Java's execute.
+-- Accepted plans drain if each submit is the separate steps of Java's `execute`.
 use Rattle.std.proofs.Common.{◌≡◌, ℕ, ◌+◌, ◌*◌, ◌≤◌, ⊎_elim, true, false, List, [], ◌∷◌, Option, Some, None, is_some, refl, sym, ap, subst, ◌∙◌, arith}
 use Rattle.std.specs.List.{list_all, count_by}
 use Rattle.std.proofs.lemmas.Bool.{and_parts, false_from_ne_true}
@@ -30,7 +30,7 @@ pub record JavaHeld (plan : Plan) (cert : Cert) (s : JavaState) : Type 0 where
   pub java : JavaSound plan cert s
   pub jobs : JobCalls plan s
 
--- every event
+-- each event in Java's steps preserves the invariants of an accepted plan and of the calls of its jobs
 pub held_step : (plan : Plan) (cert : Cert) → HasValidBodies plan → CertLaws plan cert → (s : JavaState) (e : Event) (s' : JavaState) → JavaHeld plan cert s → java_step plan s e ≡ Some s' → JavaHeld plan cert s'
 held_step plan cert ordered laws s e s' held is_step =
     let java' = java_sound_step plan cert ordered laws s e s' held.java is_step in
@@ -39,7 +39,7 @@ held_step plan cert ordered laws s e s' held is_step =
       jobs = job_calls_step plan s s' held.java.sound.bounded.kept (java'.sound.bounded.none_refused ∙ sym held.java.sound.bounded.none_refused) held.jobs (java_happens plan s e s' ordered held.java.calls.offering is_step);
     }
 
--- in every reachable state
+-- every state that is reachable in Java's steps satisfies the invariants of an accepted plan and of the calls of its jobs
 java_held : (plan : Plan) (cert : Cert) → HasValidBodies plan → CertLaws plan cert → (s : JavaState) → IsJavaReached plan s → JavaHeld plan cert s
 java_held plan cert ordered laws s reached =
     java_replay_keeps plan (JavaHeld plan cert) (held_step plan cert ordered laws) reached.0 (without_calls (start plan)) s
@@ -47,11 +47,11 @@ java_held plan cert ordered laws s reached =
 
 -- ---- lists of events
 
--- n job events and takes are paid for by three times the remaining work, counting the steps of calls
+-- the events from s to s' pay for n events: three times the remaining work, minus the completed steps of calls, falls by at least n
 abbrev pub Pays : Plan → Cert → ℕ → JavaState → JavaState → Type 0
 Pays plan cert n s s' = n + 3 * todo plan cert.ranks s'.machine + calls_done s ≤ 3 * todo plan cert.ranks s.machine + calls_done s'
 
--- one event
+-- each event of a job or a pool pays: 1 if it is a job event or a take, and 0 if it is the end of a thread
 pub event_pays : (plan : Plan) (cert : Cert) (s : JavaState) (e : Event) (s' : JavaState) → HasValidBodies plan → CertLaws plan cert → JavaHeld plan cert s → JavaHeld plan cert s' → is_of_no_client e ≡ true → java_step plan s e ≡ Some s' → Pays plan cert (one_if (is_of_job_or_pool e)) s s'
 event_pays plan cert s e s' ordered laws held held' of_no_client is_step =
     let happened = java_happens plan s e s' ordered held.java.calls.offering is_step in
@@ -62,7 +62,8 @@ event_pays plan cert s e s' ordered laws held held' of_no_client is_step =
     (λ (is_end : ends_thread e ≡ true). omega (arith, ap one_if (not_counted e is_end), costs_nothing plan cert.ranks s s' e is_end happened))
     (no_client_cases e of_no_client)
 
--- the first of several events, and then the others
+-- for a list of events that begins with e, the difference falls by at least the number of job events and takes, if it does for
+-- the other events
 after_first : (plan : Plan) (cert : Cert) (s : JavaState) (e : Event) (events : List Event) (s' : JavaState) → HasValidBodies plan → CertLaws plan cert → JavaHeld plan cert s → is_of_no_client e ≡ true
     → ((next : JavaState) → JavaHeld plan cert next → java_replay plan (Some next) events ≡ Some s' → Pays plan cert (count_by is_of_job_or_pool events) next s')
     → (found : Option JavaState) → java_step plan s e ≡ found → java_replay plan found events ≡ Some s' → Pays plan cert (count_by is_of_job_or_pool (e ∷ events)) s s'
@@ -79,12 +80,12 @@ events_pay plan cert (e ∷ events) s s' ordered laws held each replayed =
     let parts = and_parts (is_of_no_client e) (list_all is_of_no_client events) each in
     after_first plan cert s e events s' ordered laws held parts.0 (λ next held' rest. events_pay plan cert events next s' ordered laws held' parts.1 rest) (java_step plan s e) refl replayed
 
--- the number of job events and takes is bounded, and when none is possible, no job is unfinished
+-- the law that the number of job events and takes is bounded, and that no job is unfinished when none of them is possible
 pub accepted_plans_java_drain : AcceptedPlansJavaDrain
 accepted_plans_java_drain plan cert well_formed is_accepted =
     let is_ordered = ordered plan well_formed in
     let laws = cert_laws plan cert is_accepted in
-    -- the invariants at the end of the list
+    -- the state at the end of a list of events satisfies the invariants
     let held_after : (s s' : JavaState) (events : List Event) → IsJavaReached plan s → java_replay plan (Some s) events ≡ Some s' → JavaHeld plan cert s' =
     λ s s' events reached replayed. java_replay_keeps plan (JavaHeld plan cert) (held_step plan cert is_ordered laws) events s s' (java_held plan cert is_ordered laws s reached) replayed in
     record {

@@ -1,4 +1,4 @@
--- The kinds of events, if submits are the steps of Java's execute.
+-- The possible events if each submit is the separate steps of Java's `execute`.
 use Rattle.std.proofs.Common.{◌≡◌, ℕ, ◌<◌, ◌≤◌, ◌⊎◌, inl, inr, ⊎_elim, Bool, true, false, cond, not, ◌&&◌, eqb, ltb, List, ◌∷◌, length, slice_get, Option, Some, None, refl, ap, subst, ◌∙◌}
 use Rattle.std.proofs.lemmas.Bool.{and_parts, or_cases, not-true, ltb-true, ltb-false, eqb-true}
 use Rattle.std.proofs.lemmas.Option.{none-some, same_Some}
@@ -22,7 +22,7 @@ use Rattle.soundness.specs.Execute.{Call, JavaState, is_calling, without_calls_o
 
 -- ---- calls
 
--- a call among those of others existed before and is not the actor's
+-- if a call of actor b is in the list without the calls of actor a, it is in the list with them, and b is not a
 pub call_of_others : (a b : Parent) (p : ℕ) (calls : List Call) → is_calling (without_calls_of a calls) b p ≡ true → (is_calling calls b p ≡ true) × (same_parent a b ≡ false)
 call_of_others a b p calls is_there =
     let to_pool = λ (call : Call). same_parent b call.actor && eqb p call.pool in
@@ -32,7 +32,7 @@ call_of_others a b p calls is_there =
     let actor : b ≡ found.0.actor = same_actor_true b found.0.actor (and_parts (same_parent b found.0.actor) (eqb p found.0.pool) found.2).0 in
     (list_any_at_In to_pool kept.0 found.2, ap (same_parent a) actor ∙ not-true (same_parent a found.0.actor) kept.1)
 
--- with one more call, a call is the new one or existed before
+-- if a call is in a list with one more call, it is that call or was in the list before
 pub one_more : (call : Call) (calls : List Call) (b : Parent) (p : ℕ) → is_calling (call ∷ calls) b p ≡ true → ((b ≡ call.actor) × (p ≡ call.pool)) ⊎ (is_calling calls b p ≡ true)
 one_more call calls b p is_there =
     ⊎_elim
@@ -44,31 +44,31 @@ one_more call calls b p is_there =
 -- ---- the kinds of events
 
 pub data JavaHappens (plan : Plan) (s : JavaState) : Event → JavaState → Type 0 where
-  -- an event that is not part of a submit
+  -- an event that is not part of a submit is the same event of the machine
   is_atomic : (e : Event) (after : State) (o : Outcome) → submission plan s.machine e ≡ None → Happens plan s.machine e after o → JavaHappens plan s e (record s { machine = after })
-  -- the end of a submit
+  -- the last step of a submit: the pool starts, queues or refuses the job, and the actor's call ends
   ends : (a : Parent) (body : List Action) (i k : ℕ) (after : State) (o : Outcome) → IsAtAction plan s.machine a body i (Some (action.Submit k)) → Happens plan s.machine (event_of a) after o
       → JavaHappens plan s (event_of a) (record { machine = after; offering = without_calls_of a s.offering; requesting = without_calls_of a s.requesting })
-  -- a submit finds core threads
+  -- the first step of a submit, if the pool has at least core threads: the call offers its job next
   finds_core : (a : Parent) (body : List Action) (i k : ℕ) → IsAtAction plan s.machine a body i (Some (action.Submit k)) → is_calling s.requesting a (pool_of plan k) ≡ false → is_calling s.offering a (pool_of plan k) ≡ false
       → (pool_at plan (pool_of plan k)).core ≤ threads plan s.machine (pool_of plan k)
       → JavaHappens plan s (event_of a) (record s { offering = record { actor = a; pool = pool_of plan k } ∷ s.offering })
-  -- it then finds a full queue
+  -- the second step of a submit, if the queue is full: the call requests a thread next
   finds_full : (a : Parent) (body : List Action) (i k : ℕ) → IsAtAction plan s.machine a body i (Some (action.Submit k)) → is_calling s.requesting a (pool_of plan k) ≡ false
       → (pool_at plan (pool_of plan k)).queue ≤ length (pool_part s.machine (pool_of plan k)).queue
       → JavaHappens plan s (event_of a) (record s { offering = without_calls_of a s.offering; requesting = record { actor = a; pool = pool_of plan k } ∷ s.requesting })
-  -- it then finds that all threads exist
+  -- the third step of a submit, if the pool has max threads: the job is refused, even if the queue has room again
   finds_all : (a : Parent) (body : List Action) (i k : ℕ) → IsAtAction plan s.machine a body i (Some (action.Submit k)) → is_calling s.requesting a (pool_of plan k) ≡ true
       → (pool_at plan (pool_of plan k)).max ≤ threads plan s.machine (pool_of plan k)
       → JavaHappens plan s (event_of a) (answers plan s a i k offer.Refused)
 
 -- ---- the steps of a submit
 
--- the pools of the calls that offer had core threads
+-- the pool of each call that offers its job has at least core threads
 abbrev pub OfferAtCore : Plan → JavaState → Type 0
 OfferAtCore plan s = (a : Parent) (p : ℕ) → p < length plan.pools → is_calling s.offering a p ≡ true → (pool_at plan p).core ≤ threads plan s.machine p
 
--- the check
+-- the effect of the first step of a submit is one of the possible events
 checks_core_happens : (plan : Plan) (s : JavaState) (a : Parent) (body : List Action) (i k : ℕ) → IsAtAction plan s.machine a body i (Some (action.Submit k)) → is_calling s.requesting a (pool_of plan k) ≡ false → is_calling s.offering a (pool_of plan k) ≡ false
     → (below : Bool) → ltb (threads plan s.machine (pool_of plan k)) (pool_at plan (pool_of plan k)).core ≡ below
     → JavaHappens plan s (event_of a) (cond below (answers plan s a i k offer.Started) (record s { offering = record { actor = a; pool = pool_of plan k } ∷ s.offering }))
@@ -77,7 +77,7 @@ checks_core_happens plan s a body i k at not_requesting not_offering true is_bel
 checks_core_happens plan s a body i k at not_requesting not_offering false is_below =
     finds_core a body i k at not_requesting not_offering (ltb-false (threads plan s.machine (pool_of plan k)) (pool_at plan (pool_of plan k)).core is_below)
 
--- the offer
+-- the effect of the second step of a submit is one of the possible events
 offers_job_happens : (plan : Plan) (s : JavaState) (a : Parent) (body : List Action) (i k : ℕ) → IsAtAction plan s.machine a body i (Some (action.Submit k)) → is_calling s.requesting a (pool_of plan k) ≡ false → (pool_at plan (pool_of plan k)).core ≤ threads plan s.machine (pool_of plan k)
     → (room : Bool) → ltb (length (pool_part s.machine (pool_of plan k)).queue) (pool_at plan (pool_of plan k)).queue ≡ room
     → JavaHappens plan s (event_of a) (cond room (answers plan s a i k offer.Queued) (record s { offering = without_calls_of a s.offering; requesting = record { actor = a; pool = pool_of plan k } ∷ s.requesting }))
@@ -86,7 +86,7 @@ offers_job_happens plan s a body i k at not_requesting at_core true has_room =
 offers_job_happens plan s a body i k at not_requesting at_core false has_room =
     finds_full a body i k at not_requesting (ltb-false (length (pool_part s.machine (pool_of plan k)).queue) (pool_at plan (pool_of plan k)).queue has_room)
 
--- the request for a thread
+-- the effect of the third step of a submit is one of the possible events
 requests_thread_happens : (plan : Plan) (s : JavaState) (a : Parent) (body : List Action) (i k : ℕ) → IsAtAction plan s.machine a body i (Some (action.Submit k)) → is_calling s.requesting a (pool_of plan k) ≡ true
     → (below : Bool) → ltb (threads plan s.machine (pool_of plan k)) (pool_at plan (pool_of plan k)).max ≡ below → JavaHappens plan s (event_of a) (answers plan s a i k (cond below offer.Started offer.Refused))
 requests_thread_happens plan s a body i k at requesting true is_below =
@@ -94,7 +94,7 @@ requests_thread_happens plan s a body i k at requesting true is_below =
 requests_thread_happens plan s a body i k at requesting false is_below =
     finds_all a body i k at requesting (ltb-false (threads plan s.machine (pool_of plan k)) (pool_at plan (pool_of plan k)).max is_below)
 
--- the next of these steps
+-- the effect of the next step of a submit is one of the possible events
 executes_happens : (plan : Plan) (s : JavaState) (a : Parent) (body : List Action) (i k : ℕ) → HasValidBodies plan → OfferAtCore plan s → IsAtAction plan s.machine a body i (Some (action.Submit k))
     → (requesting offering : Bool) → is_calling s.requesting a (pool_of plan k) ≡ requesting → is_calling s.offering a (pool_of plan k) ≡ offering
     → JavaHappens plan s (event_of a) (cond requesting (requests_thread plan s a i k) (cond offering (offers_job plan s a i k) (checks_core plan s a i k)))
@@ -140,7 +140,7 @@ is_submission plan s (event.Retire p) x is_one = absurd (none-some x is_one)
 
 -- ---- every event
 
--- an event that is that of the machine
+-- the effect of an event that is not part of a submit is one of the possible events
 atomic_happens : (plan : Plan) (s : JavaState) (e : Event) (found : Option (State × Outcome)) (s' : JavaState) → submission plan s.machine e ≡ None → step plan s.machine e ≡ found → as_atomic s found ≡ Some s' → JavaHappens plan s e s'
 atomic_happens plan s e None s' none is_step is_after = absurd (none-some s' is_after)
 atomic_happens plan s e (Some (after, o)) s' none is_step is_after =

@@ -1,4 +1,4 @@
--- Invariants of reachable states, by induction over events; and which events are possible.
+-- Invariants of the states that are reachable in Java's steps, by induction over lists of events, and which events are possible.
 use Rattle.std.proofs.Common.{◌≡◌, true, List, [], ◌∷◌, ◌++◌, Option, Some, None, is_some, refl, sym, subst}
 use Rattle.std.proofs.lemmas.Option.{same_Some}
 use Rattle.job_bodies.specs.Plan.{Plan}
@@ -10,18 +10,18 @@ use Rattle.soundness.specs.Execute.{JavaState, Submission, as_atomic, java_stepp
 
 -- ---- induction over events
 
--- after an impossible event there is no state
+-- no state follows an impossible event
 pub java_replay_none : (plan : Plan) (events : List Event) → java_replay plan None events ≡ None
 java_replay_none plan [] = refl
 java_replay_none plan (e ∷ events) = refl
 
--- two lists of events in order
+-- the state after two lists of events, one after the other, is the state after the second list from the state after the first
 pub java_replay-append : (plan : Plan) (s : Option JavaState) (first second : List Event) → java_replay plan s (first ++ second) ≡ java_replay plan (java_replay plan s first) second
 java_replay-append plan s [] second = refl
 java_replay-append plan None (e ∷ first) second = sym (java_replay_none plan second)
 java_replay-append plan (Some s) (e ∷ first) second = java_replay-append plan (java_step plan s e) first second
 
--- the property is preserved by every event
+-- each event in Java's steps preserves the property
 abbrev JavaStays : Plan → (JavaState → Type 0) → Type 0
 JavaStays plan holds = (s : JavaState) (e : Event) (s' : JavaState) → holds s → java_step plan s e ≡ Some s' → holds s'
 
@@ -40,7 +40,7 @@ java_replay_keeps plan holds stays (e ∷ events) s s' held replayed =
 
 -- ---- what is possible
 
--- an event that the machine allows is possible
+-- an event that is not part of a submit is possible in Java's steps if the machine allows it
 atomic_possible : (s : JavaState) (found : Option (State × Outcome)) → is_some found ≡ true → is_some (as_atomic s found) ≡ true
 atomic_possible s None possible = absurd cc
 atomic_possible s (Some x) possible = refl

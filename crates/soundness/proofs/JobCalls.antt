@@ -1,4 +1,4 @@
--- A job in a call is at a submit to the pool that it calls.
+-- A job with a call in progress is at a submit to the pool of the call.
 use Rattle.std.proofs.Common.{◌≡◌, ◌≢◌, ℕ, ◌+◌, ◌<◌, true, false, List, [], ◌∷◌, ◌++◌, length, get_or, slice_get, ⊎_elim, Some, None, refl, sym, ap, subst, ◌∙◌, arith}
 use Rattle.std.proofs.lemmas.Bool.{false≢true}
 use Rattle.std.proofs.lemmas.List.{get_or-set_other, get_or_append_left}
@@ -23,7 +23,7 @@ use Rattle.soundness.proofs.JavaEvents.{JavaHappens, is_atomic, ends, finds_core
 
 -- ---- jobs at a submit
 
--- the job is at a submit to the pool
+-- the job is running, and its next action is a submit to pool p
 pub record StandsBefore (plan : Plan) (job : CreatedJob) (p : ℕ) : Type 0 where
   pub position : ℕ
   pub submitted : ℕ
@@ -31,33 +31,33 @@ pub record StandsBefore (plan : Plan) (job : CreatedJob) (p : ℕ) : Type 0 wher
   pub submits : slice_get (class_at plan job.class).body position ≡ Some (action.Submit submitted)
   pub to_pool : p ≡ pool_of plan submitted
 
--- a job at a submit
+-- a job at a submit of class k is at a submit to the pool of class k
 pub stands_before : (plan : Plan) (s : State) (n : ℕ) (body : List Action) (i k : ℕ) → IsAtAction plan s (parent.Job n) body i (Some (action.Submit k)) → StandsBefore plan (job_at s n) (pool_of plan k)
 stands_before plan s n body i k at =
     let was = stage_of_standing plan (job_at s n).class (job_at s n).stage body i at.stands in
     record { position = i; submitted = k; stage = was.0; submits = ap (λ (b : List Action). slice_get b i) (sym was.1) ∙ at.is_there; to_pool = refl }
 
--- its next event is a step of the submit
+-- the next event of a job at a submit is a step of that submit
 submission_of_job : (plan : Plan) (s : State) (n p : ℕ) (before : StandsBefore plan (job_at s n) p) → submission plan s (event.Job n) ≡ Some (record { actor = parent.Job n; position = before.position; class = before.submitted })
 submission_of_job plan s n p before =
     ap (λ (stage : Stage). submission_of (parent.Job n) (point_of_job plan (job_at s n).class stage)) before.stage ∙ ap (submission_at (parent.Job n) before.position) before.submits
 
--- ---- a job at a position after an event of another actor
+-- ---- a job at a position is unchanged by an event of another actor
 
--- the move of another actor
+-- a job is unchanged if another actor changes its position
 moved_leaves : (s : State) (a : Parent) (i n : ℕ) → a ≢ parent.Job n → get_or (moved_jobs a i s) n no_job ≡ job_at s n
 moved_leaves s (parent.Client c) i n other = refl
 moved_leaves s (parent.Job m) i n other = get_or-set_other s.jobs m n (record (job_at s m) { stage = Stage.At i }) no_job (λ (same : n ≡ m). other (ap parent.Job (sym same)))
 
--- the submit of another actor
+-- a job is unchanged if another actor changes its position and submits a job
 pub pushed_leaves : (s : State) (a : Parent) (i n : ℕ) (job : CreatedJob) → n < length s.jobs → a ≢ parent.Job n → get_or (moved_jobs a i s ++ job ∷ []) n no_job ≡ job_at s n
 pushed_leaves s a i n job inside other = get_or_append_left (moved_jobs a i s) (job ∷ []) no_job n (omega (arith, length-moved s a i)) ∙ moved_leaves s a i n other
 
--- the actors of different events are different
+-- if an actor's event is not that of job n, the actor is not job n
 other_actor : (a : Parent) (n : ℕ) → event_of a ≢ event.Job n → a ≢ parent.Job n
 other_actor a n other same = other (ap event_of same)
 
--- an event of another actor leaves the job unchanged
+-- a running job is unchanged by every event except its own
 leaves : (plan : Plan) (s s' : State) (o : Outcome) (n i : ℕ) {e : Event} → StateInvariant plan s → (job_at s n).stage ≡ Stage.At i → e ≢ event.Job n → Happens plan s e s' o → job_at s' n ≡ job_at s n
 leaves plan s s' o n i kept at other (works a body i' u standing) = moved_leaves s a (i' + 1) n (other_actor a n other)
 leaves plan s s' o n i kept at other (starts a body i' k standing below) = pushed_leaves s a (i' + 1) n (new_job k a i' (Stage.At 0)) (job_made s n (λ claimed. cc)) (other_actor a n other)
@@ -73,7 +73,7 @@ leaves plan s s' o n i kept at other (takes p j queue idle is_queue is_idle) =
     (λ (same : n ≡ j). let queued : (job_at s n).stage ≡ Stage.Queued = ap (λ (m : ℕ). (job_at s m).stage) same ∙ (head_of_queue plan s p j queue kept is_queue).queued in cc)
 leaves plan s s' o n i kept at other (retires p idle is_idle above_core) = refl
 
--- the job remains at its submit
+-- a job at a submit is still at it after every event except its own
 still_before : (plan : Plan) (s s' : State) (o : Outcome) (n p : ℕ) {e : Event} → StateInvariant plan s → e ≢ event.Job n → Happens plan s e s' o → StandsBefore plan (job_at s n) p → StandsBefore plan (job_at s' n) p
 still_before plan s s' o n p kept other happened before = subst (λ (job : CreatedJob). StandsBefore plan job p) (sym (leaves plan s s' o n before.position kept before.stage other happened)) before
 
@@ -83,15 +83,15 @@ pub record JobCalls (plan : Plan) (s : JavaState) : Type 0 where
   pub offering : (n p : ℕ) → is_calling s.offering (parent.Job n) p ≡ true → StandsBefore plan (job_at s.machine n) p
   pub requesting : (n p : ℕ) → is_calling s.requesting (parent.Job n) p ≡ true → StandsBefore plan (job_at s.machine n) p
 
--- each of these calls of a job is at a submit to the pool
+-- for each call of a job in the list, the job is at a submit to the call's pool
 abbrev AreBefore : Plan → State → List Call → Type 0
 AreBefore plan s calls = (n p : ℕ) → is_calling calls (parent.Job n) p ≡ true → StandsBefore plan (job_at s n) p
 
--- initially no call is in progress
+-- in a state with no call in progress, each job with a call is at its submit, because there is none
 pub job_calls_start : (plan : Plan) (s : State) → JobCalls plan (record { machine = s; offering = []; requesting = [] })
 job_calls_start plan s = record { offering = λ n p is_there. absurd (false≢true is_there); requesting = λ n p is_there. absurd (false≢true is_there) }
 
--- after an event that is not part of a submit
+-- after an event that is not part of a submit, each job with a call in the list is still at its submit
 before_atomic : (plan : Plan) (s s' : State) (o : Outcome) (e : Event) (calls : List Call) → StateInvariant plan s → submission plan s e ≡ None → Happens plan s e s' o → AreBefore plan s calls → AreBefore plan s' calls
 before_atomic plan s s' o e calls kept none happened before n p is_there =
     let standing = before n p is_there in
@@ -99,7 +99,7 @@ before_atomic plan s s' o e calls kept none happened before n p is_there =
     (λ (own : e ≡ event.Job n). let some = ap (submission plan s) (sym own) in let one = submission_of_job plan s n p standing in absurd cc)
     happened standing
 
--- the calls of the others, after the end of a submit
+-- after the last step of a submit, each other job with a call in the list is still at its submit
 before_end : (plan : Plan) (s s' : State) (o : Outcome) (a : Parent) (calls : List Call) → StateInvariant plan s → Happens plan s (event_of a) s' o → AreBefore plan s calls → AreBefore plan s' (without_calls_of a calls)
 before_end plan s s' o a calls kept happened before n p is_there =
     let call = call_of_others a (parent.Job n) p calls is_there in
@@ -111,7 +111,7 @@ before_end plan s s' o a calls kept happened before n p is_there =
         let one : m ≡ n = cc in
         absurd (false≢true (sym other ∙ ap (λ (x : ℕ). same_parent (parent.Job x) (parent.Job n)) one ∙ same_actor_refl (parent.Job n)))
 
--- the calls of the others, and one more of an actor at a submit
+-- after a call of an actor at a submit is added to the list, each job with a call in the list is at its submit
 before_more : (plan : Plan) (s : State) (a : Parent) (body : List Action) (i k : ℕ) (calls : List Call) → IsAtAction plan s a body i (Some (action.Submit k)) → AreBefore plan s calls → AreBefore plan s (record { actor = a; pool = pool_of plan k } ∷ calls)
 before_more plan s a body i k calls at before n p is_there =
     ⊎_elim
@@ -121,7 +121,7 @@ before_more plan s a body i k calls at before n p is_there =
     (λ earlier. before n p earlier)
     (one_more (record { actor = a; pool = pool_of plan k }) calls (parent.Job n) p is_there)
 
--- every event preserves this
+-- after each event in Java's steps, each job with a call is still at its submit
 pub job_calls_step : (plan : Plan) (s s' : JavaState) {e : Event} → StateInvariant plan s.machine → s'.machine.refusals ≡ s.machine.refusals → JobCalls plan s → JavaHappens plan s e s' → JobCalls plan s'
 job_calls_step plan s s' kept as_many calls (is_atomic e after o none happened) = record {
   offering = before_atomic plan s.machine after o e s.offering kept none happened calls.offering;

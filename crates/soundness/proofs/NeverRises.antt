@@ -33,23 +33,23 @@ use Rattle.soundness.proofs.VectorLaws.{BodyLaws, VectorLaws}
 
 -- ---- the parts of the weight
 
--- the weight of jobs
+-- the weight of the jobs of a list
 abbrev pub jobs_weight : GetReturn → Plan → Vector → List CreatedJob → ℕ
 jobs_weight get_return plan v jobs = sum_by (λ (job : CreatedJob). stage_weight get_return plan v job.class job.stage) jobs
 
--- the weight of the clients and jobs
+-- the weight of the clients and jobs of a state
 abbrev pub actors_weight : GetReturn → Plan → Vector → State → ℕ
 actors_weight get_return plan v s = sum_by (λ (client : ClientState). client_weight v client.kind client.position) s.clients + jobs_weight get_return plan v s.jobs
 
--- the weight of a job's worker if the job is at a position
+-- the weight of a job's worker: the weight of a worker of its pool if the job is running, and otherwise 0
 abbrev pub worker_weight : Plan → Vector → ℕ → Stage → ℕ
 worker_weight plan v k stage = cond (is_at stage) (workers_weight v (pool_of plan k)) 0
 
--- the weight of the workers of those of these jobs that are at a position
+-- the weight of the workers that run the jobs of a list
 abbrev pub workers_weight_of_jobs : Plan → Vector → List CreatedJob → ℕ
 workers_weight_of_jobs plan v jobs = sum_by (λ (job : CreatedJob). worker_weight plan v job.class job.stage) jobs
 
--- the weight of the workers of all jobs that are at a position
+-- the weight of all busy workers of a state
 abbrev pub busy_workers_weight : Plan → Vector → State → ℕ
 busy_workers_weight plan v s = workers_weight_of_jobs plan v s.jobs
 
@@ -57,17 +57,17 @@ busy_workers_weight plan v s = workers_weight_of_jobs plan v s.jobs
 abbrev pub initial_clients_weight : Plan → Vector → ℕ
 initial_clients_weight plan v = sum_by (λ (entry : ℕ × Client). entry.1.count * client_weight v entry.0 0) (enumerate_from 0 plan.clients)
 
--- the weight of the clients and jobs is at most what the clients had at the start and what workers lend
+-- the weight of the clients and jobs is at most the weight of the clients at the start and of the busy workers
 abbrev pub IsBalanced : GetReturn → Plan → Vector → State → Type 0
 IsBalanced get_return plan v s = actors_weight get_return plan v s ≤ initial_clients_weight plan v + busy_workers_weight plan v s
 
--- the weight of the second state is at most that of the first
+-- the weight of the clients and jobs minus the weight of the busy workers does not rise from s to s'
 abbrev pub DoesNotIncrease : GetReturn → Plan → Vector → State → State → Type 0
 DoesNotIncrease get_return plan v s s' = actors_weight get_return plan v s' + busy_workers_weight plan v s ≤ actors_weight get_return plan v s + busy_workers_weight plan v s'
 
 -- ---- the initial state
 
--- the clients have their initial weight, and there are no jobs
+-- the initial state is balanced, because it has no jobs and its clients have their initial weight
 pub balanced_start : (get_return : GetReturn) (plan : Plan) (v : Vector) → IsBalanced get_return plan v (start plan)
 balanced_start get_return plan v =
     let weight = λ (client : ClientState). client_weight v client.kind client.position in
@@ -80,7 +80,7 @@ balanced_start get_return plan v =
 
 -- ---- a job changes its stage
 
--- the weight of the jobs changes by the difference of the two stages
+-- if one job changes its stage, the weight of the jobs changes by the difference between the two stages
 pub jobs_weight-staged : (get_return : GetReturn) (plan : Plan) (v : Vector) (jobs : List CreatedJob) (j : ℕ) (stage was : Stage) → j < length jobs → (get_or jobs j no_job).stage ≡ was
     → jobs_weight get_return plan v (staged jobs j stage) + stage_weight get_return plan v (get_or jobs j no_job).class was ≡ jobs_weight get_return plan v jobs + stage_weight get_return plan v (get_or jobs j no_job).class stage
 jobs_weight-staged get_return plan v jobs j stage was inside e =
@@ -88,7 +88,7 @@ jobs_weight-staged get_return plan v jobs j stage was inside e =
     ap (λ (old : Stage). jobs_weight get_return plan v (staged jobs j stage) + stage_weight get_return plan v job.class old) (sym e)
     ∙ sum_by-set (λ (x : CreatedJob). stage_weight get_return plan v x.class x.stage) jobs j (record job { stage = stage }) no_job inside
 
--- and so does the weight of their workers
+-- if one job changes its stage, the weight of the busy workers changes by the difference between the two stages
 pub workers_weight_of_jobs-staged : (plan : Plan) (v : Vector) (jobs : List CreatedJob) (j : ℕ) (stage was : Stage) → j < length jobs → (get_or jobs j no_job).stage ≡ was
     → workers_weight_of_jobs plan v (staged jobs j stage) + worker_weight plan v (get_or jobs j no_job).class was ≡ workers_weight_of_jobs plan v jobs + worker_weight plan v (get_or jobs j no_job).class stage
 workers_weight_of_jobs-staged plan v jobs j stage was inside e =
@@ -98,12 +98,12 @@ workers_weight_of_jobs-staged plan v jobs j stage was inside e =
 
 -- ---- an actor changes its position
 
--- the weight of an actor at position i
+-- the weight of an actor if it is at position i
 abbrev pub actor_weight : Vector → State → Parent → ℕ → ℕ
 actor_weight v s (parent.Client c) i = client_weight v (client_state s c).kind i
 actor_weight v s (parent.Job j) i = job_weight v (job_at s j).class i
 
--- an actor that moves from i to i' changes only its own weight
+-- if an actor moves from position i to i', the weight of the clients and jobs changes by the difference between the two positions
 pub actors_weight-with_position : (get_return : GetReturn) (plan : Plan) (v : Vector) (s : State) (a : Parent) (body : List Action) (i i' : ℕ) → point plan s a ≡ Some (record { body = body; position = i })
     → actors_weight get_return plan v (with_position a i' s) + actor_weight v s a i ≡ actors_weight get_return plan v s + actor_weight v s a i'
 actors_weight-with_position get_return plan v s (parent.Client c) body i i' stands =
@@ -116,20 +116,20 @@ actors_weight-with_position get_return plan v s (parent.Job j) body i i' stands 
     let was = (stage_of_standing plan (job_at s j).class (job_at s j).stage body i stands).0 in
     omega (arith, jobs_weight-staged get_return plan v s.jobs j (Stage.At i') (Stage.At i) (standing_made plan s j body i stands) was)
 
--- a job that moves from one position to another keeps its worker's weight
+-- a move of an actor from one position to another leaves the weight of the busy workers unchanged
 pub busy_workers_weight-with_position : (plan : Plan) (v : Vector) (s : State) (a : Parent) (body : List Action) (i i' : ℕ) → point plan s a ≡ Some (record { body = body; position = i }) → busy_workers_weight plan v (with_position a i' s) ≡ busy_workers_weight plan v s
 busy_workers_weight-with_position plan v s (parent.Client c) body i i' stands = refl
 busy_workers_weight-with_position plan v s (parent.Job j) body i i' stands =
     let was = (stage_of_standing plan (job_at s j).class (job_at s j).stage body i stands).0 in
     omega (arith, workers_weight_of_jobs-staged plan v s.jobs j (Stage.At i') (Stage.At i) (standing_made plan s j body i stands) was)
 
--- the body of a client
+-- the body of a client is that of its client kind
 body_of_client : (plan : Plan) (s : State) (c : ℕ) (body : List Action) (i : ℕ) → point plan s (parent.Client c) ≡ Some (record { body = body; position = i }) → body ≡ (client_at plan (client_state s c).kind).body
 body_of_client plan s c body i stands =
     let client = client_standing plan (slice_get s.clients c) body i stands in
     client.2 ∙ ap (λ (x : ClientState). (client_at plan x.kind).body) (sym (get_or_from_slice_get s.clients c client.0 no_client_state client.1))
 
--- the inequalities of the actor's body
+-- the inequalities of a vector hold for the body of each actor
 actor_laws : (get_return : GetReturn) (plan : Plan) (v : Vector) (s : State) (a : Parent) (body : List Action) (i : ℕ) → VectorLaws get_return plan v → point plan s a ≡ Some (record { body = body; position = i }) → BodyLaws get_return plan v (actor_weight v s a) body
 actor_laws get_return plan v s (parent.Client c) body i laws stands =
     subst (BodyLaws get_return plan v (client_weight v (client_state s c).kind)) (sym (body_of_client plan s c body i stands)) (laws.clients (client_state s c).kind)
@@ -138,11 +138,11 @@ actor_laws get_return plan v s (parent.Job j) body i laws stands =
 
 -- ---- a job is created
 
--- the weight increases by that of the new job's stage
+-- a new job increases the weight of the clients and jobs by the weight of its stage
 pub actors_weight-with_job : (get_return : GetReturn) (plan : Plan) (v : Vector) (s : State) (job : CreatedJob) → actors_weight get_return plan v (with_job job s) ≡ actors_weight get_return plan v s + stage_weight get_return plan v job.class job.stage
 actors_weight-with_job get_return plan v s job = omega (arith, sum_by_push (λ (x : CreatedJob). stage_weight get_return plan v x.class x.stage) s.jobs job)
 
--- and so does the weight of its worker
+-- a new job increases the weight of the busy workers by the weight of its worker
 pub busy_workers_weight-with_job : (plan : Plan) (v : Vector) (s : State) (job : CreatedJob) → busy_workers_weight plan v (with_job job s) ≡ busy_workers_weight plan v s + worker_weight plan v job.class job.stage
 busy_workers_weight-with_job plan v s job = sum_by_push (λ (x : CreatedJob). worker_weight plan v x.class x.stage) s.jobs job
 
@@ -154,7 +154,8 @@ never_rises_works get_return plan v s a body i u laws at =
     let falls = (actor_laws get_return plan v s a body i laws at.stands).work i u at.is_there in
     omega (arith, falls, actors_weight-with_position get_return plan v s a body i (i + 1) at.stands, busy_workers_weight-with_position plan v s a body i (i + 1) at.stands)
 
--- V3 and V4: the actor's weight covers a queued job and, with a worker's weight, a running job
+-- V3 and V4: a submit that starts its job does not increase the weight, because the actor's loss and the weight of a worker cover
+-- the running job
 never_rises_starts : (get_return : GetReturn) (plan : Plan) (v : Vector) (s : State) (a : Parent) (body : List Action) (i k : ℕ) → k < length plan.classes → VectorLaws get_return plan v → IsAtAction plan s a body i (Some (action.Submit k))
     → DoesNotIncrease get_return plan v s (with_job (new_job k a i (Stage.At 0)) (with_position a (i + 1) s))
 never_rises_starts get_return plan v s a body i k inside laws at =
@@ -163,7 +164,7 @@ never_rises_starts get_return plan v s a body i k inside laws at =
     let begins = laws.begins k inside in
     omega (arith, pays, begins, actors_weight-with_position get_return plan v s a body i (i + 1) at.stands, busy_workers_weight-with_position plan v s a body i (i + 1) at.stands, actors_weight-with_job get_return plan v (with_position a (i + 1) s) job, busy_workers_weight-with_job plan v (with_position a (i + 1) s) job)
 
--- a queued submit, whether or not the queue has room
+-- V3: a submit that queues its job does not increase the weight, whether or not the queue has room
 pub never_rises_queued : (get_return : GetReturn) (plan : Plan) (v : Vector) (s : State) (a : Parent) (body : List Action) (i k : ℕ) → VectorLaws get_return plan v → IsAtAction plan s a body i (Some (action.Submit k))
     → DoesNotIncrease get_return plan v s (queued_state plan s a i k)
 never_rises_queued get_return plan v s a body i k laws at =
@@ -184,7 +185,7 @@ done_nowhere done n e = cc
 done_unclaimed : {stage : Stage} → stage ≡ Stage.Done → stage ≢ Stage.Claimed
 done_unclaimed done e = cc
 
--- V5 or L5: the weight of the actor increases by at most what the done job returns
+-- V5 or L5: a get does not increase the weight, because the actor gains at most what the done job returns
 never_rises_gets : (get_return : GetReturn) (plan : Plan) (v : Vector) (s : State) (a : Parent) (body : List Action) (i t j : ℕ) → HasValidBodies plan → VectorLaws get_return plan v → StateInvariant plan s → IsAtAction plan s a body i (Some (action.Get t))
     → child s a t ≡ Some j → (job_at s j).stage ≡ Stage.Done → DoesNotIncrease get_return plan v s (with_stage j Stage.Claimed (with_position a (i + 1) s))
 never_rises_gets get_return plan v s a body i t j ordered laws kept at is_child done =
@@ -210,7 +211,7 @@ never_rises_gets get_return plan v s a body i t j ordered laws kept at is_child 
       workers_weight_of_jobs-staged plan v moved.jobs j Stage.Claimed Stage.Done inside still_done,
     )
 
--- a position without an action is at or after the end of the body
+-- a position at which a body has no action is at or after the end of the body
 at_end : (body : List Action) (i : ℕ) → slice_get body i ≡ None → length body ≤ i
 at_end [] i e = omega arith
 at_end (x ∷ xs) zero e = absurd cc
@@ -222,7 +223,7 @@ stands_at_end plan s a body i kept at =
     let inside = (kept.actors a body i at.stands).inside in
     omega (arith, at_end body i at.is_there)
 
--- V6: the weight of a job at its end covers the done job and its worker
+-- V6: the end of a job does not increase the weight, because its weight at its end covers the done job and the worker
 never_rises_finishes : (get_return : GetReturn) (plan : Plan) (v : Vector) (s : State) (j : ℕ) (body : List Action) (i : ℕ) → VectorLaws get_return plan v → StateInvariant plan s → IsAtAction plan s (parent.Job j) body i None
     → DoesNotIncrease get_return plan v s (finished_job plan s j (pool_of plan (job_at s j).class))
 never_rises_finishes get_return plan v s j body i laws kept at =
@@ -234,7 +235,7 @@ never_rises_finishes get_return plan v s j body i laws kept at =
     let weighs = ap (job_weight v k) last in
     omega (arith, ends, weighs, jobs_weight-staged get_return plan v s.jobs j Stage.Done (Stage.At i) inside was.0, workers_weight_of_jobs-staged plan v s.jobs j Stage.Done (Stage.At i) inside was.0)
 
--- V7: the weight of a client at its end covers its weight at its start
+-- V7: a client that begins again does not increase the weight, because its weight at its end covers that at its start
 never_rises_loops : (get_return : GetReturn) (plan : Plan) (v : Vector) (s : State) (c : ℕ) (client : ClientState) (body : List Action) (i : ℕ) → VectorLaws get_return plan v → StateInvariant plan s → IsAtAction plan s (parent.Client c) body i None
     → slice_get s.clients c ≡ Some client → (client_at plan client.kind).repeat ≡ true → DoesNotIncrease get_return plan v s (with_position (parent.Client c) 0 s)
 never_rises_loops get_return plan v s c client body i laws kept at is_client repeats =
@@ -246,14 +247,14 @@ never_rises_loops get_return plan v s c client body i laws kept at is_client rep
     let weighs = ap (client_weight v kind) last in
     omega (arith, pays, weighs, actors_weight-with_position get_return plan v s (parent.Client c) body i 0 at.stands)
 
--- V4: the weights of a queued job and of a worker cover a running job
+-- V4: a take does not increase the weight, because the weights of a queued job and of a worker cover the running job
 never_rises_takes : (get_return : GetReturn) (plan : Plan) (v : Vector) (s : State) (p j : ℕ) (queue : List ℕ) (idle : ℕ) → VectorLaws get_return plan v → StateInvariant plan s → (pool_part s p).queue ≡ j ∷ queue → DoesNotIncrease get_return plan v s (with_part p queue idle (with_stage j (Stage.At 0) s))
 never_rises_takes get_return plan v s p j queue idle laws kept is_queue =
     let head = head_of_queue plan s p j queue kept is_queue in
     let begins = laws.begins (job_at s j).class (kept.classes j no_job head.inside) in
     omega (arith, begins, jobs_weight-staged get_return plan v s.jobs j (Stage.At 0) Stage.Queued head.inside head.queued, workers_weight_of_jobs-staged plan v s.jobs j (Stage.At 0) Stage.Queued head.inside head.queued)
 
--- every event
+-- no event increases the weight
 pub never_rises : (get_return : GetReturn) (plan : Plan) (v : Vector) (s s' : State) (o : Outcome) {e : Event} → HasValidBodies plan → VectorLaws get_return plan v → StateInvariant plan s → Happens plan s e s' o → DoesNotIncrease get_return plan v s s'
 never_rises get_return plan v s s' o ordered laws kept (works a body i u at) = never_rises_works get_return plan v s a body i u laws at
 never_rises get_return plan v s s' o ordered laws kept (starts a body i k at below) = never_rises_starts get_return plan v s a body i k (class_exists plan s a body i k ordered at) laws at
@@ -265,6 +266,6 @@ never_rises get_return plan v s s' o ordered laws kept (loops c client body i at
 never_rises get_return plan v s s' o ordered laws kept (takes p j queue idle is_queue is_idle) = never_rises_takes get_return plan v s p j queue idle laws kept is_queue
 never_rises get_return plan v s s' o ordered laws kept (retires p idle is_idle above_core) = omega arith
 
--- a balanced state stays balanced
+-- a state is balanced if the state before it is balanced and the weight does not rise between them
 pub balanced_step : (get_return : GetReturn) (plan : Plan) (v : Vector) (s s' : State) → DoesNotIncrease get_return plan v s s' → IsBalanced get_return plan v s → IsBalanced get_return plan v s'
 balanced_step get_return plan v s s' no_heavier balanced = omega arith

@@ -1,4 +1,4 @@
--- A pool whose bound holds rejects no submit.
+-- A pool with a standing or a lifetime vector whose rows hold refuses no submit.
 use Rattle.std.proofs.Common.{◌≡◌, ℕ, ◌+◌, ◌<◌, ◌≤◌, inl, inr, eqb, List, length, get_or, Some, refl, sym, ap, subst, ◌∙◌, arith}
 use Rattle.std.specs.List.{count_by}
 use Rattle.std.proofs.lemmas.Bool.{and_parts, eqb-true}
@@ -35,7 +35,7 @@ use Rattle.soundness.proofs.BoundLaws.{StandingLaws, LifetimeLaws, BoundLaws}
 use Rattle.soundness.proofs.NeverRises.{jobs_weight, IsBalanced, busy_workers_weight-with_position, actors_weight-with_job, busy_workers_weight-with_job, never_rises_queued}
 use Rattle.soundness.proofs.WithinTotal.{busy_workers_weight-le, actors_weight-le-total}
 
--- the weight of the jobs, with the job of a submit as if it were queued, is at most the total
+-- at a submit, the weight of the jobs and of the submitted job as a queued one is at most the total
 submit_within_total : (get_return : GetReturn) (plan : Plan) (v : Vector) (s : State) (a : Parent) (body : List Action) (i k : ℕ) → HasValidBodies plan → VectorLaws get_return plan v → StateInvariant plan s → IsBalanced get_return plan v s → IsAtAction plan s a body i (Some (action.Submit k))
     → jobs_weight get_return plan v (moved_jobs a (i + 1) s) + queued_weight v k ≤ total plan v
 submit_within_total get_return plan v s a body i k ordered laws kept balanced at =
@@ -46,7 +46,7 @@ submit_within_total get_return plan v s a body i k ordered laws kept balanced at
 
 -- ---- a standing vector
 
--- each of the pool's queued jobs has at least weight 1
+-- the number of queued jobs of the pool is at most the weight of all jobs, because each of them has a weight of at least 1
 queued-le-actors_weight : (plan : Plan) (v : Vector) (p : ℕ) (jobs : List CreatedJob) → StandingLaws plan p v → HaveClasses (length plan.classes) jobs → count_by (is_queued_in plan p) jobs ≤ jobs_weight DoneWeight plan v jobs
 queued-le-actors_weight plan v p jobs laws classes =
     count_by-le-sum_by (is_queued_in plan p) (λ (job : CreatedJob). stage_weight DoneWeight plan v job.class job.stage) jobs no_job
@@ -55,7 +55,8 @@ queued-le-actors_weight plan v p jobs laws classes =
     let parts = and_parts (is_queued job.stage) (eqb (pool_of plan job.class) p) passes in
     subst (λ (stage : Stage). 1 ≤ stage_weight DoneWeight plan v job.class stage) (sym (queued_stage job.stage parts.0)) (laws.queued job.class (classes j no_job inside) (eqb-true (pool_of plan job.class) p parts.1)))
 
--- a full queue and one more job would exceed the total
+-- no submit finds the queue of a pool with a standing vector full, because the queued jobs and the submitted one would weigh more
+-- than the total
 pub standing_refuses_nothing : (plan : Plan) (v : Vector) (s : State) (a : Parent) (body : List Action) (i k : ℕ) → HasValidBodies plan → StandingLaws plan (pool_of plan k) v → StateInvariant plan s → IsBalanced DoneWeight plan v s → IsAtAction plan s a body i (Some (action.Submit k))
     → (pool_at plan (pool_of plan k)).queue ≤ length (pool_part s (pool_of plan k)).queue → ⊥
 standing_refuses_nothing plan v s a body i k ordered laws kept balanced at no_room =
@@ -72,15 +73,15 @@ standing_refuses_nothing plan v s a body i k ordered laws kept balanced at no_ro
 
 -- ---- a lifetime vector
 
--- each job at a position is within its body
+-- the position of each running job of the list is at most the length of the job's body
 abbrev AreInside : Plan → List CreatedJob → Type 0
 AreInside plan jobs = (j n : ℕ) → (get_or jobs j no_job).stage ≡ Stage.At n → n ≤ length (class_at plan (get_or jobs j no_job).class).body
 
--- this holds in a state with the invariants of reachable states
+-- in a state that satisfies the invariants, the position of each running job is at most the length of the job's body
 are_inside : (plan : Plan) (s : State) → StateInvariant plan s → AreInside plan s.jobs
 are_inside plan s kept j n e = (kept.actors (parent.Job j) (class_at plan (job_at s j).class).body n (ap (point_of_job plan (job_at s j).class) e)).inside
 
--- it still holds after an actor passed an action
+-- after an actor passes an action, the position of each running job is at most the length of the job's body
 are_inside_moved : (plan : Plan) (s : State) (a : Parent) (body : List Action) (i : ℕ) (x : Action) → StateInvariant plan s → IsAtAction plan s a body i (Some x) → AreInside plan (moved_jobs a (i + 1) s)
 are_inside_moved plan s a body i x kept at j n e =
     let job = get_or (moved_jobs a (i + 1) s) j no_job in
@@ -93,14 +94,14 @@ are_inside_moved plan s a body i x kept at j n e =
       | inr other ↦ (kept.actors (parent.Job j) (class_at plan job.class).body n other.1).inside
     ]
 
--- a job of the pool has at least weight 1 at every stage
+-- a job of the pool weighs at least 1 at every stage
 job_weighs_one : (plan : Plan) (v : Vector) (p k : ℕ) (stage : Stage) → LifetimeLaws plan p v → k < length plan.classes → pool_of plan k ≡ p → ((n : ℕ) → stage ≡ Stage.At n → n ≤ length (class_at plan k).body) → 1 ≤ stage_weight NoWeight plan v k stage
 job_weighs_one plan v p k Stage.Queued laws exists of_pool inside = laws.queued k exists of_pool
 job_weighs_one plan v p k (Stage.At n) laws exists of_pool inside = laws.position k n exists of_pool (inside n refl)
 job_weighs_one plan v p k Stage.Done laws exists of_pool inside = laws.done k exists of_pool
 job_weighs_one plan v p k Stage.Claimed laws exists of_pool inside = laws.done k exists of_pool
 
--- each job submitted to the pool has at least weight 1
+-- the number of jobs submitted to the pool is at most the weight of all jobs, because each of them weighs at least 1
 made-le-actors_weight : (plan : Plan) (v : Vector) (p : ℕ) (jobs : List CreatedJob) → LifetimeLaws plan p v → HaveClasses (length plan.classes) jobs → AreInside plan jobs → made_jobs plan jobs p ≤ jobs_weight NoWeight plan v jobs
 made-le-actors_weight plan v p jobs laws classes inside =
     count_by-le-sum_by (is_of_pool plan p) (λ (job : CreatedJob). stage_weight NoWeight plan v job.class job.stage) jobs no_job
@@ -108,7 +109,8 @@ made-le-actors_weight plan v p jobs laws classes inside =
     let job = get_or jobs j no_job in
     job_weighs_one plan v p job.class job.stage laws (classes j no_job made) (eqb-true (pool_of plan job.class) p passes) (inside j))
 
--- one job more than the queue and the threads have room for would exceed the total
+-- at a submit to a pool with a lifetime vector, fewer jobs were submitted than the threads and the queue have room for, because
+-- otherwise one more would weigh more than the total
 pub lifetime_leaves_room : (plan : Plan) (v : Vector) (s : State) (a : Parent) (body : List Action) (i k : ℕ) → HasValidBodies plan → LifetimeLaws plan (pool_of plan k) v → StateInvariant plan s → IsBalanced NoWeight plan v s → IsAtAction plan s a body i (Some (action.Submit k))
     → (pool_at plan (pool_of plan k)).queue + (pool_at plan (pool_of plan k)).max ≤ jobs_made plan s (pool_of plan k) + first_workers (pool_at plan (pool_of plan k)) → ⊥
 lifetime_leaves_room plan v s a body i k ordered laws kept balanced at as_many =
@@ -120,27 +122,28 @@ lifetime_leaves_room plan v s a body i k ordered laws kept balanced at as_many =
     let limit = laws.within in
     omega (arith, made_jobs-moved plan s a (i + 1) p)
 
--- a full queue and all threads have that number of jobs
+-- no submit to a pool with a lifetime vector finds the queue full and all threads started, because they would hold as many jobs
+-- as there is room for
 lifetime_refuses_nothing : (plan : Plan) (v : Vector) (s : State) (a : Parent) (body : List Action) (i k : ℕ) → HasValidBodies plan → LifetimeLaws plan (pool_of plan k) v → StateInvariant plan s → HaveJobs plan s → IsBalanced NoWeight plan v s → IsAtAction plan s a body i (Some (action.Submit k))
     → (pool_at plan (pool_of plan k)).queue ≤ length (pool_part s (pool_of plan k)).queue → (pool_at plan (pool_of plan k)).max ≤ threads plan s (pool_of plan k) → ⊥
 lifetime_refuses_nothing plan v s a body i k ordered laws kept have balanced at no_room all_started =
     let made = have (pool_of plan k) (ordered.pools k (class_exists plan s a body i k ordered at)) in
     lifetime_leaves_room plan v s a body i k ordered laws kept balanced at (omega arith)
 
--- the number of jobs submitted to the pool is at most the total
+-- the number of jobs submitted to a pool is at most the total of its lifetime vector
 pub jobs-le-total : (plan : Plan) (v : Vector) (s : State) (p : ℕ) → HasValidBodies plan → LifetimeLaws plan p v → StateInvariant plan s → IsBalanced NoWeight plan v s → jobs_made plan s p ≤ total plan v
 jobs-le-total plan v s p ordered laws kept balanced =
     omega (arith, made-le-actors_weight plan v p s.jobs laws kept.classes (are_inside plan s kept), actors_weight-le-total NoWeight plan v s ordered kept balanced)
 
--- ---- either
+-- ---- a standing or a lifetime vector
 
--- no job is submitted to a full pool
+-- no submit finds the queue full and all threads started
 pub not_refused : (plan : Plan) (bound : Bound) (s : State) (a : Parent) (body : List Action) (i k : ℕ) → HasValidBodies plan → BoundLaws plan (pool_of plan k) bound → StateInvariant plan s → HaveJobs plan s
     → IsBalanced (bound_get_return bound) plan (bound_vector bound) s → IsAtAction plan s a body i (Some (action.Submit k))
     → (pool_at plan (pool_of plan k)).queue ≤ length (pool_part s (pool_of plan k)).queue → (pool_at plan (pool_of plan k)).max ≤ threads plan s (pool_of plan k) → ⊥
 not_refused plan (Standing v) s a body i k ordered laws kept have balanced at no_room all_started = standing_refuses_nothing plan v s a body i k ordered laws kept balanced at no_room
 not_refused plan (Lifetime v) s a body i k ordered laws kept have balanced at no_room all_started = lifetime_refuses_nothing plan v s a body i k ordered laws kept have balanced at no_room all_started
 
--- no event is a rejection
+-- no event refuses a submit to the pool
 pub never_refused : (plan : Plan) (bound : Bound) (s s' : State) (p : ℕ) {e : Event} → HasValidBodies plan → BoundLaws plan p bound → StateInvariant plan s → HaveJobs plan s → IsBalanced (bound_get_return bound) plan (bound_vector bound) s → Happens plan s e s' (outcome.Refused p) → ⊥
 never_refused plan bound s s' p ordered laws kept have balanced (is_refused a body i k at no_room all_started) = not_refused plan bound s a body i k ordered laws kept have balanced at no_room all_started

@@ -1,4 +1,4 @@
--- The laws of weights for every reachable state.
+-- The laws of weights, for every reachable state.
 use Rattle.job_bodies.specs.Plan.{Plan}
 use Rattle.job_bodies.specs.WellFormed.{IsWellFormed}
 use Rattle.job_bodies.proofs.Bodies.{ordered}
@@ -29,24 +29,24 @@ balanced get_return plan v s well_formed laws reached =
     (reached_keeps plan (λ s₁. StateInvariant plan s₁ × IsBalanced get_return plan v s₁) (kept_start plan is_ordered, balanced_start get_return plan v)
     (λ s₁ e s₂ o held happened. (kept_step plan s₁ s₂ o is_ordered held.0 happened, balanced_step get_return plan v s₁ s₂ (never_rises get_return plan v s₁ s₂ o is_ordered laws held.0 happened) held.1)) s reached).1
 
--- no event increases the weight of a reachable state
+-- the law that no event increases the weight of a reachable state
 pub sum_never_rises : SumNeverRises
 sum_never_rises get_return plan v s s' event outcome well_formed hold reached is_step =
     within.sum_never_rises get_return plan v s s' outcome (ordered plan well_formed) (vector_laws get_return plan v hold) (kept plan s well_formed reached) (happens plan s event s' outcome is_step)
 
--- the weight is at most the total
+-- the law that the weight of a reachable state is at most the total
 pub sum_stays_within_total : SumStaysWithinTotal
 sum_stays_within_total get_return plan v s well_formed hold reached =
     within.sum_of-le-total get_return plan v s (ordered plan well_formed) (kept plan s well_formed reached) (balanced get_return plan v s well_formed (vector_laws get_return plan v hold) reached)
 
--- a pool whose bound holds rejects nothing
+-- the law that a pool with a bound whose rows hold refuses nothing
 pub bounds_refuse_nothing : BoundsRefuseNothing
 bounds_refuse_nothing plan p bound s s' event well_formed fits hold reached refused =
     let laws = bound_laws plan p bound fits hold in
     never_refused plan bound s s' p (ordered plan well_formed) laws (kept plan s well_formed reached) (threads_have_made plan s well_formed reached)
     (balanced (bound_get_return bound) plan (bound_vector bound) s well_formed (bound_vector_laws plan p bound laws) reached) (happens plan s event s' (outcome.Refused p) refused)
 
--- the number of jobs submitted to it is at most the total of its lifetime vector
+-- the law that the number of jobs submitted to a pool is at most the total of its lifetime vector
 pub jobs_stay_within_total : JobsStayWithinTotal
 jobs_stay_within_total plan p v s well_formed fits hold reached =
     let laws = lifetime_laws plan p v fits hold in

@@ -1,4 +1,4 @@
--- The cost for a job to skip a submit.
+-- The cost of a skip by a job: three times the remaining work, minus the completed steps of calls, falls by at least one.
 use Rattle.std.proofs.Common.{◌≡◌, ◌≢◌, ℕ, ◌+◌, ◌*◌, ◌≤◌, true, false, List, [], ◌∷◌, ◌++◌, Some, refl, sym, ap, subst, ◌∙◌, arith}
 use Rattle.std.proofs.lemmas.Bool.{false≢true}
 use Rattle.std.proofs.lemmas.List.{length_push}
@@ -27,7 +27,7 @@ use Rattle.soundness.proofs.Choices.{IsSkipped, leaves}
 
 -- ---- the calls of jobs
 
--- an actor that skips a submit has no call in progress, and the calls of others are unchanged
+-- after an actor skips a submit that it has not begun, each job with a call is still at the submit of its call
 before_left : (plan : Plan) (s : State) (a : Parent) (body : List Action) (i k : ℕ) (calls : List Call) → IsAtAction plan s a body i (Some (action.Submit k)) → is_calling calls a (pool_of plan k) ≡ false
     → ((n p : ℕ) → is_calling calls (parent.Job n) p ≡ true → StandsBefore plan (job_at s n) p) → (n p : ℕ) → is_calling calls (parent.Job n) p ≡ true → StandsBefore plan (job_at (left s a i k) n) p
 before_left plan s a body i k calls at none before n p is_there =
@@ -42,19 +42,20 @@ before_left plan s a body i k calls at none before n p is_there =
 
 -- ---- the remaining work
 
--- a skip reduces the remaining work of the job by at least one
+-- a skip by a job reduces the remaining work by at least one
 todo_left : (plan : Plan) (ranks : Ranks) (s : State) (n : ℕ) (body : List Action) (i k : ℕ) → IsAtAction plan s (parent.Job n) body i (Some (action.Submit k)) → todo plan ranks (left s (parent.Job n) i k) + 1 ≤ todo plan ranks s
 todo_left plan ranks s n body i k at =
     omega (arith, todo-passed plan ranks s n body i (action.Submit k) at, sum_by_push (λ (x : CreatedJob). stage_todo plan ranks x.class x.stage) (moved_jobs (parent.Job n) (i + 1) s) (new_job k (parent.Job n) i Stage.Done))
 
--- the number of completed steps of the calls in progress does not fall
+-- a skip does not reduce the number of completed steps of the calls in progress
 calls_done_left : (s : JavaState) (a : Parent) (i k : ℕ) → calls_done s ≤ calls_done (record s { machine = left s.machine a i k })
 calls_done_left s a i k =
     by_place-longer (mark s) 0 s.machine.jobs (moved_jobs a (i + 1) s.machine ++ new_job k a i Stage.Done ∷ []) (omega (arith, length-moved s.machine a (i + 1), length_push (moved_jobs a (i + 1) s.machine) (new_job k a i Stage.Done)))
 
--- ---- both
+-- ---- the calls and the remaining work together
 
--- the cost for a job to skip a submit
+-- the effects of a skip: each job with a call is still at its submit, a skip by a job costs at least one, and the skipping actor
+-- is a client or a job
 pub record SkipCost (plan : Plan) (ranks : Ranks) (s : JavaState) (e : Event) (s' : JavaState) : Type 0 where
   pub calls : JobCalls plan s → JobCalls plan s'
   pub costs : is_of_job_or_pool e ≡ true → 3 * todo plan ranks s'.machine + calls_done s + 1 ≤ 3 * todo plan ranks s.machine + calls_done s'

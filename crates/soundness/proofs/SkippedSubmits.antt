@@ -1,4 +1,4 @@
--- A skipped submit preserves the invariants of reachable states, and does not increase the weight of a state.
+-- A skipped submit preserves the invariants of reachable states and does not increase the weight.
 use Rattle.std.proofs.Common.{◌≡◌, ◌≢◌, ℕ, ◌+◌, ◌≤◌, List, [], ◌∷◌, ◌++◌, length, Some, refl, ◌∙◌, arith}
 use Rattle.job_bodies.specs.declared.action.Action.{Action}
 use Rattle.job_bodies.specs.declared.action.Action.TheVariants as action
@@ -22,20 +22,20 @@ use Rattle.soundness.proofs.VectorLaws.{VectorLaws}
 use Rattle.soundness.proofs.NeverRises.{DoesNotIncrease, actors_weight-with_job, busy_workers_weight-with_job, never_rises_queued}
 use Rattle.soundness.proofs.ThreadChanges.{ThreadsChange}
 
--- the state after it, part by part
+-- the state after actor a skips its submit of a job of class k at position i
 abbrev pub left : State → Parent → ℕ → ℕ → State
 left s a i k = with_job (new_job k a i Stage.Done) (with_position a (i + 1) s)
 
 -- ---- the invariants of reachable states
 
--- a done job is neither claimed nor at a position
+-- a done job is not claimed
 done_unclaimed : Stage.Done ≢ Stage.Claimed
 done_unclaimed e = cc
 
 done_nowhere : (n : ℕ) → Stage.Done ≡ Stage.At n → n ≡ 0
 done_nowhere n e = absurd cc
 
--- the new job is neither queued nor running
+-- a skip preserves the invariants of reachable states, because the new job is neither queued nor running
 pub kept_left : (plan : Plan) (s : State) (a : Parent) (body : List Action) (i k : ℕ) → HasValidBodies plan → StateInvariant plan s → IsAtAction plan s a body i (Some (action.Submit k)) → StateInvariant plan (left s a i k)
 kept_left plan s a body i k ordered kept at =
     let jobs = moved_jobs a (i + 1) s in
@@ -53,7 +53,7 @@ kept_left plan s a body i k ordered kept at =
 
 -- ---- threads
 
--- the number of threads of each pool is unchanged
+-- a skip leaves the number of threads of each pool unchanged
 pub change_skipped : (plan : Plan) (s : State) (a : Parent) (body : List Action) (i k p : ℕ) → IsAtAction plan s a body i (Some (action.Submit k)) → ThreadsChange plan s (moved_jobs a (i + 1) s ++ new_job k a i Stage.Done ∷ []) p (pool_part s p)
 change_skipped plan s a body i k p at =
     let jobs = moved_jobs a (i + 1) s in
@@ -62,7 +62,7 @@ change_skipped plan s a body i k p at =
     let as_before = busy-moved plan s a body i (i + 1) p at.stands in
     record { by_jobs = omega (arith, made_jobs_push plan jobs job p, made_jobs-moved plan s a (i + 1) p); at_core = λ at_core. omega arith }
 
--- the number of submitted jobs does not fall
+-- a skip does not reduce the number of submitted jobs
 pub have_jobs_left : (plan : Plan) (s : State) (a : Parent) (body : List Action) (i k : ℕ) → HaveJobs plan s → IsAtAction plan s a body i (Some (action.Submit k)) → HaveJobs plan (left s a i k)
 have_jobs_left plan s a body i k have at p inside =
     let had = have p inside in
@@ -71,7 +71,7 @@ have_jobs_left plan s a body i k have at p inside =
 
 -- ---- weights
 
--- it costs at most the weight of the queued job
+-- a skip does not increase the weight, because a done job of the class weighs at most as much as a queued one
 pub no_heavier_left : (get_return : GetReturn) (plan : Plan) (v : Vector) (s : State) (a : Parent) (body : List Action) (i k : ℕ) → VectorLaws get_return plan v → done_weight plan v k ≤ queued_weight v k → IsAtAction plan s a body i (Some (action.Submit k))
     → DoesNotIncrease get_return plan v s (left s a i k)
 no_heavier_left get_return plan v s a body i k laws no_more at =

@@ -1,5 +1,5 @@
--- Accepted plans are safe and make progress if actors skip submits together with their gets and exchange alike jobs, and
--- submits are the steps of Java's execute.
+-- Accepted plans are safe and make progress if each submit is the separate steps of Java's `execute`, and actors skip submits
+-- together with their gets and exchange alike jobs.
 use Rattle.std.proofs.Common.{◌≡◌, ℕ, List, Some, subst, arith}
 use Rattle.job_bodies.specs.declared.action.Action.{Action}
 use Rattle.job_bodies.specs.declared.action.Action.TheVariants as action
@@ -39,14 +39,14 @@ use Rattle.soundness.proofs.JavaTheorem.{JavaSound, java_sound_start, java_sound
 
 -- ---- a skipped submit
 
--- each vector stays balanced, since the weight of a done job is at most that of a queued job
+-- after a skip each vector is still balanced, because a done job weighs at most as much as a queued job
 balanced_left : (get_return : GetReturn) (plan : Plan) (v : Vector) (ranks : Ranks) (s : State) (a : Parent) (body : List Action) (i k : ℕ) → HasValidBodies plan → RankLaws plan ranks → VectorLaws get_return plan v → IsAtAction plan s a body i (Some (action.Submit k))
     → IsBalanced get_return plan v s → IsBalanced get_return plan v (left s a i k)
 balanced_left get_return plan v ranks s a body i k ordered ranked laws at balanced =
     let no_more = done-le-queued get_return plan v ranks k ordered ranked laws (class_exists plan s a body i k ordered at) in
     balanced_step get_return plan v s (left s a i k) (no_heavier_left get_return plan v s a body i k laws no_more at) balanced
 
--- the state stays sound
+-- after a skip a sound state is still sound
 sound_left : (plan : Plan) (cert : Cert) (s : State) (a : Parent) (body : List Action) (i k : ℕ) → HasValidBodies plan → CertLaws plan cert → IsAtAction plan s a body i (Some (action.Submit k)) → Sound plan cert s → Sound plan cert (left s a i k)
 sound_left plan cert s a body i k ordered laws at held = record {
   bounded = record {
@@ -60,14 +60,14 @@ sound_left plan cert s a body i k ordered laws at held = record {
   blocked = λ p inside. balanced_left DoneWeight plan (pool_cert_at cert p).blocked cert.ranks s a body i k ordered laws.ranks (laws.blocked p inside).laws at (held.blocked p inside);
 }
 
--- a queue that was full at some time still counts as such
+-- after a skip the invariant of a pool whose queue was full still holds
 full_left : (plan : Plan) (bound : Bound) (s : State) (a : Parent) (body : List Action) (i k p : ℕ) → IsAtAction plan s a body i (Some (action.Submit k)) → QueueWasFull plan bound s p → QueueWasFull plan bound (left s a i k) p
 full_left plan (Standing v) s a body i k p at full = full
 full_left plan (Lifetime v) s a body i k p at full =
     let by_jobs = (change_skipped plan s a body i k p at).by_jobs in
     omega arith
 
--- the invariants of the calls still hold
+-- after a skip the invariants of the calls in progress still hold
 calls_left : (plan : Plan) (bounds : ℕ → Bound) (s : JavaState) (a : Parent) (body : List Action) (i k : ℕ) → IsAtAction plan s.machine a body i (Some (action.Submit k)) → CallsKept plan bounds s → CallsKept plan bounds (record s { machine = left s.machine a i k })
 calls_left plan bounds s a body i k at calls = record {
   offering = λ b p inside is_there. (change_skipped plan s.machine a body i k p at).at_core (calls.offering b p inside is_there);
@@ -85,7 +85,7 @@ left_keeps plan cert s e s' ordered laws held (leaves a body i k at not_offering
 balanced_exchanged : (get_return : GetReturn) (plan : Plan) (v : Vector) (s : State) (a : Parent) (t u : ℕ) → IsBalanced get_return plan v s → IsBalanced get_return plan v (after_exchange a t u s)
 balanced_exchanged get_return plan v s a t u balanced = balanced_step get_return plan v s (after_exchange a t u s) (no_heavier_exchanged get_return plan v s a t u) balanced
 
--- the state stays sound in an exchange
+-- after an exchange a sound state is still sound
 sound_exchanged : (plan : Plan) (cert : Cert) (s : State) (a : Parent) (t u : ℕ) → AreAlike s a t u → Sound plan cert s → Sound plan cert (after_exchange a t u s)
 sound_exchanged plan cert s a t u alike held = record {
   bounded = record {
@@ -97,12 +97,12 @@ sound_exchanged plan cert s a t u alike held = record {
   blocked = λ p inside. balanced_exchanged DoneWeight plan (pool_cert_at cert p).blocked s a t u (held.blocked p inside);
 }
 
--- a queue that was full at some time still counts as such after an exchange
+-- after an exchange the invariant of a pool whose queue was full still holds
 full_exchanged : (plan : Plan) (bound : Bound) (s : State) (a : Parent) (t u p : ℕ) → QueueWasFull plan bound s p → QueueWasFull plan bound (after_exchange a t u s) p
 full_exchanged plan (Standing v) s a t u p full = full
 full_exchanged plan (Lifetime v) s a t u p full = omega (arith, threads-exchanged plan s a t u p, jobs_made-exchanged plan s a t u p)
 
--- the invariants of the calls still hold after an exchange
+-- after an exchange the invariants of the calls in progress still hold
 calls_exchanged : (plan : Plan) (bounds : ℕ → Bound) (s : JavaState) (a : Parent) (t u : ℕ) → CallsKept plan bounds s → CallsKept plan bounds (record s { machine = after_exchange a t u s.machine })
 calls_exchanged plan bounds s a t u calls = record {
   offering = λ b p inside is_there. let at_core = calls.offering b p inside is_there in omega (arith, threads-exchanged plan s.machine a t u p);
@@ -121,20 +121,20 @@ choice_keeps plan cert ordered laws s (Acts e) s' held is_step = java_sound_step
 choice_keeps plan cert ordered laws s (Skips e) s' held is_step = left_keeps plan cert s e s' ordered laws held (is_skipped plan s e s' is_step)
 choice_keeps plan cert ordered laws s (Exchanges a t u) s' held is_step = exchange_keeps plan cert s a t u s' held (is_exchange plan s a t u s' is_step)
 
--- every reachable state is sound
+-- every state that choices reach is sound
 choices_sound : (plan : Plan) (cert : Cert) → HasValidBodies plan → CertLaws plan cert → (choices : List Choice) (s : JavaState) → ChoicesReach plan choices s → JavaSound plan cert s
 choices_sound plan cert ordered laws choices s reached = choices_keep plan (JavaSound plan cert) (choice_keeps plan cert ordered laws) choices (without_calls (start plan)) s (java_sound_start plan cert ordered) reached
 
 -- ---- the laws
 
--- every reachable state is safe
+-- the law that every state that choices reach is safe
 pub accepted_plans_may_skip : AcceptedPlansMaySkip
 accepted_plans_may_skip plan cert well_formed is_accepted choices s reached =
     let is_ordered = ordered plan well_formed in
     let laws = cert_laws plan cert is_accepted in
     sound_safe plan cert s.machine is_ordered laws (choices_sound plan cert is_ordered laws choices s reached).sound
 
--- every reachable state with an unfinished job makes progress
+-- the law that an event of a job or a take is possible in every state with an unfinished job that choices reach
 pub accepted_plans_make_progress_with_skips : AcceptedPlansMakeProgressWithSkips
 accepted_plans_make_progress_with_skips plan cert well_formed is_accepted choices s reached j still =
     let is_ordered = ordered plan well_formed in

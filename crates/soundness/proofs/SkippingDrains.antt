@@ -29,7 +29,7 @@ use Rattle.soundness.proofs.Skipping.{choice_keeps}
 
 -- ---- every choice
 
--- the invariants of the reachable states of an accepted plan, with the calls of its jobs
+-- each choice preserves the invariants of an accepted plan and of the calls of its jobs
 choice_held : (plan : Plan) (cert : Cert) → HasValidBodies plan → CertLaws plan cert → (s : JavaState) (x : Choice) (s' : JavaState) → JavaHeld plan cert s → choice_step plan s x ≡ Some s' → JavaHeld plan cert s'
 choice_held plan cert ordered laws s (Acts e) s' held is_step = held_step plan cert ordered laws s e s' held is_step
 choice_held plan cert ordered laws s (Skips e) s' held is_step = record {
@@ -41,13 +41,13 @@ choice_held plan cert ordered laws s (Exchanges a t u) s' held is_step = record 
   jobs = subst (JobCalls plan) (is_exchange plan s a t u s' is_step).after (job_calls_exchanged plan s a t u held.jobs);
 }
 
--- in every reachable state
+-- every state that choices reach satisfies the invariants of an accepted plan and of the calls of its jobs
 choices_held : (plan : Plan) (cert : Cert) → HasValidBodies plan → CertLaws plan cert → (choices : List Choice) (s : JavaState) → ChoicesReach plan choices s → JavaHeld plan cert s
 choices_held plan cert ordered laws choices s reached =
     choices_keep plan (JavaHeld plan cert) (choice_held plan cert ordered laws) choices (without_calls (start plan)) s
     (record { java = java_sound_start plan cert ordered; jobs = job_calls_start plan (start plan) }) reached
 
--- a choice that is not of a client is paid for by the remaining work
+-- each choice in which no client acts pays: 1 if it is a job event, a take or a skip by a job, and otherwise 0
 choice_pays : (plan : Plan) (cert : Cert) (s : JavaState) (x : Choice) (s' : JavaState) → HasValidBodies plan → CertLaws plan cert → JavaHeld plan cert s → JavaHeld plan cert s' → no_client_acts x ≡ true → choice_step plan s x ≡ Some s' → Pays plan cert (one_if (is_of_jobs x)) s s'
 choice_pays plan cert s (Acts e) s' ordered laws held held' of_no_client is_step = event_pays plan cert s e s' ordered laws held held' of_no_client is_step
 choice_pays plan cert s (Skips e) s' ordered laws held held' of_no_client is_step =
@@ -61,7 +61,7 @@ choice_pays plan cert s (Exchanges a t u) s' ordered laws held held' of_no_clien
 
 -- ---- lists of choices
 
--- the first of several choices, and then the others
+-- a list of choices pays for its counted choices if the choices after the first one do
 after_first : (plan : Plan) (cert : Cert) (s : JavaState) (x : Choice) (choices : List Choice) (s' : JavaState) → HasValidBodies plan → CertLaws plan cert → JavaHeld plan cert s → no_client_acts x ≡ true
     → ((next : JavaState) → JavaHeld plan cert next → choices_replay plan (Some next) choices ≡ Some s' → Pays plan cert (count_by is_of_jobs choices) next s')
     → (found : Option JavaState) → choice_step plan s x ≡ found → choices_replay plan found choices ≡ Some s' → Pays plan cert (count_by is_of_jobs (x ∷ choices)) s s'
@@ -79,12 +79,12 @@ choices_pay plan cert (x ∷ choices) s s' ordered laws held each replayed =
     let parts = and_parts (no_client_acts x) (list_all no_client_acts choices) each in
     after_first plan cert s x choices s' ordered laws held parts.0 (λ next held' rest. choices_pay plan cert choices next s' ordered laws held' parts.1 rest) (choice_step plan s x) refl replayed
 
--- the number of choices is bounded, and when none is possible, no job is unfinished
+-- the law that the number of counted choices is bounded, and that no job is unfinished when no job event and no take is possible
 pub accepted_plans_drain_with_skips : AcceptedPlansDrainWithSkips
 accepted_plans_drain_with_skips plan cert well_formed is_accepted =
     let is_ordered = ordered plan well_formed in
     let laws = cert_laws plan cert is_accepted in
-    -- the invariants at the end of the list
+    -- the state at the end of a list of choices satisfies the invariants
     let held_after : (s s' : JavaState) (before choices : List Choice) → ChoicesReach plan before s → choices_replay plan (Some s) choices ≡ Some s' → JavaHeld plan cert s' =
     λ s s' before choices reached replayed. choices_keep plan (JavaHeld plan cert) (choice_held plan cert is_ordered laws) choices s s' (choices_held plan cert is_ordered laws before s reached) replayed in
     record {

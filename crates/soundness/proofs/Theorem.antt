@@ -34,11 +34,11 @@ use Rattle.soundness.proofs.Bounded.{Bounded, bounded_start, bounded_step, keeps
 
 -- ---- the invariants of the reachable states of an accepted plan
 
--- the bounds of the certificate's pools
+-- the bound of pool p in the certificate
 abbrev pub bound_of : Cert → ℕ → Bound
 bound_of cert p = (pool_cert_at cert p).bound
 
--- the invariants for the pools' bounds hold, and each blocked vector is balanced
+-- a sound state: it satisfies the invariants for the bounds of the pools, and each blocked vector is balanced
 pub record Sound (plan : Plan) (cert : Cert) (s : State) : Type 0 where
   pub bounded : Bounded plan (bound_of cert) s
   pub blocked : (p : ℕ) → p < length plan.pools → IsBalanced DoneWeight plan (pool_cert_at cert p).blocked s
@@ -50,7 +50,7 @@ sound_start plan cert ordered = record {
   blocked = λ p inside. balanced_start DoneWeight plan (pool_cert_at cert p).blocked;
 }
 
--- every event preserves that
+-- the state after each event from a sound state is sound
 pub sound_step : (plan : Plan) (cert : Cert) (s s' : State) (o : Outcome) {e : Event} → HasValidBodies plan → CertLaws plan cert → Sound plan cert s → Happens plan s e s' o → Sound plan cert s'
 sound_step plan cert s s' o ordered laws sound happened = record {
   bounded = bounded_step plan (bound_of cert) s s' o ordered laws.bound sound.bounded happened;
@@ -87,14 +87,14 @@ sound_safe plan cert s ordered laws held =
       none_waits_loosely = sound_waits_loosely plan cert s ordered laws held;
     }
 
--- safety: every reachable state is safe
+-- every reachable state is safe
 pub safe : (plan : Plan) (cert : Cert) → IsWellFormed plan → IsTrue (accepted plan cert) → Safe plan
 safe plan cert well_formed is_accepted events s reached =
     let is_ordered = ordered plan well_formed in
     let laws = cert_laws plan cert is_accepted in
     sound_safe plan cert s is_ordered laws (sound plan cert s is_ordered laws (events, reached))
 
--- progress: every reachable state with an unfinished job makes progress
+-- in every reachable state with an unfinished job an event of a job or a take is possible
 pub makes_progress_everywhere : (plan : Plan) (cert : Cert) → IsWellFormed plan → IsTrue (accepted plan cert) → MakesProgress plan
 makes_progress_everywhere plan cert well_formed is_accepted events s reached j still =
     let is_ordered = ordered plan well_formed in
@@ -114,7 +114,7 @@ lowers_or_leaves plan cert s s' o e laws held held' of_no_client happened =
     (λ (is_end : ends_thread e ≡ true). omega (arith, ap one_if (not_counted e is_end), same_todo plan cert.ranks s s' o is_end happened))
     (no_client_cases e of_no_client)
 
--- the events after the first one
+-- the number of job events and takes of a list is at most the remaining work if this holds for the events after the first one
 after_first : (plan : Plan) (cert : Cert) (s : State) (e : Event) (events : List Event) (s' : State) → HasValidBodies plan → CertLaws plan cert → Sound plan cert s → is_of_no_client e ≡ true
     → ((next : State) → Sound plan cert next → replay plan (Some next) events ≡ Some s' → count_by is_of_job_or_pool events ≤ todo plan cert.ranks next)
     → (found : Option (State × Outcome)) → step plan s e ≡ found → replay plan (state_after found) events ≡ Some s' → count_by is_of_job_or_pool (e ∷ events) ≤ todo plan cert.ranks s
@@ -126,14 +126,14 @@ after_first plan cert s e events s' ordered laws held of_no_client onward (Some 
     let held' = sound_step plan cert s next o ordered laws held happened in
     omega (arith, lowers_or_leaves plan cert s next o e laws held held' of_no_client happened, onward next held' replayed, sum_by-cons (λ (x : Event). one_if (is_of_job_or_pool x)) e events)
 
--- the number of job events and takes is at most the remaining work
+-- if no client acts, the number of job events and takes of a list is at most the remaining work of the first state
 no_more_events : (plan : Plan) (cert : Cert) (events : List Event) (s s' : State) → HasValidBodies plan → CertLaws plan cert → Sound plan cert s → list_all is_of_no_client events ≡ true → replay plan (Some s) events ≡ Some s' → count_by is_of_job_or_pool events ≤ todo plan cert.ranks s
 no_more_events plan cert [] s s' ordered laws held each replayed = omega arith
 no_more_events plan cert (e ∷ events) s s' ordered laws held each replayed =
     let parts = and_parts (is_of_no_client e) (list_all is_of_no_client events) each in
     after_first plan cert s e events s' ordered laws held parts.0 (λ next held' rest. no_more_events plan cert events next s' ordered laws held' parts.1 rest) (step plan s e) refl replayed
 
--- the number of job events and takes is bounded, and when none is possible, no job is unfinished
+-- if no client acts, the number of job events and takes is bounded, and no job is unfinished when none of them is possible
 pub drains : (plan : Plan) (cert : Cert) → IsWellFormed plan → IsTrue (accepted plan cert) → Drains plan cert.ranks
 drains plan cert well_formed is_accepted =
     let is_ordered = ordered plan well_formed in
@@ -150,14 +150,14 @@ drains plan cert well_formed is_accepted =
           cc);
     }
 
--- the statements in specs/
+-- the law that accepted plans are safe
 pub accepted_plans_are_safe : AcceptedPlansAreSafe
 accepted_plans_are_safe plan cert well_formed is_accepted = safe plan cert well_formed is_accepted
 
--- progress
+-- the law that accepted plans make progress
 pub accepted_plans_make_progress : AcceptedPlansMakeProgress
 accepted_plans_make_progress plan cert well_formed is_accepted = makes_progress_everywhere plan cert well_formed is_accepted
 
--- draining
+-- the law that accepted plans drain
 pub accepted_plans_drain : AcceptedPlansDrain
 accepted_plans_drain plan cert well_formed is_accepted = drains plan cert well_formed is_accepted

@@ -1,4 +1,4 @@
--- Along a body the weight of an actor grows at most by what gets return for jobs that it submitted before.
+-- Along a body the weight of an actor grows at most by what its gets return for jobs that it submitted earlier.
 use Rattle.std.proofs.Common.{◌≡◌, ◌≢◌, ℕ, zero, suc, ◌+◌, ◌<◌, ◌≤◌, false, true, cond, inl, inr, ltb, List, length, slice_get, Option, Some, None, refl, sym, ap, ◌∙◌, arith}
 use Rattle.std.proofs.lemmas.Bool.{cases_lt, cases_eq, lt-ltb, le-ltb}
 use Rattle.std.proofs.lemmas.Option.{slice_get-get_or}
@@ -18,7 +18,7 @@ use Rattle.soundness.proofs.RankLaws.{RankLaws, rank_laws}
 
 -- ---- the weight that gets return
 
--- the weight that an action returns if it is a get of a submit before position i
+-- the weight that an action returns if it is a get of a submit before position i, and otherwise 0
 abbrev pub returned_by : GetReturn → Plan → Vector → List Action → ℕ → Option Action → ℕ
 returned_by get_return plan v body i None = 0
 returned_by get_return plan v body i (Some (action.Work u)) = 0
@@ -37,21 +37,22 @@ below-le t i w = elim (cases_lt t i) [
   | inr past ↦ omega (arith, ap (λ b. cond b w 0) (le-ltb t i past))
 ]
 
--- the same number does not grow from i to i + 1 if t is not i
+-- the number that is w if t is below i, and 0 otherwise, does not change from i to i + 1 if t is not i
 below-le_next : (t i w : ℕ) → t ≢ i → cond (ltb t (i + 1)) w 0 ≤ cond (ltb t i) w 0
 below-le_next t i w other = elim (cases_lt t i) [
   | inl below ↦ omega (arith, ap (λ b. cond b w 0) (lt-ltb t i below), ap (λ b. cond b w 0) (lt-ltb t (i + 1) (omega arith)))
   | inr past ↦ omega (arith, ap (λ b. cond b w 0) (le-ltb t (i + 1) (omega arith)))
 ]
 
--- an action that is not a get of the submit at i returns at most the same if that submit counts as earlier
+-- an action that does not get the submit at i returns no more for submits before i + 1 than for submits before i
 returned_by-le : (get_return : GetReturn) (plan : Plan) (v : Vector) (body : List Action) (i : ℕ) (next : Option Action) → next ≢ Some (action.Get i) → returned_by get_return plan v body (i + 1) next ≤ returned_by get_return plan v body i next
 returned_by-le get_return plan v body i None other = omega arith
 returned_by-le get_return plan v body i (Some (action.Work u)) other = omega arith
 returned_by-le get_return plan v body i (Some (action.Submit k)) other = omega arith
 returned_by-le get_return plan v body i (Some (action.Get t)) other = below-le_next t i (returned_weight get_return plan v (submitted_class body t)) (λ same. other (ap (λ (u : ℕ). Some (action.Get u)) same))
 
--- the actions from position h on return at most the same if the submit at i counts as earlier and none of them gets it
+-- if none of the actions from position h on gets the submit at i, these actions return no more for submits before i + 1 than for
+-- submits before i
 returned-le : (get_return : GetReturn) (plan : Plan) (v : Vector) (body : List Action) (i h n : ℕ) → ((u : ℕ) → h ≤ u → slice_get body u ≢ Some (action.Get i)) → returned get_return plan v body (i + 1) h n ≤ returned get_return plan v body i h n
 returned-le get_return plan v body i h zero ungot = omega arith
 returned-le get_return plan v body i h (suc n) ungot =
@@ -60,7 +61,7 @@ returned-le get_return plan v body i h (suc n) ungot =
 same_get : (t u : ℕ) → Some (action.Get t) ≡ Some (action.Get u) → t ≡ u
 same_get t u e = cc
 
--- the actions from position h on return at most the weight of one get more if the submit at i counts as earlier
+-- the actions from position h on return for submits before i + 1 at most the weight of one get more than for submits before i
 returned_once_at : (get_return : GetReturn) (plan : Plan) (v : Vector) (body : List Action) (i h n : ℕ) (next : Option Action) → IsValidBody plan body
     → returned get_return plan v body (i + 1) (h + 1) n ≤ returned get_return plan v body i (h + 1) n + returned_weight get_return plan v (submitted_class body i) → slice_get body h ≡ next
     → returned_by get_return plan v body (i + 1) next + returned get_return plan v body (i + 1) (h + 1) n ≤ returned_by get_return plan v body i next + returned get_return plan v body i (h + 1) n + returned_weight get_return plan v (submitted_class body i)
@@ -79,7 +80,7 @@ returned_once : (get_return : GetReturn) (plan : Plan) (v : Vector) (body : List
 returned_once get_return plan v body i h zero valid = omega arith
 returned_once get_return plan v body i h (suc n) valid = returned_once_at get_return plan v body i h n (slice_get body h) valid (returned_once get_return plan v body i (h + 1) n valid) refl
 
--- if no submit is at position i, no action gets it
+-- if the action at position i is not a submit, no get refers to position i
 no_submit : (plan : Plan) (body : List Action) (i : ℕ) (next : Option Action) → IsValidBody plan body → slice_get body i ≡ next → submits next ≡ false → (u : ℕ) → slice_get body u ≢ Some (action.Get i)
 no_submit plan body i next valid is_next fails u gets =
     let is_submit : submits next ≡ true = ap submits (sym is_next) ∙ valid.of_submit u i gets in
@@ -96,7 +97,7 @@ returned_weight-le : (get_return : GetReturn) (plan : Plan) (v : Vector) (k : �
 returned_weight-le DoneWeight plan v k = omega arith
 returned_weight-le NoWeight plan v k = omega arith
 
--- a position without an action is at or after the end
+-- a position without an action is at or after the end of the body
 at_end : (body : List Action) (i : ℕ) → slice_get body i ≡ None → length body ≤ i
 at_end body i none = elim (cases_lt i (length body)) [
   | inl within ↦ let some = slice_get-get_or body i (action.Work 0) within in absurd cc
@@ -104,7 +105,7 @@ at_end body i none = elim (cases_lt i (length body)) [
 ]
 
 module _ (get_return : GetReturn) (plan : Plan) (v : Vector) (weight : ℕ → ℕ) (body : List Action) where
-  -- the walk over the action at position i and the n actions after it
+  -- the bound of the walk over n actions, for the action at position i and the n actions after it
   walk_action : (n i after : ℕ) (next : Option Action) → BodyLaws get_return plan v weight body → IsValidBody plan body → SubmitsCoverDone plan v body → i < length body → after ≤ weight (i + 1) + returned get_return plan v body (i + 1) (i + 1) n → slice_get body i ≡ next
       → after ≤ weight i + (returned_by get_return plan v body i next + returned get_return plan v body i (i + 1) n)
   walk_action n i after None laws valid pay inside rest is_next = let end = at_end body i is_next in absurd (omega arith)
@@ -118,7 +119,8 @@ module _ (get_return : GetReturn) (plan : Plan) (v : Vector) (weight : ℕ → �
       let back : returned_by get_return plan v body i (Some (action.Get t)) ≡ weight_back = ap (λ b. cond b weight_back 0) (lt-ltb t i (valid.behind i t is_next)) in
       omega (arith, rest, laws.get i t is_next, back, returned-le get_return plan v body i (i + 1) n (λ h later. no_submit plan body i (Some (action.Get t)) valid is_next refl h))
 
-  -- the weight n actions later is at most the weight now and what these actions return for submits before position i
+  -- the weight at position i + n is at most the weight at position i and what the n actions between them return for submits
+  -- before i
   pub walk : (n i : ℕ) → BodyLaws get_return plan v weight body → IsValidBody plan body → SubmitsCoverDone plan v body → i + n ≤ length body → weight (i + n) ≤ weight i + returned get_return plan v body i i n
   walk zero i laws valid pay inside = let here : weight (i + 0) ≡ weight i = ap weight (omega arith) in omega (arith, here)
   walk (suc n) i laws valid pay inside =

@@ -1,4 +1,4 @@
--- The weighted sum of a state. No event increases it, so it stays within the total.
+-- The weight of a state. No event increases it, so in every reachable state it is at most the total.
 use Rattle.std.proofs.Common.{◌≡◌, ◌≢◌, ℕ, ◌+◌, ◌-◌, ◌*◌, ◌<◌, ◌≤◌, ⊎_elim, Bool, true, false, cond, ◌&&◌, eqb, List, [], ◌∷◌, length, get_or, sum_by, refl, sym, ap, subst, ◌∙◌, arith, le_of_eq}
 use Rattle.std.specs.List.{enumerate_from}
 use Rattle.std.proofs.Math.Nat.{mul-add}
@@ -52,11 +52,12 @@ sum_at_one f n (x ∷ xs) q w low high at others =
 
 -- ---- the busy workers, summed by pool and by job
 
--- the weight of the busy workers, pool by pool
+-- the weight of the busy workers, summed over the pools
 abbrev workers_weight_of_pools : Plan → Vector → List CreatedJob → ℕ
 workers_weight_of_pools plan v jobs = sum_by (λ (entry : ℕ × Pool). workers_weight v entry.0 * busy_jobs plan jobs entry.0) (enumerate_from 0 plan.pools)
 
--- a busy worker of pool q counts only in that pool
+-- a busy worker of pool q contributes its weight to the sum over the pools exactly once, and a job that is not running
+-- contributes nothing
 worker_of_one : (v : Vector) (pools : List Pool) (q : ℕ) (working : Bool) → q < length pools
     → sum_by (λ (entry : ℕ × Pool). workers_weight v entry.0 * one_if (working && eqb q entry.0)) (enumerate_from 0 pools) ≡ cond working (workers_weight v q) 0
 worker_of_one v pools q true inside =
@@ -65,7 +66,7 @@ worker_of_one v pools q true inside =
     (λ entry other. let none : one_if (eqb q entry.0) ≡ 0 = ap one_if (ne_eqb q entry.0 (λ same. other (sym same))) in ap (λ (n : ℕ). workers_weight v entry.0 * n) none ∙ omega arith)
 worker_of_one v pools q false inside = sum_by_zero (λ (entry : ℕ × Pool). workers_weight v entry.0 * 0) (enumerate_from 0 pools) (λ entry. omega arith)
 
--- the sum by pool is the sum by job
+-- the weight of the busy workers summed over the pools equals that summed over the jobs
 workers_weight_by_pool : (plan : Plan) (v : Vector) (jobs : List CreatedJob) → ((job : CreatedJob) → In job jobs → pool_of plan job.class < length plan.pools) → workers_weight_of_pools plan v jobs ≡ workers_weight_of_jobs plan v jobs
 workers_weight_by_pool plan v [] inside = sum_by_zero (λ (entry : ℕ × Pool). workers_weight v entry.0 * 0) (enumerate_from 0 plan.pools) (λ entry. omega arith)
 workers_weight_by_pool plan v (job ∷ jobs) inside =
@@ -81,15 +82,15 @@ workers_weight_by_pool plan v (job ∷ jobs) inside =
 
 -- ---- the workers that are not busy
 
--- the weight of the maximum number of workers of all pools
+-- the weight of all workers of all pools, up to each pool's maximum
 abbrev pub all_workers : Plan → Vector → ℕ
 all_workers plan v = sum_by (λ (entry : ℕ × Pool). workers_weight v entry.0 * entry.1.max) (enumerate_from 0 plan.pools)
 
--- the weight of those of them that are not busy
+-- the weight of the workers that are not busy
 abbrev free_workers : Plan → Vector → State → ℕ
 free_workers plan v s = sum_by (λ (entry : ℕ × Pool). workers_weight v entry.0 * (entry.1.max - busy plan s entry.0)) (enumerate_from 0 plan.pools)
 
--- two sums whose terms agree at each index
+-- two sums over a numbered list are equal if their terms agree at each index
 sum_by-agree_within : {X : Type 0} (f g : ℕ × X → ℕ) (xs : List X) → ((p : ℕ) (d : X) → p < length xs → f (p, get_or xs p d) ≡ g (p, get_or xs p d)) → sum_by f (enumerate_from 0 xs) ≡ sum_by g (enumerate_from 0 xs)
 sum_by-agree_within f g xs same =
     let low = sum_by-le-within f g 0 xs (λ p d inside. subst (λ (q : ℕ). f (q, get_or xs p d) ≤ g (q, get_or xs p d)) (sym (zero_plus p)) (le_of_eq (same p d inside))) in
@@ -99,13 +100,13 @@ sum_by-agree_within f g xs same =
     zero_plus : (p : ℕ) → 0 + p ≡ p
     zero_plus p = omega arith
 
--- the busy workers and the others
+-- the weights of the busy workers and of the others, in a pool with workers of weight w, add up to the weight of all
 parts_of : (w max busy : ℕ) → busy ≤ max → w * (max - busy) + w * busy ≡ w * max
 parts_of w max busy within =
     let both : max - busy + busy ≡ max = omega arith in
     sym (mul-add w (max - busy) busy) ∙ ap (λ (n : ℕ). w * n) both
 
--- the sum of both is the weight of all workers
+-- the weights of the busy workers and of the others, in all pools, add up to the weight of all workers
 idle_and_busy_weight : (plan : Plan) (v : Vector) (s : State) → HasValidBodies plan → StateInvariant plan s → free_workers plan v s + busy_workers_weight plan v s ≡ all_workers plan v
 idle_and_busy_weight plan v s ordered kept =
     let numbered = enumerate_from 0 plan.pools in
@@ -120,7 +121,7 @@ idle_and_busy_weight plan v s ordered kept =
     let by_pool = workers_weight_by_pool plan v s.jobs (λ job i. ordered.pools job.class (All-at_In (λ (x : CreatedJob). x.class < length plan.classes) kept.classes i)) in
     omega (arith, joined, by_pool, sum_by-add free at_work numbered)
 
--- the weighted sum without a subtraction
+-- the weight of a state and of its busy workers is the weight of its clients and jobs and of all workers
 pub sum_of_is : (get_return : GetReturn) (plan : Plan) (v : Vector) (s : State) → HasValidBodies plan → StateInvariant plan s → sum_of get_return plan v s + busy_workers_weight plan v s ≡ actors_weight get_return plan v s + all_workers plan v
 sum_of_is get_return plan v s ordered kept = omega (arith, idle_and_busy_weight plan v s ordered kept)
 
@@ -130,15 +131,16 @@ busy_workers_weight-le plan v s ordered kept = omega (arith, idle_and_busy_weigh
 
 -- ---- the invariant
 
--- the initial weight of the clients and the weight of all workers add up to the total
+-- the weight of the clients and jobs of a balanced state is at most the total, which is the initial weight of the clients and the
+-- weight of all workers
 pub actors_weight-le-total : (get_return : GetReturn) (plan : Plan) (v : Vector) (s : State) → HasValidBodies plan → StateInvariant plan s → IsBalanced get_return plan v s → actors_weight get_return plan v s ≤ total plan v
 actors_weight-le-total get_return plan v s ordered kept balanced = omega (arith, busy_workers_weight-le plan v s ordered kept)
 
--- the weight of a state is at most the total
+-- the weight of a balanced state is at most the total
 pub sum_of-le-total : (get_return : GetReturn) (plan : Plan) (v : Vector) (s : State) → HasValidBodies plan → StateInvariant plan s → IsBalanced get_return plan v s → sum_of get_return plan v s ≤ total plan v
 sum_of-le-total get_return plan v s ordered kept balanced = omega (arith, sum_of_is get_return plan v s ordered kept)
 
--- no event increases the weight
+-- no event increases the weight of a state
 pub sum_never_rises : (get_return : GetReturn) (plan : Plan) (v : Vector) (s s' : State) (o : Outcome) {e : Event} → HasValidBodies plan → VectorLaws get_return plan v → StateInvariant plan s → Happens plan s e s' o → sum_of get_return plan v s' ≤ sum_of get_return plan v s
 sum_never_rises get_return plan v s s' o ordered laws kept happened =
     let before = sum_of_is get_return plan v s ordered kept in

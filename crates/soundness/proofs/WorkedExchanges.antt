@@ -17,11 +17,11 @@ use Rattle.soundness.specs.Skipping.Choice.{Acts, Skips, Exchanges}
 abbrev pool_of_size : ℕ → Pool
 pool_of_size threads = record { name = 112 ∷ []; core = threads; max = threads; queue = 1; prestart = false }
 
--- a property of the state that the choices reach
+-- the value of a function at the state that the choices reach, or None if they reach none
 abbrev after : {X : Type 0} → Plan → List Choice → (JavaState → X) → Option X
 after plan choices ask = option_map ask (choices_replay plan (Some (without_calls (start plan))) choices)
 
--- the stages of all jobs
+-- the stages of all jobs of a state
 abbrev stages : JavaState → List Stage
 stages s = map (λ job. job.stage) s.machine.jobs
 
@@ -35,7 +35,7 @@ three_jobs = record {
   clients = record { name = 99 ∷ []; count = 1; repeat = true; body = Submit 0 ∷ Submit 0 ∷ Submit 1 ∷ Get 0 ∷ Get 1 ∷ Get 2 ∷ [] } ∷ [];
 }
 
--- the client has submitted all three jobs, and the second one is done
+-- the choices after which the client has submitted all three jobs and the second one is done
 abbrev second_is_done : List Choice
 second_is_done = Acts (event.Client 0) ∷ Acts (event.Client 0) ∷ Acts (event.Client 0) ∷ Acts (event.Job 1) ∷ Acts (event.Job 1) ∷ []
 
@@ -43,14 +43,14 @@ second_is_done = Acts (event.Client 0) ∷ Acts (event.Client 0) ∷ Acts (event
 pub first_is_not_done : after three_jobs (second_is_done ++ Acts (event.Client 0) ∷ []) stages ≡ None
 first_is_not_done = refl
 
--- after an exchange the client gets the second job
+-- the choices after which the client exchanged the first two jobs and got the second one
 abbrev second_is_got : List Choice
 second_is_got = second_is_done ++ Exchanges (parent.Client 0) 0 1 ∷ Acts (event.Client 0) ∷ []
 
 pub second_is_got_first : after three_jobs second_is_got stages ≡ Some (Stage.At 0 ∷ Stage.Claimed ∷ Stage.At 0 ∷ [])
 second_is_got_first = refl
 
--- the client's next get waits for the first job, and gets it when it is done
+-- the choices in which the client's next get finds the first job after it is done
 abbrev first_is_got : List Choice
 first_is_got = second_is_got ++ Acts (event.Job 0) ∷ Acts (event.Job 0) ∷ Acts (event.Client 0) ∷ []
 
@@ -61,7 +61,7 @@ first_is_got_next = refl
 abbrev found : JavaState → Option ℕ × Option ℕ
 found s = (child s.machine (parent.Client 0) 0, child s.machine (parent.Client 0) 1)
 
--- in the next round the client finds its new jobs, and may exchange them again
+-- the choices of a second cycle, in which the client finds its new jobs and can exchange them again
 abbrev next_round : List Choice
 next_round =
     first_is_got
@@ -73,7 +73,8 @@ found_in_next_round = refl
 pub exchanged_in_next_round : after three_jobs (next_round ++ Exchanges (parent.Client 0) 0 1 ∷ []) found ≡ Some (Some 4, Some 3)
 exchanged_in_next_round = refl
 
--- if the client skips the first submit, the first get may wait for the second job
+-- a client that skips its first submit can exchange the skipped job with the second one, so that its first get finds the second
+-- one
 pub skipped_is_got_later : after three_jobs (Skips (event.Client 0) ∷ Acts (event.Client 0) ∷ Exchanges (parent.Client 0) 0 1 ∷ []) found ≡ Some (Some 1, Some 0)
 skipped_is_got_later = refl
 
@@ -91,11 +92,11 @@ no_claimed_job = refl
 pub no_later_job : after three_jobs (Acts (event.Client 0) ∷ Exchanges (parent.Client 0) 0 1 ∷ []) stages ≡ None
 no_later_job = refl
 
--- an actor without these jobs has nothing to exchange
+-- an actor that submitted no jobs at the two positions cannot exchange them
 pub no_other_actor : after three_jobs (second_is_done ++ Exchanges (parent.Client 1) 0 1 ∷ []) stages ≡ None
 no_other_actor = refl
 
--- ---- an exchange of jobs of two classes would starve
+-- ---- an exchange of jobs of two classes would lead to starvation
 
 -- an outer job submits a far job to another pool and a near job to its own pool, and gets only the far job
 abbrev far_and_near : Plan
@@ -108,15 +109,16 @@ far_and_near = record {
 abbrev both_submitted : List Choice
 both_submitted = Acts (event.Client 0) ∷ Acts (event.Job 0) ∷ Acts (event.Job 0) ∷ Acts (event.Job 0) ∷ []
 
--- the outer job waits for the far one, which runs
+-- without an exchange the outer job waits for the far job, which runs, so the outer and the near job are no waiting set
 pub far_runs : after far_and_near both_submitted (λ s. is_waiting_set far_and_near s.machine (0 ∷ 2 ∷ [])) ≡ Some false
 far_runs = refl
 
--- after an exchange it would wait for the near one, which waits for its thread
+-- after an exchange of the far job with the near job, the outer job would wait for the near job, which waits for the outer job's
+-- thread
 pub would_starve : after far_and_near both_submitted (λ s. is_waiting_set far_and_near (after_exchange (parent.Job 0) 0 1 s.machine) (0 ∷ 2 ∷ [])) ≡ Some true
 would_starve = refl
 
--- ---- an exchange of a job that was got would block its actor
+-- ---- an exchange of a claimed job would block its actor
 
 -- an outer job submits an inner job and gets it, twice
 abbrev twice : Plan
@@ -126,14 +128,14 @@ twice = record {
   clients = record { name = 99 ∷ []; count = 1; repeat = false; body = Submit 0 ∷ Get 0 ∷ [] } ∷ [];
 }
 
--- the first inner job was got, and the second one is done
+-- the choices after which the first inner job was got and the second one is done
 abbrev second_to_get : List Choice
 second_to_get = Acts (event.Client 0) ∷ Acts (event.Job 0) ∷ Acts (event.Job 1) ∷ Acts (event.Job 1) ∷ Acts (event.Job 0) ∷ Acts (event.Job 0) ∷ Acts (event.Job 0) ∷ Acts (event.Take 1) ∷ Acts (event.Job 2) ∷ Acts (event.Job 2) ∷ []
 
--- the outer job can get the second one
+-- without an exchange the outer job can get the second inner job
 pub can_get : after twice second_to_get (λ s. is_some (java_step twice s (event.Job 0))) ≡ Some true
 can_get = refl
 
--- after an exchange its get would find the first one, which is claimed
+-- after an exchange of the two inner jobs, the outer job's get would find the first one, which is claimed
 pub could_not_get : after twice second_to_get (λ s. is_some (java_step twice (record s { machine = after_exchange (parent.Job 0) 0 2 s.machine }) (event.Job 0))) ≡ Some false
 could_not_get = refl

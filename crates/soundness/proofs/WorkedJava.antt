@@ -19,34 +19,35 @@ one_pool clients = record {
   clients = record { name = 99 ∷ []; count = clients; repeat = false; body = Submit 0 ∷ [] } ∷ [];
 }
 
--- the numbers of rejected submits, of threads of the pool, of idle threads, and of queued jobs
+-- the numbers of refused submits, of threads of the pool, of idle threads, and of queued jobs
 abbrev seen : Plan → JavaState → ℕ × ℕ × ℕ × ℕ
 seen plan s = (s.machine.refusals, threads plan s.machine 0, (pool_part s.machine 0).idle, length (pool_part s.machine 0).queue)
 
--- these numbers after the events, from the initial state
+-- the numbers that `seen` returns after the events from the initial state, or None if an event is not possible
 abbrev seen_after : ℕ → List Event → Option (ℕ × ℕ × ℕ × ℕ)
 seen_after clients events = option_map (seen (one_pool clients)) (java_replay (one_pool clients) (Some (without_calls (start (one_pool clients)))) events)
 
--- client 0 submits; client 1 checks and offers, and its job fills the queue; client 2 checks, and its offer fails
+-- the events in which client 0's job starts, client 1's job fills the queue, and client 2's offer fails
 abbrev offer_fails : List Event
 offer_fails = event.Client 0 ∷ event.Client 1 ∷ event.Client 1 ∷ event.Client 2 ∷ event.Client 2 ∷ []
 
--- job 0 ends, and its thread takes job 1
+-- the events in which job 0 ends and its thread takes job 1, so that the queue is empty
 abbrev queue_empties : List Event
 queue_empties = event.Job 0 ∷ event.Job 0 ∷ event.Take 0 ∷ []
 
--- the queue is empty then, but client 2 still gets a second thread
+-- after client 2's offer failed and the queue emptied, one thread runs job 1 and no job is queued; client 2 still gets a second
+-- thread
 one_job_at_work : seen_after 3 (offer_fails ++ queue_empties) ≡ Some (0, 1, 0, 0)
 one_job_at_work = refl
 
 second_thread_though_queue_has_room : seen_after 3 (offer_fails ++ queue_empties ++ event.Client 2 ∷ []) ≡ Some (0, 2, 0, 0)
 second_thread_though_queue_has_room = refl
 
--- client 3 checks, its offer fails, and it gets the last thread
+-- the events in which client 3's offer fails and client 3 gets the last thread
 abbrev last_thread_ends : List Event
 last_thread_ends = event.Client 3 ∷ event.Client 3 ∷ event.Client 3 ∷ []
 
--- job 1 ends too: no job is queued and one thread is idle, but client 2 is still rejected
+-- after client 3 got the last thread and job 1 ended, no job is queued and one thread is idle; client 2 is still refused
 one_thread_idle : seen_after 4 (offer_fails ++ last_thread_ends ++ queue_empties ++ event.Job 1 ∷ event.Job 1 ∷ []) ≡ Some (0, 2, 1, 0)
 one_thread_idle = refl
 
@@ -61,24 +62,24 @@ others_make_progress = refl
 over : seen_after 3 (event.Client 0 ∷ event.Client 0 ∷ []) ≡ None
 over = refl
 
--- ---- as laws
+-- ---- the laws that Java can refuse a submit and start a thread while the queue has room
 
--- the state after these events, with this number of clients
+-- the state after these events, in the plan with this number of clients
 abbrev after_events : ℕ → List Event → JavaState
 after_events clients events = unwrap_or (java_replay (one_pool clients) (Some (without_calls (start (one_pool clients)))) events) (without_calls (start (one_pool clients)))
 
--- three clients make a well-formed plan
+-- the plan with three clients is well-formed
 three_well_formed : IsWellFormed (one_pool 3)
 three_well_formed = record { few_pools = omega arith; few_classes = omega arith; few_clients = omega arith; pool_names = refl; class_names = refl; client_names = refl; pools = refl; classes = refl; clients = refl }
 
 four_well_formed : IsWellFormed (one_pool 4)
 four_well_formed = record { few_pools = omega arith; few_classes = omega arith; few_clients = omega arith; pool_names = refl; class_names = refl; client_names = refl; pools = refl; classes = refl; clients = refl }
 
--- jobs 0 and 1 are done
+-- the events after which jobs 0 and 1 are done
 abbrev both_done : List Event
 both_done = queue_empties ++ event.Job 1 ∷ event.Job 1 ∷ []
 
--- client 2 requests a thread
+-- client 2's request for a thread, while the queue has room and a thread is idle
 abbrev started_with_room : WithRoom (one_pool 3) 0
 started_with_room = record {
   before = after_events 3 (offer_fails ++ both_done);

@@ -26,11 +26,11 @@ nested = record {
   clients = record { name = 99 ∷ []; count = 1; repeat = true; body = Submit 0 ∷ Get 0 ∷ [] } ∷ [];
 }
 
--- a property of the state that the choices reach
+-- the value of a function at the state that the choices reach, or None if they reach none
 abbrev after : {X : Type 0} → List Choice → (JavaState → X) → Option X
 after choices ask = option_map ask (choices_replay nested (Some (without_calls (start nested))) choices)
 
--- the numbers of rejected submits, of jobs, and of unfinished jobs
+-- the numbers of refused submits, of jobs, and of unfinished jobs
 abbrev ends : JavaState → ℕ × ℕ × ℕ
 ends s = (s.machine.refusals, count_by (λ job. true) s.machine.jobs, count_by (λ job. is_unfinished job.stage) s.machine.jobs)
 
@@ -42,28 +42,28 @@ all_is_submitted = refl
 
 -- ---- with skipped submits
 
--- the outer job skips the inner one, passes its get and ends; the client gets the outer job and begins again
+-- the outer job skips the inner job's submit, passes its get and ends; the client gets the outer job and begins again
 pub inner_skipped : after (Acts (event.Client 0) ∷ Skips (event.Job 0) ∷ Acts (event.Job 0) ∷ Acts (event.Job 0) ∷ Acts (event.Client 0) ∷ Acts (event.Client 0) ∷ []) ends ≡ Some (0, 2, 0)
 inner_skipped = refl
 
--- the next outer job submits the inner one
+-- the second outer job does not skip the inner job's submit, although the first one did
 pub decided_anew : after (Acts (event.Client 0) ∷ Skips (event.Job 0) ∷ Acts (event.Job 0) ∷ Acts (event.Job 0) ∷ Acts (event.Client 0) ∷ Acts (event.Client 0) ∷ Acts (event.Client 0) ∷ Acts (event.Client 0) ∷ Acts (event.Take 0) ∷ []) ends ≡ Some (0, 3, 1)
 decided_anew = refl
 
--- a client that skips its submit changes no pool
+-- a client that skips its submit leaves the pool unchanged
 pub outer_skipped : after (Skips (event.Client 0) ∷ Acts (event.Client 0) ∷ Acts (event.Client 0) ∷ []) (λ s. s.machine.pools) ≡ Some (record { queue = []; idle = 0 } ∷ [])
 outer_skipped = refl
 
 -- ---- choices that are not possible
 
--- to skip a get alone
+-- an actor cannot skip a get without its submit
 pub no_get_is_skipped : choices_replay nested (Some (without_calls (start nested))) (Skips (event.Client 0) ∷ Skips (event.Client 0) ∷ []) ≡ None
 no_get_is_skipped = refl
 
--- to skip a submit that has begun: the outer job has checked and found core threads
+-- an actor cannot skip a submit that has begun: the outer job has found at least core threads
 pub no_begun_is_skipped : choices_replay nested (Some (without_calls (start nested))) (Acts (event.Client 0) ∷ Acts (event.Job 0) ∷ Skips (event.Job 0) ∷ []) ≡ None
 no_begun_is_skipped = refl
 
--- to skip a take
+-- a take cannot be skipped
 pub no_taking_is_skipped : choices_replay nested (Some (without_calls (start nested))) (Skips (event.Take 0) ∷ []) ≡ None
 no_taking_is_skipped = refl
