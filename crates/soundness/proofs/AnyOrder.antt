@@ -11,7 +11,7 @@ use Rattle.soundness.specs.Skipping.{choices_replay, event_of_actor, AlikeJobsAr
 use Rattle.soundness.specs.Skipping.Choice.{Acts}
 use Rattle.soundness.proofs.ExchangedJobs.{stage-exchanged, point-exchanged, exchanges_swap_two_gets}
 
--- the submit at which the actor of an event is, is the submit at this actor's position
+-- the submit of an actor's event is the submit at the actor's position
 submission_of_actor : (plan : Plan) (s : State) (a : Parent) → submission plan s (event_of_actor a) ≡ submission_of a (point plan s a)
 submission_of_actor plan s (parent.Client c) = refl
 submission_of_actor plan s (parent.Job j) = refl

@@ -20,7 +20,7 @@ pub record BlockedLaws (plan : Plan) (counted : ℕ → ℕ → Bool) (p : ℕ) 
   pub blocked : (k i t : ℕ) → (class_at plan k).pool ≡ p → slice_get (class_at plan k).body i ≡ Some (action.Get t) → counted k i ≡ true → 1 ≤ job_weight v k i
   pub within : total plan v ≤ (pool_at plan p).core - 1
 
--- if the rows of a blocked vector hold, the inequalities hold
+-- if the rows of a blocked vector hold, the inequalities of the vector hold
 pub blocked_laws : (plan : Plan) (counted : ℕ → ℕ → Bool) (p : ℕ) (v : Vector) → AllHold (blocked_rows plan p counted v) → BlockedLaws plan counted p v
 blocked_laws plan counted p v hold =
     let of_class = λ (entry : ℕ × Class). counted_rows counted v entry.0 entry.1 in

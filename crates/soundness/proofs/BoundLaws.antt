@@ -26,7 +26,7 @@ pub record StandingLaws (plan : Plan) (p : ℕ) (v : Vector) : Type 0 where
   pub queued : (k : ℕ) → k < length plan.classes → (class_at plan k).pool ≡ p → 1 ≤ queued_weight v k
   pub within : total plan v ≤ (pool_at plan p).queue
 
--- if the rows of a standing vector hold, the inequalities hold
+-- if the rows of a standing vector hold, the inequalities of the vector hold
 pub standing_laws : (plan : Plan) (p : ℕ) (v : Vector) → AllHold (standing_rows plan p v) → StandingLaws plan p v
 standing_laws plan p v hold =
     let queued_row = λ (entry : ℕ × Class). row S1 (place.Class entry.0) 1 (queued_weight v entry.0) in
@@ -48,7 +48,7 @@ pub record LifetimeLaws (plan : Plan) (p : ℕ) (v : Vector) : Type 0 where
   pub done : (k : ℕ) → k < length plan.classes → (class_at plan k).pool ≡ p → 1 ≤ done_weight plan v k
   pub within : total plan v ≤ lifetime_limit (pool_at plan p)
 
--- if a lifetime vector fits the plan and its rows hold, the inequalities hold
+-- if a lifetime vector fits the plan and its rows hold, the inequalities of the vector hold
 pub lifetime_laws : (plan : Plan) (p : ℕ) (v : Vector) → vector_fits plan v ≡ true → AllHold (lifetime_rows plan p v) → LifetimeLaws plan p v
 lifetime_laws plan p v fit hold =
     let of_workers = map (λ (entry : ℕ × Pool). row L1 (place.Worker entry.0) (workers_weight v entry.0) 0) (enumerate_from 0 plan.pools) in

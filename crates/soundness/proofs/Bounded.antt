@@ -20,7 +20,8 @@ use Rattle.soundness.proofs.NeverRises.{IsBalanced, balanced_start, never_rises,
 use Rattle.soundness.proofs.NoRefusal.{not_refused}
 use Rattle.soundness.specs.Headline.{KeepsSizes, BoundedPlansRefuseNothing}
 
--- the invariants: those of every reachable state; the weights of each pool's bound are balanced; and no submit was refused
+-- the invariants of a plan with these bounds: the state satisfies the invariants of reachable states, the vector of each bound is
+-- balanced, and no submit was refused
 pub record Bounded (plan : Plan) (bounds : ℕ → Bound) (s : State) : Type 0 where
   pub kept : StateInvariant plan s
   pub have_jobs : HaveJobs plan s

@@ -34,7 +34,7 @@ abbrev pub QueueWasFull : Plan → Bound → State → ℕ → Type 0
 QueueWasFull plan (Standing v) s p = ⊥
 QueueWasFull plan (Lifetime v) s p = (pool_at plan p).queue + threads plan s p ≤ jobs_made plan s p + first_workers (pool_at plan p)
 
--- if a submit finds the queue of its pool full, the invariant of such a pool holds
+-- if a submit finds the queue of its pool full, the invariant of a pool whose queue was full holds
 queue_was_full : (plan : Plan) (bound : Bound) (s : State) (a : Parent) (body : List Action) (i k : ℕ) → HasValidBodies plan → BoundLaws plan (pool_of plan k) bound → StateInvariant plan s → HaveJobs plan s → IsBalanced (bound_get_return bound) plan (bound_vector bound) s
     → IsAtAction plan s a body i (Some (action.Submit k)) → (pool_at plan (pool_of plan k)).queue ≤ length (pool_part s (pool_of plan k)).queue → QueueWasFull plan bound s (pool_of plan k)
 queue_was_full plan (Standing v) s a body i k ordered laws kept have balanced at no_room = standing_refuses_nothing plan v s a body i k ordered laws kept balanced at no_room

@@ -17,7 +17,7 @@ use Rattle.soundness.proofs.SkippedSubmits.{left}
 
 -- ---- a skipped submit
 
--- the event's actor is at a submit that has not begun, and s' is the state after the actor skips this submit
+-- the state after the actor of the event skips its submit, which has not begun
 pub data IsSkipped (plan : Plan) (s : JavaState) : Event → JavaState → Type 0 where
   leaves : (a : Parent) (body : List Action) (i k : ℕ) → IsAtAction plan s.machine a body i (Some (action.Submit k)) → is_calling s.offering a (pool_of plan k) ≡ false → is_calling s.requesting a (pool_of plan k) ≡ false
       → IsSkipped plan s (event_of a) (record s { machine = left s.machine a i k })

@@ -1,4 +1,4 @@
--- Debts of jobs: each job owes to the job that created it the weight that a later get of it returns.
+-- Debts of jobs: each job owes to its creator the weight that a later get of the job returns.
 use Rattle.std.proofs.Common.{◌≡◌, ◌≢◌, ℕ, zero, suc, ◌+◌, ◌<◌, ◌≤◌, Bool, true, false, cond, inl, inr, ltb, eqb, List, [], ◌∷◌, length, get_or, slice_get, sum_by, Option, Some, None, refl, sym, ap, subst, ◌∙◌, arith}
 use Rattle.std.specs.List.{enumerate_from}
 use Rattle.std.proofs.lemmas.Bool.{false≢true, cases_lt, or_left, or_right, or_from, lt-ltb, le-ltb, eqb-true, eq-eqb, ne_eqb, false_from_ne_true}

@@ -68,18 +68,16 @@ module _ (plan : Plan) (ranks : Ranks) (s : State) (members : List ℕ) (laws : 
   child_later : (j i : ℕ) (waits : WaitsForChild plan s members j i) → j < waits.child_number
   child_later j i waits = subst (λ (a : Parent). HasGreaterNumber a waits.child_number) waits.is_child (kept.parents waits.child_number (member_made waits.child_number waits.member))
 
-  -- for each member with a greater number than j and a class whose reach is below r there is a queued member in a pool of rank
-  -- below r
+  -- for each member with a number above j and a class with a reach below r, there is a queued member in a pool of rank below r
   abbrev LaterLead : ℕ → ℕ → Type 0
   LaterLead r j = (n : ℕ) → j < n → IsMember members n → reach ranks (job_at s n).class < r → QueuedBelow plan ranks s members r
 
-  -- if a running member waits for a child whose class has a reach below r, and this holds for the members with greater numbers,
-  -- there is a queued member in a pool of rank below r
+  -- if a running member j waits for a child of a class with a reach below r, and `LaterLead r j` holds, there is a queued member
+  -- in a pool of rank below r
   lead_by_child : (r j i : ℕ) → LaterLead r j → (waits : WaitsForChild plan s members j i) → reach ranks (submitted_class (class_at plan (job_at s j).class).body waits.submit) < r → QueuedBelow plan ranks s members r
   lead_by_child r j i onward waits low = onward waits.child_number (child_later j i waits) waits.member (subst (λ (k : ℕ). reach ranks k < r) (sym waits.of_class) low)
 
-  -- if the reach of a member's class is below r, and this holds for the members with greater numbers, there is a queued member in
-  -- a pool of rank below r
+  -- if the class of member j has a reach below r, and `LaterLead r j` holds, there is a queued member in a pool of rank below r
   one_step : (r j : ℕ) (stage : Stage) → LaterLead r j → IsMember members j → (job_at s j).stage ≡ stage → WaitsLoosely plan s members j stage → reach ranks (job_at s j).class < r → QueuedBelow plan ranks s members r
   one_step r j Stage.Queued onward member is_stage waits low =
       let reaches = laws.reaches (job_at s j).class (kept.classes j no_job (member_made j member)) in
@@ -90,7 +88,7 @@ module _ (plan : Plan) (ranks : Ranks) (s : State) (members : List ℕ) (laws : 
   one_step r j Stage.Done onward member is_stage waits low = absurd waits
   one_step r j Stage.Claimed onward member is_stage waits low = absurd waits
 
-  -- for each member with a class whose reach is below r there is a queued member in a pool of rank below r, by induction on the
+  -- for each member of a class with a reach below r there is a queued member in a pool of rank below r, by induction on the
   -- number of jobs with greater numbers
   leads_within : (r later j : ℕ) → length s.jobs ≤ j + later → IsMember members j → reach ranks (job_at s j).class < r → QueuedBelow plan ranks s members r
   leads_within r zero j few member low = let made = member_made j member in absurd (omega arith)

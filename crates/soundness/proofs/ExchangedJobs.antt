@@ -49,12 +49,13 @@ swapped_other t u w not_first not_second = grind (arith, nat_tests)
 eqb-swapped : (t u w n : ℕ) → eqb w (swapped t u n) ≡ eqb (swapped t u w) n
 eqb-swapped t u w n = grind (arith, nat_tests)
 
--- the position at which actor b finds before an exchange the job that it finds at position w afterwards
+-- the position at which actor b finds, before an exchange of positions t and u of actor a, the job that it finds at position w
+-- after the exchange
 abbrev place_before : Parent → ℕ → ℕ → Parent → ℕ → ℕ
 place_before a t u b w = cond (same_parent a b) (swapped t u w) w
 
--- after an exchange actor b counts as the creator of a job at w exactly when it created the job at the position that the exchange
--- maps to w
+-- after an exchange, actor b counts as the creator of a job at position w exactly when it is the creator of the job at
+-- `place_before` of w before the exchange
 made_by_exchanged : (a b : Parent) (t u w : ℕ) (job : CreatedJob) (own his : Bool) → same_parent a b ≡ own → same_parent b job.parent ≡ his → is_made_by b w (exchanged_job a t u job) ≡ is_made_by b (place_before a t u b w) job
 made_by_exchanged a b t u w job own false is_own is_his =
     and_left (same_parent b job.parent) (eqb w (exchanged_job a t u job).slot) is_his ∙ sym (and_left (same_parent b job.parent) (eqb (place_before a t u b w) job.slot) is_his)
@@ -68,7 +69,7 @@ made_by_exchanged a b t u w job false true is_own is_his =
     ap (λ (x : Bool). same_parent b job.parent && eqb w (cond (x && eqb t job.slot) u (cond (x && eqb u job.slot) t job.slot))) same
     ∙ ap (λ (x : Bool). same_parent b job.parent && eqb (cond x (swapped t u w) w) job.slot) (sym is_own)
 
--- the job that actor b finds at w after an exchange is the job that it found before at the position that the exchange maps to w
+-- the job that actor b finds at position w after an exchange is the job that it finds at `place_before` of w before the exchange
 pub child-exchanged : (s : State) (a b : Parent) (t u w : ℕ) → child (after_exchange a t u s) b w ≡ child s b (place_before a t u b w)
 child-exchanged s a b t u w =
     ap last_of

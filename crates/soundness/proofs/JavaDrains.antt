@@ -62,8 +62,7 @@ event_pays plan cert s e s' ordered laws held held' of_no_client is_step =
     (λ (is_end : ends_thread e ≡ true). omega (arith, ap one_if (not_counted e is_end), costs_nothing plan cert.ranks s s' e is_end happened))
     (no_client_cases e of_no_client)
 
--- for a list of events that begins with e, the difference falls by at least the number of job events and takes, if it does for
--- the other events
+-- a list of events pays for its job events and takes if the events after the first one do
 after_first : (plan : Plan) (cert : Cert) (s : JavaState) (e : Event) (events : List Event) (s' : JavaState) → HasValidBodies plan → CertLaws plan cert → JavaHeld plan cert s → is_of_no_client e ≡ true
     → ((next : JavaState) → JavaHeld plan cert next → java_replay plan (Some next) events ≡ Some s' → Pays plan cert (count_by is_of_job_or_pool events) next s')
     → (found : Option JavaState) → java_step plan s e ≡ found → java_replay plan found events ≡ Some s' → Pays plan cert (count_by is_of_job_or_pool (e ∷ events)) s s'

@@ -22,7 +22,7 @@ use Rattle.soundness.specs.Execute.{Call, JavaState, is_calling, without_calls_o
 
 -- ---- calls
 
--- if a call of actor b is in the list without the calls of actor a, it is in the list with them, and b is not a
+-- if actor b has a call to pool p in the list without the calls of actor a, b has that call in the whole list, and b is not a
 pub call_of_others : (a b : Parent) (p : ℕ) (calls : List Call) → is_calling (without_calls_of a calls) b p ≡ true → (is_calling calls b p ≡ true) × (same_parent a b ≡ false)
 call_of_others a b p calls is_there =
     let to_pool = λ (call : Call). same_parent b call.actor && eqb p call.pool in
@@ -32,7 +32,7 @@ call_of_others a b p calls is_there =
     let actor : b ≡ found.0.actor = same_actor_true b found.0.actor (and_parts (same_parent b found.0.actor) (eqb p found.0.pool) found.2).0 in
     (list_any_at_In to_pool kept.0 found.2, ap (same_parent a) actor ∙ not-true (same_parent a found.0.actor) kept.1)
 
--- if a call is in a list with one more call, it is that call or was in the list before
+-- a call in a list to which one call was added is the added call or was in the list before
 pub one_more : (call : Call) (calls : List Call) (b : Parent) (p : ℕ) → is_calling (call ∷ calls) b p ≡ true → ((b ≡ call.actor) × (p ≡ call.pool)) ⊎ (is_calling calls b p ≡ true)
 one_more call calls b p is_there =
     ⊎_elim

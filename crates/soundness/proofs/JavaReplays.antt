@@ -15,7 +15,7 @@ pub java_replay_none : (plan : Plan) (events : List Event) → java_replay plan 
 java_replay_none plan [] = refl
 java_replay_none plan (e ∷ events) = refl
 
--- the state after two lists of events, one after the other, is the state after the second list from the state after the first
+-- the state after two lists of events is the state after the second list, from the state after the first
 pub java_replay-append : (plan : Plan) (s : Option JavaState) (first second : List Event) → java_replay plan s (first ++ second) ≡ java_replay plan (java_replay plan s first) second
 java_replay-append plan s [] second = refl
 java_replay-append plan None (e ∷ first) second = sym (java_replay_none plan second)

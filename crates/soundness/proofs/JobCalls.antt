@@ -87,7 +87,7 @@ pub record JobCalls (plan : Plan) (s : JavaState) : Type 0 where
 abbrev AreBefore : Plan → State → List Call → Type 0
 AreBefore plan s calls = (n p : ℕ) → is_calling calls (parent.Job n) p ≡ true → StandsBefore plan (job_at s n) p
 
--- in a state with no call in progress, each job with a call is at its submit, because there is none
+-- a state with no call in progress satisfies `JobCalls`
 pub job_calls_start : (plan : Plan) (s : State) → JobCalls plan (record { machine = s; offering = []; requesting = [] })
 job_calls_start plan s = record { offering = λ n p is_there. absurd (false≢true is_there); requesting = λ n p is_there. absurd (false≢true is_there) }
 

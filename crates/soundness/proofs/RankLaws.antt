@@ -25,7 +25,7 @@ action_holds plan ranks hold k i x is_next y at =
     let body = (class_at plan k).body in
     class_holds plan ranks hold k (class_of_action plan k i x is_next) y (there (In-flat_map (λ (entry : ℕ × Action). rank_rows_of_action ranks k body entry.0 entry.1) (In-enumerate_from 0 body i x i is_next (zero-add i)) at))
 
--- if the rows of the ranks hold, the inequalities hold
+-- if the rows of the ranks hold, the inequalities of the rules K1 to K3 hold
 pub rank_laws : (plan : Plan) (ranks : Ranks) → AllHold (rank_rows plan ranks) → RankLaws plan ranks
 rank_laws plan ranks hold = record {
   reaches = λ k inside. class_holds plan ranks hold k inside _ here;

@@ -18,22 +18,22 @@ use Rattle.written_machine.proofs.PoolInvariants.{pools_with_part}
 use Rattle.written_machine.proofs.InvariantStep.{done_still}
 use Rattle.written_machine.proofs.JobsMade.{made_jobs, made_jobs-staged, made_jobs-moved, made_jobs_push}
 
--- the threads of pool p after a change of the jobs and of the pool's part of the state: their number grows at most with the
--- number of jobs submitted to the pool, and it is at least core if it was before
+-- the number of threads of pool p after a change of the jobs and of the pool's part of the state: it grows at most with the
+-- number of jobs submitted to the pool, and if it was at least core before the change, it is at least core afterwards
 pub record ThreadsChange (plan : Plan) (s : State) (jobs : List CreatedJob) (p : ℕ) (part : PoolPart) : Type 0 where
   pub by_jobs : part.idle + busy_jobs plan jobs p + made_jobs plan s.jobs p ≤ threads plan s p + made_jobs plan jobs p
   pub at_core : (pool_at plan p).core ≤ threads plan s p → (pool_at plan p).core ≤ part.idle + busy_jobs plan jobs p
 
--- a change that leaves the number of threads unchanged and removes no job is such a change
+-- a change that leaves the number of a pool's threads unchanged and removes no job satisfies `ThreadsChange`
 change_same : (plan : Plan) (s : State) (jobs : List CreatedJob) (p : ℕ) (part : PoolPart) → part.idle + busy_jobs plan jobs p ≡ threads plan s p → made_jobs plan s.jobs p ≤ made_jobs plan jobs p → ThreadsChange plan s jobs p part
 change_same plan s jobs p part same no_fewer = record { by_jobs = omega arith; at_core = λ enough. omega arith }
 
--- the change if an actor changes its position
+-- the effect on a pool's threads if an actor changes its position
 change_moved : (plan : Plan) (s : State) (a : Parent) (body : List Action) (i i' p : ℕ) → point plan s a ≡ Some (record { body = body; position = i }) → ThreadsChange plan s (moved_jobs a i' s) p (pool_part s p)
 change_moved plan s a body i i' p stands =
     change_same plan s (moved_jobs a i' s) p (pool_part s p) (omega (arith, busy-moved plan s a body i i' p stands)) (omega (arith, made_jobs-moved plan s a i' p))
 
--- the change if a submit starts its job
+-- the effect on a pool's threads if a submit starts its job
 change_starts : (plan : Plan) (s : State) (a : Parent) (body : List Action) (i k p : ℕ) → point plan s a ≡ Some (record { body = body; position = i })
     → ThreadsChange plan s (moved_jobs a (i + 1) s ++ new_job k a i (Stage.At 0) ∷ []) p (pool_part s p)
 change_starts plan s a body i k p stands =
@@ -45,7 +45,7 @@ change_starts plan s a body i k p stands =
     let as_made = made_jobs-moved plan s a (i + 1) p in
     record { by_jobs = omega arith; at_core = λ enough. omega arith }
 
--- the change if a submit queues its job
+-- the effect on a pool's threads if a submit queues its job
 change_queues : (plan : Plan) (s : State) (a : Parent) (body : List Action) (i k : ℕ) (part : PoolPart) (p : ℕ) → point plan s a ≡ Some (record { body = body; position = i }) → part.idle ≡ (pool_part s p).idle
     → ThreadsChange plan s (moved_jobs a (i + 1) s ++ new_job k a i Stage.Queued ∷ []) p part
 change_queues plan s a body i k part p stands same_idle =
@@ -55,7 +55,7 @@ change_queues plan s a body i k part p stands same_idle =
     (omega (arith, busy_push_same plan jobs job p refl, busy-moved plan s a body i (i + 1) p stands))
     (omega (arith, made_jobs_push plan jobs job p, made_jobs-moved plan s a (i + 1) p))
 
--- the change if a get claims a done job
+-- the effect on a pool's threads if a get claims a done job
 change_gets : (plan : Plan) (s : State) (a : Parent) (body : List Action) (i j p : ℕ) → point plan s a ≡ Some (record { body = body; position = i }) → (job_at s j).stage ≡ Stage.Done
     → ThreadsChange plan s (staged (moved_jobs a (i + 1) s) j Stage.Claimed) p (pool_part s p)
 change_gets plan s a body i j p stands done =
@@ -66,7 +66,7 @@ change_gets plan s a body i j p stands done =
     (omega (arith, busy-moved plan s a body i (i + 1) p stands))
     (omega (arith, made_jobs-staged plan jobs j Stage.Claimed p, made_jobs-moved plan s a (i + 1) p))
 
--- the change if a worker takes or finishes a job
+-- the effect on a pool's threads if a worker takes or finishes a job
 change_worker : (plan : Plan) (s : State) (j : ℕ) (stage : Stage) (q : ℕ) (queue : List ℕ) (idle : ℕ) → length s.pools ≡ length plan.pools → pool_of plan (job_at s j).class ≡ q → idle + busy_jobs plan (staged s.jobs j stage) q ≡ threads plan s q
     → (p : ℕ) → p < length plan.pools → ThreadsChange plan s (staged s.jobs j stage) p (pool_part (with_part q queue idle s) p)
 change_worker plan s j stage q queue idle as_many of_pool same =
@@ -76,7 +76,7 @@ change_worker plan s j stage q queue idle as_many of_pool same =
     (λ p inside other.
     change_same plan s jobs p (pool_part s p) (omega (arith, busy-staged_elsewhere plan s.jobs j stage p (λ same_pool. other (sym same_pool ∙ of_pool)))) (omega (arith, made_jobs-staged plan s.jobs j stage p)))
 
--- the change of each pool's threads in each event
+-- the effect of each event on the threads of each pool
 pub threads_change : (plan : Plan) (s s' : State) (o : Outcome) {e : Event} → StateInvariant plan s → Happens plan s e s' o → (p : ℕ) → p < length plan.pools → ThreadsChange plan s s'.jobs p (pool_part s' p)
 threads_change plan s s' o kept (works a body i u at) p inside = change_moved plan s a body i (i + 1) p at.stands
 threads_change plan s s' o kept (starts a body i k at below) p inside = change_starts plan s a body i k p at.stands

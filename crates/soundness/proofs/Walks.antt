@@ -37,22 +37,22 @@ below-le t i w = elim (cases_lt t i) [
   | inr past ↦ omega (arith, ap (λ b. cond b w 0) (le-ltb t i past))
 ]
 
--- the number that is w if t is below i, and 0 otherwise, does not change from i to i + 1 if t is not i
+-- the number that is w if t is below i, and 0 otherwise, does not grow from i to i + 1 if t is not i
 below-le_next : (t i w : ℕ) → t ≢ i → cond (ltb t (i + 1)) w 0 ≤ cond (ltb t i) w 0
 below-le_next t i w other = elim (cases_lt t i) [
   | inl below ↦ omega (arith, ap (λ b. cond b w 0) (lt-ltb t i below), ap (λ b. cond b w 0) (lt-ltb t (i + 1) (omega arith)))
   | inr past ↦ omega (arith, ap (λ b. cond b w 0) (le-ltb t (i + 1) (omega arith)))
 ]
 
--- an action that does not get the submit at i returns no more for submits before i + 1 than for submits before i
+-- an action that does not get the submit at i returns for submits before i + 1 at most what it returns for submits before i
 returned_by-le : (get_return : GetReturn) (plan : Plan) (v : Vector) (body : List Action) (i : ℕ) (next : Option Action) → next ≢ Some (action.Get i) → returned_by get_return plan v body (i + 1) next ≤ returned_by get_return plan v body i next
 returned_by-le get_return plan v body i None other = omega arith
 returned_by-le get_return plan v body i (Some (action.Work u)) other = omega arith
 returned_by-le get_return plan v body i (Some (action.Submit k)) other = omega arith
 returned_by-le get_return plan v body i (Some (action.Get t)) other = below-le_next t i (returned_weight get_return plan v (submitted_class body t)) (λ same. other (ap (λ (u : ℕ). Some (action.Get u)) same))
 
--- if none of the actions from position h on gets the submit at i, these actions return no more for submits before i + 1 than for
--- submits before i
+-- if none of the actions from position h on gets the submit at i, these actions return for submits before i + 1 at most what they
+-- return for submits before i
 returned-le : (get_return : GetReturn) (plan : Plan) (v : Vector) (body : List Action) (i h n : ℕ) → ((u : ℕ) → h ≤ u → slice_get body u ≢ Some (action.Get i)) → returned get_return plan v body (i + 1) h n ≤ returned get_return plan v body i h n
 returned-le get_return plan v body i h zero ungot = omega arith
 returned-le get_return plan v body i h (suc n) ungot =
@@ -61,7 +61,8 @@ returned-le get_return plan v body i h (suc n) ungot =
 same_get : (t u : ℕ) → Some (action.Get t) ≡ Some (action.Get u) → t ≡ u
 same_get t u e = cc
 
--- the actions from position h on return for submits before i + 1 at most the weight of one get more than for submits before i
+-- the actions from position h on return for submits before i + 1 at most what they return for submits before i, and the weight of
+-- one get of the submit at i
 returned_once_at : (get_return : GetReturn) (plan : Plan) (v : Vector) (body : List Action) (i h n : ℕ) (next : Option Action) → IsValidBody plan body
     → returned get_return plan v body (i + 1) (h + 1) n ≤ returned get_return plan v body i (h + 1) n + returned_weight get_return plan v (submitted_class body i) → slice_get body h ≡ next
     → returned_by get_return plan v body (i + 1) next + returned get_return plan v body (i + 1) (h + 1) n ≤ returned_by get_return plan v body i next + returned get_return plan v body i (h + 1) n + returned_weight get_return plan v (submitted_class body i)

@@ -120,7 +120,7 @@ would_starve = refl
 
 -- ---- an exchange of a claimed job would block its actor
 
--- an outer job submits an inner job and gets it, twice
+-- an outer job submits an inner job and gets it, and then submits and gets a second one
 abbrev twice : Plan
 twice = record {
   pools = pool_of_size 1 ∷ pool_of_size 1 ∷ [];
