@@ -109,8 +109,8 @@ made-le-actors_weight plan v p jobs laws classes inside =
     let job = get_or jobs j no_job in
     job_weighs_one plan v p job.class job.stage laws (classes j no_job made) (eqb-true (pool_of plan job.class) p passes) (inside j))
 
--- at a submit to a pool with a lifetime vector, fewer jobs were submitted than the threads and the queue have room for, because
--- otherwise one more would weigh more than the total
+-- at a submit to a pool with a lifetime vector, fewer jobs were submitted to the pool than its maximum and its queue's capacity
+-- together, minus its prestarted threads; otherwise the jobs would weigh more than the total
 pub lifetime_leaves_room : (plan : Plan) (v : Vector) (s : State) (a : Parent) (body : List Action) (i k : ℕ) → HasValidBodies plan → LifetimeLaws plan (pool_of plan k) v → StateInvariant plan s → IsBalanced NoWeight plan v s → IsAtAction plan s a body i (Some (action.Submit k))
     → (pool_at plan (pool_of plan k)).queue + (pool_at plan (pool_of plan k)).max ≤ jobs_made plan s (pool_of plan k) + first_workers (pool_at plan (pool_of plan k)) → ⊥
 lifetime_leaves_room plan v s a body i k ordered laws kept balanced at as_many =
@@ -122,8 +122,8 @@ lifetime_leaves_room plan v s a body i k ordered laws kept balanced at as_many =
     let limit = laws.within in
     omega (arith, made_jobs-moved plan s a (i + 1) p)
 
--- no submit to a pool with a lifetime vector finds the queue full and all threads started, because they would hold as many jobs
--- as there is room for
+-- no submit to a pool with a lifetime vector finds the queue full and all threads started, because that many jobs cannot have
+-- been submitted before
 lifetime_refuses_nothing : (plan : Plan) (v : Vector) (s : State) (a : Parent) (body : List Action) (i k : ℕ) → HasValidBodies plan → LifetimeLaws plan (pool_of plan k) v → StateInvariant plan s → HaveJobs plan s → IsBalanced NoWeight plan v s → IsAtAction plan s a body i (Some (action.Submit k))
     → (pool_at plan (pool_of plan k)).queue ≤ length (pool_part s (pool_of plan k)).queue → (pool_at plan (pool_of plan k)).max ≤ threads plan s (pool_of plan k) → ⊥
 lifetime_refuses_nothing plan v s a body i k ordered laws kept have balanced at no_room all_started =

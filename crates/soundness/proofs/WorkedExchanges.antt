@@ -73,8 +73,8 @@ found_in_next_round = refl
 pub exchanged_in_next_round : after three_jobs (next_round ++ Exchanges (parent.Client 0) 0 1 ∷ []) found ≡ Some (Some 4, Some 3)
 exchanged_in_next_round = refl
 
--- a client that skips its first submit can exchange the skipped job with the second one, so that its first get finds the second
--- one
+-- a client that skips its first submit can exchange the done job of that submit with its second job, so that its first get waits
+-- for the second job
 pub skipped_is_got_later : after three_jobs (Skips (event.Client 0) ∷ Acts (event.Client 0) ∷ Exchanges (parent.Client 0) 0 1 ∷ []) found ≡ Some (Some 1, Some 0)
 skipped_is_got_later = refl
 

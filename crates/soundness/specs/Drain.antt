@@ -25,8 +25,9 @@ abbrev pub full_within : Plan → ℕ → ℕ → ℕ
 full_within plan zero k = 0
 full_within plan (suc n) k = length (class_at plan k).body + 2 + sum_by (of_submit (full_within plan n)) (class_at plan k).body
 
--- the number of job events and takes of a new job of class k and of all jobs that it submits, directly or through other jobs.
--- Level + 1 generations are enough, because the level of a class is above the level of each class that it submits
+-- the number of job events and takes of a new job of class k and of all jobs that it submits, directly or through other jobs. If
+-- the rows of the ranks hold, the level of a class is above the level of each class that it submits, so level + 1 generations are
+-- all of them
 abbrev pub full : Plan → Ranks → ℕ → ℕ
 full plan ranks k = full_within plan (level ranks k + 1) k
 

@@ -20,9 +20,10 @@ use Rattle.cert_text.specs.Cert.{Cert}
 use Rattle.soundness.specs.Accepted.{accepted}
 
 -- The guarantees of an accepted certificate for its plan: every reachable state is safe; in every reachable state with an
--- unfinished job an event of a job or a take is possible; and if no client acts, all jobs finish. These three hold if each submit
--- is one event (the first three fields), if each submit is the steps of Java's `execute` (the `java` fields), and if, in addition
--- to these steps, actors skip submits together with their gets and exchange alike jobs (the `skipping` fields).
+-- unfinished job an event of a job or a take is possible; and the plan drains, that is, if no client acts, the number of job
+-- events and takes that can follow is bounded, and when none of them is possible, no job is unfinished. These three hold if each
+-- submit is one event (the first three fields), if each submit is the steps of Java's `execute` (the `java` fields), and if, in
+-- addition to these steps, actors skip submits together with their gets and exchange alike jobs (the `skipping` fields).
 pub record Promises (plan : Plan) (cert : Cert) : Type 0 where
   pub safe : Safe plan
   pub makes_progress : MakesProgress plan
@@ -43,8 +44,8 @@ AcceptedPlansAreSafe = (plan : Plan) (cert : Cert) → IsWellFormed plan → IsT
 abbrev pub AcceptedPlansMakeProgress : Type 0
 AcceptedPlansMakeProgress = (plan : Plan) (cert : Cert) → IsWellFormed plan → IsTrue (accepted plan cert) → MakesProgress plan
 
--- if a certificate accepts a well-formed plan, the plan drains: if no client acts, all jobs finish after a bounded number of
--- events
+-- if a certificate accepts a well-formed plan, the plan drains: if no client acts, the number of job events and takes that can
+-- follow is bounded, and when none of them is possible, no job is unfinished
 abbrev pub AcceptedPlansDrain : Type 0
 AcceptedPlansDrain = (plan : Plan) (cert : Cert) → IsWellFormed plan → IsTrue (accepted plan cert) → Drains plan cert.ranks
 
@@ -75,8 +76,8 @@ AcceptedPlansAreJavaSafe = (plan : Plan) (cert : Cert) → IsWellFormed plan →
 abbrev pub AcceptedPlansMakeJavaProgress : Type 0
 AcceptedPlansMakeJavaProgress = (plan : Plan) (cert : Cert) → IsWellFormed plan → IsTrue (accepted plan cert) → JavaMakesProgress plan
 
--- if a certificate accepts a well-formed plan, the plan drains in Java's steps: if no client acts, all jobs finish after a
--- bounded number of events
+-- if a certificate accepts a well-formed plan, the plan drains in Java's steps: if no client acts, the number of job events and
+-- takes that can follow is bounded, and when none of them is possible, no job is unfinished
 abbrev pub AcceptedPlansJavaDrain : Type 0
 AcceptedPlansJavaDrain = (plan : Plan) (cert : Cert) → IsWellFormed plan → IsTrue (accepted plan cert) → JavaDrains plan cert.ranks
 
@@ -109,7 +110,7 @@ AcceptedPlansMaySkip = (plan : Plan) (cert : Cert) → IsWellFormed plan → IsT
 abbrev pub AcceptedPlansMakeProgressWithSkips : Type 0
 AcceptedPlansMakeProgressWithSkips = (plan : Plan) (cert : Cert) → IsWellFormed plan → IsTrue (accepted plan cert) → SkippingMakesProgress plan
 
--- if a certificate accepts a well-formed plan, the plan drains after choices: if no client acts, all jobs finish after a bounded
--- number of events and skips
+-- if a certificate accepts a well-formed plan, the plan drains after choices: if no client acts, the number of job events, takes
+-- and skips by jobs that can follow is bounded, and when no job event and no take is possible, no job is unfinished
 abbrev pub AcceptedPlansDrainWithSkips : Type 0
 AcceptedPlansDrainWithSkips = (plan : Plan) (cert : Cert) → IsWellFormed plan → IsTrue (accepted plan cert) → SkippingDrains plan cert.ranks

@@ -25,8 +25,8 @@ use Rattle.soundness.specs.Execute.{JavaState, Submission, is_calling, submissio
 use Rattle.soundness.specs.JavaSafe.{JavaCanProgress, IsJavaQuiescent}
 use Rattle.soundness.specs.Exchange.{after_exchange, can_exchange}
 
--- a choice of an actor: `Acts` is an event; `Skips` skips the submit at which the actor of this event is; `Exchanges` exchanges
--- the jobs that this actor submitted at two positions
+-- a choice: `Acts` performs an event; `Skips` makes the actor of the event skip the submit at which it is; `Exchanges` exchanges
+-- the jobs that an actor submitted at two positions
 pub data Choice : Type 0 where
   Acts : Event → Choice
   Skips : Event → Choice

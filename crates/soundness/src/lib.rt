@@ -1,8 +1,9 @@
-//! What the conditions on a certificate promise of every state that a plan reaches.
+//! What the conditions of a certificate guarantee for every state that a plan reaches.
 //!
-//! Each theorem is the contract of a function with nothing to do. The definitions are in `specs/`, and apart from [`Note`]
-//! nothing here runs. The theorems hold also if a submit takes several steps, as in Java's `execute`, if a client or a job
-//! skips a submit together with its get, and if it gets jobs of one class in any order.
+//! Each theorem is the contract of a function with an empty body. The definitions are in `specs/`, and apart from
+//! [`Note`] and its [`Section`] nothing here is used when a program runs. The theorems also hold if a submit takes
+//! several steps, as in Java's `execute`, if a client or a job skips a submit together with its get, and if it gets
+//! jobs of one class in any order.
 #![tactic(auto)]
 
 mod acceptance_laws;
