@@ -24,7 +24,8 @@ steps_done requesting offering = cond requesting 2 (cond offering 1 0)
 abbrev pub mark : JavaState → ℕ → ℕ
 mark s n = steps_done (has_call s.requesting n) (has_call s.offering n)
 
--- the number of completed steps does not fall if each kind of call that the job has is also there afterwards
+-- the number of completed steps of a job's submit does not fall if each list of calls that contains a call of the job before also
+-- contains one afterwards
 pub steps_done-le : (requesting offering asking' offering' : Bool) → (requesting ≡ true → asking' ≡ true) → (offering ≡ true → offering' ≡ true) → steps_done requesting offering ≤ steps_done asking' offering'
 steps_done-le true offering true offering' more_requesting more_offering = omega arith
 steps_done-le true offering false offering' more_requesting more_offering = let requests_thread = more_requesting refl in absurd cc

@@ -108,7 +108,7 @@ module _ (plan : Plan) (ranks : Ranks) (v : Vector) (r : ℕ) (s : State) (j : �
       ∙ open_weight_is plan v job.class job.stage child.unclaimed
       ∙ ap (done_weight plan v) child.of_class
 
-  -- with one more action, the debt of each job that the actions get does not fall
+  -- if the actions begin one position earlier, the debt of each job that the actions get does not fall
   more_got : (body : List Action) (h n : ℕ) (job : CreatedJob) → debt_got plan ranks v r body (h + 1) n j job ≤ debt_got plan ranks v r body h (suc n) j job
   more_got body h n job = cond-le_cond (is_got_from body (h + 1) n job.slot) (is_got_from body h (suc n) job.slot) (debt_to plan ranks v r j job) (λ later. or_right (is_get_of job.slot (slice_get body h)) (is_got_from body (h + 1) n job.slot) later)
 

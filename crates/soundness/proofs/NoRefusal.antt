@@ -137,13 +137,13 @@ jobs-le-total plan v s p ordered laws kept balanced =
 
 -- ---- a standing or a lifetime vector
 
--- no submit finds the queue full and all threads started
+-- no submit to a pool with a bound whose rows hold finds the queue full and all threads started
 pub not_refused : (plan : Plan) (bound : Bound) (s : State) (a : Parent) (body : List Action) (i k : ℕ) → HasValidBodies plan → BoundLaws plan (pool_of plan k) bound → StateInvariant plan s → HaveJobs plan s
     → IsBalanced (bound_get_return bound) plan (bound_vector bound) s → IsAtAction plan s a body i (Some (action.Submit k))
     → (pool_at plan (pool_of plan k)).queue ≤ length (pool_part s (pool_of plan k)).queue → (pool_at plan (pool_of plan k)).max ≤ threads plan s (pool_of plan k) → ⊥
 not_refused plan (Standing v) s a body i k ordered laws kept have balanced at no_room all_started = standing_refuses_nothing plan v s a body i k ordered laws kept balanced at no_room
 not_refused plan (Lifetime v) s a body i k ordered laws kept have balanced at no_room all_started = lifetime_refuses_nothing plan v s a body i k ordered laws kept have balanced at no_room all_started
 
--- no event refuses a submit to the pool
+-- no event refuses a submit to a pool with a bound whose rows hold
 pub never_refused : (plan : Plan) (bound : Bound) (s s' : State) (p : ℕ) {e : Event} → HasValidBodies plan → BoundLaws plan p bound → StateInvariant plan s → HaveJobs plan s → IsBalanced (bound_get_return bound) plan (bound_vector bound) s → Happens plan s e s' (outcome.Refused p) → ⊥
 never_refused plan bound s s' p ordered laws kept have balanced (is_refused a body i k at no_room all_started) = not_refused plan bound s a body i k ordered laws kept have balanced at no_room all_started
