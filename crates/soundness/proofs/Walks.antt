@@ -106,7 +106,8 @@ at_end body i none = elim (cases_lt i (length body)) [
 ]
 
 module _ (get_return : GetReturn) (plan : Plan) (v : Vector) (weight : ℕ → ℕ) (body : List Action) where
-  -- the bound of the walk over n actions, for the action at position i and the n actions after it
+  -- if the number `after` is at most the weight at i + 1 and what the n actions from i + 1 on return, it is at most the weight at
+  -- i and what the n + 1 actions from i on return
   walk_action : (n i after : ℕ) (next : Option Action) → BodyLaws get_return plan v weight body → IsValidBody plan body → SubmitsCoverDone plan v body → i < length body → after ≤ weight (i + 1) + returned get_return plan v body (i + 1) (i + 1) n → slice_get body i ≡ next
       → after ≤ weight i + (returned_by get_return plan v body i next + returned get_return plan v body i (i + 1) n)
   walk_action n i after None laws valid pay inside rest is_next = let end = at_end body i is_next in absurd (omega arith)
