@@ -6,6 +6,7 @@ mod event_texts;
 mod fits;
 mod help_texts;
 mod judged_plans;
+mod judged_texts;
 mod limits;
 mod note_lines;
 mod pools;
