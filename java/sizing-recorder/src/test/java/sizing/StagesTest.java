@@ -233,6 +233,12 @@ class StagesTest {
                 "job 1 start", "job 1 end", "job 0 got 1", "job 0 end", "round 0 got 0", "round 0 end");
     }
 
+    /** Waits until the threads of the pool have ended, since a thread that starts the next stage writes lines after its submit. */
+    private static void awaitEnd(ExecutorService pool) throws InterruptedException {
+        pool.shutdown();
+        assertTrue(pool.awaitTermination(60, TimeUnit.SECONDS));
+    }
+
     @Test
     void aChainThatIsLeftHasNoGetAndGoesOnInARoundOfItsOwn() throws Exception {
         CountDownLatch ended = new CountDownLatch(1);
@@ -242,6 +248,7 @@ class StagesTest {
         }
         ended.countDown();
         chain.join();
+        awaitEnd(io);
         assertLines(recording.acts().stream().filter(line -> line.startsWith("round ")).toList(), "round 0 begin chain",
                 "round 0 submit 0 load io", "round 0 end", "round 1 begin chain_after_end", "round 1 submit 1 render cpu", "round 1 end");
     }
