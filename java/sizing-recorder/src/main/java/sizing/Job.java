@@ -13,6 +13,8 @@ final class Job {
     Actor submitter;
     /** The number of its submit among the lines of a shared actor. */
     int submitLine;
+    /** The running job that waits for this job of a permit, or null. Guarded by the permit. */
+    Actor waiting;
     /** The round without a label that holds its future. A round finds itself here, or any other value. */
     Actor holder;
     /** Whether it was submitted. No other thread sees a future that never was. */

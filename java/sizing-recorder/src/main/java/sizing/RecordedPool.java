@@ -142,14 +142,15 @@ final class RecordedPool extends AbstractExecutorService {
         job.isGotWhenDone = true;
         recorder.stages().attach(stage, job);
         Runnable decorated = decorate(job, new RecordedCommand(recorder, job, (Runnable) stage.completion()));
+        Actor permit = stage.isDependent() ? null : recorder.state().freePermit();
         Job here = recorder.state().job;
         List<Job> sources = new ArrayList<>(stage.sources());
-        if (here != null && here.isStage && here.actor.ended && !sources.contains(here)) {
+        if (permit == null && here != null && here.isStage && here.actor.ended && !sources.contains(here)) {
             // the thread completed a stage and now starts those that depend on it
             sources.add(here);
         }
-        Actor submitter = sources.isEmpty() ? recorder.submitter() : sources.get(0).submitter;
-        if (sources.isEmpty()) {
+        Actor submitter = permit != null ? permit : sources.isEmpty() ? recorder.submitter() : sources.get(0).submitter;
+        if (permit == null && sources.isEmpty()) {
             List<Job> finished = submitter.finishedUnclaimed();
             if (finished.size() == 1 && (stage.isDependent() || Stages.isInFunctionOfStage())) {
                 // the source is a stage in no pool, and comes after the only job that is done

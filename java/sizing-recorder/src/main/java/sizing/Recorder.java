@@ -164,6 +164,35 @@ public final class Recorder implements AutoCloseable {
         return new RecordedSemaphore(this, Objects.requireNonNull(kind), permits, fair);
     }
 
+    /**
+     * Returns the task, which takes the permit that is in use here along to the thread that runs it, such as a scheduler's: the
+     * permit of the job that runs or has just ended on this thread, else the latest that the thread acquired. When the task runs, the
+     * round of the permit ends and its next one begins, and the next submit belongs to it. Without a permit it is the task itself.
+     *
+     * <pre>{@code
+     * CompletableFuture.supplyAsync(send, mails).whenComplete((receipt, failed) -> {
+     *     if (failed == null) permits.release();
+     *     else scheduler.schedule(recorder.withPermit(() -> attempt(n + 1)), 1, SECONDS);
+     * });
+     * }</pre>
+     */
+    public Runnable withPermit(Runnable task) {
+        Objects.requireNonNull(task);
+        Actor permit = threads.get().permitInUse();
+        return permit == null ? task : () -> {
+            Actor next = Actor.permit((String) permit.source, permit.semaphore);
+            if (permit.semaphore.taken.remove(permit)) {
+                end(permit);
+                acquire(next);
+            }
+            try {
+                task.run();
+            } finally {
+                threads.get().permits.remove(next);
+            }
+        };
+    }
+
     /** Returns the task with the label as the class of its jobs. */
     public static Runnable label(String label, Runnable task) {
         return new Labelled.Command(Objects.requireNonNull(label), Objects.requireNonNull(task));
@@ -359,6 +388,9 @@ public final class Recorder implements AutoCloseable {
     private void claim(Actor submitter, Job job) {
         synchronized (submitter) {
             if (!submitter.ended && job.actor.ended && submitter.removeUnclaimed(job)) {
+                if (job.waiting != null) {
+                    lines.action(job.waiting, "got", job);
+                }
                 lines.action(submitter, "got", job);
                 submitter.sharedLines++;
             }
@@ -434,16 +466,31 @@ public final class Recorder implements AutoCloseable {
         endIfOver(actor);
     }
 
+    /** Notes that a running job begins to wait for a job of a permit, which no plan has. */
+    void beginGet(Job job) {
+        Actor permit = job.submitter;
+        Actor waiting = threads.get().actor;
+        if (permit != null && permit.isPermit() && waiting != null && waiting.isJob() && !waiting.ended) {
+            synchronized (permit) {
+                job.waiting = waiting;
+            }
+        }
+    }
+
     /**
-     * Records that the permit gets its job: in the plan a round that waits for the job meanwhile does nothing. If a running job
-     * waits for it, which the plan does not allow, records the get as that of the running job.
+     * Records that the permit gets its job: in the plan a round that waits for the job meanwhile does nothing. If a running job waits
+     * for it, records the get as that of the running job, which no plan has.
      */
     private void recordGetFromPermit(Actor permit, String word, Job job, boolean hasTimeout) {
         ThreadState state = threads.get();
-        if (word.equals("got") && state.permits.contains(permit)) {
+        boolean isInJob = state.actor != null && state.actor.isJob() && !state.actor.ended;
+        if (isInJob && !hasTimeout) {
+            synchronized (permit) {
+                job.waiting = null;
+                lines.action(state.actor, word, job);
+            }
+        } else if (word.equals("got") && state.permits.contains(permit)) {
             claim(permit, job);
-        } else if (!hasTimeout && state.actor != null && state.actor.isJob() && !state.actor.ended) {
-            lines.action(state.actor, word, job);
         }
     }
 

@@ -16,6 +16,17 @@ final class ThreadState {
     /** The permits that the thread acquired, the latest first, without those that it is known to have given back. */
     final Deque<Actor> permits = new ArrayDeque<>(2);
 
+    /** Returns the permit of the job that runs on the thread or ran there last, else the latest that the thread acquired, else null. */
+    Actor permitInUse() {
+        for (Job each : new Job[] {job, lastJob}) {
+            if (each != null && each.submitter != null && each.submitter.isPermit() && !each.submitter.ended) {
+                return each.submitter;
+            }
+        }
+        permits.removeIf(permit -> permit.ended);
+        return permits.peek();
+    }
+
     /** Returns the permit for the thread's next submit: the latest that has no open job, else null. */
     Actor freePermit() {
         if (permits.isEmpty()) {

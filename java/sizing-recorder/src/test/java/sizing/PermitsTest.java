@@ -2,6 +2,7 @@ package sizing;
 
 import static org.junit.jupiter.api.Assertions.assertEquals;
 import static org.junit.jupiter.api.Assertions.assertFalse;
+import static org.junit.jupiter.api.Assertions.assertSame;
 import static org.junit.jupiter.api.Assertions.assertTrue;
 import static sizing.RecordingAssertions.assertLines;
 import static sizing.RecordingAssertions.thrownBy;
@@ -17,6 +18,7 @@ import java.util.concurrent.FutureTask;
 import java.util.concurrent.Semaphore;
 import java.util.concurrent.ThreadPoolExecutor;
 import java.util.concurrent.TimeUnit;
+import java.util.concurrent.atomic.AtomicReference;
 import org.junit.jupiter.api.Test;
 
 /** Permits as rounds. */
@@ -186,6 +188,28 @@ class PermitsTest {
     }
 
     @Test
+    void aJobThatWaitsForThePermitsJobHasAGet() throws Exception {
+        ExecutorService mail = mail();
+        ExecutorService web = recording.pool("web");
+        try (Recorder.Round round = recording.recorder.round("request")) {
+            web.submit(Recorder.label("page", () -> {
+                Thread thread = Thread.currentThread();
+                permits.acquire();
+                return mail.submit(Recorder.label("send", () -> {
+                    for (int turn = 0; turn < 60_000 && thread.getState() != Thread.State.WAITING; turn++) {
+                        TimeUnit.MILLISECONDS.sleep(1);
+                    }
+                    permits.release();
+                    return 1;
+                })).get();
+            })).get();
+        }
+        List<String> acts = recording.acts();
+        assertEquals(List.of("job 1 end", "job 0 got 1", "round 1 got 1", "round 1 end", "job 0 got 1", "job 0 end", "round 0 got 0", "round 0 end"),
+                acts.subList(acts.indexOf("job 1 end"), acts.size()));
+    }
+
+    @Test
     void aPermitThatIsNotUsedHasNoSubmit() throws Exception {
         permits.acquire();
         permits.release();
@@ -209,6 +233,50 @@ class PermitsTest {
         List<String> acts = recording.acts();
         assertEquals(List.of("round 1 begin thread", "round 1 submit 1 more mail", "round 1 end"),
                 acts.stream().filter(line -> line.startsWith("round 1 ")).toList());
+    }
+
+    @Test
+    void aTaskTakesThePermitToAnotherThread() throws Exception {
+        ExecutorService mail = Recorder.label("send", mail());
+        AtomicReference<Runnable> retry = new AtomicReference<>();
+        permits.acquire();
+        CompletableFuture.supplyAsync(() -> 1, mail)
+                .whenComplete((value, failed) -> retry.set(recording.recorder.withPermit(() -> mail.execute(permits::release)))).join();
+        Recording.on("scheduler", () -> {
+            retry.get().run();
+            mail.submit(() -> 1).get();
+        });
+        awaitPermits(2);
+        List<String> acts = recording.acts();
+        assertEquals(List.of("round 0 begin permit", "round 0 submit 0 send mail", "round 0 got 0", "round 0 end", "round 1 begin permit",
+                "round 1 submit 1 send mail", "round 1 got 1", "round 1 end"),
+                acts.stream().filter(line -> line.startsWith("round 0 ") || line.startsWith("round 1 ")).toList());
+        assertEquals(List.of("round 2 begin scheduler", "round 2 submit 2 send mail", "round 2 got 2", "round 2 end"),
+                acts.stream().filter(line -> line.startsWith("round 2 ")).toList());
+    }
+
+    @Test
+    void withoutAPermitATaskIsUnchanged() throws Exception {
+        Runnable task = () -> { };
+        assertSame(task, recording.recorder.withPermit(task));
+        permits.acquire();
+        permits.release();
+        assertSame(task, recording.recorder.withPermit(task));
+    }
+
+    @Test
+    void aStageAfterAReleaseBelongsToTheNextPermit() throws Exception {
+        ExecutorService mail = Recorder.label("send", mail());
+        permits.acquire();
+        CompletableFuture.supplyAsync(() -> 1, mail).thenCompose(value -> {
+            permits.release();
+            permits.acquireUninterruptibly();
+            return CompletableFuture.runAsync(() -> { }, mail);
+        }).whenComplete((none, failed) -> permits.release()).join();
+        awaitPermits(2);
+        assertLines(actsOfJobs().stream().filter(line -> line.startsWith("round ")).toList(), "round 0 begin permit",
+                "round 0 submit 0 send mail", "round 0 got 0", "round 0 end", "round 1 begin permit", "round 1 submit 1 send mail",
+                "round 1 got 1", "round 1 end");
     }
 
     @Test
