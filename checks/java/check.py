@@ -1,13 +1,14 @@
 #!/usr/bin/env python3
 """Compares unmodified executors of java.util.concurrent with the plans, the rules of docs/GUIDE.md and the promises.
 
-    python3 checks/java/check.py [PART ..]     # replays, interleavings, bursts, loops, permits, services, learned; all by default
+    python3 checks/java/check.py [PART ..]     # replays, interleavings, bursts, loops, permits, facts,
+                                               # services, learned; all by default
 
 README.md describes the parts. Each part must also find deliberate errors. The check needs a JDK, which is the one in JAVA_HOME if
 that is set. Without a JDK it prints a line that says so, and checks nothing.
 
 The program is crates/sizing/out/sizing, or the one that the environment variable SIZING names. The parts `interleavings`, `bursts`,
-`loops`, `permits` and `services` do not need it.
+`loops`, `permits`, `facts` and `services` do not need it.
 
 Exit status: 0 if all parts pass, or if there is no JDK; 1 if one fails; 2 if there is no program.
 """
@@ -24,6 +25,7 @@ HERE = Path(__file__).resolve().parent
 sys.path[:0] = [str(HERE), str(HERE.parent)]
 
 import bursts
+import facts
 import interleavings
 import learned
 import loops
@@ -33,7 +35,7 @@ import services
 from refused_growths import Unable, built
 
 PARTS = {"replays": replays.part, "interleavings": interleavings.part, "bursts": bursts.part, "loops": loops.part,
-         "permits": permits.part, "services": services.part, "learned": learned.part}
+         "permits": permits.part, "facts": facts.part, "services": services.part, "learned": learned.part}
 # The parts that need the program.
 ASKING = {"replays", "learned"}
 LIBRARY = HERE.parent.parent / "java" / "sizing-recorder" / "src" / "main" / "java" / "sizing"
