@@ -3,25 +3,27 @@ package sizing.junit5;
 import static sizing.Recorder.label;
 import static sizing.junit5.ServiceRun.work;
 
+import java.util.Collections;
+import java.util.List;
+import java.util.concurrent.AbstractExecutorService;
 import java.util.concurrent.ArrayBlockingQueue;
-import java.util.concurrent.CancellationException;
+import java.util.concurrent.Callable;
 import java.util.concurrent.CompletableFuture;
-import java.util.concurrent.CompletionException;
-import java.util.concurrent.CountDownLatch;
 import java.util.concurrent.CyclicBarrier;
 import java.util.concurrent.ExecutorCompletionService;
 import java.util.concurrent.ExecutorService;
-import java.util.concurrent.Future;
+import java.util.concurrent.Executors;
 import java.util.concurrent.FutureTask;
-import java.util.concurrent.RejectedExecutionException;
+import java.util.concurrent.ScheduledExecutorService;
 import java.util.concurrent.Semaphore;
 import java.util.concurrent.ThreadLocalRandom;
 import java.util.concurrent.ThreadPoolExecutor;
 import java.util.concurrent.TimeUnit;
 import java.util.concurrent.TimeoutException;
+import java.util.concurrent.atomic.AtomicInteger;
 import java.util.function.UnaryOperator;
 
-/** A service for each pattern of docs/PERMITS.md, and for each use that the page does not cover and a recording shows. */
+/** A service for each pattern of docs/PERMITS.md. */
 final class PermitServices {
     private static final int THREADS = 40;
     private static final int TURNS = 5;
@@ -33,7 +35,7 @@ final class PermitServices {
     }
 
     /** The pool `mail` and its permits, as the page has them. */
-    private record Mails(ExecutorService pool, Semaphore permits) {
+    record Mails(ExecutorService pool, Semaphore permits) {
         static Mails of(ServiceRun run) throws Exception {
             return new Mails(run.pool("mail"), run.permits("permit", 20));
         }
@@ -49,7 +51,7 @@ final class PermitServices {
                         permits.release();
                     }
                 }));
-            } catch (RejectedExecutionException refused) {
+            } catch (RuntimeException | Error refused) {
                 permits.release();
                 throw refused;
             }
@@ -235,123 +237,134 @@ final class PermitServices {
         });
     }
 
-    // ---- uses that the page does not cover
-
-    static void timedBulkhead(ServiceRun run) throws Exception {
+    /** An event loop does not wait: without a permit it submits nothing. */
+    static void eventLoop(ServiceRun run) throws Exception {
         Mails mails = Mails.of(run);
-        run.threads("client", 1, 1, () -> {
-            mails.permits.acquire();
-            try {
-                mails.pool.submit(label("send", () -> {
-                    run.awaitEnd();
-                })).get(1, TimeUnit.MILLISECONDS);
-            } catch (TimeoutException planned) {
-                return;
-            } finally {
-                mails.permits.release();
-            }
-        });
-    }
-
-    static void releaseInDone(ServiceRun run) throws Exception {
-        Mails mails = Mails.of(run);
-        run.threads("client", 1, 1, () -> {
-            mails.permits.acquire();
-            FutureTask<Integer> task = new FutureTask<>(() -> work(1)) {
-                @Override
-                protected void done() {
-                    mails.permits.release();
-                }
-            };
-            mails.pool.execute(label("send", () -> {
-                run.awaitEnd();
-                task.run();
-            }));
-            task.cancel(true);
-        });
-    }
-
-    static void releaseAfterATimeoutOfTheStage(ServiceRun run) throws Exception {
-        Mails mails = Mails.of(run);
-        run.threads("client", 1, 1, () -> {
-            mails.permits.acquire();
-            CompletableFuture<Void> sent = CompletableFuture.runAsync(run::awaitEnd, label("send", mails.pool))
-                    .orTimeout(1, TimeUnit.MILLISECONDS).whenComplete((none, failed) -> mails.permits.release());
-            try {
-                sent.join();
-            } catch (CompletionException planned) {
+        run.threads("loop", 4, 100, () -> {
+            if (!mails.permits.tryAcquire()) {
                 work(1);
+                return;
             }
-        });
-    }
-
-    static void releaseBeforeTheLastGet(ServiceRun run) throws Exception {
-        ExecutorService web = run.pool("web");
-        ExecutorService audit = run.pool("audit");
-        Semaphore permits = run.permits("permit", 10);
-        run.threads("client", 1, 1, () -> {
-            permits.acquire();
-            audit.submit(label("entry", () -> {
-                permits.release();
-                return web.submit(label("page", () -> work(1))).get();
-            })).get();
-        });
-    }
-
-    static void releaseWithoutAcquire(ServiceRun run) throws Exception {
-        Mails mails = Mails.of(run);
-        mails.permits.release();
-        run.threads("client", 21, 1, () -> {
-            mails.permits.acquire();
-            mails.pool.execute(label("send", () -> {
-                run.awaitEnd();
-                mails.permits.release();
-            }));
-        });
-    }
-
-    static void submitWithoutAPermit(ServiceRun run) throws Exception {
-        Mails mails = Mails.of(run);
-        run.threads("client", 1, 1, () -> mails.pool.execute(label("send", () -> {
-            work(1);
-        })));
-    }
-
-    static void cancelOfTheQueuedTask(ServiceRun run) throws Exception {
-        Mails mails = Mails.of(run);
-        run.threads("client", 1, 1, () -> {
-            mails.permits.acquire();
-            Future<?> sent = mails.pool.submit(label("send", () -> {
+            mails.pool.submit(label("send", () -> {
                 try {
-                    run.awaitEnd();
+                    return work(1);
                 } finally {
                     mails.permits.release();
                 }
             }));
-            sent.cancel(true);
-            try {
-                sent.get();
-            } catch (CancellationException planned) {
-                return;
-            }
         });
     }
 
-    /** An interrupt ends the get of a job, which leaves its own job open. */
-    static void cancelOfAJobThatGets(ServiceRun run) throws Exception {
-        ExecutorService pages = run.pool("pages");
-        run.rounds("request", 1, 1, () -> {
-            CountDownLatch submitted = new CountDownLatch(1);
-            Future<Integer> page = pages.submit(label("page", () -> {
-                Future<?> part = pages.submit(label("part", () -> {
-                    run.awaitEnd();
+    /** Each place of a `flatMap` submits its next row when the one before is done. */
+    static void flatMap(ServiceRun run) throws Exception {
+        FlatMap flatMap = new FlatMap(label("row", run.pool("load")), run.permits("place", 32), new AtomicInteger(300));
+        for (int place = 0; place < 32; place++) {
+            flatMap.places.acquire();
+            flatMap.next();
+        }
+        flatMap.places.acquire(32);
+        flatMap.places.release(32);
+    }
+
+    private record FlatMap(ExecutorService load, Semaphore places, AtomicInteger rows) {
+        /** Submits a row with the permit that this thread acquired, or gives it back after the last row. */
+        void next() {
+            if (rows.getAndDecrement() <= 0) {
+                places.release();
+                return;
+            }
+            CompletableFuture.runAsync(() -> work(1), load).whenComplete((none, failed) -> {
+                places.release();
+                places.acquireUninterruptibly();
+                next();
+            });
+        }
+    }
+
+    static void retriesByAScheduler(ServiceRun run) throws Exception {
+        Mails mails = Mails.of(run);
+        ScheduledExecutorService scheduler = Executors.newScheduledThreadPool(2);
+        Retries retries = new Retries(run, label("send", mails.pool), mails.permits, scheduler);
+        run.threads("client", THREADS, TURNS, () -> {
+            mails.permits.acquire();
+            retries.attempt(1);
+        });
+        mails.permits.acquire(20);
+        mails.permits.release(20);
+        scheduler.shutdown();
+    }
+
+    private record Retries(ServiceRun run, ExecutorService mails, Semaphore permits, ScheduledExecutorService scheduler) {
+        /** The `attempt` of the page. */
+        void attempt(int number) {
+            CompletableFuture.supplyAsync(() -> work(!rarely()), mails).whenComplete((sent, failed) -> {
+                if (sent || number == 3) {
+                    permits.release();
+                } else {
+                    scheduler.schedule(run.recorder.withPermit(() -> attempt(number + 1)), 1, TimeUnit.MILLISECONDS);
+                }
+            });
+        }
+    }
+
+    /** The pool of the page in which each task takes a permit. */
+    private static final class PermittedExecutor extends AbstractExecutorService {
+        private final Mails mails;
+
+        PermittedExecutor(Mails mails) {
+            this.mails = mails;
+        }
+
+        @Override
+        public void execute(Runnable task) {
+            mails.permits.acquireUninterruptibly();
+            try {
+                mails.pool.execute(label("send", () -> {
+                    try {
+                        task.run();
+                    } finally {
+                        mails.permits.release();
+                    }
                 }));
-                submitted.countDown();
-                part.get();
-                return 1;
-            }));
-            submitted.await(60, TimeUnit.SECONDS);
-            page.cancel(true);
+            } catch (RuntimeException | Error refused) {
+                mails.permits.release();
+                throw refused;
+            }
+        }
+
+        @Override
+        public void shutdown() {
+            mails.pool.shutdown();
+        }
+
+        @Override
+        public List<Runnable> shutdownNow() {
+            return mails.pool.shutdownNow();
+        }
+
+        @Override
+        public boolean isShutdown() {
+            return mails.pool.isShutdown();
+        }
+
+        @Override
+        public boolean isTerminated() {
+            return mails.pool.isTerminated();
+        }
+
+        @Override
+        public boolean awaitTermination(long time, TimeUnit unit) throws InterruptedException {
+            return mails.pool.awaitTermination(time, unit);
+        }
+    }
+
+    static void permittedExecutor(ServiceRun run) throws Exception {
+        ExecutorService permitted = new PermittedExecutor(Mails.of(run));
+        List<Callable<Integer>> calls = Collections.nCopies(8, () -> work(1));
+        run.threads("client", 8, TURNS, () -> {
+            permitted.invokeAll(calls, 1, TimeUnit.MILLISECONDS);
+            permitted.invokeAny(calls);
+            CompletableFuture.supplyAsync(() -> work(1), permitted).orTimeout(100, TimeUnit.MICROSECONDS);
         });
     }
 }

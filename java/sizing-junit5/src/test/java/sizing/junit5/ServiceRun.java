@@ -5,11 +5,13 @@ import java.nio.file.Path;
 import java.util.ArrayList;
 import java.util.List;
 import java.util.Queue;
+import java.util.concurrent.Callable;
 import java.util.concurrent.ConcurrentLinkedQueue;
 import java.util.concurrent.CountDownLatch;
 import java.util.concurrent.ExecutorService;
 import java.util.concurrent.RejectedExecutionException;
 import java.util.concurrent.Semaphore;
+import java.util.concurrent.ThreadLocalRandom;
 import java.util.concurrent.ThreadPoolExecutor;
 import java.util.concurrent.TimeUnit;
 import java.util.function.UnaryOperator;
@@ -56,11 +58,18 @@ final class ServiceRun {
 
     /** Runs the body as rounds of this kind, on this number of threads. */
     void rounds(String kind, int threads, int rounds, Body body) throws InterruptedException {
-        threads(kind, threads, rounds, () -> {
-            try (Recorder.Round round = recorder.round(kind)) {
-                body.run();
-            }
-        });
+        threads(kind, threads, rounds, () -> round(kind, body));
+    }
+
+    /** Runs the body as a round of this kind on the calling thread. A refused submit does not fail the run. */
+    void round(String kind, Body body) {
+        try (Recorder.Round round = recorder.round(kind)) {
+            body.run();
+        } catch (RejectedExecutionException refused) {
+            return;
+        } catch (Exception | AssertionError failed) {
+            failures.add(failed);
+        }
     }
 
     /** Runs the body on this number of threads, without a round around it. A refused submit does not fail the run. */
@@ -87,13 +96,32 @@ final class ServiceRun {
 
     /** Waits until the run ends. */
     void awaitEnd() {
+        await(gate);
+    }
+
+    void await(CountDownLatch latch) {
         try {
-            if (!gate.await(60, TimeUnit.SECONDS)) {
+            if (!latch.await(60, TimeUnit.SECONDS)) {
                 throw new AssertionError("waited too long");
             }
         } catch (InterruptedException interrupted) {
             Thread.currentThread().interrupt();
         }
+    }
+
+    /** Waits until the run ends and returns a value. */
+    int valueAtEnd() {
+        awaitEnd();
+        return 1;
+    }
+
+    /** Returns a task with this label that does some work. */
+    static <T> Callable<T> task(String label, T value) {
+        return Recorder.label(label, () -> work(value));
+    }
+
+    static boolean chance() {
+        return ThreadLocalRandom.current().nextBoolean();
     }
 
     /** Does some work. */

@@ -1,0 +1,158 @@
+package sizing.junit5;
+
+import static sizing.Recorder.label;
+import static sizing.junit5.ServiceRun.chance;
+import static sizing.junit5.ServiceRun.work;
+
+import java.util.concurrent.CancellationException;
+import java.util.concurrent.CompletableFuture;
+import java.util.concurrent.CompletionException;
+import java.util.concurrent.CountDownLatch;
+import java.util.concurrent.ExecutorService;
+import java.util.concurrent.TimeUnit;
+import java.util.concurrent.TimeoutException;
+
+/** Services for the entries of docs/PATTERNS.md on chains: right uses, and uses that the page does not cover and a recording shows. */
+final class ChainServices {
+    private ChainServices() {}
+
+    private record Chain(ExecutorService load, ExecutorService render) {
+        static Chain of(ServiceRun run) throws Exception {
+            return new Chain(label("load", run.pool("io")), label("render", run.pool("cpu")));
+        }
+
+        CompletableFuture<Integer> start() {
+            return CompletableFuture.supplyAsync(() -> work(1), load).thenApplyAsync(loaded -> work(loaded + 1), render);
+        }
+    }
+
+    static void chain(ServiceRun run) throws Exception {
+        Chain chain = Chain.of(run);
+        run.rounds("chain", 40, 5, () -> chain.start().join());
+    }
+
+    static void chainWithStagesInNoPool(ServiceRun run) throws Exception {
+        Chain chain = Chain.of(run);
+        run.rounds("chain", 40, 5, () -> {
+            CompletableFuture<Integer> loaded = CompletableFuture.supplyAsync(() -> 1, chain.load).thenApply(x -> x + 1);
+            if (chance()) {
+                work(1);
+            }
+            loaded.thenApplyAsync(x -> work(x + 1), chain.render).join();
+        });
+    }
+
+    static void chainThatFails(ServiceRun run) throws Exception {
+        Chain chain = Chain.of(run);
+        run.rounds("chain", 40, 5, () -> {
+            try {
+                CompletableFuture.supplyAsync(() -> {
+                    if (chance()) {
+                        throw new IllegalStateException("planned");
+                    }
+                    return work(1);
+                }, chain.load).thenApplyAsync(x -> work(x + 1), chain.render).join();
+            } catch (CompletionException planned) {
+                work(1);
+            }
+        });
+    }
+
+    static void chainComposed(ServiceRun run) throws Exception {
+        Chain chain = Chain.of(run);
+        run.rounds("chain", 40, 5, () -> CompletableFuture.supplyAsync(() -> work(1), chain.load)
+                .thenCompose(x -> CompletableFuture.supplyAsync(() -> work(x + 1), chain.render)).join());
+    }
+
+    static void chainThatIsLeft(ServiceRun run) throws Exception {
+        Chain chain = Chain.of(run);
+        run.rounds("chain", 4, 1, () -> CompletableFuture.runAsync(run::awaitEnd, chain.load).thenApplyAsync(x -> work(1), chain.render));
+    }
+
+    static void chainWithTimeout(ServiceRun run) throws Exception {
+        Chain chain = Chain.of(run);
+        run.rounds("chain", 1, 1, () -> {
+            try {
+                CompletableFuture.runAsync(run::awaitEnd, chain.load).orTimeout(1, TimeUnit.MILLISECONDS).join();
+            } catch (CompletionException planned) {
+                work(1);
+            }
+        });
+    }
+
+    static void chainWithAStageBeside(ServiceRun run) throws Exception {
+        Chain chain = Chain.of(run);
+        run.rounds("chain", 1, 1, () -> {
+            CompletableFuture<Integer> loaded = CompletableFuture.supplyAsync(() -> work(1), chain.load);
+            loaded.thenRunAsync(run::awaitEnd, chain.render);
+            loaded.join();
+        });
+    }
+
+    /** The caller stops waiting while the job of the first stage runs. */
+    private static void chainLeftBy(ServiceRun run, ChainEnd end) throws Exception {
+        Chain chain = Chain.of(run);
+        CountDownLatch started = new CountDownLatch(1);
+        run.rounds("chain", 1, 1, () -> {
+            CompletableFuture<Integer> loaded = CompletableFuture.supplyAsync(() -> {
+                started.countDown();
+                return run.valueAtEnd();
+            }, chain.load);
+            run.await(started);
+            try {
+                end.of(loaded);
+            } catch (CompletionException | CancellationException | TimeoutException planned) {
+                work(1);
+            }
+        });
+    }
+
+    /** How the caller stops waiting. */
+    private interface ChainEnd {
+        void of(CompletableFuture<Integer> future) throws Exception;
+    }
+
+    static void chainCompletedOnTimeout(ServiceRun run) throws Exception {
+        chainLeftBy(run, future -> future.completeOnTimeout(0, 1, TimeUnit.MILLISECONDS).join());
+    }
+
+    static void chainCancelled(ServiceRun run) throws Exception {
+        chainLeftBy(run, future -> {
+            future.cancel(true);
+            future.join();
+        });
+    }
+
+    static void chainWithTimedGet(ServiceRun run) throws Exception {
+        chainLeftBy(run, future -> future.get(1, TimeUnit.MILLISECONDS));
+    }
+
+    static void chainsSideBySide(ServiceRun run) throws Exception {
+        Chain chain = Chain.of(run);
+        run.rounds("chain", 1, 1, () -> {
+            CompletableFuture<Integer> one = CompletableFuture.supplyAsync(() -> work(1), chain.load);
+            CompletableFuture<Integer> other = CompletableFuture.supplyAsync(() -> work(2), chain.load);
+            one.thenCombine(other, Integer::sum).join();
+        });
+    }
+
+    /** A stage in no pool submits, in a thread that has completed its job. */
+    static void chainWithASubmitInNoPool(ServiceRun run) throws Exception {
+        Chain chain = Chain.of(run);
+        CountDownLatch joined = new CountDownLatch(1);
+        run.rounds("chain", 1, 1, () -> {
+            CompletableFuture<Void> accepted = CompletableFuture.runAsync(() -> run.await(joined), chain.load)
+                    .thenRun(() -> chain.render.submit(() -> work(1)));
+            joined.countDown();
+            accepted.join();
+        });
+    }
+
+    static void composedStageThatIsDropped(ServiceRun run) throws Exception {
+        Chain chain = Chain.of(run);
+        run.rounds("chain", 1, 1, () -> CompletableFuture.supplyAsync(() -> work(1), chain.load).thenCompose(loaded -> {
+            CompletableFuture.runAsync(run::awaitEnd, chain.render);
+            return CompletableFuture.completedFuture(loaded);
+        }).join());
+    }
+}
