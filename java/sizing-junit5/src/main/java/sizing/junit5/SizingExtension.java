@@ -68,7 +68,13 @@ final class SizingExtension implements BeforeAllCallback, AfterAllCallback, Para
         if (resource == null) {
             throw new AssertionFailedError("no file " + file.toAbsolutePath() + ", and no resource " + name + " on the class path");
         }
-        return Path.of(resource.toURI());
+        return relative(Path.of(resource.toURI()));
+    }
+
+    /** Returns the path from the working directory, if the file is inside it, for shorter messages. */
+    private static Path relative(Path file) {
+        Path here = Path.of("").toAbsolutePath();
+        return file.startsWith(here) ? here.relativize(file) : file;
     }
 
     @Override

@@ -16,8 +16,8 @@ import org.opentest4j.TestAbortedException;
 /** The program {@code sizing}: that of the property {@code sizing.program}, of the variable {@code SIZING}, or on the path. */
 final class SizingProgram {
     private static final long MAX_SECONDS = 300;
-    private static final String NOT_FOUND = "the program sizing was not found: put it on the PATH, or name it by "
-            + "-Dsizing.program=FILE or by the environment variable SIZING (-Dsizing.optional=true skips tests that need it)";
+    private static final String HOW = " Install the program sizing from its release, and put it on the PATH or name it by "
+            + "-Dsizing.program=FILE or by the environment variable SIZING. -Dsizing.optional=true skips the tests that need it.";
 
     /** The output and the exit status of a run. */
     record Answer(int status, List<String> output, List<String> errors) {
@@ -60,10 +60,12 @@ final class SizingProgram {
     }
 
     private static RuntimeException notFound() {
+        String message = find().map(named -> named + ", which sizing.program or SIZING names, is not an executable file.")
+                .orElse("The program sizing is not on the PATH.") + HOW;
         if (Boolean.getBoolean("sizing.optional")) {
-            return new TestAbortedException(NOT_FOUND);
+            return new TestAbortedException(message);
         }
-        throw new AssertionFailedError(find().map(named -> "no program at " + named).orElse(NOT_FOUND));
+        throw new AssertionFailedError(message);
     }
 
     private static Answer run(List<String> command) throws IOException, InterruptedException {

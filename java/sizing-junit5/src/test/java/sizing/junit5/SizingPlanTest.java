@@ -9,7 +9,6 @@ import static sizing.Recorder.label;
 import java.io.IOException;
 import java.io.PrintWriter;
 import java.io.StringWriter;
-import java.net.URISyntaxException;
 import java.nio.file.Files;
 import java.nio.file.Path;
 import java.util.List;
@@ -28,25 +27,18 @@ import org.junit.platform.launcher.core.LauncherFactory;
 import org.junit.platform.launcher.listeners.SummaryGeneratingListener;
 import org.junit.platform.launcher.listeners.TestExecutionSummary;
 import org.opentest4j.AssertionFailedError;
+import org.opentest4j.TestAbortedException;
 
 /** Classes with {@link SizingPlan}, run by the launcher. */
 class SizingPlanTest {
-    private static final String SHOP = resource("shop.toml");
-    private static final String SMALL_SHOP = resource("shop-small.toml");
+    private static final String SHOP = Path.of("target", "test-classes", "shop.toml").toString();
+    private static final String SMALL_SHOP = Path.of("target", "test-classes", "shop-small.toml").toString();
     private String program;
     private String optional;
 
     /** The service: a page asks the database and waits. */
     static String visit(ExecutorService web, ExecutorService database) throws Exception {
         return web.submit(label("request", () -> database.submit(label("query", () -> "rows")).get() + " as a page")).get();
-    }
-
-    private static String resource(String name) {
-        try {
-            return Path.of(SizingPlanTest.class.getResource("/" + name).toURI()).toString();
-        } catch (URISyntaxException impossible) {
-            throw new AssertionError(impossible);
-        }
     }
 
     @BeforeEach
@@ -242,11 +234,21 @@ class SizingPlanTest {
     @Test
     void withoutTheProgramTheClassFailsOrIsSkipped() {
         System.setProperty("sizing.program", "/nonexistent/sizing");
-        assertEquals("no program at /nonexistent/sizing", failureOf(Visitors.class));
+        assertEquals("/nonexistent/sizing, which sizing.program or SIZING names, is not an executable file. Install the program sizing from its "
+                + "release, and put it on the PATH or name it by -Dsizing.program=FILE or by the environment variable SIZING. "
+                + "-Dsizing.optional=true skips the tests that need it.", failureOf(Visitors.class));
         System.setProperty("sizing.optional", "true");
         TestExecutionSummary summary = run(Visitors.class);
         assertEquals(0, summary.getTotalFailureCount());
         assertEquals(0, summary.getTestsSucceededCount());
+    }
+
+    @Test
+    void withoutTheProgramAnAssertionFailsOrIsSkipped() {
+        System.setProperty("sizing.program", "/nonexistent/sizing");
+        assertThrows(AssertionFailedError.class, () -> SizingAssertions.assertSafe(Path.of(SHOP)));
+        System.setProperty("sizing.optional", "true");
+        assertThrows(TestAbortedException.class, () -> SizingAssertions.assertSafe(Path.of(SHOP)));
     }
 
     @Test
