@@ -37,18 +37,18 @@ import java.util.function.UnaryOperator;
  * one warning, and each stage is a submit without a get. The option gives it access to private fields of the JDK. It was tried
  * on OpenJDK 17 only; if another JDK has other fields, the recorder logs the same warning.
  *
- * <p>A stage is submitted by the round, job or permit that built the chain, after the get of the stage before it. A get of a stage
- * ({@code join}, {@code get}, {@code allOf(..).join()}) is recorded as the stage ends if its submitter waits for it at that moment,
- * and else at the end of the submitter, where a get of a job that is done would not wait. So a future that is never joined is
- * not noticed if its job happens to be done by the end of the round. A stage that is submitted after the end of its round is recorded
- * as a round of kind {@code KIND_after_end}, which no plan has.
+ * <p>A stage is submitted by the round, job or permit that built the chain, after the get of the stage before it. If the submitter
+ * waits for a stage ({@code join}, {@code get}, {@code allOf(..).join()}) when the stage ends, the get is recorded then. Otherwise it
+ * is recorded before the next stage of the chain, or at the end of the submitter if the stage is done by then: a get of it would not
+ * wait. So a recording does not show that a future is never joined, if its job happens to be done by the end of the round. A stage
+ * that is submitted after the end of its round is recorded as a round of kind {@code KIND_after_end}, which no plan has.
  *
  * <p><b>Cost.</b> Each line is one entry in a lock-free queue: one allocation and one compare-and-set on the thread that acts. A
- * daemon thread of the recorder formats and writes the lines. No lock is taken for jobs that are submitted and got, except by jobs
- * and rounds that have stages or jobs of an {@code ExecutorCompletionService}, and by permits: these take a lock of their own for
- * each such job, which no other actor uses. A stage also takes the lock of one map. The queue of lines has no bound: if the writer
- * is slower than the service for long, memory fills. Threads that record meet at the end of that queue, so they may meet in another
- * order than without a recorder; each such order can happen without one, too.
+ * daemon thread of the recorder formats and writes the lines. A job that is submitted and got takes no lock. A permit takes a lock of
+ * its own for each of its jobs, and so does a round or job that has stages or jobs of an {@code ExecutorCompletionService}. A stage
+ * also takes the lock of one map. The queue of lines has no bound: if the writer is slower than the service for long, memory fills.
+ * All threads add to one queue, so the recorder may change the order in which they run. Each order that it causes can also happen
+ * without it.
  *
  * <p>The lines of one actor are in its own order (docs/RECORDING.md, "Order").
  *
@@ -147,13 +147,15 @@ public final class Recorder implements AutoCloseable {
 
     /**
      * Returns a semaphore whose permits are clients of the plan: {@code acquire} begins a round of this kind, and {@code release}
-     * ends it. The next submit of the thread that holds a permit belongs to the permit, as long as no other job of the permit is
-     * open. To the plan the permit gets its job when it is released, and a {@code get} of the job by a round is no action.
+     * ends it. The next submit of the thread that holds a permit belongs to the permit, unless another job of the permit is open. The
+     * get of that job is recorded at {@code release}, as the permit's. A get of it by a round is not recorded.
      *
-     * <p>The permit that a {@code release} gives back is that of the job that runs on the thread, and the job's last line comes
-     * before it; else that of the job that ran there last, as in {@code afterExecute}; else one that the thread acquired; else any
-     * whose jobs are done. A bulkhead with two open jobs at a time needs a {@link #round} inside in place of this: its second submit
-     * would be recorded as the thread's own.
+     * <p>{@code release} may run on any thread. It gives back the permit of the job that runs on the thread, and records the end of
+     * that job; otherwise that of the job that ran there last, as in {@code afterExecute}; otherwise one that the thread acquired;
+     * otherwise any whose jobs are done.
+     *
+     * <p>If a thread has two jobs open within one permit, the second submit is recorded as the thread's own. Begin a {@link #round}
+     * where it acquires such a permit, and use a plain semaphore.
      */
     public Semaphore permits(String kind, int permits) {
         return permits(kind, permits, false);
@@ -524,13 +526,15 @@ public final class Recorder implements AutoCloseable {
         if (permit == null) {
             permit = semaphore.choose(state.permits);
         }
-        if (permit == null) {
+        // another thread may give back the chosen permit at the same time; then this thread ends another one
+        while (permit == null || !semaphore.taken.remove(permit)) {
             permit = semaphore.choose(semaphore.taken);
+            if (permit == null) {
+                return;
+            }
         }
-        if (permit != null && semaphore.taken.remove(permit)) {
-            state.permits.remove(permit);
-            end(permit);
-        }
+        state.permits.remove(permit);
+        end(permit);
     }
 
     private static Actor permitOf(Job job, RecordedSemaphore semaphore) {

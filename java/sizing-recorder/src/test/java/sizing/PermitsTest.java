@@ -10,8 +10,10 @@ import static sizing.RecordingAssertions.thrownBy;
 import java.util.ArrayList;
 import java.util.List;
 import java.util.concurrent.ArrayBlockingQueue;
+import java.util.concurrent.BrokenBarrierException;
 import java.util.concurrent.CompletableFuture;
 import java.util.concurrent.CountDownLatch;
+import java.util.concurrent.CyclicBarrier;
 import java.util.concurrent.ExecutorCompletionService;
 import java.util.concurrent.ExecutorService;
 import java.util.concurrent.FutureTask;
@@ -292,6 +294,38 @@ class PermitsTest {
             }
         });
         assertLines(recording.acts(), "round 0 begin permit", "round 0 submit 0 send mail", "round 0 refused 0", "round 0 end");
+    }
+
+    @Test
+    void releasesAtTheSameTimeEndDifferentRounds() throws Exception {
+        int threads = 4;
+        int turns = 300;
+        Semaphore many = recording.recorder.permits("many", threads);
+        CyclicBarrier together = new CyclicBarrier(threads);
+        List<Thread> releasing = new ArrayList<>();
+        for (int number = 0; number < threads; number++) {
+            boolean acquires = number == 0;
+            releasing.add(new Thread(() -> {
+                try {
+                    for (int turn = 0; turn < turns; turn++) {
+                        if (acquires) {
+                            many.acquire(threads);
+                        }
+                        together.await();
+                        many.release();
+                    }
+                } catch (InterruptedException | BrokenBarrierException failed) {
+                    throw new AssertionError(failed);
+                }
+            }));
+        }
+        releasing.forEach(Thread::start);
+        for (Thread thread : releasing) {
+            thread.join();
+        }
+        List<String> acts = recording.acts();
+        assertEquals(threads * turns, acts.stream().filter(line -> line.endsWith(" begin many")).count());
+        assertEquals(threads * turns, acts.stream().filter(line -> line.endsWith(" end")).count());
     }
 
     @Test

@@ -186,10 +186,13 @@ final class BodyServices {
 
     static void retryBeforeTheFirstIsDone(ServiceRun run) throws Exception {
         ExecutorService pool = run.pool("p");
+        CountDownLatch started = new CountDownLatch(1);
         run.rounds("c", 1, 1, () -> {
             Future<?> first = pool.submit(label("a", () -> {
+                started.countDown();
                 run.awaitEnd();
             }));
+            run.await(started);
             try {
                 first.get(1, TimeUnit.MILLISECONDS);
             } catch (TimeoutException planned) {

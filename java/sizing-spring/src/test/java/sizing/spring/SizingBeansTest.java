@@ -6,6 +6,7 @@ import static org.junit.jupiter.api.Assertions.assertSame;
 import static org.junit.jupiter.api.Assertions.assertThrows;
 import static org.junit.jupiter.api.Assertions.assertTrue;
 
+import java.io.IOException;
 import java.nio.charset.StandardCharsets;
 import java.nio.file.Files;
 import java.nio.file.Path;
@@ -248,6 +249,56 @@ class SizingBeansTest {
         context.close();
         assertTrue(Files.readAllLines(recording).contains("round 0 submit 0 send mail"));
         executor.shutdown();
+    }
+
+    /** The recorder is a bean, too, as java/README.md has it. */
+    static class WithRecorder {
+        static final Path RECORDING = Path.of("target", "sizing", "bean.recording");
+
+        @Bean
+        static Recorder recorder() throws IOException {
+            Files.createDirectories(RECORDING.getParent());
+            return Recorder.toFile(RECORDING);
+        }
+
+        @Bean
+        static SizingBeans sizing(Recorder recorder) {
+            return new SizingBeans(ASYNC, recorder).pool("tasks", "applicationTaskExecutor");
+        }
+
+        @Bean
+        static AsyncAnnotationBeanPostProcessor async() {
+            return new AsyncAnnotationBeanPostProcessor();
+        }
+
+        @Bean
+        static AsyncLabels labels() {
+            return new AsyncLabels();
+        }
+
+        @Bean
+        ThreadPoolTaskExecutor applicationTaskExecutor() {
+            return tasks(8, 100);
+        }
+
+        @Bean
+        Profiles profiles() {
+            return new AsyncProfiles();
+        }
+    }
+
+    @Test
+    void theRecorderMayBeABean() throws Exception {
+        AnnotationConfigApplicationContext context = new AnnotationConfigApplicationContext(WithRecorder.class);
+        try (Recorder.Round round = context.getBean(Recorder.class).round("request")) {
+            assertEquals("profile 1", context.getBean(Profiles.class).profile(1).join());
+        }
+        context.close();
+        List<String> lines = Files.readAllLines(WithRecorder.RECORDING);
+        assertEquals("end", lines.get(lines.size() - 1));
+        assertEquals(List.of("round 0 begin request", "round 0 submit 0 profile tasks", "round 0 got 0", "round 0 end"),
+                lines.stream().filter(line -> line.startsWith("round 0 ")).toList());
+        assertConforms(ASYNC, WithRecorder.RECORDING);
     }
 
     @Test
