@@ -236,7 +236,7 @@ final class ClientServices {
 
     static void parallelStream(ServiceRun run) throws Exception {
         ExecutorService prices = run.pool("prices");
-        run.threads("request", 50, 2, () -> IntStream.range(0, 20).parallel()
+        run.threads("request", 50, 1, () -> IntStream.range(0, 8).parallel()
                 .forEach(order -> run.round(kindOfThread(), () -> await(prices.submit(task("price", 1))))));
     }
 
