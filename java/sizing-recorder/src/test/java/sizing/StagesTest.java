@@ -233,22 +233,20 @@ class StagesTest {
                 "job 1 start", "job 1 end", "job 0 got 1", "job 0 end", "round 0 got 0", "round 0 end");
     }
 
-    /** Waits until the threads of the pool have ended, since a thread that starts the next stage writes lines after its submit. */
-    private static void awaitEnd(ExecutorService pool) throws InterruptedException {
-        pool.shutdown();
-        assertTrue(pool.awaitTermination(60, TimeUnit.SECONDS));
-    }
-
     @Test
     void aChainThatIsLeftHasNoGetAndGoesOnInARoundOfItsOwn() throws Exception {
-        CountDownLatch ended = new CountDownLatch(1);
-        CompletableFuture<Integer> chain;
+        CountDownLatch left = new CountDownLatch(1);
+        CountDownLatch submitted = new CountDownLatch(1);
+        CompletableFuture<Void> chain;
         try (Recorder.Round round = recording.recorder.round("chain")) {
-            chain = CompletableFuture.runAsync(() -> await(ended), load).thenApplyAsync(x -> 2, render);
+            chain = CompletableFuture.runAsync(() -> await(left), load).thenRunAsync(() -> await(submitted), render);
         }
-        ended.countDown();
+        left.countDown();
+        // the thread of the first stage submits the second one and ends its round
+        io.shutdown();
+        assertTrue(io.awaitTermination(60, TimeUnit.SECONDS));
+        submitted.countDown();
         chain.join();
-        awaitEnd(io);
         assertLines(recording.acts().stream().filter(line -> line.startsWith("round ")).toList(), "round 0 begin chain",
                 "round 0 submit 0 load io", "round 0 end", "round 1 begin chain_after_end", "round 1 submit 1 render cpu", "round 1 end");
     }
