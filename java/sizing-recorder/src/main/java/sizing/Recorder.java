@@ -167,9 +167,9 @@ public final class Recorder implements AutoCloseable {
     }
 
     /**
-     * Returns the task, which takes the permit that is in use here along to the thread that runs it, such as a scheduler's: the
-     * permit of the job that runs or has just ended on this thread, else the latest that the thread acquired. When the task runs, the
-     * round of the permit ends and its next one begins, and the next submit belongs to it. Without a permit it is the task itself.
+     * Returns a task for another thread, such as a scheduler's, that continues with the permit in use here: that of the job that runs
+     * or has just ended on this thread, or otherwise the latest that the thread acquired. When the task runs, the permit's round ends
+     * and its next one begins, and the next submit of that thread belongs to it. If no permit is in use here, returns the task itself.
      *
      * <pre>{@code
      * CompletableFuture.supplyAsync(send, mails).whenComplete((receipt, failed) -> {
