@@ -206,6 +206,7 @@ final class Facts {
         CountDownLatch goOn = new CountDownLatch(1);
         CountDownLatch held = new CountDownLatch(1);
         CountDownLatch fails = new CountDownLatch(1);
+        CountDownLatch failing = new CountDownLatch(1);
         List<String> started = Collections.synchronizedList(new ArrayList<>());
         List<Thread> threads = Collections.synchronizedList(new ArrayList<>());
         Pool pool = new Pool(2, max, new LinkedBlockingQueue<>(9));
@@ -228,6 +229,7 @@ final class Facts {
         });
         pool.execute(() -> {
             hold(fails);
+            failing.countDown();
             fail();
         });
         Thread second = new Thread(() -> pool.execute(() -> hold(held)));
@@ -235,6 +237,7 @@ final class Facts {
         added.await();
         pool.execute(() -> started.add("queued"));
         fails.countDown();
+        failing.await();
         awaitWaiting(threads.get(0));
         Thread third = new Thread(() -> pool.execute(() -> {
             started.add("later");
