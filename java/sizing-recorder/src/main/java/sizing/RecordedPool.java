@@ -19,7 +19,7 @@ import java.util.function.UnaryOperator;
 
 /** A recorded executor. Its futures record how a get ends. */
 final class RecordedPool extends AbstractExecutorService {
-    private final Recorder recorder;
+    private final ActorLog log;
     private final Lines lines;
     private final Pool pool;
     /** The class of all jobs that are submitted here, or null. */
@@ -28,12 +28,12 @@ final class RecordedPool extends AbstractExecutorService {
     /** The same pool for {@code invokeAny}, whose futures have no lines. */
     private final boolean isForInvokeAny;
 
-    RecordedPool(Recorder recorder, Lines lines, Pool pool, String label, UnaryOperator<Runnable> decorator) {
-        this(recorder, lines, pool, label, decorator, false);
+    RecordedPool(ActorLog log, Lines lines, Pool pool, String label, UnaryOperator<Runnable> decorator) {
+        this(log, lines, pool, label, decorator, false);
     }
 
-    private RecordedPool(Recorder recorder, Lines lines, Pool pool, String label, UnaryOperator<Runnable> decorator, boolean isForInvokeAny) {
-        this.recorder = recorder;
+    private RecordedPool(ActorLog log, Lines lines, Pool pool, String label, UnaryOperator<Runnable> decorator, boolean isForInvokeAny) {
+        this.log = log;
         this.lines = lines;
         this.pool = pool;
         this.label = label;
@@ -42,7 +42,7 @@ final class RecordedPool extends AbstractExecutorService {
     }
 
     RecordedPool labelled(String other) {
-        return new RecordedPool(recorder, lines, pool, Objects.requireNonNull(other), decorator);
+        return new RecordedPool(log, lines, pool, Objects.requireNonNull(other), decorator);
     }
 
     ThreadPoolExecutor executor() {
@@ -54,14 +54,14 @@ final class RecordedPool extends AbstractExecutorService {
     @Override
     public void execute(Runnable task) {
         Job announced = takeAnnounced(task);
-        Stages.Stage stage = recorder.stages().of(task);
+        Stages.Stage stage = log.stages().of(task);
         if (announced != null) {
-            offer(announced, isForInvokeAny ? new RecordedCommand(recorder, announced, task) : task, false);
+            offer(announced, isForInvokeAny ? new RecordedCommand(log, announced, task) : task, false);
         } else if (stage != null) {
             offer(stage);
         } else {
             Job job = job(task);
-            offer(job, new RecordedCommand(recorder, job, task), false);
+            offer(job, new RecordedCommand(log, job, task), false);
         }
     }
 
@@ -69,28 +69,28 @@ final class RecordedPool extends AbstractExecutorService {
     @Override
     protected <T> RunnableFuture<T> newTaskFor(Callable<T> call) {
         Job job = job(call);
-        recorder.state().announced = job;
+        log.state().announced = job;
         if (isForInvokeAny) {
             return super.newTaskFor(call);
         }
         job.isGotWhenDone = true;
-        return new RecordedTask<>(recorder, lines, job, call);
+        return new RecordedTask<>(log, lines, job, call);
     }
 
     @Override
     protected <T> RunnableFuture<T> newTaskFor(Runnable task, T value) {
         Job job = job(task);
-        recorder.state().announced = job;
+        log.state().announced = job;
         if (isForInvokeAny) {
             return super.newTaskFor(task, value);
         }
         job.isGotWhenDone = true;
-        return new RecordedTask<>(recorder, lines, job, Executors.callable(task, value));
+        return new RecordedTask<>(log, lines, job, Executors.callable(task, value));
     }
 
     /** Returns the job of the future that this task runs, if {@code newTaskFor} made it on this thread, else null. */
     private Job takeAnnounced(Runnable task) {
-        ThreadState state = recorder.state();
+        ThreadState state = log.state();
         Job announced = state.announced;
         if (announced == null) {
             return null;
@@ -103,12 +103,12 @@ final class RecordedPool extends AbstractExecutorService {
 
     @Override
     public Future<?> submit(Runnable task) {
-        return submitted(new RecordedTask<Void>(recorder, lines, job(task), Executors.callable(task, null)));
+        return submitted(new RecordedTask<Void>(log, lines, job(task), Executors.callable(task, null)));
     }
 
     @Override
     public <T> Future<T> submit(Runnable task, T result) {
-        return submitted(new RecordedTask<>(recorder, lines, job(task), Executors.callable(task, result)));
+        return submitted(new RecordedTask<>(log, lines, job(task), Executors.callable(task, result)));
     }
 
     @Override
@@ -117,7 +117,7 @@ final class RecordedPool extends AbstractExecutorService {
     }
 
     private <T> RecordedTask<T> task(Callable<T> task) {
-        return new RecordedTask<>(recorder, lines, job(task), task);
+        return new RecordedTask<>(log, lines, job(task), task);
     }
 
     private Job job(Object task) {
@@ -132,7 +132,7 @@ final class RecordedPool extends AbstractExecutorService {
 
     private void offer(Job job, Runnable task, boolean isHeld) {
         Runnable decorated = decorate(job, task);
-        offer(job, decorated, recorder.submitter(), List.of(), isHeld);
+        offer(job, decorated, log.submitter(), List.of(), isHeld);
     }
 
     /** Offers a stage for the actor that built its chain. */
@@ -140,16 +140,16 @@ final class RecordedPool extends AbstractExecutorService {
         Job job = job(stage.function());
         job.isStage = true;
         job.isGotWhenDone = true;
-        recorder.stages().attach(stage, job);
-        Runnable decorated = decorate(job, new RecordedCommand(recorder, job, (Runnable) stage.completion()));
-        Actor permit = stage.isDependent() ? null : recorder.state().freePermit();
-        Job here = recorder.state().job;
+        log.stages().attach(stage, job);
+        Runnable decorated = decorate(job, new RecordedCommand(log, job, (Runnable) stage.completion()));
+        Actor permit = stage.isDependent() ? null : log.state().freePermit();
+        Job here = log.state().job;
         List<Job> sources = new ArrayList<>(stage.sources());
         if (permit == null && here != null && here.isStage && here.actor.ended && !sources.contains(here)) {
             // the thread completed a stage and now starts those that depend on it
             sources.add(here);
         }
-        Actor submitter = permit != null ? permit : sources.isEmpty() ? recorder.submitter() : sources.get(0).submitter;
+        Actor submitter = permit != null ? permit : sources.isEmpty() ? log.submitter() : sources.get(0).submitter;
         if (permit == null && sources.isEmpty()) {
             List<Job> finished = submitter.finishedUnclaimed();
             if (finished.size() == 1 && (stage.isDependent() || Stages.isInFunctionOfStage())) {
@@ -168,7 +168,7 @@ final class RecordedPool extends AbstractExecutorService {
     /** Offers a job to the executor. The line of the submit comes before that, and the line of a refusal before this returns. */
     private void offer(Job job, Runnable task, Actor submitter, List<Job> sources, boolean isHeld) {
         pool.recordChanges();
-        Actor actor = recorder.submit(submitter, sources, job);
+        Actor actor = log.submit(submitter, sources, job);
         if (isHeld) {
             actor.hold(job);
         }
@@ -180,9 +180,9 @@ final class RecordedPool extends AbstractExecutorService {
             offered = true;
         } finally {
             if (!offered && !job.refused) {
-                recorder.recordRefusal(job);
+                log.recordRefusal(job);
             }
-            recorder.endSubmit(actor, job);
+            log.endSubmit(actor, job);
         }
     }
 
@@ -260,7 +260,7 @@ final class RecordedPool extends AbstractExecutorService {
         if (isForInvokeAny) {
             return super.invokeAny(tasks);
         }
-        recorder.recordInvokeAny(pool);
+        log.recordInvokeAny(pool);
         return forInvokeAny().invokeAny(tasks);
     }
 
@@ -270,12 +270,12 @@ final class RecordedPool extends AbstractExecutorService {
         if (isForInvokeAny) {
             return super.invokeAny(tasks, timeout, unit);
         }
-        recorder.recordInvokeAny(pool);
+        log.recordInvokeAny(pool);
         return forInvokeAny().invokeAny(tasks, timeout, unit);
     }
 
     private RecordedPool forInvokeAny() {
-        return new RecordedPool(recorder, lines, pool, label, decorator, true);
+        return new RecordedPool(log, lines, pool, label, decorator, true);
     }
 
     // ---- shutdown

@@ -14,12 +14,12 @@ final class RecordedSemaphore extends Semaphore {
     private static final long serialVersionUID = 1;
     /** The permits that are not available. */
     final transient Set<Actor> taken = ConcurrentHashMap.newKeySet();
-    private final transient Recorder recorder;
+    private final transient ActorLog log;
     private final String kind;
 
-    RecordedSemaphore(Recorder recorder, String kind, int permits, boolean fair) {
+    RecordedSemaphore(ActorLog log, String kind, int permits, boolean fair) {
         super(permits, fair);
-        this.recorder = recorder;
+        this.log = log;
         this.kind = kind;
     }
 
@@ -45,7 +45,7 @@ final class RecordedSemaphore extends Semaphore {
 
     private boolean acquired(int permits) {
         for (int at = 0; at < permits; at++) {
-            recorder.acquire(Actor.permit(kind, this));
+            log.acquire(Actor.permit(kind, this));
         }
         return true;
     }
@@ -107,7 +107,7 @@ final class RecordedSemaphore extends Semaphore {
     @Override
     public void release(int permits) {
         for (int at = 0; at < permits; at++) {
-            recorder.release(this);
+            log.release(this);
         }
         super.release(permits);
     }

@@ -32,7 +32,7 @@ final class Stages {
     private static final String FUTURE = CompletableFuture.class.getName();
     private static final int MAX_FUTURES = 1000;
     private static final int MAX_FRAMES = 50;
-    private final Recorder recorder;
+    private final ActorLog log;
     private final AtomicBoolean warned = new AtomicBoolean();
     /** The job that completes each future, also through stages that run in no pool. */
     private final Map<CompletableFuture<?>, Job> jobs = Collections.synchronizedMap(new WeakHashMap<>());
@@ -48,8 +48,8 @@ final class Stages {
      */
     record Stage(Object completion, Object function, CompletableFuture<?> future, List<Job> sources, boolean isDependent) {}
 
-    Stages(Recorder recorder) {
-        this.recorder = recorder;
+    Stages(ActorLog log) {
+        this.log = log;
     }
 
     /** Returns the stage that this task is, or null if it is none or its fields are not readable. */
@@ -87,7 +87,7 @@ final class Stages {
     /** Makes the stage record the end of this job before its future is done. */
     void attach(Stage stage, Job job) {
         jobs.put(stage.future, job);
-        JdkFields.set(stage.completion, "fn", around(stage.function, () -> recorder.endStage(job, stage)));
+        JdkFields.set(stage.completion, "fn", around(stage.function, () -> log.endStage(job, stage)));
     }
 
     /** Returns whether this thread runs a function of a stage whose source was done when the stage was built, as in thenCompose. */

@@ -115,20 +115,6 @@ final class BodyServices {
         });
     }
 
-    /** The report gets its sections in the order in which they are done. */
-    static void reportInAnotherOrder(ServiceRun run) throws Exception {
-        ExecutorService reports = run.pool("reports");
-        run.rounds("user", 1, 1, () -> reports.submit(label("report", () -> {
-            CountDownLatch other = new CountDownLatch(1);
-            Future<?> slow = reports.submit(label("section", () -> {
-                run.await(other);
-            }));
-            reports.submit(task("section", 1)).get();
-            other.countDown();
-            return slow.get();
-        })).get());
-    }
-
     static void exception(ServiceRun run) throws Exception {
         ExecutorService pool = run.pool("p");
         run.rounds("c", 1, 50, () -> {
@@ -188,10 +174,7 @@ final class BodyServices {
         ExecutorService pool = run.pool("p");
         CountDownLatch started = new CountDownLatch(1);
         run.rounds("c", 1, 1, () -> {
-            Future<?> first = pool.submit(label("a", () -> {
-                started.countDown();
-                run.awaitEnd();
-            }));
+            Future<?> first = pool.submit(label("a", run.untilEnd(started)));
             run.await(started);
             try {
                 first.get(1, TimeUnit.MILLISECONDS);

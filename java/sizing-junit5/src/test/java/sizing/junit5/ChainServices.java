@@ -9,6 +9,7 @@ import java.util.concurrent.CompletableFuture;
 import java.util.concurrent.CompletionException;
 import java.util.concurrent.CountDownLatch;
 import java.util.concurrent.ExecutorService;
+import java.util.concurrent.Semaphore;
 import java.util.concurrent.TimeUnit;
 import java.util.concurrent.TimeoutException;
 
@@ -23,6 +24,16 @@ final class ChainServices {
 
         CompletableFuture<Integer> start() {
             return CompletableFuture.supplyAsync(() -> work(1), load).thenApplyAsync(loaded -> work(loaded + 1), render);
+        }
+
+        CompletableFuture<Integer> startWith(Semaphore permits) throws InterruptedException {
+            permits.acquire();
+            try {
+                return start().whenComplete((page, failed) -> permits.release());
+            } catch (RuntimeException | Error refused) {
+                permits.release();
+                throw refused;
+            }
         }
     }
 
@@ -69,17 +80,6 @@ final class ChainServices {
         run.rounds("chain", 4, 1, () -> CompletableFuture.runAsync(run::awaitEnd, chain.load).thenApplyAsync(x -> work(1), chain.render));
     }
 
-    static void chainWithTimeout(ServiceRun run) throws Exception {
-        Chain chain = Chain.of(run);
-        run.rounds("chain", 1, 1, () -> {
-            try {
-                CompletableFuture.runAsync(run::awaitEnd, chain.load).orTimeout(1, TimeUnit.MILLISECONDS).join();
-            } catch (CompletionException planned) {
-                work(1);
-            }
-        });
-    }
-
     static void chainWithAStageBeside(ServiceRun run) throws Exception {
         Chain chain = Chain.of(run);
         run.rounds("chain", 1, 1, () -> {
@@ -94,10 +94,7 @@ final class ChainServices {
         Chain chain = Chain.of(run);
         CountDownLatch started = new CountDownLatch(1);
         run.rounds("chain", 1, 1, () -> {
-            CompletableFuture<Integer> loaded = CompletableFuture.supplyAsync(() -> {
-                started.countDown();
-                return run.valueAtEnd();
-            }, chain.load);
+            CompletableFuture<Void> loaded = CompletableFuture.runAsync(run.untilEnd(started), chain.load);
             run.await(started);
             try {
                 end.of(loaded);
@@ -109,11 +106,15 @@ final class ChainServices {
 
     /** How the caller stops waiting. */
     private interface ChainEnd {
-        void of(CompletableFuture<Integer> future) throws Exception;
+        void of(CompletableFuture<Void> future) throws Exception;
+    }
+
+    static void chainWithTimeout(ServiceRun run) throws Exception {
+        chainLeftBy(run, future -> future.orTimeout(1, TimeUnit.MILLISECONDS).join());
     }
 
     static void chainCompletedOnTimeout(ServiceRun run) throws Exception {
-        chainLeftBy(run, future -> future.completeOnTimeout(0, 1, TimeUnit.MILLISECONDS).join());
+        chainLeftBy(run, future -> future.completeOnTimeout(null, 1, TimeUnit.MILLISECONDS).join());
     }
 
     static void chainCancelled(ServiceRun run) throws Exception {
@@ -127,12 +128,14 @@ final class ChainServices {
         chainLeftBy(run, future -> future.get(1, TimeUnit.MILLISECONDS));
     }
 
+    /** Each of the two chains is a client of its own, for which it has a permit. */
     static void chainsSideBySide(ServiceRun run) throws Exception {
         Chain chain = Chain.of(run);
-        run.rounds("chain", 1, 1, () -> {
-            CompletableFuture<Integer> one = CompletableFuture.supplyAsync(() -> work(1), chain.load);
-            CompletableFuture<Integer> other = CompletableFuture.supplyAsync(() -> work(2), chain.load);
-            one.thenCombine(other, Integer::sum).join();
+        Semaphore chains = run.permits("chain", 40);
+        run.threads("request", 20, 5, () -> {
+            CompletableFuture<?> one = chain.startWith(chains);
+            CompletableFuture<?> other = chain.startWith(chains);
+            CompletableFuture.allOf(one, other).join();
         });
     }
 

@@ -57,12 +57,13 @@ final class PermitMisuses {
 
     static void releaseAfterATimeoutOfTheStage(ServiceRun run) throws Exception {
         Mails mails = Mails.of(run);
+        CountDownLatch started = new CountDownLatch(1);
         run.threads("client", 1, 1, () -> {
             mails.permits().acquire();
-            CompletableFuture<Void> sent = CompletableFuture.runAsync(run::awaitEnd, label("send", mails.pool()))
-                    .orTimeout(1, TimeUnit.MILLISECONDS).whenComplete((none, failed) -> mails.permits().release());
+            CompletableFuture<Void> sent = CompletableFuture.runAsync(run.untilEnd(started), label("send", mails.pool()));
+            run.await(started);
             try {
-                sent.join();
+                sent.orTimeout(1, TimeUnit.MILLISECONDS).whenComplete((none, failed) -> mails.permits().release()).join();
             } catch (CompletionException planned) {
                 work(1);
             }
@@ -142,10 +143,12 @@ final class PermitMisuses {
     /** The future that is returned has a stage that gives the permit back: a cancel does so while the job runs. */
     static void stageOfACancelledFuture(ServiceRun run) throws Exception {
         Mails mails = Mails.of(run);
+        CountDownLatch started = new CountDownLatch(1);
         run.threads("client", 1, 1, () -> {
             mails.permits().acquire();
-            CompletableFuture<Void> sent = CompletableFuture.runAsync(run::awaitEnd, label("send", mails.pool()));
+            CompletableFuture<Void> sent = CompletableFuture.runAsync(run.untilEnd(started), label("send", mails.pool()));
             sent.whenComplete((none, failed) -> mails.permits().release());
+            run.await(started);
             sent.cancel(true);
         });
     }

@@ -109,6 +109,14 @@ final class ServiceRun {
         }
     }
 
+    /** Returns a task that opens the latch as soon as it runs, and ends with the run. */
+    Runnable untilEnd(CountDownLatch started) {
+        return () -> {
+            started.countDown();
+            awaitEnd();
+        };
+    }
+
     /** Waits until the run ends and returns a value. */
     int valueAtEnd() {
         awaitEnd();

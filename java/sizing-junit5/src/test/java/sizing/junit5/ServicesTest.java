@@ -1,6 +1,7 @@
 package sizing.junit5;
 
 import static org.junit.jupiter.api.Assertions.assertEquals;
+import static org.junit.jupiter.api.Assertions.assertFalse;
 import static org.junit.jupiter.api.Assertions.assertTrue;
 import static org.junit.jupiter.api.Assumptions.assumeTrue;
 
@@ -10,8 +11,13 @@ import java.nio.file.Files;
 import java.nio.file.Path;
 import java.util.List;
 import java.util.Map;
+import java.util.Set;
+import java.util.TreeSet;
 import java.util.concurrent.ConcurrentHashMap;
+import java.util.regex.Matcher;
+import java.util.regex.Pattern;
 import java.util.stream.Stream;
+import org.junit.jupiter.api.Test;
 import org.junit.jupiter.api.Timeout;
 import org.junit.jupiter.params.ParameterizedTest;
 import org.junit.jupiter.params.provider.MethodSource;
@@ -41,6 +47,10 @@ class ServicesTest {
      * @param reported a part of the line that reports the service, or null if its recording conforms
      */
     private record Case(String name, String plan, Service service, String reported) {
+        Case(String name, String plan, Service service) {
+            this(name, plan, service, null);
+        }
+
         @Override
         public String toString() {
             return name + " (" + plan + ")";
@@ -50,129 +60,176 @@ class ServicesTest {
     static Stream<Case> rightUses() {
         return Stream.of(
                 // pools
-                new Case("spring_defaults", "spring-defaults", PoolServices::springDefaults, null),
-                new Case("fixed_thread_pool", "fixed-thread-pool", PoolServices::fixedThreadPool, null),
-                new Case("cached_pool_replaced", "cached-pool-replaced", PoolServices::cachedPoolReplaced, null),
-                new Case("async_joined", "async-joined", PoolServices::asyncJoined, null),
-                new Case("async_combined", "async-joined", PoolServices::asyncCombined, null),
-                new Case("concurrency_limit", "virtual-threads", PoolServices::concurrencyLimit, null),
-                new Case("caller_runs", "two-clients-queue-of-two", PoolServices::callerRuns, null),
-                new Case("thread_pool_bulkhead", "thread-pool-bulkhead", PoolServices::threadPoolBulkhead, null),
-                new Case("connection_pool", "web-and-database-sized", PoolServices::connectionPool, null),
-                new Case("nested_connections", "nested-connections", PoolServices::nestedConnections, null),
+                new Case("spring_defaults", "spring-defaults", PoolServices::springDefaults),
+                new Case("fixed_thread_pool", "fixed-thread-pool", PoolServices::fixedThreadPool),
+                new Case("cached_pool_replaced", "cached-pool-replaced", PoolServices::cachedPoolReplaced),
+                new Case("async_joined", "async-joined", PoolServices::asyncJoined),
+                new Case("async_combined", "async-joined", PoolServices::asyncCombined),
+                new Case("concurrency_limit", "virtual-threads", PoolServices::concurrencyLimit),
+                new Case("caller_runs", "two-clients-queue-of-two", PoolServices::callerRuns),
+                new Case("thread_pool_bulkhead", "thread-pool-bulkhead", PoolServices::threadPoolBulkhead),
+                new Case("connection_pool", "web-and-database-sized", PoolServices::connectionPool),
+                new Case("nested_connections", "nested-connections", PoolServices::nestedConnections),
                 // clients
-                new Case("tomcat", "thirty-endpoints", ClientServices::tomcat, null),
-                new Case("scheduled", "scheduled", ClientServices::scheduled, null),
-                new Case("nightly", "nightly", ClientServices::nightly, null),
-                new Case("import_window", "import-window", ClientServices::importWindow, null),
-                new Case("import_window_released_by_jobs", "import-window", ClientServices::importWindowReleasedByJobs, null),
-                new Case("import_window_of_futures", "import-window", ClientServices::importWindowOfFutures, null),
-                new Case("flat_map", "import-window", PermitServices::flatMap, null),
-                new Case("virtual_threads", "virtual-threads", ClientServices::virtualThreads, null),
-                new Case("parallel_stream", "parallel-stream", ClientServices::parallelStream, null),
-                new Case("kafka_consumers", "kafka-consumers", ClientServices::kafkaConsumers, null),
-                new Case("grpc_server", "virtual-threads", ClientServices::grpcServer, null),
-                new Case("event_loop", "permits", PermitServices::eventLoop, null),
+                new Case("tomcat", "thirty-endpoints", ClientServices::tomcat),
+                new Case("scheduled", "scheduled", ClientServices::scheduled),
+                new Case("nightly", "nightly", ClientServices::nightly),
+                new Case("import_window", "import-window", ClientServices::importWindow),
+                new Case("import_window_released_by_jobs", "import-window", ClientServices::importWindowReleasedByJobs),
+                new Case("import_window_of_futures", "import-window", ClientServices::importWindowOfFutures),
+                new Case("flat_map", "import-window", PermitServices::flatMap),
+                new Case("virtual_threads", "virtual-threads", ClientServices::virtualThreads),
+                new Case("parallel_stream", "parallel-stream", ClientServices::parallelStream),
+                new Case("kafka_consumers", "kafka-consumers", ClientServices::kafkaConsumers),
+                new Case("grpc_server", "virtual-threads", ClientServices::grpcServer),
+                new Case("event_loop", "permits", PermitServices::eventLoop),
                 // bodies
-                new Case("endpoints", "thirty-endpoints", BodyServices::endpoints, null),
-                new Case("optional_calls", "optional-calls", BodyServices::optionalCalls, null),
-                new Case("report_up_to_eight", "report-up-to-eight", BodyServices::reportUpToEight, null),
-                new Case("exception", "fan-out-of-two", BodyServices::exception, null),
-                new Case("retries", "three-tries", BodyServices::retries, null),
-                new Case("retries_by_a_scheduler", "permits", PermitServices::retriesByAScheduler, null),
-                new Case("invoke_all", "invoke-all", BodyServices::invokeAll, null),
-                new Case("chain", "future-chain", ChainServices::chain, null),
-                new Case("chain_with_stages_in_no_pool", "future-chain", ChainServices::chainWithStagesInNoPool, null),
-                new Case("chain_that_fails", "future-chain", ChainServices::chainThatFails, null),
-                new Case("chain_composed", "future-chain", ChainServices::chainComposed, null),
+                new Case("endpoints", "thirty-endpoints", BodyServices::endpoints),
+                new Case("optional_calls", "optional-calls", BodyServices::optionalCalls),
+                new Case("report_up_to_eight", "report-up-to-eight", BodyServices::reportUpToEight),
+                new Case("exception", "fan-out-of-two", BodyServices::exception),
+                new Case("retries", "three-tries", BodyServices::retries),
+                new Case("retries_by_a_scheduler", "permits", PermitServices::retriesByAScheduler),
+                new Case("invoke_all", "invoke-all", BodyServices::invokeAll),
+                new Case("chain", "future-chain", ChainServices::chain),
+                new Case("chain_with_stages_in_no_pool", "future-chain", ChainServices::chainWithStagesInNoPool),
+                new Case("chain_that_fails", "future-chain", ChainServices::chainThatFails),
+                new Case("chain_composed", "future-chain", ChainServices::chainComposed),
+                new Case("chains_side_by_side", "future-chain", ChainServices::chainsSideBySide),
                 // permits
-                new Case("fire_and_forget", "permits", PermitServices::fireAndForget, null),
-                new Case("timed_gets_and_cancels", "permits", PermitServices::timedGetsAndCancels, null),
-                new Case("permits_in_decorator", "permits", PermitServices::permitsInDecorator, null),
-                new Case("permits_in_after_execute", "permits", PermitServices::permitsInAfterExecute, null),
-                new Case("permits_of_who_takes", "permits", PermitServices::permitsOfWhoTakes, null),
-                new Case("permitted_executor", "permits", PermitServices::permittedExecutor, null),
-                new Case("bulkhead", "permits", PermitServices::bulkhead, null),
-                new Case("bulkhead_around_join", "permits", PermitServices::bulkheadAroundJoin, null),
-                new Case("permits_beside_requests", "permits-beside-requests", PermitServices::permitsBesideRequests, null),
-                new Case("permits_taken_by_jobs", "permits-taken-by-jobs", PermitServices::permitsTakenByJobs, null),
-                new Case("chain_with_a_permit", "future-chain", PermitServices::chainWithAPermit, null),
-                new Case("one_burst", "one-burst", PermitServices::oneBurst, null));
+                new Case("fire_and_forget", "permits", PermitServices::fireAndForget),
+                new Case("timed_gets_and_cancels", "permits", PermitServices::timedGetsAndCancels),
+                new Case("permits_in_decorator", "permits", PermitServices::permitsInDecorator),
+                new Case("permits_in_after_execute", "permits", PermitServices::permitsInAfterExecute),
+                new Case("permits_of_who_takes", "permits", PermitServices::permitsOfWhoTakes),
+                new Case("permitted_executor", "permits", PermitServices::permittedExecutor),
+                new Case("bulkhead", "permits", PermitServices::bulkhead),
+                new Case("bulkhead_around_join", "permits", PermitServices::bulkheadAroundJoin),
+                new Case("permits_beside_requests", "permits-beside-requests", PermitServices::permitsBesideRequests),
+                new Case("permits_taken_by_jobs", "permits-taken-by-jobs", PermitServices::permitsTakenByJobs),
+                new Case("chain_with_a_permit", "future-chain", PermitServices::chainWithAPermit),
+                new Case("one_burst", "one-burst", PermitServices::oneBurst));
     }
 
     static Stream<Case> otherUses() {
         return Stream.of(
                 // pools
-                new Case("spring_defaults_unbounded", "spring-defaults", PoolServices::springDefaultsUnbounded, "pool tasks: queue 1000000000, plan 200"),
-                new Case("fixed_thread_pool_without_get", "fixed-thread-pool", PoolServices::fixedThreadPoolWithoutGet, "round 0 of kind request ended; " + NO_GET),
-                new Case("cached_pool", "cached-pool-replaced", PoolServices::cachedPool, "pool pages: queue of another kind (synchronous)"),
-                new Case("synchronous_queue", "virtual-threads", PoolServices::synchronousQueue, "pool render: queue of another kind (synchronous)"),
+                new Case("spring_defaults_unbounded", "spring-defaults", PoolServices::springDefaultsUnbounded,
+                        "pool tasks: queue 1000000000, plan 200"),
+                new Case("fixed_thread_pool_without_get", "fixed-thread-pool", PoolServices::fixedThreadPoolWithoutGet,
+                        "round 0 of kind request ended; " + NO_GET),
+                new Case("cached_pool", "cached-pool-replaced", PoolServices::cachedPool,
+                        "pool pages: queue of another kind (synchronous)"),
+                new Case("synchronous_queue", "virtual-threads", PoolServices::synchronousQueue,
+                        "pool render: queue of another kind (synchronous)"),
                 new Case("core_zero", "virtual-threads", PoolServices::coreZero, "pool render: core 0, plan 8"),
                 new Case("async_void", "async-joined", PoolServices::asyncVoid, "round 0 of kind request ended; " + NO_GET),
                 new Case("async_dropped", "async-joined", PoolServices::asyncDropped, "round 0 of kind request ended; " + NO_GET),
-                new Case("async_with_any_of", "async-joined", PoolServices::asyncWithAnyOf, "round 0 of kind request ended; " + NO_GET),
-                new Case("async_join_that_throws", "async-joined", PoolServices::asyncJoinThatThrows, "round 0 of kind request ended; " + NO_GET),
-                new Case("async_with_core_timeout", "async-joined", PoolServices::asyncWithCoreTimeout, "pool tasks: core threads may time out"),
-                new Case("async_with_another_user", "async-joined", PoolServices::asyncWithAnotherUser, "kind mvc: not in the plan"),
-                new Case("no_concurrency_limit", "virtual-threads", PoolServices::noConcurrencyLimit, "kind permit: 65 at once, count is 64"),
+                new Case("async_with_any_of", "async-joined", PoolServices::asyncWithAnyOf,
+                        "round 0 of kind request ended; " + NO_GET),
+                new Case("async_join_that_throws", "async-joined", PoolServices::asyncJoinThatThrows,
+                        "round 0 of kind request ended; " + NO_GET),
+                new Case("async_with_core_timeout", "async-joined", PoolServices::asyncWithCoreTimeout,
+                        "pool tasks: core threads may time out"),
+                new Case("async_with_another_user", "async-joined", PoolServices::asyncWithAnotherUser,
+                        "kind mvc: not in the plan"),
+                new Case("no_concurrency_limit", "virtual-threads", PoolServices::noConcurrencyLimit,
+                        "kind permit: 65 at once, count is 64"),
                 new Case("caller_runs_called", "two-clients-queue-of-two", PoolServices::callerRunsCalled, "was refused"),
                 new Case("refused", "two-clients-queue-of-two", PoolServices::refused, "was refused"),
-                new Case("thread_pool_bulkhead_with_time_limiter", "thread-pool-bulkhead", PoolServices::threadPoolBulkheadWithTimeLimiter, "round 0 of kind request ended; " + NO_GET),
-                new Case("thread_pool_bulkhead_without_join", "thread-pool-bulkhead", PoolServices::threadPoolBulkheadWithoutJoin, "round 0 of kind request ended; " + NO_GET),
+                new Case("thread_pool_bulkhead_with_time_limiter", "thread-pool-bulkhead", PoolServices::threadPoolBulkheadWithTimeLimiter,
+                        "round 0 of kind request ended; " + NO_GET),
+                new Case("thread_pool_bulkhead_without_join", "thread-pool-bulkhead", PoolServices::threadPoolBulkheadWithoutJoin,
+                        "round 0 of kind request ended; " + NO_GET),
                 // clients
-                new Case("tomcat_deferred_result", "thirty-endpoints", ClientServices::tomcatDeferredResult, "of kind request ended; " + NO_GET),
-                new Case("scheduled_that_overlaps", "scheduled", ClientServices::scheduledThatOverlaps, "kind cleanup: 2 at once, count is 1"),
-                new Case("scheduled_without_get", "scheduled", ClientServices::scheduledWithoutGet, "round 0 of kind cleanup ended; " + NO_GET),
-                new Case("nightly_that_overlaps", "nightly", ClientServices::nightlyThatOverlaps, "kind nightly: 2 at once, count is 1"),
-                new Case("import_window_with_timed_poll", "import-window", ClientServices::importWindowWithTimedPoll, "round 0 of kind place ended; " + NO_GET),
-                new Case("import_all_at_once", "import-window", ClientServices::importAllAtOnce, "round 0 of kind place submitted row; " + NO_SUBMIT),
-                new Case("import_that_overlaps", "import-window", ClientServices::importThatOverlaps, "kind place: 33 at once, count is 32"),
+                new Case("tomcat_deferred_result", "thirty-endpoints", ClientServices::tomcatDeferredResult,
+                        "of kind request ended; " + NO_GET),
+                new Case("scheduled_that_overlaps", "scheduled", ClientServices::scheduledThatOverlaps,
+                        "kind cleanup: 2 at once, count is 1"),
+                new Case("scheduled_without_get", "scheduled", ClientServices::scheduledWithoutGet,
+                        "round 0 of kind cleanup ended; " + NO_GET),
+                new Case("nightly_that_overlaps", "nightly", ClientServices::nightlyThatOverlaps,
+                        "kind nightly: 2 at once, count is 1"),
+                new Case("import_window_with_timed_poll", "import-window", ClientServices::importWindowWithTimedPoll,
+                        "round 0 of kind place ended; " + NO_GET),
+                new Case("import_all_at_once", "import-window", ClientServices::importAllAtOnce,
+                        "round 0 of kind place submitted row; " + NO_SUBMIT),
+                new Case("import_that_overlaps", "import-window", ClientServices::importThatOverlaps,
+                        "kind place: 33 at once, count is 32"),
                 new Case("cancelled_place", "import-window", PermitMisuses::cancelledPlace, "job 0 was cancelled"),
-                new Case("virtual_threads_timed", "virtual-threads", ClientServices::virtualThreadsTimed, "round 0 of kind permit ended; " + NO_GET),
-                new Case("parallel_stream_with_join", "parallel-stream", ClientServices::parallelStreamWithJoin, "kind worker: 8 at once, count is 7"),
-                new Case("kafka_listener_that_returns", "kafka-consumers", ClientServices::kafkaListenerThatReturns, "round 0 of kind consumer ended; " + NO_GET),
-                new Case("kafka_batch_listener", "kafka-consumers", ClientServices::kafkaBatchListener, "round 0 of kind consumer submitted reserve; " + NO_SUBMIT),
-                new Case("kafka_retry_topic", "kafka-consumers", ClientServices::kafkaRetryTopic, "kind retry_consumer: not in the plan"),
-                new Case("kafka_container_that_overlaps", "kafka-consumers", ClientServices::kafkaContainerThatOverlaps, "kind consumer: 7 at once, count is 6"),
-                new Case("grpc_handler_that_returns", "virtual-threads", ClientServices::grpcHandlerThatReturns, "round 0 of kind permit ended; " + NO_GET),
+                new Case("virtual_threads_timed", "virtual-threads", ClientServices::virtualThreadsTimed,
+                        "round 0 of kind permit ended; " + NO_GET),
+                new Case("parallel_stream_with_join", "parallel-stream", ClientServices::parallelStreamWithJoin,
+                        "kind worker: 8 at once, count is 7"),
+                new Case("kafka_listener_that_returns", "kafka-consumers", ClientServices::kafkaListenerThatReturns,
+                        "round 0 of kind consumer ended; " + NO_GET),
+                new Case("kafka_batch_listener", "kafka-consumers", ClientServices::kafkaBatchListener,
+                        "round 0 of kind consumer submitted reserve; " + NO_SUBMIT),
+                new Case("kafka_retry_topic", "kafka-consumers", ClientServices::kafkaRetryTopic,
+                        "kind retry_consumer: not in the plan"),
+                new Case("kafka_container_that_overlaps", "kafka-consumers", ClientServices::kafkaContainerThatOverlaps,
+                        "kind consumer: 7 at once, count is 6"),
+                new Case("grpc_handler_that_returns", "virtual-threads", ClientServices::grpcHandlerThatReturns,
+                        "round 0 of kind permit ended; " + NO_GET),
                 new Case("event_loop_that_waits", "permits", PermitMisuses::eventLoopThatWaits, "kind event_loop: not in the plan"),
                 // bodies
-                new Case("endpoints_in_another_order", "thirty-endpoints", BodyServices::endpointsInAnotherOrder, "round 0 of kind request submitted query_01; " + NO_SUBMIT),
-                new Case("endpoints_with_two_open_jobs", "thirty-endpoints", BodyServices::endpointsWithTwoOpenJobs, "round 0 of kind request submitted query_02; " + NO_SUBMIT),
-                new Case("return_before_the_get", "optional-calls", BodyServices::returnBeforeTheGet, "round 0 of kind request ended; " + NO_GET),
-                new Case("get_that_is_skipped", "optional-calls", BodyServices::getThatIsSkipped, "round 0 of kind request submitted tax; " + NO_SUBMIT),
-                new Case("report_of_nine", "report-up-to-eight", BodyServices::reportOfNine, "job 0 of class report submitted section; " + NO_SUBMIT),
-                new Case("report_in_another_order", "report-up-to-eight", BodyServices::reportInAnotherOrder, "job 0 of class report got section; its body has no such get"),
-                new Case("report_with_an_open_section", "report-up-to-eight", BodyServices::reportWithAnOpenSection, "job 0 of class report ended; " + NO_GET),
-                new Case("exception_with_an_open_future", "fan-out-of-two", BodyServices::exceptionWithAnOpenFuture, "round 0 of kind c ended; " + NO_GET),
+                new Case("endpoints_in_another_order", "thirty-endpoints", BodyServices::endpointsInAnotherOrder,
+                        "round 0 of kind request submitted query_01; " + NO_SUBMIT),
+                new Case("endpoints_with_two_open_jobs", "thirty-endpoints", BodyServices::endpointsWithTwoOpenJobs,
+                        "round 0 of kind request submitted query_02; " + NO_SUBMIT),
+                new Case("return_before_the_get", "optional-calls", BodyServices::returnBeforeTheGet,
+                        "round 0 of kind request ended; " + NO_GET),
+                new Case("get_that_is_skipped", "optional-calls", BodyServices::getThatIsSkipped,
+                        "round 0 of kind request submitted tax; " + NO_SUBMIT),
+                new Case("report_of_nine", "report-up-to-eight", BodyServices::reportOfNine,
+                        "job 0 of class report submitted section; " + NO_SUBMIT),
+                new Case("report_with_an_open_section", "report-up-to-eight", BodyServices::reportWithAnOpenSection,
+                        "job 0 of class report ended; " + NO_GET),
+                new Case("exception_with_an_open_future", "fan-out-of-two", BodyServices::exceptionWithAnOpenFuture,
+                        "round 0 of kind c ended; " + NO_GET),
                 new Case("interrupted_get", "fan-out-of-two", BodyServices::interruptedGet, "round 0 of kind c ended; " + NO_GET),
-                new Case("retry_before_the_first_is_done", "three-tries", BodyServices::retryBeforeTheFirstIsDone, "round 0 of kind c submitted a; " + NO_SUBMIT),
-                new Case("retry_without_its_permit", "permits", PermitMisuses::retryWithoutItsPermit, "kind pool_thread: not in the plan"),
+                new Case("retry_before_the_first_is_done", "three-tries", BodyServices::retryBeforeTheFirstIsDone,
+                        "round 0 of kind c submitted a; " + NO_SUBMIT),
+                new Case("retry_without_its_permit", "permits", PermitMisuses::retryWithoutItsPermit,
+                        "kind pool_thread: not in the plan"),
                 new Case("invoke_all_with_timeout", "invoke-all", BodyServices::invokeAllWithTimeout, "job 0 was cancelled"),
                 new Case("invoke_all_interrupted", "invoke-all", BodyServices::invokeAllInterrupted, "job 0 was cancelled"),
                 new Case("invoke_any", "invoke-all", BodyServices::invokeAny, "invokeAny was called"),
                 new Case("chain_that_is_left", "future-chain", ChainServices::chainThatIsLeft, "of kind chain ended; " + NO_GET),
-                new Case("chain_with_timeout", "future-chain", ChainServices::chainWithTimeout, "round 0 of kind chain ended; " + NO_GET),
-                new Case("chain_completed_on_timeout", "future-chain", ChainServices::chainCompletedOnTimeout, "round 0 of kind chain ended; " + NO_GET),
-                new Case("chain_cancelled", "future-chain", ChainServices::chainCancelled, "round 0 of kind chain ended; " + NO_GET),
-                new Case("chain_with_timed_get", "future-chain", ChainServices::chainWithTimedGet, "round 0 of kind chain ended; " + NO_GET),
+                new Case("chain_with_timeout", "future-chain", ChainServices::chainWithTimeout,
+                        "round 0 of kind chain ended; " + NO_GET),
+                new Case("chain_completed_on_timeout", "future-chain", ChainServices::chainCompletedOnTimeout,
+                        "round 0 of kind chain ended; " + NO_GET),
+                new Case("chain_cancelled", "future-chain", ChainServices::chainCancelled,
+                        "round 0 of kind chain ended; " + NO_GET),
+                new Case("chain_with_timed_get", "future-chain", ChainServices::chainWithTimedGet,
+                        "round 0 of kind chain ended; " + NO_GET),
                 new Case("chain_with_a_stage_beside", "future-chain", ChainServices::chainWithAStageBeside, "kind chain"),
-                new Case("chain_with_a_submit_in_no_pool", "future-chain", ChainServices::chainWithASubmitInNoPool, "kind pool_thread: not in the plan"),
-                new Case("chains_side_by_side", "future-chain", ChainServices::chainsSideBySide, "round 0 of kind chain submitted load; " + NO_SUBMIT),
-                new Case("composed_stage_that_is_dropped", "future-chain", ChainServices::composedStageThatIsDropped, "round 0 of kind chain ended; " + NO_GET),
+                new Case("chain_with_a_submit_in_no_pool", "future-chain", ChainServices::chainWithASubmitInNoPool,
+                        "kind pool_thread: not in the plan"),
+                new Case("composed_stage_that_is_dropped", "future-chain", ChainServices::composedStageThatIsDropped,
+                        "round 0 of kind chain ended; " + NO_GET),
                 // permits
                 new Case("timed_bulkhead", "permits", PermitMisuses::timedBulkhead, "round 0 of kind permit ended; " + NO_GET),
-                new Case("interrupt_in_a_bulkhead", "permits", PermitMisuses::interruptInABulkhead, "round 0 of kind permit ended; " + NO_GET),
+                new Case("interrupt_in_a_bulkhead", "permits", PermitMisuses::interruptInABulkhead,
+                        "round 0 of kind permit ended; " + NO_GET),
                 new Case("release_in_done", "permits", PermitMisuses::releaseInDone, "round 0 of kind permit ended; " + NO_GET),
-                new Case("stage_of_a_cancelled_future", "permits", PermitMisuses::stageOfACancelledFuture, "round 0 of kind permit ended; " + NO_GET),
-                new Case("release_after_a_timeout_of_the_stage", "permits", PermitMisuses::releaseAfterATimeoutOfTheStage, "round 0 of kind permit ended; " + NO_GET),
-                new Case("release_before_the_last_get", "permits-taken-by-jobs", PermitMisuses::releaseBeforeTheLastGet, "kind pool_thread: not in the plan"),
-                new Case("release_without_acquire", "permits", PermitMisuses::releaseWithoutAcquire, "kind permit: 21 at once, count is 20"),
+                new Case("stage_of_a_cancelled_future", "permits", PermitMisuses::stageOfACancelledFuture,
+                        "round 0 of kind permit ended; " + NO_GET),
+                new Case("release_after_a_timeout_of_the_stage", "permits", PermitMisuses::releaseAfterATimeoutOfTheStage,
+                        "round 0 of kind permit ended; " + NO_GET),
+                new Case("release_before_the_last_get", "permits-taken-by-jobs", PermitMisuses::releaseBeforeTheLastGet,
+                        "kind pool_thread: not in the plan"),
+                new Case("release_without_acquire", "permits", PermitMisuses::releaseWithoutAcquire,
+                        "kind permit: 21 at once, count is 20"),
                 new Case("submit_without_a_permit", "permits", PermitMisuses::submitWithoutAPermit, "kind client: not in the plan"),
-                new Case("submit_after_the_release", "permits", PermitMisuses::submitAfterTheRelease, "kind pool_thread: not in the plan"),
-                new Case("get_in_a_job_of_a_job_with_a_permit", "permits-taken-by-jobs", PermitMisuses::getInAJobOfAJobWithAPermit, "job 0 of class page got job 1, which it did not submit"),
+                new Case("submit_after_the_release", "permits", PermitMisuses::submitAfterTheRelease,
+                        "kind pool_thread: not in the plan"),
+                new Case("get_in_a_job_of_a_job_with_a_permit", "permits-taken-by-jobs", PermitMisuses::getInAJobOfAJobWithAPermit,
+                        "job 0 of class page got job 1, which it did not submit"),
                 new Case("cancel_of_the_queued_task", "permits", PermitMisuses::cancelOfTheQueuedTask, "job 0 was cancelled"),
-                new Case("cancel_of_a_job_that_gets", "cached-pool-replaced", PermitMisuses::cancelOfAJobThatGets, "job 0 of class page ended; " + NO_GET));
+                new Case("cancel_of_a_job_that_gets", "cached-pool-replaced", PermitMisuses::cancelOfAJobThatGets,
+                        "job 0 of class page ended; " + NO_GET));
     }
 
     private static Path recordingOf(Case one) throws Exception {
@@ -209,6 +266,29 @@ class ServicesTest {
         } finally {
             Files.delete(output);
         }
+    }
+
+    /** The pages name each plan in backquotes. A plan is safe if `check` accepts its certificate. */
+    @Test
+    void everySafePlanOfThePagesHasAService() throws IOException {
+        Set<String> plans = new TreeSet<>();
+        for (String page : List.of("PATTERNS.md", "PERMITS.md")) {
+            Matcher names = Pattern.compile("`([a-z][a-z0-9-]*)`").matcher(Files.readString(ROOT.resolve("docs").resolve(page)));
+            while (names.find()) {
+                if (isSafe(names.group(1))) {
+                    plans.add(names.group(1));
+                }
+            }
+        }
+        assertFalse(plans.isEmpty());
+        rightUses().forEach(one -> plans.remove(one.plan));
+        assertEquals(Set.of(), plans);
+    }
+
+    /** Returns whether the exit status in the stored answer of `check` is 0. */
+    private static boolean isSafe(String plan) throws IOException {
+        Path answer = ROOT.resolve("examples").resolve(plan + ".check");
+        return Files.exists(answer) && Files.readString(answer).endsWith("\nstatus 0\n");
     }
 
     @ParameterizedTest
