@@ -2,27 +2,31 @@
 """Shows that the laws refuse bugs that are consistent with all lower crates.
 
 Each file headline/*.bug changes, for one bug, a definition, the code, and the lemmas about them, so that all of them agree on the
-bug. In a copy of the repository with these changes, the lower crates must still be proved, and a law of a higher crate must be
-refused. README.md describes the form of such a file.
+bug. In a copy of the crates with these changes, the lower crates must still be proved, and a law of a higher crate must be refused.
+README.md describes the form of such a file.
 
-The arguments name the bugs to try. Without arguments all bugs are tried. Prove the crates of the repository first, so that their
-libraries are available.
+The arguments name the bugs to try. Without arguments all bugs are tried. First the crates are proved without a bug, as far as
+earlier checks have not; each bug starts from the stored results.
 
-Exit status: 0 if each bug is refused by its law, 1 if one is accepted or is refused elsewhere, 2 if a text to replace does not
-occur exactly once, or a bug does not exist.
+The last line is 'N refused by their laws, M not'. Exit status: 0 if each bug is refused by its law, 1 if one is accepted or is
+refused elsewhere, or the crates are not proved, 2 if a text to replace does not occur exactly once, or a bug does not exist.
 """
 
+import resource
 import shutil
 import subprocess
 import sys
 import tempfile
 import textwrap
-import time
 from pathlib import Path
 
 HERE = Path(__file__).resolve().parent
 TOP = HERE.parent
 BUGS = HERE / "headline"
+sys.dont_write_bytecode = True
+sys.path.insert(0, str(TOP / "tools"))
+from crates import below, copy_crates, lines_of_crates
+
 # The prover's messages about a goal that is not proved, as opposed to a text that it cannot parse.
 UNPROVED = ("the goal does not follow", "it is not proved that")
 ERROR = ": error: "
@@ -63,41 +67,19 @@ class Bug:
         self.texts[file] = text.replace(old, new)
 
 
-def with_those_below(crates):
-    """Returns the crates and all crates of this repository that they depend on, directly or indirectly."""
-    below = {}
-    for line in (TOP / "crates.txt").read_text().splitlines():
-        if line and not line.startswith("#"):
-            name, _, others = line.partition(":")
-            below[name.split()[0]] = others.split()
-    found, still = set(), list(crates)
-    while still:
-        crate = still.pop()
-        if crate in below and crate not in found:
-            found.add(crate)
-            still += below[crate]
-    return found
-
-
 def copy(bug, folder):
-    """Copies the repository with the changed texts, and with the stored proofs of the crates that are checked."""
-    checked = with_those_below([*bug.proves, bug.refuses])
-
-    def left_out(inside, names):
-        here = Path(inside)
-        if here == TOP:
-            return {".git"} & set(names)
-        if here.parent == TOP / "crates" and here.name not in checked:
-            return {"out"} & set(names)
-        return set()
-
-    shutil.copytree(TOP, folder, ignore=left_out, symlinks=True)
+    """Copies the crates that are checked, with the changed texts and the results of earlier checks."""
+    lines = lines_of_crates()
+    names = below(lines, [*bug.proves, bug.refuses])
+    copy_crates(lines, names, folder)
+    for name in names:
+        shutil.copytree(TOP / "crates" / name / "out", folder / "crates" / name / "out", symlinks=True)
     for file, text in bug.texts.items():
         (folder / file).write_text(text)
 
 
 def check(folder, crate):
-    """Checks a crate of the copy. Returns whether it is proved, and the lines that the prover prints."""
+    """Checks a crate. Returns whether it is proved, and the lines that the prover prints."""
     done = subprocess.run(["rt", "check"], cwd=folder / "crates" / crate, stdin=subprocess.DEVNULL,
                           stdout=subprocess.PIPE, stderr=subprocess.STDOUT, text=True)
     return done.returncode == 0, done.stdout.splitlines()
@@ -132,6 +114,22 @@ def attempt(bug, folder):
     return True, f"refused by {bug.refuses}, since {bug.law} is not proved", why
 
 
+def processor_seconds():
+    """Returns the processor time so far of all processes that this one waited for."""
+    used = resource.getrusage(resource.RUSAGE_CHILDREN)
+    return used.ru_utime + used.ru_stime
+
+
+def proved_without_bugs(crates):
+    """Returns whether the crates are proved as they are. Prints what is not."""
+    for crate in crates:
+        proved, said = check(TOP, crate)
+        if not proved:
+            print(f"{crate} is not proved, so its bugs show nothing: {first_refusal(said)}")
+            return False
+    return True
+
+
 def main():
     names = sys.argv[1:] or sorted(path.stem for path in BUGS.glob("*.bug"))
     try:
@@ -139,13 +137,15 @@ def main():
     except (LookupError, FileNotFoundError) as fault:
         print(fault, file=sys.stderr)
         return 2
+    if not proved_without_bugs(sorted({bug.refuses for bug in bugs})):
+        return 1
     refused = 0
     for bug in bugs:
-        began = time.monotonic()
+        began = processor_seconds()
         with tempfile.TemporaryDirectory(prefix="headline_refuses.") as folder:
-            right, told, why = attempt(bug, Path(folder) / "copy")
+            right, told, why = attempt(bug, Path(folder))
         refused += right
-        print(f"{bug.name}: {told} ({time.monotonic() - began:.0f} s)\n    {why}", flush=True)
+        print(f"{bug.name}: {told} ({processor_seconds() - began:.0f} s of processor time)\n    {why}", flush=True)
     print(f"{refused} refused by their laws, {len(bugs) - refused} not")
     return 0 if refused == len(bugs) else 1
 

@@ -2,6 +2,9 @@
 
 A mutant changes one crate. Whether the prover refuses the mutant depends on the sources, definitions, proofs and mutants of that
 crate, on the definitions and public contracts of all its dependencies, and on the toolchain. Comments and layout do not count.
+
+The mutants of the headline (checks/headline) are listed like those of a crate. Each of them changes several crates, so their checksum
+covers the sources, definitions and proofs of all crates that have to be proved again.
 """
 import hashlib
 import os
@@ -15,14 +18,20 @@ LOCK = "mutants.lock"
 HEAD = """\
 # The mutants that the prover refused, by crate. `make mutants` writes this file; docs/GATE.md says how it is used.
 # CRATE: CHECKSUM of what their results depend on, and how many were refused; or untried, if they were not tried yet.
+# headline: the same for the mutants in checks/headline.
 """
 LINE = re.compile(r"(\w+): (?:([0-9a-f]{16}) (\d+)|untried)")
 # The folders of a crate's mutants: those that only `make mutants` tries, and those that a plain `rt ci` tries, too.
 FOLDERS = ("mutants", "must-fail")
+# The name under which the mutants of the headline are listed, their folder and the crate whose laws refuse them.
+HEADLINE, BUGS, THEOREMS = "headline", f"{ROOT}/checks/headline", "soundness"
+CHANGED = re.compile(r"(?m)^file: crates/(\w+)/")
 
 
 def mutants_of(crate):
-    """Returns the paths of a crate's mutants, by name."""
+    """Returns the paths of a crate's mutants or of those of the headline, by name."""
+    if crate == HEADLINE:
+        return {name: f"{BUGS}/{name}" for name in sorted(os.listdir(BUGS)) if name.endswith(".bug")}
     found = {}
     for folder in FOLDERS:
         path = f"{ROOT}/crates/{crate}/{folder}"
@@ -32,6 +41,19 @@ def mutants_of(crate):
                     raise SystemExit(f"crates/{crate}: {name} is both in {FOLDERS[0]}/ and in {FOLDERS[1]}/: rename one")
                 found[name] = f"{path}/{name}"
     return found
+
+
+def crates_of(mutants):
+    """Returns the crates that are proved again with the mutants of a crate or of the headline, in order."""
+    if mutants != HEADLINE:
+        return [mutants]
+    changed = set()
+    for path in mutants_of(HEADLINE).values():
+        with open(path, encoding="utf-8") as file:
+            changed |= set(CHANGED.findall(file.read()))
+    lines = lines_of_crates()
+    between = below(lines, [THEOREMS])
+    return [crate for crate in lines if crate in between and below(lines, [crate]) & changed]
 
 
 def kit():
@@ -55,15 +77,17 @@ class Sums:
             self.interfaces[crate] = sum.hexdigest()
         return self.interfaces[crate]
 
-    def of(self, crate):
-        """Returns the checksum of a crate's mutants."""
-        sum = hashlib.sha256(repr((self.kit, self.lines[crate])).encode())
-        for path, text in texts_below(crate, ("specs", "src", "proofs")):
-            sum.update(repr((path, code_of(text, path))).encode())
-        for name, path in sorted(mutants_of(crate).items()):
+    def of(self, mutants):
+        """Returns the checksum of the mutants of a crate or of the headline."""
+        crates = crates_of(mutants)
+        sum = hashlib.sha256(repr((self.kit, *(self.lines[crate] for crate in crates))).encode())
+        for crate in crates:
+            for path, text in texts_below(crate, ("specs", "src", "proofs")):
+                sum.update(repr((path, code_of(text, path))).encode())
+        for name, path in sorted(mutants_of(mutants).items()):
             with open(path, encoding="utf-8") as file:
                 sum.update(repr((name, file.read())).encode())
-        for lower in sorted(below(self.lines, [crate]) - {crate}):
+        for lower in sorted(below(self.lines, crates) - set(crates)):
             sum.update(repr((lower, self.interface(lower))).encode())
         return sum.hexdigest()[:16]
 
@@ -90,10 +114,10 @@ def lock_text():
 
 
 def write_lock(entries):
-    """Writes the lock file, with the crates in the order of crates.txt."""
+    """Writes the lock file, with the crates in the order of crates.txt, and then the headline."""
     with open(f"{ROOT}/{LOCK}.new", "w", encoding="utf-8") as file:
         file.write(HEAD)
-        for crate in lines_of_crates():
+        for crate in [*lines_of_crates(), HEADLINE]:
             if crate in entries:
                 entry = entries[crate]
                 file.write(f"{crate}: {entry[0]} {entry[1]}\n" if entry else f"{crate}: untried\n")
