@@ -2,8 +2,8 @@
 """Shows that tests find bugs that no contract refuses.
 
 Each file bugs/*.edit changes a function body so that it is wrong but still satisfies its contract, and names the crate whose tests
-must find this bug. The check tries each bug in a copy of the repository, with `rt try --test`, which proves nothing. A test that
-also fails in an unchanged copy, for example because a loaded machine exceeds the test's time limit, does not count.
+must find this bug. The check tries each bug in a copy of the repository, with tools/tried.py --test, which proves nothing. A test
+that also fails in an unchanged copy, for example because a loaded machine exceeds the test's time limit, does not count.
 
 The arguments name the bugs to try. Without arguments all bugs are tried.
 
@@ -61,8 +61,8 @@ def tested(crate, texts):
         shutil.copytree(TOP, top, ignore=shutil.ignore_patterns(".git", "out"), symlinks=True)
         for file, text in texts.items():
             (top / file).write_text(text)
-        done = subprocess.run(["rt", "try", "--test"], cwd=top / "crates" / crate, stdin=subprocess.DEVNULL,
-                              stdout=subprocess.PIPE, stderr=subprocess.STDOUT, text=True)
+        done = subprocess.run([sys.executable, TOP / "tools" / "tried.py", "--test"], cwd=top / "crates" / crate,
+                              stdin=subprocess.DEVNULL, stdout=subprocess.PIPE, stderr=subprocess.STDOUT, text=True)
     said = done.stdout.splitlines()
     return set(PASSED.findall(done.stdout)), set(FAILED.findall(done.stdout)), said[-1] if said else "there is no output"
 
