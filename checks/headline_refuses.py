@@ -78,9 +78,10 @@ def copy(bug, folder):
         (folder / file).write_text(text)
 
 
-def check(folder, crate):
-    """Checks a crate. Returns whether it is proved, and the lines that the prover prints."""
-    done = subprocess.run(["rt", "check"], cwd=folder / "crates" / crate, stdin=subprocess.DEVNULL,
+def check(folder, crate, command="check"):
+    """Checks a crate, or proves and builds its library if the command is `lib`. Returns whether the crate is proved, and the lines that
+    the prover prints."""
+    done = subprocess.run(["rt", command], cwd=folder / "crates" / crate, stdin=subprocess.DEVNULL,
                           stdout=subprocess.PIPE, stderr=subprocess.STDOUT, text=True)
     return done.returncode == 0, done.stdout.splitlines()
 
@@ -100,7 +101,8 @@ def attempt(bug, folder):
     """Tries a bug. Returns whether its law refuses it, the result in words, and the prover's line."""
     copy(bug, folder)
     for crate in bug.proves:
-        proved, said = check(folder, crate)
+        # the check of the crate above needs the library anyway
+        proved, said = check(folder, crate, "lib")
         if not proved:
             return False, f"refused by the lower crate {crate}", first_refusal(said)
     proved, said = check(folder, bug.refuses)
