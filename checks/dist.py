@@ -264,7 +264,7 @@ def versions(cases, room):
     if (ROOT / "java/pom.xml").is_file():
         cases.equal("the version in java/pom.xml", java_version(ROOT / "java"), VERSION)
     (room / "tools").mkdir()
-    for path in ("tools/version", "tools/crates.py"):
+    for path in ("tools/version", "tools/changes.py", "tools/crates.py"):
         shutil.copy(ROOT / path, room / path)
     must(["git", "init", "-q", "."], room)
     history = [("0.1.0", 0, "a first commit", 0), ("0.1.0", 5, "the same version", 1), ("0.2.0", 10, "another version", 0),
