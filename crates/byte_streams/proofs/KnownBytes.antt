@@ -7,8 +7,8 @@ use Rattle.std.specs.Io.KnownBytes.{Consumes, Appends, Keeps}
 use Rattle.std.proofs.KnownBytes.{Consumes-trans, Appends-trans, Appends-kept}
 use Rattle.byte_streams.specs.Writing.{AppendsFront}
 
--- if the first `filled` bytes of the buffer came from the source, and one more read put `count` bytes after them, then all these came from
--- it
+-- if the first `filled` bytes of the buffer came from the source, and one more read put `count` bytes after them, the first `filled` +
+-- `count` bytes of the buffer came from the source
 pub Consumes-filled : (a b c : Option (List ℕ)) (xs ys : List ℕ) (filled count : ℕ) → take filled ys ≡ take filled xs
     → Consumes a b (take filled xs) → Consumes b c (take count (drop filled ys)) → Consumes a c (take (filled + count) ys)
 Consumes-filled a b c xs ys filled count front before read =
@@ -20,14 +20,14 @@ Consumes-filled a b c xs ys filled count front before read =
 abbrev pub Written : Option (List ℕ) → Option (List ℕ) → List ℕ → List ℕ → Type 0
 Written old new all rest = (done : List ℕ) × (all ≡ done ++ rest) × Appends old new done
 
--- after one more write, of the first `count` bytes of the rest, the other bytes of the rest remain to be written
+-- after the first `count` bytes of `rest` were written, the other bytes of `rest` remain to be written
 pub Written-more : (a b c : Option (List ℕ)) (all rest : List ℕ) (count : ℕ) → Written a b all rest → Appends b c (take count rest)
     → Written a c all (take (length rest - count) (drop count rest))
 Written-more a b c all rest count (done, split, before) write =
     let moved = split ∙ ap (λ l. done ++ l) (sym (take-append-drop count rest)) ∙ sym (append_assoc done (take count rest) (drop count rest)) in
     (done ++ take count rest, moved ∙ ap (λ l. (done ++ take count rest) ++ l) (sym (take_rest rest count)), Appends-trans a b c _ _ before write)
 
--- if a write fails before all bytes are written, the sink got a proper prefix of them
+-- if a write fails before all bytes are written, the sink got a proper prefix of these bytes
 pub Written-front : (a b c : Option (List ℕ)) (all rest : List ℕ) → Written a b all rest → 0 < length rest → Keeps b c → AppendsFront a c all
 Written-front a b c all rest (done, split, before) some kept =
     let front : take (length done) all ≡ done = ap (take (length done)) split ∙ take-append_seam done rest in

@@ -1,10 +1,10 @@
--- What reading an input up to a limit takes from a source.
+-- The bytes that reading an input up to a limit takes from a source.
 use Rattle.std.specs.Prelude.{ℕ, ◌≤◌, List, length, codes, Option, Result, Ok, Err}
 use Rattle.std.specs.Io.KnownBytes.{Consumes}
 use Rattle.byte_streams.specs.declared.reading.InputError.{InputError}
 use Rattle.byte_streams.specs.declared.reading.InputError.TheVariants.{Memory, Fault}
 
--- the source loses a prefix of at most `limit` of its remaining bytes, if these are known
+-- if the remaining bytes of the source are known, the source loses a prefix of them, of at most `limit` bytes
 abbrev pub ConsumesAtMost : Option (List ℕ) → Option (List ℕ) → ℕ → Type 0
 ConsumesAtMost old new limit = (front : List ℕ) × Consumes old new front × (length front ≤ limit)
 

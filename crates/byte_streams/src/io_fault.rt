@@ -4,7 +4,7 @@ ghost use Rattle.std.specs.Prelude.{Some, codes};
 use std::error::Error;
 use std::fmt;
 
-/// A failed read of a source or write of a sink. It has no reason.
+/// The failure of a read from a source or a write to a sink. It does not store the reason.
 #[derive(Clone, Copy, Debug, PartialEq, Eq)]
 pub struct IoFault;
 

@@ -1,7 +1,8 @@
 //! Sources and sinks of bytes that count their failed calls.
 //!
-//! `read_up_to` reads a whole input up to a limit, and `write_all` writes a whole answer. Both
-//! accept any [`Source`] or [`Sink`]: every std reader and writer, and bytes in memory for tests.
+//! `read_up_to` reads a whole input from any [`Source`], up to a limit, and `write_all` writes a
+//! whole answer to any [`Sink`]. There are sources and sinks for every std reader and writer, and,
+//! for tests, for bytes in memory.
 #![tactic(auto)]
 
 mod failures;

@@ -21,8 +21,8 @@ pub struct MemorySource<'a> {
 impl<'a> MemorySource<'a> {
     ghost use Rattle.byte_streams.specs.MemorySource.{left, max_bytes_of, calls_before_fault, failure_count};
 
-    /// Creates a source of `bytes` whose calls never fail. Each call returns as many bytes as its
-    /// piece has room for.
+    /// Creates a source of `bytes` whose calls never fail. Each call returns as many bytes as fit
+    /// into the slice that it fills.
     pub fn new(bytes: &'a [u8]) -> MemorySource<'a>
         ensures left { left result ≡ bytes.now }
         ensures max_bytes { max_bytes_of result ≡ 2 ^ 64 - 1 }

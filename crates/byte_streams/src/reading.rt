@@ -67,13 +67,13 @@ impl From<IoFault> for InputError {
 /// The initial size of the buffer for an input, in bytes.
 const INITIAL_SIZE: usize = 4096;
 
-/// The most bytes by which the buffer grows in one step. New space is filled with zeros, so this
-/// limit keeps a long input from needing much more memory than its own size.
+/// The maximum number of bytes by which the buffer grows in one step. New space is filled with
+/// zeros, so this limit keeps a long input from needing much more memory than its own size.
 const MAX_GROWTH: usize = 65_536;
 
 /// Reads to the end of the input, or until `limit` bytes were read.
 ///
-/// Each iteration except the last reads at least one byte.
+/// Each iteration except the last reads at least one byte, so the loop ends.
 ///
 /// # Errors
 ///

@@ -23,7 +23,7 @@ impl ScriptedFault {
         }
     }
 
-    /// Returns whether this call is to fail. At most one call is: none after it fails.
+    /// Counts this call and returns whether it is to fail. Returns `true` at most once.
     pub(crate) fn is_due(&mut self) -> bool
         ensures due { IsTrue result ↔ (self.old.calls_before ≡ Some 0) }
         ensures left { self.new.calls_before ≡ calls_after self.old.calls_before }

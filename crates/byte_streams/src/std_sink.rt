@@ -29,7 +29,7 @@ impl<W: Write> StdSink<W> {
         }
     }
 
-    /// Returns the writer in its current state. The caller must flush a buffered writer.
+    /// Returns the writer. It is not flushed: if it has a buffer, the caller must flush it.
     pub fn into_inner(self) -> W
         ensures { result ≡ writer_of self }
     {
@@ -45,7 +45,8 @@ impl<W: Write> Sink for StdSink<W> {
     ghost failures = { failure_count };
 
     /// Writes to the writer once, with up to a million tries if signals interrupt the call. Any
-    /// other error is a fault. A writer that accepts no byte of a nonempty slice is a fault too.
+    /// other error is a fault. It is also a fault if the writer accepts no byte of a nonempty
+    /// slice.
     fn write(&mut self, bytes: &[u8]) -> Result<usize, IoFault> {
         let outcome = write_retrying(&mut self.writer, bytes);
         if outcome.is_err() {

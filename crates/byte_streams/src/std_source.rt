@@ -32,7 +32,7 @@ impl<R: Read> StdSource<R> {
         }
     }
 
-    /// Returns the reader in its current state.
+    /// Returns the reader, as it is after the reads so far.
     pub fn into_inner(self) -> R
         ensures { result ≡ reader_of self }
     {
