@@ -15,18 +15,18 @@ replay_append next s [] later = refl
 replay_append next None (e ∷ events) later = sym (replay_none next later)
 replay_append next (Some s) (e ∷ events) later = replay_append next (next s e) events later
 
--- the replay of a history with one more event is the step of that event from the state after the history
+-- the replay of a history followed by an event is the step of that event from the state after the history
 pub replay_snoc : {I E : Type 0} (next : I → E → Option I) (first i : I) (events : List E) (e : E) → Leads next first events i → replay next (Some first) (events ++ e ∷ []) ≡ next i e
 replay_snoc next first i events e leads = rw (replay_append next (Some first) events (e ∷ []), leads) refl
 
--- after an event was performed, the new stored state is that of the history with the event
+-- after an event was performed, the new stored state is a replay of the history followed by the event
 pub grown : {I E S : Type 0} (next : I → E → Option I) (first : I) (stored_state : I → S) (events : List E) (e : E) (before after : S) (done : Bool) → done ≡ true
     → IsReplayOf next first stored_state events before → Steps next first stored_state before e done after → IsReplayOf next first stored_state (events ++ e ∷ []) after
 grown next first stored_state events e before after done is held made =
     let answer = subst (λ d. Answers next stored_state held.0 e d after) is (made held.0 (events, held.1) held.2) in
     (answer.0, rw (replay_snoc next first held.0 events e held.1) answer.1, answer.2)
 
--- after an event was performed, the new stored state is that of every specification state to which the longer history leads
+-- after an event was performed, the new stored state is the one for each specification state to which the longer history leads
 pub settled : {I E S : Type 0} (next : I → E → Option I) (first : I) (stored_state : I → S) (events : List E) (e : E) (before after : S) (done : Bool) (i : I) → done ≡ true
     → IsReplayOf next first stored_state events before → Steps next first stored_state before e done after → Leads next first (events ++ e ∷ []) i → after ≡ stored_state i
 settled next first stored_state events e before after done i is held made leads =

@@ -10,7 +10,8 @@ IsReached {I} next first stored_state s = (i : I) × Reaches next first i × (st
 abbrev pub IsReplayOf : {I E S : Type 0} → (I → E → Option I) → I → (I → S) → List E → S → Type 0
 IsReplayOf {I} next first stored_state events s = (i : I) × Leads next first events i × (stored_state i ≡ s)
 
--- true: the event is possible in state i, and `after` is the stored state for the state after it; false: the event is not possible
+-- for true, the event is possible in state i, and `after` is the stored state for the state after the event; for false, the event is not
+-- possible in state i
 abbrev pub Answers : {I E S : Type 0} → (I → E → Option I) → (I → S) → I → E → Bool → S → Type 0
 Answers {I} next stored_state i event true after = (j : I) × (next i event ≡ Some j) × (stored_state j ≡ after)
 Answers next stored_state i event false after = next i event ≡ None

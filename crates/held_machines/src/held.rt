@@ -17,9 +17,10 @@ pub struct Receipt<E> {
     pub event: E,
 }
 
-/// A machine with its state and its history, the list of the events that it performed.
+/// A machine with its state and its history. The history is the list of the events that the machine
+/// performed.
 ///
-/// The state is always the one to which the events of the history lead from the initial state.
+/// The events of the history always lead from the initial state to the current state.
 #[derive(Drop)]
 pub struct Held<M: Machine + Drop> {
     machine: M,
@@ -85,8 +86,8 @@ impl<M: Machine + Drop> Held<M> {
         self.history
     }
 
-    /// Performs the event if it is possible, and returns a receipt for it, or `None` if it is not
-    /// possible.
+    /// Performs the event if it is possible and returns a receipt for it. Returns `None` if the
+    /// event is not possible.
     ///
     /// # Errors
     ///

@@ -18,8 +18,8 @@ pub trait Machine {
     /// The type of the events.
     type Event: Copy;
 
-    // The type of the specification states, the initial one, and the state after an event, or
-    // `None` if the event is not possible.
+    // The type of the specification states; the initial state (`first`); and the state after an
+    // event (`next`), which is `None` if the event is not possible.
     ghost SpecState: { Type 0 };
 
     ghost first: { Self → SpecState };
