@@ -22,7 +22,7 @@ use Rattle.plan_text.specs.Bodies.{class_named, action_of, action_at, action_amo
 use Rattle.plan_text.proofs.ReadActions.{read_spelled}
 use Rattle.plan_text.proofs.FilledSlots.{HasParsedAction, fills}
 
--- ---- the action of a parsed action
+-- ---- the action for a parsed action
 abbrev IsOf : ℕ → (List ℕ → Option ℕ) → ParsedAction → Action → Type 0
 IsOf classes slots (work units) action = Work units ≡ action
 IsOf classes slots (submit class) action = (k : ℕ) × (Submit k ≡ action) × (nat_lt k classes ≡ true)
@@ -55,7 +55,7 @@ is_of classes slots fault (get slot) action e =
     let found = bind_ok (ok_or (slots slot) _) _ _ e in
     (found.0, action_is _ _ found.2, some_ok (slots slot) _ found.0 found.1)
 
--- the action at position i, with the parsed action of the text there
+-- the text at position i parses, and `action` is the action for its parsed action
 record Comes (classes : ℕ) (texts : List (List ℕ)) (i : ℕ) (action : Action) : Type 0 where
   within : i < length texts
   parsed_action : ParsedAction
@@ -86,7 +86,7 @@ same_parsed_action texts i a b p q =
     let same : p.text ≡ q.text = cc in
     parsed_action_is (parse_action p.text) (parse_action q.text) a b p.gives q.gives (ap parse_action same)
 
--- an element of the first i elements of a list is before index i, and is the list's element at its index
+-- if an element is at index j of the first i elements of a list, j is below i, and the element is at index j of the list
 taken : {X : Type 0} (xs : List X) (i j : ℕ) (x : X) → slice_get (take i xs) j ≡ Some x → (j < i) × (slice_get xs j ≡ Some x)
 taken [] zero j x e = absurd cc
 taken [] (suc i) j x e = absurd cc
@@ -102,13 +102,13 @@ there_is [] i within = absurd (omega arith)
 there_is (x ∷ xs) zero within = (x, refl)
 there_is (x ∷ xs) (suc i) within = there_is xs i (omega arith)
 
--- the action of a submit that fills a slot is a submit
+-- the action for a parsed submit that fills a slot is a submit
 comes_submit : (classes : ℕ) (slots : List ℕ → Option ℕ) (parsed_action : ParsedAction) (class slot : List ℕ) (action : Action) → parsed_action ≡ submit_as class slot → IsOf classes slots parsed_action action → (k : ℕ) × (Submit k ≡ action)
 comes_submit classes slots parsed_action class slot action same is =
     let at = subst (λ (o : ParsedAction). IsOf classes slots o action) same is in
     (at.0, at.1)
 
--- the action of this parsed action is not a get of t, unless the parsed action is a get of a slot that t filled
+-- the action for the parsed action is not a get of t, unless the parsed action is a get of a slot that the submit at t filled
 abbrev GetsNot : ℕ → (List ℕ → Option ℕ) → ParsedAction → ℕ → Action → Type 0
 GetsNot classes slots parsed_action t action = IsOf classes slots parsed_action action → ((slot : List ℕ) → parsed_action ≡ get slot → slots slot ≡ Some t → ⊥) → gets t action ≡ false
 
@@ -173,7 +173,7 @@ action_passes classes part index body i (Work u) h = test_passes _ _ h
 action_passes classes part index body i (Submit k) h = test_passes _ _ h
 action_passes classes part index body i (Get t) h = test_passes _ _ h
 
--- a parsed body passes the check of a body, at any entry
+-- a parsed body passes the check of a body, whichever entry has it
 pub body_passes : (classes : List (List ℕ)) (part : Part) (index : ℕ) (texts : List (List ℕ)) (body : List Action) → body_of classes part index texts ≡ Ok body
     → (n : ℕ) (at : Part) (place : ℕ) → n ≡ length classes → check_body n at place body ≡ Ok tt
 body_passes classes part index texts body e n at place same =

@@ -1,4 +1,4 @@
--- Proofs that a filled slot was filled by a submit with that slot, and that no get between has emptied it.
+-- Proofs that a filled slot was filled by a submit with that slot, and that no later get has emptied it.
 use Rattle.std.proofs.Common.{◌≡◌, ℕ, zero, suc, ◌<◌, ◌≤◌, List, [], ◌∷◌, length, take, slice_get, Option, None, Some, refl, sym, ap, subst, ◌∙◌, arith, add-one, inl, inr, ◌⊎◌}
 use Rattle.std.specs.Str.{bytes_eq}
 use Rattle.std.proofs.lemmas.Bool.{cases_Bool, cases_lt}
@@ -20,7 +20,7 @@ pub record Fills (texts : List (List ℕ)) (i : ℕ) (slot : List ℕ) (t : ℕ)
   pub submitted : HasParsedAction texts t (submit_as class slot)
   pub since : (j : ℕ) → t < j → j < i → HasParsedAction texts j (get slot) → ⊥
 
--- the action at position i filled the slot, or the slot was filled before and this action is no get of it
+-- the action at position i filled the slot, or the slot was filled before and this action is not a get of the slot
 abbrev FilledHere : List ℕ → ℕ → Option ℕ → Option ParsedAction → ℕ → Type 0
 FilledHere slot i before parsed_action t =
     ((t ≡ i) × (class : List ℕ) × (parsed_action ≡ Some (submit_as class slot))) ⊎ ((before ≡ Some t) × (parsed_action ≡ Some (get slot) → ⊥))

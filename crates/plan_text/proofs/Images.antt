@@ -24,7 +24,7 @@ take_past (y ∷ ys) (suc i) past = ap (λ (zs : List _). y ∷ zs) (take_past y
 pub image_whole : {V Y : Type 0} (view : V → Y) (values : List V) (ys : List Y) (i : ℕ) → length ys ≤ i → map view values ≡ take i ys → map view values ≡ ys
 image_whole view values ys i past prior = prior ∙ take_past ys i past
 
--- an element of an enumerated list is the list's element at that index, with its index
+-- the element of an enumerated list at an index is the list's element there, paired with the index
 enumerated_from : {X Y : Type 0} (f : ℕ × X → Y) (n : ℕ) (xs : List X) (i : ℕ) (d : X) → i < length xs → slice_get (map f (enumerate_from n xs)) i ≡ Some (f (n + i, get_or xs i d))
 enumerated_from f n [] i d inside = absurd (omega (arith, inside))
 enumerated_from f n (x ∷ xs) zero d inside =

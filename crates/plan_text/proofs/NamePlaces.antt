@@ -9,12 +9,13 @@ use Rattle.std.proofs.lemmas.Bool.{ltb-false}
 use Rattle.std.proofs.lemmas.List.{length-map, map_push}
 use Rattle.std.proofs.lemmas.List.Sums.{prefix_len-le-length}
 
--- the index of the first element whose image passes a test is the index of the first image that passes; without one it is the length
+-- the index of the first element whose image passes a test is the index of the first image that passes; if no image passes, both are the
+-- length of the list
 position_or_len_of_map : {X Y : Type 0} (test : Y → Bool) (f : X → Y) (xs : List X) → position_or_len (λ x. test (f x)) xs ≡ position_or_len test (map f xs)
 position_or_len_of_map test f [] = refl
 position_or_len_of_map test f (x ∷ xs) = ap (λ (n : ℕ). cond (not (test (f x))) (1 + n) 0) (position_or_len_of_map test f xs)
 
--- the optional index of the first element whose image passes a test is that of the first image that passes
+-- `position` finds the first element whose image passes a test at the same index as the first image that passes
 pub position_of_map : {X Y : Type 0} (test : Y → Bool) (f : X → Y) (xs : List X) → position (λ x. test (f x)) xs ≡ position test (map f xs)
 position_of_map test f xs = rw (position_or_len_of_map test f xs, length-map) refl
 
@@ -22,7 +23,7 @@ chosen_or : (b : Bool) (n d : ℕ) → (b ≡ false → d ≡ n) → unwrap_or (
 chosen_or true n d other = refl
 chosen_or false n d other = other refl
 
--- the optional index of the first element that passes, with the length of the list for None, is `position_or_len`
+-- `position_or_len` is the result of `position`, or the length of the list if that is None
 pub place_or_len : {X : Type 0} (test : X → Bool) (xs : List X) → unwrap_or (position test xs) (length xs) ≡ position_or_len test xs
 place_or_len test xs =
     chosen_or (ltb (position_or_len test xs) (length xs)) (position_or_len test xs) (length xs) (λ none.

@@ -20,7 +20,7 @@ abbrev pub class_named : List (List ℕ) → (ℕ → PlanFault) → List ℕ �
 class_named classes fault name =
     ensure (nat_lt (place_of classes name) (length classes)) (fault NO_SUCH_CLASS) >>= λ _. Ok (place_of classes name)
 
--- the action of a parsed action; `slots` gives the position of the submit that filled each filled slot
+-- the action for a parsed action; `slots` gives for each filled slot the position of the submit that filled it
 abbrev pub action_of : List (List ℕ) → (List ℕ → Option ℕ) → (ℕ → PlanFault) → ParsedAction → Result Action PlanFault
 action_of classes slots fault (work units) = Ok (Work units)
 action_of classes slots fault (submit class) = class_named classes fault class >>= λ k. Ok (Submit k)
@@ -28,12 +28,12 @@ action_of classes slots fault (submit_as class slot) =
     class_named classes fault class >>= λ k. ensure (is_none (slots slot)) (fault SLOT_OPEN) >>= λ _. Ok (Submit k)
 action_of classes slots fault (get slot) = ok_or (slots slot) (fault SLOT_EMPTY) >>= λ t. Ok (Get t)
 
--- the action with this text; `slots` gives the position of the submit that filled each filled slot
+-- the action with this text; `slots` gives for each filled slot the position of the submit that filled it
 unfoldable pub action_at : List (List ℕ) → (List ℕ → Option ℕ) → (ℕ → PlanFault) → List ℕ → Result Action PlanFault
 action_at classes slots fault text =
     ok_or (parse_action text) (fault BAD_ACTION) >>= λ parsed_action. action_of classes slots fault parsed_action
 
--- the action with the text at position i of the texts of a body, where the texts before it determine which slots are filled
+-- the action with this text, which is at position i of the texts of a body; the texts before position i determine which slots are filled
 abbrev pub action_among : List (List ℕ) → Part → ℕ → List (List ℕ) → ℕ → List ℕ → Result Action PlanFault
 action_among classes part index texts i text = action_at classes (filled (take i texts)) (at_action part index i) text
 

@@ -16,7 +16,7 @@ class_names classes = map (λ class. class.name) classes
 abbrev pub client_names : List ClientEntry → List (List ℕ)
 client_names clients = map (λ client. client.name) clients
 
--- the index of a name in its list, or the length of the list if it does not have the name
+-- the index of a name in a list, or the length of the list if the name is not in it
 abbrev pub place_of : List (List ℕ) → List ℕ → ℕ
 place_of names name = position_or_len (λ known. bytes_eq name known) names
 

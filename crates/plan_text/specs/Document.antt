@@ -32,7 +32,8 @@ text_of bytes = ensure (is_utf8 bytes) (at_text NOT_TOML) >>= λ _. Ok bytes
 abbrev pub table_of : List ℕ → Result Members PlanFault
 table_of text = ok_or (parse_document text) (at_text NOT_TOML)
 
--- the TOML table of the bytes; a fault if they are more than a plan may have, are not UTF-8 or TOML, or have a key that no plan has
+-- the TOML table of the bytes; a fault if there are more bytes than a plan may have, if they are not UTF-8 or not TOML, or if the table has
+-- a key that no plan has
 unfoldable pub document_of : List ℕ → Result Members PlanFault
 document_of bytes =
     ensure (nat_le (length bytes) MAX_PLAN_BYTES) (at_text TOO_MANY) >>= λ _.
@@ -46,7 +47,7 @@ abbrev pub list_of : Option Data → Result (List Data) PlanFault
 list_of None = Ok []
 list_of (Some value) = ok_or (as_list value) (at_text WRONG_TYPE)
 
--- the elements of the top-level array at this key; a fault if it has more than `most`
+-- the elements of the top-level array at this key; a fault if the value is not an array, or has more than `most` elements
 unfoldable pub list_at : List ℕ → ℕ → Members → Result (List Data) PlanFault
 list_at key most document =
     list_of (get_member key document) >>= λ values.

@@ -21,11 +21,11 @@ pub record Entry : Type 0 where
 abbrev pub entry_view : read.Entry → Entry
 entry_view entry = record { table = table_view entry.table.now; part = entry.part; index = entry.index }
 
--- the fault with this number of the entry
+-- the fault `number` of the entry
 abbrev pub fault_at : Entry → ℕ → PlanFault
 fault_at entry number = at_entry entry.part entry.index number
 
--- an integer as a count; 0 for a negative one, which is out of range for every number of a plan
+-- an integer as a count; 0 if it is negative, and 0 is out of range for every number of a plan
 abbrev pub count_of : ℤ → ℕ
 count_of (pos n) = n
 count_of (negsuc n) = 0
@@ -65,7 +65,8 @@ flag_at entry key = flag_of entry (get_member key entry.table)
 abbrev pub action_text : Part → ℕ → ℕ → Data → Result (List ℕ) PlanFault
 action_text part index action value = ok_or (as_str value) (at_action part index action WRONG_TYPE)
 
--- the strings in the array at this key, at most the maximum number of actions of a body; otherwise a fault
+-- the strings in the array at this key; a fault if the key is absent, if the array is longer than a body may be, or if a value has another
+-- type
 unfoldable pub texts_at : Entry → List ℕ → Result (List (List ℕ)) PlanFault
 texts_at entry key =
     value_at entry key >>= λ value.

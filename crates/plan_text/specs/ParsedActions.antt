@@ -51,13 +51,13 @@ is_positive_decimal digits = not (length digits == 0) && not (slice_index digits
 unfoldable pub parse_units : List ℕ → Option ℕ
 parse_units text = if is_positive_decimal text && is_within 1 MAX_WORK (digits_value 10 text) then Some (digits_value 10 text) else None
 
--- the submit of this class that fills the slot given by the text after the class, which is `as SLOT`
+-- the submit of this class that fills slot SLOT, if the text after the class is `as SLOT`; otherwise None
 unfoldable pub parse_submit_as : List ℕ → List ℕ → Option ParsedAction
 parse_submit_as class text =
     split_space text >>? λ words.
     if bytes_eq words.0 (codes "as") then (name_of class >>? λ class. name_of words.1 >>? λ slot. Some (submit_as class slot)) else None
 
--- the submit given by the text after its verb, and that text split at its first space
+-- the submit that has this text after the verb; the second argument is the same text, split at its first space
 abbrev pub submit_parts : List ℕ → Option (List ℕ × List ℕ) → Option ParsedAction
 submit_parts text None = name_of text >>? λ class. Some (submit class)
 submit_parts text (Some words) = parse_submit_as words.0 words.1
@@ -65,7 +65,7 @@ submit_parts text (Some words) = parse_submit_as words.0 words.1
 unfoldable pub parse_submit : List ℕ → Option ParsedAction
 parse_submit text = submit_parts text (split_space text)
 
--- the action with this verb, given the text after it
+-- the action with this verb and this text after the verb; None if there is no such action
 unfoldable pub parse_action_of_verb : List ℕ → List ℕ → Option ParsedAction
 parse_action_of_verb verb text =
     if bytes_eq verb (codes "work") then (parse_units text >>? λ units. Some (work units))
@@ -84,7 +84,7 @@ spelling (submit class) = codes "submit " ++ class
 spelling (submit_as class slot) = codes "submit " ++ class ++ (codes " as " ++ slot)
 spelling (get slot) = codes "get " ++ slot
 
--- whether the number of units of the action is within the limit, or its names are valid
+-- whether the parsed action is valid: its number of units is within the limits, or its names are valid
 abbrev pub is_valid_parsed_action : ParsedAction → Bool
 is_valid_parsed_action (work units) = is_within 1 MAX_WORK units
 is_valid_parsed_action (submit class) = is_valid_name class

@@ -53,7 +53,7 @@ plan_document plan =
     (member (codes "client") (list_data (map (client_data classes) plan.clients))
     (member (codes "pool") (list_data (map pool_data plan.pools)) no_members))
 
--- the text is TOML for the document of the plan
+-- the text is TOML, and its document is that of the plan
 abbrev pub IsPlanText : Plan → List ℕ → Type 0
 IsPlanText plan text = IsDocumentText false (plan_document plan) text
 

@@ -8,14 +8,14 @@ use Rattle.plan_text.specs.Entries.{Entries, entries_of}
 use Rattle.plan_text.specs.Checks.{check_pools, check_classes, check_clients}
 use Rattle.plan_text.specs.Bodies.{class_of, client_of}
 
--- the plan with these entries, given the names of its pools and classes; otherwise the first fault in a body
+-- the plan with these entries, given the names of its pools and classes, or the first fault in a body
 abbrev pub plan_of_named : List (List ℕ) → List (List ℕ) → Entries → Result Plan PlanFault
 plan_of_named pool_names class_names entries =
     read_each (class_of pool_names class_names) 0 entries.classes >>= λ classes.
     read_each (client_of class_names) 0 entries.clients >>= λ clients.
     Ok (record { pools = entries.pools; classes = classes; clients = clients })
 
--- the plan with these entries; otherwise the first fault in the names and numbers, or in the bodies
+-- the plan with these entries, or the first fault in the names and numbers, or in the bodies
 unfoldable pub plan_of_entries : Entries → Result Plan PlanFault
 plan_of_entries entries =
     check_pools entries.pools >>= λ pool_names.

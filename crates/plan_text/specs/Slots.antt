@@ -1,4 +1,4 @@
--- The filled slots of a body, with the positions of the submits that filled them.
+-- The slots of a body. The state of a slot is the position of the submit that filled it, or None if the slot is empty.
 use Rattle.std.specs.Prelude.{ℕ, ◌+◌, if◌then◌else◌, List, [], ◌∷◌, Option, None, Some}
 use Rattle.std.specs.Map.{lookup}
 use Rattle.std.specs.Str.{bytes_eq}
@@ -8,17 +8,17 @@ use Rattle.plan_text.specs.ParsedActions.{ParsedAction, submit_as, get, parse_ac
 abbrev pub position_in : List (List ℕ × ℕ) → List ℕ → Option ℕ
 position_in slots slot = lookup (bytes_eq slot) slots
 
--- the state of a slot after the parsed action at position i, given its state before: the position of the submit that filled it, or None
+-- the state of a slot after the parsed action at position i, given its state before
 abbrev pub filled_by : List ℕ → ℕ → Option ℕ → Option ParsedAction → Option ℕ
 filled_by slot i before (Some (submit_as class name)) = if bytes_eq name slot then Some i else before
 filled_by slot i before (Some (get name)) = if bytes_eq name slot then None else before
 filled_by slot i before _ = before
 
--- the state of a slot after the actions with these texts, the first of which is at position i, given its state before
+-- the state of a slot after the actions with these texts, given its state before; the first text is at position i
 abbrev pub filled_from : List ℕ → ℕ → Option ℕ → List (List ℕ) → Option ℕ
 filled_from slot i before [] = before
 filled_from slot i before (text ∷ texts) = filled_from slot (i + 1) (filled_by slot i before (parse_action text)) texts
 
--- the position of the submit that filled the slot, after the actions with these first texts of a body; None if the slot is empty
+-- the state of the slot after the actions with these texts, which are the first of a body
 abbrev pub filled : List (List ℕ) → List ℕ → Option ℕ
 filled texts slot = filled_from slot 0 None texts

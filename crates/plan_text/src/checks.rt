@@ -15,7 +15,7 @@ use support::ReadError;
 use support::number::{BAD_NAME, BAD_NUMBER, DOUBLE_NAME, NO_SUCH_POOL};
 
 /// Checks that the name of the entry at `index` is valid and not in `names`, the names of the
-/// earlier entries of the list. Then adds it to `names`.
+/// earlier entries of the list. Then adds the name to `names`.
 fn check_name<'a>(
     names: &mut Names<'a>,
     part: Part,

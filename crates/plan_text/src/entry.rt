@@ -100,8 +100,8 @@ impl<'a> Entry<'a> {
         value.as_bool().ok_or(self.refuses(WRONG_TYPE))
     }
 
-    /// Returns the strings in the array at this key, at most the maximum number of actions of a
-    /// body. It is a fault if the key is absent, the array is longer, or a value has another type.
+    /// Returns the strings in the array at this key. It is a fault if the key is absent, if the
+    /// array is longer than a body may be, or if a value has another type.
     #[tactic(auto, unfolding(crate::specs::Entry::texts_at))]
     pub fn texts(&self, alloc: Global, key: &str) -> Result<Vec<&'a str>, TextError>
         ensures { Gives (λ texts. map (λ text. text.now) texts.items) result

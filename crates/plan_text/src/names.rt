@@ -30,7 +30,7 @@ impl<'a> Names<'a> {
         }
     }
 
-    /// Appends the name if it is new, and returns whether it is.
+    /// Appends the name if it is new, and returns whether it was new.
     pub fn add(&mut self, name: &'a str) -> Result<bool, AllocError>
         ensures is_new { IfOk result
             (λ is_new. is_new ≡ not (list_any (bytes_eq name.now) self.old)) }

@@ -8,9 +8,9 @@ use std::alloc::{AllocError, Global};
 /// An index of the positions of the parts of a plan in its text.
 ///
 /// Any text has an index. The index may lack a part if the text is not TOML, or if it does not
-/// write the plan with `[[pool]]`, `[[class]]` and `[[client]]`. The caller then uses the position
-/// of a larger part. The contracts do not say at which byte a part begins. Only [`place_at`]
-/// promises the line and column of a byte.
+/// write the plan with `[[pool]]`, `[[class]]` and `[[client]]`. The functions then return `None`,
+/// and the caller uses the position of a larger part. The contracts do not say at which byte a part
+/// begins. Only [`place_at`] promises the line and column of a byte.
 #[derive(Drop)]
 pub struct Places<'a> {
     text: &'a [u8],
@@ -29,8 +29,8 @@ impl<'a> Places<'a> {
         Ok(Places { text, tables })
     }
 
-    /// Returns the position of the header of an entry: the table at this index, counted from 0, in
-    /// the list with this name. An example is the `[[pool]]` of a pool.
+    /// Returns the position of the header of an entry, such as the `[[pool]]` of a pool. The entry
+    /// is at this index, counted from 0, in the list with this name.
     pub fn entry(&self, list: &str, index: usize) -> Option<TextPlace> {
         let table = self.table(list, index)?;
         Some(place_at(self.text, table.header))
@@ -48,8 +48,8 @@ impl<'a> Places<'a> {
         Some(place_at(self.text, key.value))
     }
 
-    /// Returns the position of one element of the array at this key in the entry at this index of
-    /// the list, such as an action of a body. Elements are counted from 0.
+    /// Returns the position of an element, such as an action of a body. The element is in the array
+    /// at this key, in the entry at this index of the list. Elements are counted from 0.
     pub fn element(
         &self,
         list: &str,

@@ -24,7 +24,7 @@ fn insert_value(alloc: Global, table: &mut Table, key: &str, value: Value) -> Re
     Ok(())
 }
 
-/// Inserts `true` at the key if the flag is set, and otherwise nothing.
+/// Inserts `true` at the key if the flag is set. Otherwise does nothing.
 fn insert_flag(alloc: Global, table: &mut Table, key: &str, flag: bool) -> Result<(), AllocError>
     ensures { OnOk result
         (table_view table.new

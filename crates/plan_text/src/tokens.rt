@@ -23,7 +23,7 @@ struct Text {
     quote: u8,
     /// Whether the last byte was a `\` that escapes the next byte.
     escaped: bool,
-    /// The number of consecutive quotes at the end of the string read until now.
+    /// The number of consecutive quotes at the end of the part read so far.
     quotes: u8,
 }
 
@@ -142,8 +142,8 @@ impl Tokens {
         }
     }
 
-    /// Processes a byte of a string that began with one quote. If the string is empty and a third
-    /// quote follows, it is a multi-line string.
+    /// Processes a byte of a string that began with one quote. If the first three bytes are quotes,
+    /// the string is a multi-line string.
     fn line(&mut self, text: Text, offset: usize, byte: u8) -> Result<(), AllocError> {
         if text.quotes == 1 {
             if byte == text.quote && offset == text.start.saturating_add(2) {

@@ -12,8 +12,8 @@ use std::alloc::{AllocError, Global};
 /// Writes a plan as TOML. [`read_plan`](crate::read_plan) parses the text as the same plan, unless
 /// the text is longer than a plan's text may be.
 ///
-/// A submit that a get names fills a slot of its own, which is named `s` and the position of the
-/// submit in its body. Other submits fill no slot.
+/// A submit that a get names fills a slot of its own. The slot's name is `s` followed by the
+/// position of the submit in its body. Other submits fill no slot.
 ///
 /// # Errors
 ///
