@@ -28,7 +28,7 @@ no_fault made words e taken =
     let P : App → Type 0 = λ a. is_simple_and_free a ≡ true → fault_of a words ≡ [] in
     subst P e taken sizing_is_simple
 
--- a kind among the first of two lists is among the list that `or_else` selects
+-- a kind in the first of two lists is also in the list that `or_else` selects
 among_first : (kind : ErrorKind) (first rest : Kinds) → IsAmong kind first → IsAmong kind (or_else first rest)
 among_first kind [] rest among = absurd among
 among_first kind (k ∷ first) rest among = among

@@ -7,7 +7,7 @@ use Rattle.clap.specs.declared.builder.arg.Arg.{Arg}
 use Rattle.clap.specs.declared.builder.command.Command.TheViews.{out-Command as fields_of}
 use Rattle.clap.specs.declared.builder.command.Command.{Command}
 
--- if a subcommand was created, the program gets a last subcommand of its shape
+-- if a subcommand of this shape was created, the program gets the shape as its last subcommand
 pub adds_subcommand : (made : Result Command AllocError) (shape : Shape) (before was : App) (both : Command)
     → IfOk made (λ it. shape_of it ≡ shape)
     → IsOkAnd made (λ it. app_of both ≡ with_subcommand before (shape_of it))

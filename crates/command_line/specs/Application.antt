@@ -9,7 +9,7 @@ use Rattle.job_bodies.specs.declared.limits.TheConstants.{DEFAULT_WORKERS, MAX_R
 abbrev pub file_argument : Text → Rule
 file_argument id = record (new_rule id) { action = Some Set; value_names = 1 }
 
--- the argument that names the file of the plan, or the one file of all texts
+-- the argument that names the file of the plan, or of all texts if it is the only file
 abbrev pub plan_argument : Rule
 plan_argument = file_argument (codes "PLAN")
 
@@ -66,7 +66,7 @@ states_option = record (number_option (codes "states") 1 MAX_STATES) { defaults 
 abbrev pub refute_shape : Shape
 refute_shape = (with_rule (with_rule (of_plan (codes "refute")) states_option) bundle_option).top
 
--- the option `--strict`, with which a warning changes the exit status of a safe plan to 1
+-- the option `--strict`, which has a different effect in `ask` and in `learn`
 abbrev pub strict_option : Rule
 strict_option = record (new_rule (codes "strict")) { long = Some (codes "strict"); action = Some SetTrue }
 

@@ -33,7 +33,7 @@ number_in low high text = if accepts false (parser.Unsigned low high) text then 
 abbrev pub number_of : Text → ℕ → ℕ → List Row → Option ℕ
 number_of id low high rows = option_and_then (number_in low high) (first_of id rows)
 
--- the option with this id was given: `clap` stores the value `true` for it
+-- whether the option with this id was given; if so, `clap` stores the value `true` for it
 abbrev pub is_set : Text → List Row → Bool
 is_set id rows = option_map_or (λ text. bytes_eq text (codes "true")) (first_of id rows) false
 
@@ -69,7 +69,7 @@ ask_in rows form = Ask (ask_input_of (first_of (codes "SECOND") rows)) (record {
 abbrev pub ask_named : List Row → Option Task
 ask_named rows = option_map (ask_in rows) (form_of (is_set (codes "json") rows) (is_set (codes "dot") rows))
 
--- the task of the subcommand with this name and these parsed arguments; None if their values are invalid, or if the subcommand is no task
+-- the task of the subcommand with this name and these parsed arguments; None if their values are invalid, or if no task has this name
 abbrev pub task_of : Text → List Row → Option Task
 task_of name rows =
     if bytes_eq name (codes "certify") then certify_with (number_of (codes "workers") 1 MAX_WORKERS rows)
@@ -108,7 +108,7 @@ files_in (Some rows) = (first_of (codes "PLAN") rows, first_of (codes "SECOND") 
 abbrev pub files_among : Option (Text × List Row) → Option Text × Option Text
 files_among entered = files_in (option_map (λ entry. entry.1) entered)
 
--- the names of the files that a command line has: the file of the plan or of all texts, and the file of the second text
+-- the names of the two files that a command line has: that of the plan, or of all texts if it is the only file, and that of the second text
 abbrev pub files_of : List Text → Option Text × Option Text
 files_of words = files_among (subcommand_of sizing words)
 
@@ -133,7 +133,7 @@ certificate_of words = certificate_among (subcommand_of sizing words)
 abbrev pub certificate_of_cli : Cli → Option Text
 certificate_of_cli cli = option_map (λ name. name.now) cli.certificate
 
--- a subcommand was entered, but one of its numbers is out of its range, or two of its options exclude each other
+-- whether a subcommand was entered with a number out of its range, or with two options that exclude each other
 abbrev pub is_out_of_range : Option (Text × List Row) → Bool
 is_out_of_range entered = is_some entered && not (is_some (command_among entered))
 

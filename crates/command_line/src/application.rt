@@ -52,7 +52,7 @@ fn with_recording_commands<'a>(
 }
 
 // Adds a subcommand to the program, or returns the error of the subcommand's creation. The `?` is
-// in this function so that no caller returns early while it owns an application.
+// in this function so that no caller returns early while it owns a program.
 fn with_subcommand<'a>(
     program: Command<'a>,
     made: Result<Command<'a>, AllocError>,
@@ -93,7 +93,7 @@ fn explain<'a>(alloc: Global) -> Result<Command<'a>, AllocError>
     of_both(alloc, "explain", help::EXPLAIN)
 }
 
-// Creates the argument that names the file of the plan, or the one file of all texts.
+// Creates the argument that names the file of the plan, or of all texts if it is the only file.
 fn plan<'a>(alloc: Global) -> Arg<'a>
     ensures rule { rule_of result ≡ file_argument (codes "PLAN") }
     ensures local { result.global ≡ false }
@@ -221,8 +221,8 @@ fn learn<'a>(alloc: Global) -> Result<Command<'a>, AllocError>
         ))
 }
 
-// Creates the argument that names the file of a recording. It has the id of the argument for a
-// plan, so that the first file of each subcommand is found under one id.
+// Creates the argument that names the file of a recording. It has the same id as the argument for a
+// plan, so the first file of each subcommand is found under one id.
 fn recording<'a>(alloc: Global) -> Arg<'a>
     ensures rule { rule_of result ≡ file_argument (codes "PLAN") }
     ensures local { result.global ≡ false }
@@ -233,7 +233,7 @@ fn recording<'a>(alloc: Global) -> Arg<'a>
         .help("The file of the recording; `-` is standard input")
 }
 
-// Creates the option `--strict`, with which a warning changes the exit status of a safe plan to 1.
+// Creates the option `--strict`, which has a different effect in `ask` and in `learn`.
 fn strict<'a>(alloc: Global, help: &'a str) -> Arg<'a>
     ensures rule { rule_of result ≡ strict_option }
     ensures local { result.global ≡ false }

@@ -40,7 +40,8 @@ pub enum RecordingCommand {
     Conform,
     /// Derives a plan from a recording.
     Learn {
-        /// Whether no plan is written if the recording does not conform to it.
+        /// If `true`, writes the differences in place of the plan when the recording does not
+        /// conform to the learned plan.
         strict: bool,
     },
 }
@@ -84,8 +85,8 @@ pub enum Task {
 pub struct Cli<'a> {
     /// The command.
     pub command: Command,
-    /// The file of the plan or, if there is no second file, the one file of all texts. `None` and
-    /// `-` mean standard input.
+    /// The file of the plan, or of all texts if it is the only file. `None` and `-` mean standard
+    /// input.
     pub first: Option<&'a str>,
     /// The file of the second text.
     pub second: Option<&'a str>,
@@ -194,7 +195,7 @@ fn parsed_args<'a>(matches: &ArgMatches<'a>) -> Option<Cli<'a>>
     })
 }
 
-// Returns the file that the argument with this id names, if the argument was given.
+// Returns the file that the argument with this id names, or `None` if the argument was not given.
 fn file_named<'a>(options: &ArgMatches<'a>, id: &str) -> Option<&'a str>
     ensures { option_map (λ name. name.now) result
         ≡ first_of id.now (rows_of (found_of options.now)) }
@@ -226,7 +227,8 @@ fn command_among(matches: &ArgMatches<'_>) -> Option<Command>
     }
 }
 
-// Returns the task of the subcommand with this name and these options.
+// Returns the task of the subcommand with this name and these options, or `None` if no task has
+// this name or the options are invalid.
 fn task_of(name: &str, options: &ArgMatches<'_>) -> Option<Task>
     ensures task { result ≡ spec.task_of name.now (rows_of (found_of options.now)) }
     ensures in_range { IfSome result spec.IsTaskInRange }

@@ -1,7 +1,7 @@
 //! The arguments of the command line, and the command that they name.
 //!
 //! `clap` parses the arguments, and reports usage errors and requests for help. The definitions in
-//! `specs/` specify its result: `Application.antt` defines the application, and `Command.antt` the
+//! `specs/` specify the result: `Application.antt` defines the application, and `Command.antt` the
 //! command that the arguments name.
 #![tactic(auto)]
 
