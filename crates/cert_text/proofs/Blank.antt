@@ -14,7 +14,7 @@ use Rattle.json.proofs.Numbered.{ArePrintableOrBad-tokens}
 use Rattle.serde_json.specs.Read.{of_json, read, max_depth}
 use Rattle.cert_text.specs.Canonical.{IsBlank}
 
--- the lexer reads the same tokens from r and s, and a word before either of them is complete
+-- the lexer reads the same tokens from r and s, and each of them ends a word that precedes it
 record AreAlike (r s : List ℕ) : Type 0 where
   lexed : lex between r ≡ lex between s
   first : ends_word r ≡ true
@@ -34,12 +34,12 @@ key_alike t r s same =
     ap (lex between) (append_assoc (quoted t) (58 ∷ []) r)
     ∙ quoted_alike t (58 ∷ r) (58 ∷ s) (ap (λ l. colon ∷ l) same) ∙ sym (ap (lex between) (append_assoc (quoted t) (58 ∷ []) s))
 
--- the tokens from a literal on are the same whether r or s follows it
+-- a literal followed by r has the same tokens as the literal followed by s
 literal_alike : (t : Token) (r s : List ℕ) → AreAlike r s → (token (cond (ends_word r) t bad) ∷ lex in_word r) ≡ (token (cond (ends_word s) t bad) ∷ lex in_word s)
 literal_alike t r s alike =
     ap₂ (λ b l. token (cond b t bad) ∷ l) (alike.first ∙ sym alike.second) (in_word-ended r alike.first ∙ alike.lexed ∙ sym (in_word-ended s alike.second))
 
--- the tokens from the text of a token on are the same whether r or s follows it
+-- the text of a token followed by r has the same tokens as that text followed by s
 token_alike : (t : Token) (r s : List ℕ) → IsPrintableOrBad t → lex between r ≡ lex between s → (ends t ≡ true → AreAlike r s) → lex between (token_text t ++ r) ≡ lex between (token_text t ++ s)
 unfolding lex word
 token_alike begin_object r s h same alike = ap (λ l. token begin_object ∷ l) same
@@ -56,7 +56,7 @@ token_alike (boolean false) r s h same alike = literal_alike (boolean false) r s
 token_alike null r s h same alike = literal_alike null r s (alike refl)
 token_alike bad r s h same alike = same
 
--- what follows a value (a comma, a closing bracket or the end) ends a word
+-- the text after a value (a comma, a closing bracket or the end) ends a word
 value_ends : (ts : List Token) (r : List ℕ) → ends_word r ≡ true → ends_word (print_from true ts ++ r) ≡ true
 unfolding print_from
 value_ends [] r ended = ended
@@ -76,7 +76,7 @@ unfolding lex
 separator_alike true r s same = ap (λ l. comma ∷ l) same
 separator_alike false r s same = same
 
--- the tokens from the text of a list of tokens on are the same whether r or s follows it
+-- the text of a list of tokens followed by r has the same tokens as that text followed by s
 tokens_alike : (later : Bool) (ts : List Token) (r s : List ℕ) → ArePrintableOrBad ts → AreAlike r s → lex between (print_from later ts ++ r) ≡ lex between (print_from later ts ++ s)
 unfolding print_from
 tokens_alike later [] r s h alike = alike.lexed

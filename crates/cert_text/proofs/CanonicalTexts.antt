@@ -33,7 +33,7 @@ numbers_readable numbers small = list_readable 0 number_data numbers (λ i n her
 rows_readable : (rows : List (List ℕ)) → list_all (list_all is_small) rows ≡ true → IsReadable 2 (rows_data rows)
 rows_readable rows small = list_readable 1 numbers_data rows (λ i row here. numbers_readable row (list_all_place (list_all is_small) rows small i row here))
 
--- the keys of certificates are keys, and are in ascending order
+-- each key of a certificate satisfies `IsKey`, and the keys are in ascending order
 record AreKeys : Type 0 where
   classes : IsKey (codes "classes")
   clients : IsKey (codes "clients")

@@ -16,7 +16,7 @@ pub count_members-members_view : (entries : List Entry) → count_members (membe
 count_members-members_view [] = refl
 count_members-members_view (entry ∷ entries) = ap (λ (n : ℕ). suc n) (count_members-members_view entries)
 
--- each element of a list passes a test that `list_all` says all elements pass
+-- if `list_all` holds for a test, each element of the list passes it
 pub list_all_place : {X : Type 0} (test : X → Bool) (xs : List X) → list_all test xs ≡ true → EachPlace xs (λ i x. test x ≡ true)
 list_all_place test [] h i x here = cc
 list_all_place test (y ∷ xs) h zero x here =
@@ -48,7 +48,7 @@ list_all_enumerated_place_from test n (y ∷ xs) h (suc i) x here =
     let place : n + suc i ≡ n + 1 + i = omega arith in
     rw place (list_all_enumerated_place_from test (n + 1) xs (and_parts (test (n, y)) _ h).1 i x here)
 
--- each element of a list passes, with its index, a test that `list_all` says all elements pass with their indices
+-- if `list_all` holds for a test of pairs of an index and an element, each element of the list passes it with its index
 pub list_all_enumerated_place : {X : Type 0} (test : ℕ × X → Bool) (xs : List X) → list_all test (enumerate_from 0 xs) ≡ true → EachPlace xs (λ i x. test (i, x) ≡ true)
 list_all_enumerated_place test xs h i x here = subst (λ (k : ℕ). test (k, x) ≡ true) (zero-add i) (list_all_enumerated_place_from test 0 xs h i x here)
 

@@ -66,12 +66,12 @@ first_key key = 123 ∷ (quoted key ++ 58 ∷ [])
 abbrev pub next_key : List ℕ → List ℕ
 next_key key = 44 ∷ (quoted key ++ 58 ∷ [])
 
--- an object of three keys was parsed after its values were parsed in order
+-- if the values of an object of three keys were parsed in order, the object was parsed
 pub triple_read : (j k l : List ℕ) (d e f : Data) (text at_d after_d at_e after_e at_f after_f rest : List ℕ) → text ≡ first_key j ++ at_d → BeginsAs at_d d after_d → after_d ≡ next_key k ++ at_e
     → BeginsAs at_e e after_e → after_e ≡ next_key l ++ at_f → BeginsAs at_f f after_f → after_f ≡ 125 ∷ rest → BeginsAs text (object (member j d (member k e (member l f no_members)))) rest
 triple_read j k l d e f text at_d after_d at_e after_e at_f after_f rest a b c p q r s = simp (a, b, c, p, q, r, s, append_assoc)
 
--- an object of two keys was parsed, after the second key was parsed together with its value
+-- if both values of an object of two keys were parsed in order, the second together with its key, the object was parsed
 pub pair_read : (j k : List ℕ) (d e : Data) (text at_d after_d after_e rest : List ℕ) → text ≡ first_key j ++ at_d → BeginsAs at_d d after_d → after_d ≡ (next_key k ++ compact_text e) ++ after_e → after_e ≡ 125 ∷ rest
     → BeginsAs text (object (member j d (member k e no_members))) rest
 pair_read j k d e text at_d after_d after_e rest a b c p = simp (a, b, c, p, append_assoc)

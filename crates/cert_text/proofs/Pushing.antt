@@ -18,7 +18,7 @@ use Rattle.cert_text.proofs.Prefixes.{first_key, next_key}
 abbrev rest_text : {X : Type 0} → (X → Data) → List X → ℕ → Bool → List ℕ
 rest_text made xs i later = items_text later (items_of (map made (drop i xs)))
 
--- the text that was appended until now, followed by that of the elements from index i on, is the whole text
+-- the text so far, followed by the text of the elements from index i on, is the whole text
 pub record Grows {X : Type 0} (made : X → Data) (xs : List X) (i : ℕ) (later : Bool) (text whole : List ℕ) : Type 0 where
   pub rest : text ++ rest_text made xs i later ≡ whole
 

@@ -40,7 +40,7 @@ each_back_from read write n (y ∷ ys) back =
     let rest = each_back_from read write (n + 1) ys (λ i x here. let later : n + suc i ≡ n + 1 + i = omega arith in subst (λ (k : ℕ). read k (write x) ≡ Ok x) later (back (suc i) x here)) in
     rw (first, rest) refl
 
--- if each element is read from its own data, so is the list
+-- if each element is read from its own data, the list is read from the list of these data
 each_back : {X Y F : Type 0} (read : ℕ → X → Result Y F) (write : Y → X) (ys : List Y) → EachPlace ys (λ i y. read i (write y) ≡ Ok y) → read_each read 0 (map write ys) ≡ Ok ys
 each_back read write ys back = each_back_from read write 0 ys (λ i y here. subst (λ (k : ℕ). read k (write y) ≡ Ok y) (sym (zero-add i)) (back i y here))
 
@@ -60,7 +60,7 @@ client_rows_back plan rows long are =
     rw (elements_back (length plan.clients) (map numbers_data rows) (length-map rows numbers_data ∙ long))
     (each_back (λ c. numbers_of (client_points plan c)) numbers_data rows (λ c row here. numbers_back (client_points plan c) row (are c row here)))
 
--- each row of a vector with the plan's shape has the length for its index
+-- each row of a vector with the plan's shape has the length that `points` gives for its index
 rows_long : {X : Type 0} (points : X → ℕ) (none : X) (xs : List X) (rows : List (List ℕ)) → length rows ≡ length xs
     → list_all (λ (entry : ℕ × X). length (get_or rows entry.0 []) == points entry.1) (enumerate_from 0 xs) ≡ true → EachPlace rows (λ k row. length row ≡ points (get_or xs k none))
 rows_long {X = X} points none xs rows long shaped k row here =

@@ -11,7 +11,7 @@ use Rattle.cert_text.specs.Cert.{Cert, cert_fits}
 use Rattle.job_bodies.specs.declared.limits.TheConstants.{MAX_CERT_BYTES}
 use Rattle.cert_text.specs.CertText.{vector_data, version_number, cert_text}
 
--- the text begins with the canonical form of the value, and `rest` is what follows
+-- the text begins with the canonical form of the value, and `rest` is the text after it
 abbrev pub BeginsAs : List ℕ → Data → List ℕ → Type 0
 BeginsAs text value rest = text ≡ compact_text value ++ rest
 

@@ -16,7 +16,7 @@ pub record Cert : Type 0 where
   pub pools : List PoolCert
   pub ranks : Ranks
 
--- the vectors of the default part, for an index past the end of the list of pools
+-- the vector in the default part, which is used for an index past the end of the list of pools
 abbrev pub no_vector : Vector
 no_vector = record { workers = []; classes = []; clients = [] }
 

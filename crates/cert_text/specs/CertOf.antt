@@ -22,7 +22,7 @@ text_of bytes = ensure (is_utf8 bytes) (fault NOT_JSON) >>= λ _. Ok bytes
 abbrev pub json_of : List ℕ → Result Data CertFault
 json_of text = ok_or (read text) (fault NOT_JSON)
 
--- the JSON value of the bytes; a fault if they are more than a certificate may have
+-- the JSON value of the bytes; a fault if there are more bytes than a certificate may have, or if they are not UTF-8 or not JSON
 unfoldable pub document_of : List ℕ → Result Data CertFault
 document_of bytes =
     ensure (nat_le (length bytes) MAX_CERT_BYTES) (fault CERT_TOO_LONG) >>= λ _.

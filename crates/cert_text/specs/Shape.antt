@@ -32,7 +32,7 @@ abbrev pub bound_of : Version → Plan → Data → Result Bound CertFault
 bound_of One plan pool = standing_of plan pool
 bound_of Two plan pool = lifetime_or_standing plan pool (get (codes "lifetime") pool)
 
--- the part of a pool, from its object, which has no other keys than those of the two vectors
+-- the part of a pool, from its object; a fault if the object has other keys than those of the two vectors
 unfoldable pub pool_of : Version → Plan → Data → Result PoolCert CertFault
 pool_of version plan pool =
     check_keys 2 pool >>= λ _.

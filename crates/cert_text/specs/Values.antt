@@ -34,7 +34,7 @@ elements_of count value =
     ensure (length values == count) wrong_shape >>= λ _.
     Ok values
 
--- how many members an object has
+-- the number of members of an object
 abbrev pub count_members : Members → ℕ
 count_members no_members = 0
 count_members (member key value rest) = suc (count_members rest)
@@ -45,6 +45,6 @@ check_keys count value =
     ok_or (as_object value) wrong_shape >>= λ members.
     ensure (count_members members == count) wrong_shape
 
--- the value at this key of an object; a fault if there is none
+-- the value at this key of an object; a fault if there is no such value
 abbrev pub value_at : List ℕ → Data → Result Data CertFault
 value_at key value = ok_or (get key value) wrong_shape

@@ -1,7 +1,8 @@
 //! A fast parser of certificates in *canonical form*: exactly the form that
 //! [`write_cert`](crate::write_cert) writes. It builds no JSON tree.
 //!
-//! Nearly every text has this form. Any other text is an error here, and is then parsed as JSON.
+//! Nearly every text has this form. Any other text is an error here, and the caller then parses it
+//! as JSON.
 
 ghost use Rattle.std.specs.Prelude.{◌≡◌, ◌++◌, IfOk, IsTrue, length, map};
 ghost use Rattle.std.specs.List.{list_all};

@@ -12,7 +12,7 @@ use std::alloc::Global;
 use support::ReadError;
 
 /// The fault of a text that is not in canonical form, the form that
-/// [`write_cert`](crate::write_cert) writes. It does not say why.
+/// [`write_cert`](crate::write_cert) writes. It does not store the reason.
 #[derive(Clone, Copy, PartialEq, Eq)]
 pub struct NotCanonical;
 

@@ -69,7 +69,7 @@ pub fn check_keys(value: &Value, count: usize) -> Result<(), CertError>
     Ok(())
 }
 
-/// Returns the value at this key of an object. It is a fault if there is none.
+/// Returns the value at this key of an object. It is a fault if there is no such value.
 pub fn value_at<'a>(value: &'a Value, key: &str) -> Result<&'a Value, CertError>
     ensures { Gives (λ found. view found.now) result (spec.value_at key.now (view value.now)) }
 {

@@ -8,7 +8,7 @@ use Rattle.cert_text.proofs.Prefixes.{first_key, next_key, triple_read}
 use Rattle.std.specs.Prelude.{map}
 use Rattle.cert_text.proofs.canonical.parse_cert.Goals as goal
 
--- a certificate was parsed after its pools, its ranks and its version were parsed in order
+-- if the pools, the ranks and the version of a certificate were parsed in order, the certificate was parsed
 cert_read : (cert : Cert) (text at_pools after_pools at_ranks after_ranks rest : List ℕ) → text ≡ first_key (codes "pools") ++ at_pools → BeginsAs at_pools (list_data (map pool_data cert.pools)) after_pools
     → after_pools ≡ next_key (codes "ranks") ++ at_ranks → BeginsAs at_ranks (ranks_data cert.ranks) after_ranks → after_ranks ≡ version_text cert ++ rest → BeginsAs text (cert_data cert) rest
 unfolding cert_data serde_json_on_literals

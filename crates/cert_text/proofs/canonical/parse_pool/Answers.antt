@@ -9,7 +9,7 @@ use Rattle.cert_text.specs.Canonical.{BeginsAs, bound_text}
 use Rattle.cert_text.proofs.Prefixes.{first_key, pair_read}
 use Rattle.cert_text.proofs.canonical.parse_pool.Goals as goal
 
--- a pool's part was parsed after its two vectors were parsed in order
+-- if the two vectors of a pool's part were parsed in order, the part was parsed
 pool_read : (blocked : Vector) (bound : Bound) (text at_blocked at_bound remaining rest : List ℕ) → text ≡ first_key (codes "blocked") ++ at_blocked → BeginsAs at_blocked (vector_data blocked) at_bound
     → at_bound ≡ bound_text bound ++ remaining → remaining ≡ 125 ∷ rest → BeginsAs text (bounded_data (vector_data blocked) bound) rest
 unfolding bounded_data serde_json_on_literals

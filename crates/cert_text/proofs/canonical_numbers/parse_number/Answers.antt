@@ -7,7 +7,7 @@ use Rattle.cert_text.proofs.canonical_numbers.parse_number.Goals as goal
 one_digit : (text remaining : List ℕ) (digit : ℕ) → text ≡ (48 + digit) ∷ remaining → digit < 10 → text ≡ decimal digit ++ remaining
 one_digit text remaining digit read small = read ∙ ap (λ (t : List ℕ). t ++ remaining) (sym (decimal_digit digit small))
 
--- the digits read until now, followed by one more digit, are the decimal digits of the new value
+-- the digits read so far, followed by one more digit, are the decimal digits of the new value
 more_digits : (text rest remaining : List ℕ) (value digit : ℕ) → text ≡ decimal value ++ rest → rest ≡ (48 + digit) ∷ remaining → digit < 10 → 1 ≤ value → value ≤ MAX_WEIGHT → text ≡ decimal (value * 10 + digit) ++ remaining
 more_digits text rest remaining value digit read here small some within =
     let prefix : (value * 10 + digit) / 10 ≡ value = omega arith in
