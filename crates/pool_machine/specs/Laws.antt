@@ -35,8 +35,8 @@ pub record LoadIsOffered : Type 0 where
   pub by_finish : (pool : PoolView) → load (finished pool) ≡ load pool
   pub by_retire : (pool after : PoolView) → retired pool ≡ Some after → load after < load pool
 
--- when operations fail: the pool refuses a job exactly when its queue is full and it has its maximum of threads; no job is taken exactly
--- when no worker is idle or the queue is empty; no worker ends exactly when none is idle or the pool has at most core threads
+-- when operations fail: the pool refuses a job exactly when its queue is full and it has its maximum of threads; a take fails exactly when
+-- no worker is idle or the queue is empty; a retirement fails exactly when no worker is idle or the pool has at most core threads
 pub record FailureConditions (pool : PoolView) : Type 0 where
   pub refuses : answer pool ≡ Refused ↔ (length pool.queue ≡ pool.capacity) × (pool.threads ≡ pool.max)
   pub takes_none : taken pool ≡ None ↔ (pool.idle ≡ 0) ⊎ (pool.queue ≡ [])

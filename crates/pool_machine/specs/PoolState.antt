@@ -15,7 +15,7 @@ pub record PoolView : Type 0 where
   pub idle : ℕ
   pub queue : List ℕ
 
--- the pool at first: core idle workers if they are prestarted, otherwise no threads, and an empty queue
+-- the pool at first, with an empty queue: it has core idle workers if they are prestarted, and otherwise no threads
 abbrev pub new_pool : Pool → PoolView
 new_pool pool = record { core = pool.core; max = pool.max; capacity = pool.queue; threads = first_workers pool; idle = first_workers pool; queue = [] }
 

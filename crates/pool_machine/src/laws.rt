@@ -18,24 +18,24 @@ pub fn pools_stay_sound()
     ensures kept { IsInvariant IsSound }
 {}
 
-/// Proves that a pool with a queued job has at least core threads. The reason is that a pool queues
-/// a job only if it has at least core threads, and core threads never end.
+/// Proves that a pool with a queued job has at least core threads. A pool queues a job only if it
+/// has at least core threads, and core threads never end.
 pub fn queues_only_at_core()
     ensures start { (pool : Pool) → QueuesOnlyAtCore (new_pool pool) }
     ensures kept { IsInvariant QueuesOnlyAtCore }
 {}
 
 /// Proves that only an offer increases the load of a pool (its threads plus its queued jobs), by at
-/// most 1. The load of a new pool is the number of its prestarted threads. Therefore, before a pool
-/// refuses a job, at least as many jobs were offered to it as its capacity plus its maximum, minus
-/// its prestarted threads.
+/// most 1. The load of a new pool is the number of its prestarted threads. So before a pool refuses
+/// a job, the number of jobs that were offered to it is at least its capacity plus its maximum,
+/// minus its prestarted threads.
 pub fn load_is_offered()
     ensures { LoadIsOffered }
 {}
 
 /// Proves when an operation of a pool fails. The pool refuses a job exactly when its queue is full
-/// and it has its maximum of threads. No job is taken exactly when no worker is idle or the queue
-/// is empty. No worker ends exactly when no worker is idle or the pool has at most core threads.
+/// and it has its maximum of threads. A take fails exactly when no worker is idle or the queue is
+/// empty. A retirement fails exactly when no worker is idle or the pool has at most core threads.
 pub fn failure_conditions()
     ensures { (pool : PoolView) → IsSound pool → FailureConditions pool }
 {}

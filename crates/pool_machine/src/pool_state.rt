@@ -141,8 +141,8 @@ impl PoolState {
     }
 
     /// Ends an idle worker if the pool has more than core threads, whether or not jobs are queued.
-    /// Returns whether a worker ended. If none is idle, or the pool has at most core threads, the
-    /// pool is unchanged. Allocates no memory.
+    /// Returns whether a worker ended. If no worker is idle, or the pool has at most core threads,
+    /// the pool is unchanged. Allocates no memory.
     pub fn retire(&mut self) -> bool
         ensures ended { OnTrue result (retired self.old ≡ Some self.new) }
         ensures nothing { OnFalse result (retired self.old ≡ None) }
@@ -157,7 +157,7 @@ impl PoolState {
     }
 
     /// Returns the core pool size: 1 to the maximum. While the pool has fewer threads, each offered
-    /// job starts a new one.
+    /// job starts a new thread.
     pub fn core(&self) -> u64
         ensures { result ≡ self.now.core }
     {
