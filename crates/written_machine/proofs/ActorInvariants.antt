@@ -24,7 +24,7 @@ is_after plan s (parent.Job j) body i i' stands =
     let inside = standing_made plan s j body i stands in
     omega (arith, length-moved s (parent.Job j) i')
 
--- a get does not name a position whose action is not a submit
+-- in a valid body, a get never names a position whose action is not a submit
 pub no_get : (plan : Plan) (body : List Action) (i g : ℕ) (there : Action) → IsValidBody plan body → slice_get body i ≡ Some there → submits (Some there) ≡ false → slice_get body g ≡ Some (action.Get i) → ⊥
 no_get plan body i g there valid is_there no_submit is_get = false≢true (sym no_submit ∙ ap submits (sym is_there) ∙ valid.of_submit g i is_get)
 

@@ -43,7 +43,7 @@ point_same plan s s' (parent.Job j) jobs clients = ap (λ (xs : List CreatedJob)
 same_standing : (plan : Plan) (job job' : CreatedJob) (body : List Action) (i : ℕ) → job' ≡ job → point_of_job plan job'.class job'.stage ≡ Some (record { body = body; position = i }) → point_of_job plan job.class job.stage ≡ Some (record { body = body; position = i })
 same_standing plan job job' body i same stands = ap (λ (x : CreatedJob). point_of_job plan x.class x.stage) (sym same) ∙ stands
 
--- a job that did not change and is at position i afterwards has the stage for this position, and the body of its class
+-- if a job did not change and is at position i, it has the stage of this position, and its body is that of its class
 stands_as : (plan : Plan) (job job' : CreatedJob) (body : List Action) (i : ℕ) → job' ≡ job → point_of_job plan job'.class job'.stage ≡ Some (record { body = body; position = i }) → (job.stage ≡ Stage.At i) × (body ≡ (class_at plan job.class).body)
 stands_as plan job job' body i same stands = stage_of_standing plan job.class job.stage body i (same_standing plan job job' body i same stands)
 
@@ -102,7 +102,7 @@ job_staged plan s j stage n body i stands =
       | inr other ↦ inr (λ same. other (same_job n j same), same_standing plan (job_at s n) (get_or jobs n no_job) body i (get_or-staged_other s.jobs j stage n no_job other) stands)
     ]
 
--- after the stage of a job changed, it is at the position of the new stage, and all other actors are at their old positions
+-- after the stage of a job changed, the job is at the position of the new stage, and all other actors are at their old positions
 pub standing-staged : (plan : Plan) (s : State) (j : ℕ) (stage : Stage) (a : Parent) (body : List Action) (i : ℕ) → IsAtPosition plan (with_stage j stage s) a body i
     → ((a ≡ parent.Job j) × (stage ≡ Stage.At i) × (body ≡ (class_at plan (job_at s j).class).body)) ⊎ ((a ≢ parent.Job j) × IsAtPosition plan s a body i)
 standing-staged plan s j stage (parent.Client c) body i stands = inr (Client≢Job c j, stands)

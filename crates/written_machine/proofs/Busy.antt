@@ -18,7 +18,7 @@ one_if b = cond b 1 0
 
 -- ---- one job
 
--- whether a job runs in a pool is unchanged if its old and new stages are both positions, or both are not
+-- a new stage of a job does not change whether the job runs in a pool if both stages are positions, or neither is
 pub busy_in-as : (plan : Plan) (p : ℕ) (job : CreatedJob) (stage : Stage) → is_at stage ≡ is_at job.stage → is_busy_in plan p (record job { stage = stage }) ≡ is_busy_in plan p job
 busy_in-as plan p job stage same = ap (λ (b : Bool). b && eqb (pool_of plan job.class) p) same
 
@@ -40,7 +40,7 @@ busy_in_own plan p job of_pool = ap (λ (b : Bool). is_at job.stage && b) (eq-eq
 pub busy-staged_same : (plan : Plan) (jobs : List CreatedJob) (j : ℕ) (stage : Stage) (p : ℕ) → is_busy_in plan p (record (get_or jobs j no_job) { stage = stage }) ≡ is_busy_in plan p (get_or jobs j no_job) → busy_jobs plan (staged jobs j stage) p ≡ busy_jobs plan jobs p
 busy-staged_same plan jobs j stage p same = count-staged (is_busy_in plan p) jobs j stage same
 
--- the number of running jobs is unchanged in each pool other than that of the job
+-- the number of running jobs of each pool other than the job's own is unchanged
 pub busy-staged_elsewhere : (plan : Plan) (jobs : List CreatedJob) (j : ℕ) (stage : Stage) (p : ℕ) → pool_of plan (get_or jobs j no_job).class ≢ p → busy_jobs plan (staged jobs j stage) p ≡ busy_jobs plan jobs p
 busy-staged_elsewhere plan jobs j stage p other =
     let job = get_or jobs j no_job in

@@ -39,7 +39,7 @@ kept_works plan s a body i u ordered kept at =
     kept_moved plan s a body i (i + 1) kept at.stands
     (actor_passes plan s.jobs a body i (action.Work u) (valid_point plan s a body i ordered at.stands) (kept.actors a body i at.stands) at.is_there refl)
 
--- a refusal increases only the number of refusals
+-- a refusal preserves the invariant, because it changes only the number of refusals
 kept_refuses : (plan : Plan) (s : State) → StateInvariant plan s → StateInvariant plan (record s { refusals = s.refusals + 1 })
 kept_refuses plan s kept = record {
   classes = kept.classes;

@@ -1,4 +1,5 @@
--- Proofs that a pool has at most as many threads and queued jobs in total as jobs were created for it, plus its prestarted threads.
+-- Proofs of a bound: the number of threads and queued jobs of a pool is at most the number of jobs that were created for the pool, plus its
+-- prestarted threads.
 use Rattle.std.proofs.Common.{◌≡◌, ℕ, suc, ◌+◌, ◌<◌, ◌≤◌, eqb, List, [], ◌∷◌, ◌++◌, length, Some, None, sym, ap, subst, refl, ◌∙◌, Bool, true, false, ◌&&◌, arith}
 use Rattle.std.specs.List.{count_by}
 use Rattle.std.proofs.lemmas.Bool.{eq-eqb, and_left}

@@ -14,7 +14,7 @@ use Rattle.written_machine.proofs.Children.{maker_of, child_is}
 use Rattle.written_machine.proofs.Reached.{kept}
 use Rattle.written_machine.proofs.ReachedLaws.{child_at_get}
 
--- a member that waits only for members waits for them loosely: a member at a get has the get at its own position
+-- a member that waits only for members also waits for them loosely; if it is at a get, that get is at its position
 waits_loosely : (plan : Plan) (s : State) (members : List ℕ) (j : ℕ) (stage : Stage) → HasValidBodies plan → StateInvariant plan s → (job_at s j).stage ≡ stage → WaitsAtStage plan s members j stage → WaitsLoosely plan s members j stage
 waits_loosely plan s members j Stage.Queued ordered kept is_stage waits = waits
 waits_loosely plan s members j (Stage.At i) ordered kept is_stage waits =

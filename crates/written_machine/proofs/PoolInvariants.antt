@@ -10,7 +10,7 @@ use Rattle.written_machine.proofs.StateInvariant.{PoolInvariant, places, busy_jo
 pub same_pool : (pool : Pool) (part part' : PoolPart) (ns ns' : List ℕ) (busy busy' : ℕ) → part' ≡ part → ns' ≡ ns → busy' ≡ busy → PoolInvariant pool part ns busy → PoolInvariant pool part' ns' busy'
 same_pool pool part part' ns ns' busy busy' same_part same_places same_busy kept = rw (same_part, same_places, same_busy) kept
 
--- a pool still satisfies the invariant if one more job runs in it and it had room for a thread
+-- a pool that had room for a thread still satisfies the invariant after one more job runs in it
 pub started_pool : (pool : Pool) (part : PoolPart) (ns : List ℕ) (busy : ℕ) (here : Bool) → PoolInvariant pool part ns busy → (here ≡ true → part.idle + busy < pool.max) → PoolInvariant pool part ns (busy + cond here 1 0)
 started_pool pool part ns busy true kept room =
     let below = room refl in

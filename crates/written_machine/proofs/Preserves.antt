@@ -42,7 +42,7 @@ same_pool_twice plan s s₁ s₂ p one two = record {
   were_busy = λ n at_work. one.were_busy n (two.were_busy n at_work);
 }
 
--- a new stage of a job preserves each pool in which the job runs afterwards exactly when it ran before
+-- if a job runs in a pool after a new stage exactly when it did before, the new stage preserves the pool
 same_pool-staged : (plan : Plan) (s : State) (m : ℕ) (stage : Stage) (p : ℕ) → m < length s.jobs → is_busy_in plan p (record (job_at s m) { stage = stage }) ≡ is_busy_in plan p (job_at s m) → SamePool plan s (with_stage m stage s) p
 same_pool-staged plan s m stage p inside same =
     let job : CreatedJob = record (job_at s m) { stage = stage } in
@@ -95,7 +95,8 @@ module _ (plan : Plan) (members : List ℕ) (among : ℕ → Type 0) where
     pools = λ p is_among. same_pool_twice plan s s₁ s₂ p (first.pools p is_among) (second.pools p is_among);
   }
 
-  -- a new queue and new idle workers of pool q preserve the members and pools if no pool in `among` has other idle workers afterwards
+  -- a new queue and new idle workers of pool q preserve the members and pools if they do not change the number of idle workers of a pool in
+  -- `among`
   pub leaves-part : (s : State) (q : ℕ) (queue : List ℕ) (idle : ℕ) → ((p : ℕ) → among p → (pool_part (with_part q queue idle s) p).idle ≡ (pool_part s p).idle) → Preserves plan members among s (with_part q queue idle s)
   leaves-part s q queue idle same = record {
     jobs = λ j member. refl;
@@ -108,7 +109,8 @@ module _ (plan : Plan) (members : List ℕ) (among : ℕ → Type 0) where
   leaves-clients s clients refusals =
       record { jobs = λ j member. refl; children = λ j t member. refl; pools = λ p is_among. record { idle = refl; busy_as_many = refl; were_busy = λ n at_work. at_work } }
 
-  -- a new stage of a job that is no member preserves the members and pools if the job runs in pools in `among` exactly when it did before
+  -- a new stage of a job that is not a member preserves the members and pools if the job runs in pools in `among` exactly when it did
+  -- before
   pub leaves-staged : (s : State) (m : ℕ) (stage : Stage) → m < length s.jobs → ¬ IsMember members m → ((p : ℕ) → among p → is_busy_in plan p (record (job_at s m) { stage = stage }) ≡ is_busy_in plan p (job_at s m)) → Preserves plan members among s (with_stage m stage s)
   leaves-staged s m stage inside outside same = record {
     jobs = λ j member. get_or-staged_other s.jobs m stage j no_job (λ (itself : j ≡ m). outside (rw itself at member));

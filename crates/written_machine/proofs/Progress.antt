@@ -104,7 +104,7 @@ can_go_at plan s n i (Some (action.Work u)) ordered kept at is_there free = can_
 can_go_at plan s n i (Some (action.Submit k)) ordered kept at is_there free = can_act plan s n i (Some (action.Submit k)) at is_there refl
 can_go_at plan s n i (Some (action.Get t)) ordered kept at is_there free = can_get plan s n i t ordered kept at is_there free
 
--- the pool of a queued job that does not wait has an idle worker, which can take the head of the queue
+-- if a queued job does not wait only for unfinished jobs, its pool has an idle worker, which can take the head of the queue
 can_go_queued : (plan : Plan) (s : State) (n : ℕ) → HasValidBodies plan → StateInvariant plan s → (job_at s n).stage ≡ Stage.Queued → waits_at_stage plan s (unfinished s) n (job_at s n).class Stage.Queued ≡ false → CanProgress plan s
 can_go_queued plan s n ordered kept queued free =
     let p = pool_of plan (job_at s n).class in

@@ -78,7 +78,7 @@ queued_in_queue plan s j ordered kept queued = length-In (pool_part s (pool_of p
 
 -- ---- the queues after a change of the jobs
 
--- a new stage of a job does not change any queue if both its old and its new stage are queued, or both are not
+-- a new stage of a job does not change any queue if its old and its new stage are both queued, or neither is
 pub places-staged : (plan : Plan) (jobs : List CreatedJob) (j : ℕ) (stage : Stage) (p : ℕ) → is_queued stage ≡ is_queued (get_or jobs j no_job).stage → places plan (staged jobs j stage) p ≡ places plan jobs p
 places-staged plan jobs j stage p same =
     places_where-set_same (is_queued_in plan p) jobs j (record (get_or jobs j no_job) { stage = stage }) no_job (ap (λ (b : Bool). b && eqb (pool_of plan (get_or jobs j no_job).class) p) same)

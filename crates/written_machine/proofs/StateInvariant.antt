@@ -19,7 +19,7 @@ pub record HasChild (jobs : List CreatedJob) (a : Parent) (t k : ℕ) : Type 0 w
   pub unclaimed : (get_or jobs number no_job).stage ≢ Stage.Claimed
   pub later : HasGreaterNumber a number
 
--- the invariant of an actor at position i: for each later get of a submit before i, the job exists for which the get waits
+-- the invariant of an actor at position i: for each later get of a submit before i, the job for which that get waits exists
 pub record ActorInvariant (jobs : List CreatedJob) (a : Parent) (body : List Action) (i : ℕ) : Type 0 where
   pub inside : i ≤ length body
   pub ready : (g t : ℕ) → i ≤ g → t < i → slice_get body g ≡ Some (action.Get t) → HasChild jobs a t (submitted_class body t)

@@ -75,7 +75,7 @@ after plan events ask = option_map ask (replay plan (Some (start plan)) events)
 abbrev ends : State → ℕ × ℕ
 ends s = (s.refusals, count_by (λ job. is_unfinished job.stage) s.jobs)
 
--- the events of each replay that are possible
+-- the possible events of each replay
 abbrev two_clients_refused-events : List Event
 two_clients_refused-events = event.Client 0 ∷ event.Job 0 ∷ event.Job 0 ∷ event.Client 0 ∷ event.Client 0 ∷ event.Client 0 ∷ event.Client 1 ∷ []
 

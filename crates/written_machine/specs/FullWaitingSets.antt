@@ -29,7 +29,7 @@ pub record StaysFull (plan : Plan) (s s' : State) (members : List ℕ) : Type 0 
   pub still : IsFullWaitingSet plan s' members
   pub unmoved : (j : ℕ) → IsMember members j → job_at s' j ≡ job_at s j
 
--- after any list of events, a full waiting set is still one, and its members are unchanged
+-- after any list of events, a full waiting set is still a full waiting set, and its members are unchanged
 abbrev pub FullWaitingSetsStay : Type 0
 FullWaitingSetsStay = (plan : Plan) (s s' : State) (events : List Event) (members : List ℕ) → IsWellFormed plan → IsReached plan s → IsFullWaitingSet plan s members
     → replay plan (Some s) events ≡ Some s' → StaysFull plan s s' members

@@ -50,6 +50,6 @@ GetsHaveChildren = HoldsWhereReached (λ plan s. (a : Parent) (body : List Actio
 abbrev pub WaitingSetsAreTested : Type 0
 WaitingSetsAreTested = (plan : Plan) (s : State) (members : List ℕ) → IsTrue (is_waiting_set plan s members) ↔ IsWaitingSet plan s members
 
--- each waiting set is a loose one
+-- each waiting set of a reachable state is a loose waiting set
 abbrev pub WaitingSetsAreLoose : Type 0
 WaitingSetsAreLoose = HoldsWhereReached (λ plan s. (members : List ℕ) → IsWaitingSet plan s members → IsLooseWaitingSet plan s members)

@@ -7,8 +7,8 @@ use Rattle.written_machine.specs.State.{Stage, State, job_at}
 use Rattle.written_machine.specs.State.Stage.{Queued, At}
 use Rattle.written_machine.specs.Waiting.{IsMember, WaitsInQueue}
 
--- the job at position i of its body created a member of the set, and its body has a get of a job of that member's class at
--- position i or later
+-- job j, which is at position i of its body, created a member of the set; at position i or later, its body has a get of a job of that
+-- member's class
 pub record WaitsForChild (plan : Plan) (s : State) (members : List ℕ) (j i : ℕ) : Type 0 where
   pub child_number : ℕ
   pub is_child : (job_at s child_number).parent ≡ parent.Job j

@@ -1,4 +1,4 @@
--- Waiting sets: sets of jobs that wait only for their own members (Java Concurrency in Practice, 8.1.1, for any number of pools).
+-- Waiting sets: sets of jobs, in any number of pools, that wait only for their own members.
 use Rattle.std.specs.Prelude.{◌≡◌, ℕ, ◌==◌, ◌&&◌, not, Bool, true, false, IsTrue, List, [], ◌∷◌, Option, Some, None, slice_get}
 use Rattle.std.specs.List.{list_all, list_any}
 use Rattle.support.specs.Places.{places_where}

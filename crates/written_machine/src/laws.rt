@@ -17,16 +17,16 @@ pub fn pools_keep_their_sizes()
 {}
 
 /// Proves that, in every reachable state of a well-formed plan, a pool with a queued job has at
-/// least core threads. The reason is that a pool queues a job only if it has at least core threads,
-/// and core threads never end.
+/// least core threads. A pool queues a job only if it has at least core threads, and core threads
+/// never end.
 pub fn queues_only_at_core()
     ensures { QueuesOnlyAtCore }
 {}
 
-/// Proves that, in every reachable state of a well-formed plan, the job exists for which an actor
-/// at a get waits. It is the latest job that the actor created at the submit that the get names.
-/// The class of the job is the one that the submit names, and no get has returned its result yet.
-/// If the actor is a job, its number is smaller than that of the other job.
+/// Proves that, in every reachable state of a well-formed plan, an actor at a get has created the
+/// job for which it waits: the latest job that it created at the submit that the get names. That
+/// job has the class that the submit names, and no get has returned its result yet. If the actor is
+/// also a job, it has a smaller number than that job.
 pub fn gets_have_children()
     ensures { GetsHaveChildren }
 {}
@@ -50,19 +50,20 @@ pub fn full_waiting_sets_stay()
     ensures { FullWaitingSetsStay }
 {}
 
-/// Proves that, in every reachable state of a well-formed plan, each pool with a queued member of a
-/// waiting set has its maximum of threads, if core equals the maximum in all these pools.
+/// Proves that, in every reachable state of a well-formed plan, if core equals the maximum in each
+/// pool with a queued member of a waiting set, these pools have their maximum of threads.
 pub fn fixed_pools_are_full()
     ensures { FixedPoolsAreFull }
 {}
 
-/// Proves that, in every reachable state of a well-formed plan, a pool has at most as many threads
-/// and queued jobs in total as jobs were created for it, plus its prestarted threads.
+/// Proves that, in every reachable state of a well-formed plan, the number of threads and queued
+/// jobs of a pool is at most the number of jobs that were created for it, plus its prestarted
+/// threads.
 pub fn threads_have_jobs()
     ensures { ThreadsHaveJobs }
 {}
 
-/// Proves that a pool refuses a job only if the number of jobs that were created for it before,
+/// Proves that when a pool refuses a job, the number of jobs that were created for the pool so far,
 /// plus its prestarted threads, is at least its queue capacity plus its maximum.
 pub fn refusals_need_jobs()
     ensures { RefusalsNeedJobs }
