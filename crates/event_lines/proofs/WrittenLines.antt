@@ -78,11 +78,12 @@ members_written (n ∷ members) valid =
     let parts = and_parts (is_valid_number n) (list_all is_valid_number members) valid in
     rw (number_written n parts.0, members_written members parts.1) refl
 
--- a space and the joined digits of the numbers are the digits of each number with a space before it
+-- a space followed by the digits of the numbers, joined with spaces, is the digits of each number with a space before them
 behind_stuck : (n : ℕ) (members : List ℕ) → 32 ∷ join_with_byte 32 (map decimal (n ∷ members)) ≡ flat_map (λ m. 32 ∷ decimal m) (n ∷ members)
 behind_stuck n members = joined_after 32 (decimal n) (map decimal members) ∙ flat_map-map (λ x. 32 ∷ x) decimal (n ∷ members)
 
--- a text whose words are the digits of these numbers is, after a space, the end of the text of the question
+-- if the words of a text are the digits of these numbers, there is a number, and a space followed by the text is the digits of each number
+-- with a space before them
 words_read : (rest : List ℕ) (members : List ℕ) → words_of rest ≡ map decimal members → (nat_le 1 (length members) ≡ true) × (32 ∷ rest ≡ flat_map (λ m. 32 ∷ decimal m) members)
 unfolding words_of
 words_read rest [] same = absurd (omega (arith, length-slice_split is_space rest, ap (λ (ws : List (List ℕ)). length ws) same))
@@ -102,11 +103,11 @@ words_written n members valid =
     ap (cut_at 32) (sym same) ∙ cut_joined 32 (decimal n) (map decimal members) (digits_without_space (n ∷ members) valid)
 
 -- ---- a verb and the text after it
--- the verb and the text after it are the text of the event, which is valid
+-- the event is valid, and its text is the verb, a space and `rest`
 abbrev IsEventText : Plan → List ℕ → List ℕ → Event → Type 0
 IsEventText plan verb rest event = (is_valid_event plan event ≡ true) × (verb ++ 32 ∷ rest ≡ event_text plan event)
 
--- the verb and the text after it are the text of the line, which is valid
+-- the line is valid, and its text is the verb, a space and `rest`
 abbrev IsLineText : Plan → List ℕ → List ℕ → Line → Type 0
 IsLineText plan verb rest line = (is_valid_line plan line ≡ true) × (verb ++ 32 ∷ rest ≡ line_text plan line)
 

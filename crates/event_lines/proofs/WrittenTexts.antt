@@ -100,7 +100,7 @@ texts_read plan [] [] read = (refl, inl refl)
 texts_read plan [] (line ∷ lines) read = absurd cc
 texts_read plan (b ∷ text) lines read = read_lines_are_text plan (b ∷ text) lines (omega arith) read
 
--- a text that is not empty parses as these valid lines if, without its last newline, it is their joined text
+-- a text that is not empty parses as these valid lines if it is their joined text, apart from a newline at its end
 read_back : (plan : Plan) (text : List ℕ) (line : Line) (lines : List Line) → are_distinct (pool_names plan) ≡ true → list_all has_plain_name plan.pools ≡ true → list_all (is_valid_line plan) (line ∷ lines) ≡ true
     → 0 < length text → without_last_newline text ≡ joined plan (line ∷ lines) → event_lines plan text ≡ Ok (line ∷ lines)
 unfolding event_lines

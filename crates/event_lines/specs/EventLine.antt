@@ -21,11 +21,11 @@ abbrev pub line_seen : EventLine → Line
 line_seen (code.Perform e) = Perform e
 line_seen (code.Stuck members) = Stuck members
 
--- the index of the pool with this name; None if no pool has it
+-- the index of the pool with this name, or None if no pool has this name
 unfoldable pub pool_named : Plan → List ℕ → Option ℕ
 pool_named plan name = position (λ pool. bytes_eq pool.name name) plan.pools
 
--- the event of a line with this verb, given the text after the verb and its space; None if they are not those of an event
+-- the event of a line with this verb, given the text after the verb and its space; None if the line is not an event
 unfoldable pub event_of : Plan → List ℕ → List ℕ → Option Event
 event_of plan verb rest =
     if bytes_eq verb (codes "client") then option_map (λ n. event.Client n) (number_of rest)
@@ -34,7 +34,7 @@ event_of plan verb rest =
     else (if bytes_eq verb (codes "retire") then option_map (λ p. event.Retire p) (pool_named plan rest)
     else None)))
 
--- the question about the jobs with these numbers, which single spaces separate; None if a word is not a number
+-- the question about the jobs with these numbers, which are separated by single spaces; None if a word is not a number
 unfoldable pub stuck_of : List ℕ → Option Line
 stuck_of rest = option_map Stuck (members_in rest)
 
@@ -51,7 +51,7 @@ line_of plan text = option_and_then (λ words. line_of_verb plan words.0 words.1
 abbrev pub split_event_line : Plan → List ℕ → Option (Line × List ℕ)
 split_event_line plan text = option_map (λ line. (line, after_line text)) (line_of plan (first_line text))
 
--- the content of the line at this index; its number, counted from 1, if it is malformed
+-- the content of the line at this index; if it is malformed, the line's number, counted from 1
 abbrev pub line_at : Plan → ℕ → List ℕ → Result Line ℕ
 line_at plan place text = ok_or (line_of plan text) (place + 1)
 
@@ -70,6 +70,6 @@ line_read (Err bad) = None
 abbrev pub lines_read : Plan → List ℕ → List (Option Line)
 lines_read plan text = map (line_of plan) (lines_of text)
 
--- the contents of all lines, or the number of the first malformed line, counted from 1, if the first of these lines has index i
+-- the contents of all lines, of which the first has index i, or the number of the first malformed line, counted from 1
 abbrev pub all_from : ℕ → List (Option Line) → Result (List Line) ℕ
 all_from i lines = read_each (λ place line. ok_or line (place + 1)) i lines

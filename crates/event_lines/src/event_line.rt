@@ -23,8 +23,8 @@ pub enum EventLine<'a> {
 /// Parses the first line of a text. Returns its content and the text after the line, or `None` if
 /// the line is malformed.
 ///
-/// Most lines name a job or a client. Such a line is parsed only up to the end of its number,
-/// without a search for the newline.
+/// Most lines name a job or a client by its number. The parser of such a line stops at the end of
+/// the number, and does not search for the newline first.
 #[inline(always)]
 pub(crate) fn split_event_line<'a>(plan: &Plan, text: &'a [u8]) -> Option<(EventLine<'a>, &'a [u8])>
     ensures { option_map (λ read. (line_seen read.0, read.1.now)) result
@@ -42,9 +42,9 @@ pub(crate) fn split_event_line<'a>(plan: &Plan, text: &'a [u8]) -> Option<(Event
     Some((parse_other_line(plan, line)?, behind))
 }
 
-/// Returns the text after the prefix `client `, or `None` if the text does not have it. Compares
-/// the prefix in two parts, because a comparison of seven bytes compiles to vector instructions, at
-/// twice the cost.
+/// Returns the text after the prefix `client `, or `None` if the text does not begin with it.
+/// Compares the prefix in two parts: a comparison of all seven bytes compiles to vector
+/// instructions, which cost twice as much.
 #[inline(always)]
 fn strip_client(text: &[u8]) -> Option<&[u8]>
     ensures { MatchOption result ((rest : List ℕ) → text.now ≢ codes "client " ++ rest)

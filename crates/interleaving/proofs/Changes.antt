@@ -22,7 +22,7 @@ use Rattle.interleaving.proofs.View.{seen, phase_with, job_seen-with, length-vie
 abbrev pub as_seen : CreatedJob → Phase → JobView
 as_seen job phase = record { class = job.class; parent = job.parent; slot = job.slot; phase = phase }
 
--- the live view of job n is unchanged if the job, the latest job of its submit, and whether its parent may still get it are unchanged
+-- the live view of job n depends only on the job, on the latest job of its submit, and on whether its parent may still get it
 pub seen_same : (s s' : State) (n : ℕ) → job_at s' n ≡ job_at s n → may_get s' (job_at s n).parent ≡ may_get s (job_at s n).parent
     → child s' (job_at s n).parent (job_at s n).slot ≡ child s (job_at s n).parent (job_at s n).slot → seen s' n ≡ seen s n
 seen_same s s' n same asks latest =

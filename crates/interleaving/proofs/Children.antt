@@ -30,7 +30,7 @@ not_child_with : (a : Parent) (t : ℕ) (job : CreatedJob) (o : Option Phase) �
 not_child_with a t job None none = refl
 not_child_with a t job (Some phase) none = none
 
--- the latest job of an actor at a position is also its latest job in the view, if it is live
+-- the latest job of an actor at a position, if it is live, is also the actor's latest job there in the view
 pub live_child_is : (plan : Plan) (s : State) (a : Parent) (t j : ℕ) (phase : Phase) → child s a t ≡ Some j → phase_seen s j (job_at s j) (job_at s j).stage ≡ Some phase → live_child (live_view plan s).jobs a t ≡ Some j
 live_child_is plan s a t j phase e live =
     let last = latest s a t j e in
@@ -54,7 +54,7 @@ live_if_done s j job asks e =
     let answers = and_from (may_get s job.parent) (is_number (child s job.parent job.slot) j) asks (ap (λ o. is_number o j) e ∙ eq-eqb j j refl) in
     if_true (may_get s job.parent && is_number (child s job.parent job.slot) j) phase.Done answers
 
--- the latest job of a submit is live unless it is claimed, if its parent may still get it
+-- if the parent of the latest job of a submit may still get it, the job is live unless it is claimed
 is_live : (s : State) (j : ℕ) (job : CreatedJob) (stage : Stage) → may_get s job.parent ≡ true → child s job.parent job.slot ≡ Some j → stage ≢ Claimed → (phase : Phase) × (phase_seen s j job stage ≡ Some phase)
 is_live s j job Queued asks e unclaimed = (phase.Queued, refl)
 is_live s j job (At i) asks e unclaimed = (phase.At i, refl)
@@ -72,7 +72,7 @@ child_seen plan s a t j asks e unclaimed =
     let live = child_live s a t j asks e unclaimed in
     live_child_is plan s a t j live.0 e live.1
 
--- the latest job of a submit, if it is done and its parent may still get it, has the phase done in the view
+-- if the latest job of a submit is done and its parent may still get it, its phase in the view is done
 pub done_seen : (s : State) (a : Parent) (t j : ℕ) → may_get s a ≡ true → child s a t ≡ Some j → (job_at s j).stage ≡ Done → seen s j ≡ Some (as_seen (job_at s j) phase.Done)
 done_seen s a t j asks e done =
     let job = job_at s j in

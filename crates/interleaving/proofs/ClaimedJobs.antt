@@ -1,4 +1,4 @@
--- Every event keeps the property that only the latest job of a submit with a get can be unclaimed.
+-- Every event preserves a property of the jobs of a submit with a get: only the latest of them can be unclaimed.
 use Rattle.std.proofs.Common.{◌≡◌, ◌≢◌, ℕ, ◌+◌, ◌<◌, ◌≤◌, true, ⊎_elim, List, [], ◌∷◌, ◌++◌, length, get_or, slice_get, Some, None, refl, sym, ap, subst, ◌∙◌, arith, length-set}
 use Rattle.std.proofs.lemmas.Bool.{cases_lt, cases_eq}
 use Rattle.std.proofs.lemmas.List.{length_push, get_or_push, get_or_append_left}
@@ -80,7 +80,7 @@ length-clients : (s : State) (a : Parent) (i' : ℕ) → length (moved_clients a
 length-clients s (parent.Client c) i' = length-set s.clients c (record (client_state s c) { position = i' })
 length-clients s (parent.Job j) i' = refl
 
--- an actor that is at a position of its body is not a queued job, also after a move
+-- an actor that is at a position of its body is not a queued job, and is none after a move
 moved_going : (plan : Plan) (s : State) (a : Parent) (body : List Action) (i i' : ℕ) → point plan s a ≡ Some (record { body = body; position = i }) → (n : ℕ) → a ≡ parent.Job n → (get_or (moved_jobs a i' s) n no_job).stage ≢ Queued
 moved_going plan s (parent.Client c) body i i' stands n e queued = absurd cc
 moved_going plan s (parent.Job j) body i i' stands n e queued =

@@ -19,7 +19,7 @@ pub rising_ends : (n : ℕ) (kinds : List Client) → IsRising n (ends_from n ki
 rising_ends n [] = tt
 rising_ends n (kind ∷ kinds) = (omega arith, rising_ends (n + kind.count) kinds)
 
--- `starting`, for the ends of the client kinds, is the list of the clients of these kinds at their start
+-- `starting`, applied to the ends of the client kinds, is the list of the clients of these kinds at their start
 pub starting_ends : (k n : ℕ) (kinds : List Client) → starting k n (ends_from n kinds) ≡ flat_map new_clients (enumerate_from k kinds)
 starting_ends k n [] = refl
 starting_ends k n (kind ∷ kinds) =
@@ -37,7 +37,7 @@ slice_get-replicate_right : {X : Type 0} (m i : ℕ) (x : X) (ys : List X) → s
 slice_get-replicate_right zero i x ys = let same : 0 + i ≡ i = omega arith in ap (slice_get ys) same
 slice_get-replicate_right (suc m) i x ys = let same : suc m + i ≡ suc (m + i) = omega arith in ap (slice_get (replicate (suc m) x ++ ys)) same ∙ slice_get-replicate_right m i x ys
 
--- the client with number c belongs to kind k if c is not below the first k ends and is below all others
+-- if the first k ends are at most c and all others are above c, the client with number c belongs to the kind at index k
 start_at : (kind n : ℕ) (ends : List ℕ) (c k : ℕ) → IsRising n ends → n ≤ c → k ≤ length ends → ((i : ℕ) → i < k → get_or ends i 0 ≤ c) → ((i : ℕ) → k ≤ i → i < length ends → c < get_or ends i 0)
     → slice_get (starting kind n ends) (c - n) ≡ option_map (λ end. record { kind = kind + k; position = 0 }) (slice_get ends k)
 start_at kind n [] c k rising low inside below above = refl
@@ -164,7 +164,7 @@ none_there [] k none = omega arith
 none_there (client ∷ clients) zero none = absurd cc
 none_there (client ∷ clients) (suc k) none = let past = none_there clients k none in omega (arith, past)
 
--- the clients in the list `clients`, of which those that have a state in `at` have moved
+-- `at` has the states of the clients that have moved, and `clients` those of all clients at their start
 module _ (at : ℕ → Option ClientState) (clients : List ClientState) (k : ℕ) where
   -- the state of client k is its stored state, if it has one
   pub moved_found : (client : ClientState) → at k ≡ Some client → k < length clients → slice_get (standing at 0 clients) k ≡ Some client
@@ -202,7 +202,7 @@ module _ (at : ℕ → Option ClientState) (clients : List ClientState) (k : ℕ
     pub goes_on : is_some (at k) ≡ true → ((client : ClientState) → at k ≡ Some client → k < length clients) → standing after 0 clients ≡ set (standing at 0 clients) k (at_position i (client_of (standing at 0 clients) k))
     goes_on some inside = goes_as (at k) refl some inside
 
-    -- if client k has no stored state, no stored state changes
+    -- if client k has no stored state, a move of it changes no stored state
     pub all_stay : is_some (at k) ≡ false → (q : ℕ) → after q ≡ at q
     all_stay none q =
         let nothing = none_found (at k) none in
@@ -227,7 +227,7 @@ module _ (at : ℕ → Option ClientState) (clients : List ClientState) (k : ℕ
         (λ (other : (k == n) ≡ false). inside n x (sym (all_stay none n) ∙ sym (out n ∙ ap (λ b. cond b (Some (at_position i client)) (after n)) other) ∙ moved))
         (cases_Bool (k == n))
 
-    -- if no client has number k, its move changes nothing
+    -- if there is no client with number k, its move changes nothing
     pub none_goes : (x : ClientState) → is_some (at k) ≡ false → length clients ≤ k → standing after 0 clients ≡ set (standing at 0 clients) k x
     none_goes x none past =
         let long = length-standing at 0 clients in

@@ -111,7 +111,7 @@ module _ (jobs : List (Option JobView)) (n : ℕ) (job : JobView) (live : live_j
   not_n : (a : Parent) → may_get_in after a ≡ true → a ≢ parent.Job n
   not_n a e same = both_ways (may_get_in after a) (ap (may_get_in after) same ∙ n_asks_not) e
 
-  -- the latest job of an actor that may still get its jobs is still live after job n finished
+  -- if an actor may still get its jobs after job n finished, the latest job of each of its submits is still live
   survives : (a : Parent) (t m : ℕ) → may_get_in after a ≡ true → live_child jobs a t ≡ Some m → is_live_child a t (live_job after m) ≡ true
   survives a t m asks e =
       let child = (latest_is jobs a t m e).passes in

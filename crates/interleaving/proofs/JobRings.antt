@@ -23,11 +23,11 @@ module _ (at : ℕ → Option JobEntry) (base : ℕ) (recent : List (Option JobE
   pub recent_set : (k : ℕ) (w : Option JobEntry) → base ≤ k → items_below at base ++ set recent (k - base) w ≡ set (items_below at base ++ recent) k w
   recent_set k w past = sym (set-append_right (items_below at base) recent base k w (length-items at base) past)
 
-  -- the sequence is unchanged if the first entry of the ring moves into the map
+  -- the sequence is unchanged when the first entry of the ring moves into the map
   pub first_lowered : (after : ℕ → Option JobEntry) (w : Option JobEntry) → ((q : ℕ) → after q ≡ cond (base == q) w (at q)) → items_below after (base + 1) ++ recent ≡ items_below at base ++ (w ∷ recent)
   first_lowered after w e = ap (λ xs. xs ++ recent) (items-pushed_one at after base w e) ∙ append_assoc (items_below at base) (w ∷ []) recent
 
--- the sequence is unchanged if gaps at the start of the ring are removed, because the map has no entry at their numbers
+-- the sequence is unchanged when gaps at the start of the ring are removed, because the map has no entries at the numbers of these gaps
 pub gaps_lowered : (at : ℕ → Option JobEntry) (base n : ℕ) (rest : List (Option JobEntry)) → ((k : ℕ) → base ≤ k → at k ≡ None) → items_below at (base + n) ++ rest ≡ items_below at base ++ (gaps n ++ rest)
 gaps_lowered at base zero rest none = let e : base + 0 ≡ base = omega arith in ap (λ m. items_below at m ++ rest) e
 gaps_lowered at base (suc n) rest none =
@@ -41,7 +41,7 @@ pub one_more_gap : (n : ℕ) (rest : List (Option JobEntry)) → gaps n ++ (None
 one_more_gap zero rest = refl
 one_more_gap (suc n) rest = let e : suc (n + 1) ≡ suc n + 1 = omega arith in ap (λ (xs : List (Option JobEntry)). None ∷ xs) (one_more_gap n rest) ∙ ap (λ m. gaps m ++ rest) e
 
--- a list is its first element and the rest
+-- a list that is not empty is its first element followed by the rest
 pub first_and_rest : (old rest : List (Option JobEntry)) (x : Option JobEntry) → x ≡ get_or old 0 x → 0 < length old → rest ≡ drop 1 old → old ≡ x ∷ rest
 first_and_rest [] rest x first long e = absurd (omega arith)
 first_and_rest (y ∷ ys) rest x first long e = ap (λ z. z ∷ ys) (sym first) ∙ ap (λ (zs : List (Option JobEntry)). x ∷ zs) (sym e)

@@ -1,4 +1,4 @@
--- The live jobs of a submit that has a get: none when the actor is at the submit, and at most one when it is at the get.
+-- The live jobs of a submit that has a get: none while the actor is at the submit, and at most one while it is at the get.
 use Rattle.std.proofs.Common.{◌≡◌, ◌≢◌, ℕ, suc, ◌&&◌, Bool, true, false, if◌then◌else◌, List, [], ◌∷◌, slice_get, Some, None, ⊎_elim, sym, ap, subst, ◌∙◌, arith}
 use Rattle.std.specs.Option.{option_map}
 use Rattle.std.proofs.lemmas.Bool.{and_parts, eqb-true, false_from_ne_true, or_cases}

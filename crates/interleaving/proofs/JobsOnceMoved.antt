@@ -27,7 +27,7 @@ done_moved (parent.Job j) i view k job asks live done =
     let other : k ≢ j = λ same. both_ways (is_unfinished_job (live_job view.jobs k)) (ap is_unfinished_job live ∙ ap not done) (ap (λ m. is_unfinished_job (live_job view.jobs m)) same ∙ asks) in
     get_or-set_other view.jobs j k (in_phase (phase.At i) (live_job view.jobs j)) None other ∙ live
 
--- if the latest job of a submit is the only live one, it is the only live job of its parent and slot
+-- if a submit has only one live job, this also holds for the submit in the fields `parent` and `slot` of that job
 pub alone_as_child : (jobs : List (Option JobView)) (a : Parent) (t k : ℕ) (job : JobView) → live_child jobs a t ≡ Some k → live_job jobs k ≡ Some job → IsOnlyLiveJob jobs a t → IsOnlyLiveJob jobs job.parent job.slot
 alone_as_child jobs a t k job e live alone =
     let child = child_of a t (Some job) (ap (is_live_child a t) (sym live) ∙ (latest_is jobs a t k e).passes) in

@@ -99,7 +99,7 @@ still_child jobs after f a t k e = ⊎_elim (λ was. was)
     (λ none. absurd (both_ways (is_live_child a t (live_job after k)) (fades_child a t (live_job jobs k) (live_job after k) (f.each k) none) e))
     (cases_Bool (is_live_child a t (live_job jobs k)))
 
--- a job in the index that is still live, after jobs changed their phases or were removed, is still the latest of its submit
+-- a job of the index is still the latest of its submit after jobs changed their phases or were removed, if it is still live
 pub sound_fading : (jobs after : List (Option JobView)) (latest : LatestJobsView) (a : Parent) (t k : ℕ) → AreFound jobs latest → AreFading jobs after → found latest a t ≡ Some k → is_live_child a t (live_job after k) ≡ true → IsLatest after a t k
 sound_fading jobs after latest a t k found fading e still =
     let was = found.sound a t k e in
@@ -131,7 +131,7 @@ phased_child jobs n to a t k = ⊎_elim
     (λ (other : k ≢ n). ap (is_live_child a t) (get_or-set_other jobs n k (in_phase to (live_job jobs n)) None other))
     (cases_eq k n)
 
--- if no job became unfinished, an actor that may get its jobs afterwards could do so before
+-- if no job became unfinished, an actor that may get its jobs after the change could also do so before
 pub asks_before : (jobs after : List (Option JobView)) (a : Parent) → ((k : ℕ) → is_unfinished_job (live_job after k) ≡ true → is_unfinished_job (live_job jobs k) ≡ true) → may_get_in after a ≡ true → may_get_in jobs a ≡ true
 asks_before jobs after (parent.Client c) each e = refl
 asks_before jobs after (parent.Job j) each e = each j e

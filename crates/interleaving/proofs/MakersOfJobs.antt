@@ -1,4 +1,4 @@
--- No job created itself.
+-- No job is its own creator.
 use Rattle.std.proofs.Common.{◌≡◌, Option, Some, None, sym, ap, subst, ◌∙◌, arith}
 use Rattle.std.proofs.lemmas.Option.{same_Some}
 use Rattle.job_bodies.specs.Plan.{Plan}
@@ -29,6 +29,6 @@ other_in_state plan s (parent.Job j) reached w = λ job found same.
     let later = subst (λ a. HasGreaterNumber a j) maker ((kept plan s w reached).parents j (made_if_seen s j job seen)) in
     absurd (omega (arith, later))
 
--- no job created itself
+-- no job is its own creator
 pub made_by_other : (plan : Plan) (view : View) (a : Parent) → IsReachableView plan view → IsWellFormed plan → MadeByOther view.jobs a
 made_by_other plan view a of w = subst (λ (v : View). MadeByOther v.jobs a) of.2 (other_in_state plan of.0 a of.1 w)

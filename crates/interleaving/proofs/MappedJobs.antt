@@ -1,4 +1,4 @@
--- A function mapped over a list of jobs, most of which it does not change.
+-- Functions that change few jobs, mapped over a list of jobs.
 use Rattle.std.proofs.Common.{◌≡◌, ◌≢◌, ℕ, List, length, map, set, get_or, Option, None, ⊎_elim, refl, sym, ap, ◌∙◌, arith, length-set, ext_get_or}
 use Rattle.std.proofs.Math.ListN.{get_or-map}
 use Rattle.std.proofs.lemmas.Bool.{cases_lt, cases_eq}

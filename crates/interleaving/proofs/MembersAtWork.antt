@@ -1,4 +1,4 @@
--- The activity of the members of a set in a pool, and the condition that they are the only jobs that run there.
+-- The activity of the members of a set in a pool, and the condition that only members run in the pool.
 use Rattle.std.proofs.Common.{◌≡◌, ◌≢◌, ℕ, zero, suc, ◌+◌, ◌<◌, ◌≤◌, ◌==◌, ◌&&◌, ◌||◌, not, Bool, true, false, cond, List, [], ◌∷◌, ◌++◌, length, count_by, get_or, set, ⊎_elim, Option, Some, None, refl, sym, ap, ap₂, subst, inl, inr, ◌∙◌, arith, eq-eqb}
 use Rattle.std.specs.List.{list_all}
 use Rattle.std.proofs.lemmas.Bool.{cases_Bool, cases_eq, both_ways, false_from_ne_true, eqb-true}

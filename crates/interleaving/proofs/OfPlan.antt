@@ -52,7 +52,7 @@ valid_point : (plan : Plan) (view : View) (a : Parent) (at : Point) → HasValid
 valid_point plan view (parent.Client c) at o e = valid_client plan (slice_get view.clients c) at o e
 valid_point plan view (parent.Job j) at o e = valid_job plan (live_job view.jobs j) at o e
 
--- an actor with a next action is at a point whose next action is this one
+-- if an actor's next action is `next`, the actor is at a point, and `next` is the next action there
 pub point_of_next : (at : Option Point) (next : NextAction) → option_map next_action_at at ≡ Some next → (x : Point) × (at ≡ Some x) × (next_action_at x ≡ next)
 point_of_next None next e = absurd cc
 point_of_next (Some x) next e = (x, refl, same_Some _ next e)

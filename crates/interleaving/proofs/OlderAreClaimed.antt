@@ -20,12 +20,12 @@ use Rattle.written_machine.proofs.Stages.{staged, length-staged, stage-staged, g
 use Rattle.written_machine.proofs.Children.{maker_of, one_maker, child_is, not_at_slot}
 use Rattle.interleaving.specs.LiveView.{may_get}
 
--- of the jobs that actor a created by a submit with a get, only the latest can be unclaimed; the actor is at position i of its body
+-- actor a is at position i of its body; of the jobs that it created by a submit with a get, only the latest can be unclaimed
 pub record OlderAreClaimed (jobs : List CreatedJob) (a : Parent) (body : List Action) (i : ℕ) : Type 0 where
-  -- a job whose submit has a get is claimed, or it is the latest of its submit and the actor is between the submit and the get
+  -- a job whose submit has a get is claimed, or it is the latest of its submit and the actor has passed the submit but not the get
   pub settled : (g t j : ℕ) → slice_get body g ≡ Some (Get t) → j < length jobs → is_made_by a t (get_or jobs j no_job) ≡ true
       → ((get_or jobs j no_job).stage ≡ Claimed) ⊎ ((t < i) × (i ≤ g) × (last_of (places_where (is_made_by a t) jobs) ≡ Some j))
-  -- a claimed job has a get of its submit in the body
+  -- if a job is claimed, the body has a get of the job's submit
   pub has_get : (t j : ℕ) → j < length jobs → is_made_by a t (get_or jobs j no_job) ≡ true → (get_or jobs j no_job).stage ≡ Claimed → (g : ℕ) × (slice_get body g ≡ Some (Get t))
 
 -- a queued job has created no jobs
@@ -76,7 +76,7 @@ latest_unclaimed plan s (parent.Job n) t j m settled asks inside made unclaimed 
 
 -- ---- changes that leave an actor's jobs unchanged
 
--- job j existed before, with the same parent and slot, and was claimed exactly when it is claimed afterwards
+-- job j existed before with the same parent and slot, and it is claimed afterwards exactly when it was claimed before
 pub record WasMade (jobs jobs' : List CreatedJob) (a : Parent) (t j : ℕ) : Type 0 where
   pub inside : j < length jobs
   pub made : is_made_by a t (get_or jobs j no_job) ≡ true
@@ -106,9 +106,8 @@ was_staged jobs j stage a t unclaimed inside made =
       was = λ claimed. absurd ((unclaimed before).1 (sym (stage-staged jobs j stage inside) ∙ claimed));
     }
 
--- the jobs of actor a, and whether they are claimed, are unchanged if a job changes its stage that the actor did not create, or that is
--- claimed neither before nor after
--- after
+-- a change of one job's stage changes neither the jobs of actor a nor whether they are claimed, if the actor did not create that job, or if
+-- the job is claimed neither before nor after the change
 pub same_made-staged : (jobs : List CreatedJob) (j : ℕ) (stage : Stage) (a : Parent) → ((t : ℕ) → is_made_by a t (get_or jobs j no_job) ≡ true → ((get_or jobs j no_job).stage ≢ Claimed) × (stage ≢ Claimed)) → SameMade jobs (staged jobs j stage) a
 same_made-staged jobs j stage a unclaimed =
     let long = length-staged jobs j stage in
@@ -160,7 +159,7 @@ older_none jobs a body i none = record {
   has_get = λ t j inside made claimed. absurd (none t j inside made);
 }
 
--- a get at or after a position whose action is not this get is after that position
+-- a get at position i or later is later than i if the action at i is not this get
 pub passes_get : (body : List Action) (i g t : ℕ) (there : Action) → slice_get body i ≡ Some there → there ≢ Get t → slice_get body g ≡ Some (Get t) → i ≤ g → i + 1 ≤ g
 passes_get body i g t there is_there other e above =
     ⊎_elim (λ (same : i ≡ g). absurd (other (same_Some there (Get t) (sym is_there ∙ ap (slice_get body) same ∙ e)))) (λ (apart : i ≢ g). omega arith) (cases_eq i g)
@@ -197,7 +196,7 @@ older_submits plan jobs a body i k stage valid there unclaimed older =
           (cases_lt j (length jobs));
     }
 
--- `OlderAreClaimed` holds after the actor gets, at position i, its latest job of position t
+-- `OlderAreClaimed` holds after the actor, at position i, gets the latest job that it created at position t
 pub older_gets : (jobs : List CreatedJob) (a : Parent) (body : List Action) (i t j : ℕ) → slice_get body i ≡ Some (Get t) → last_of (places_where (is_made_by a t) jobs) ≡ Some j → OlderAreClaimed jobs a body i → OlderAreClaimed (staged jobs j Claimed) a body (i + 1)
 older_gets jobs a body i t j there latest older =
     let jobs' = staged jobs j Claimed in

@@ -1,4 +1,4 @@
--- The invariant of a map with an exclusive upper bound of its numbers, after one number changes.
+-- The invariant of a map whose numbers are below a bound, after one number changes.
 use Rattle.std.proofs.Common.{◌≡◌, ℕ, ◌+◌, ◌<◌, ◌≤◌, ◌==◌, Bool, true, false, cond, List, [], ◌∷◌, ◌++◌, length, set, count_by, is_some, IsSome, Option, Some, None, ⊎_elim, refl, sym, ap, ◌∙◌, arith}
 use Rattle.std.proofs.lemmas.Bool.{cases_lt, cases_Bool, eqb-true}
 use Rattle.std.proofs.lemmas.List.{get_or_past, set_past}
@@ -15,7 +15,7 @@ none_from_at end n (Some place) below past = let low = below place refl in absur
 pub none_from : (at : ℕ → Option JobEntry) (end : ℕ) → ((n : ℕ) (place : JobEntry) → at n ≡ Some place → n < end) → (n : ℕ) → end ≤ n → at n ≡ None
 none_from at end below n past = none_from_at end n (at n) (below n) past
 
--- a change at a lower number keeps the bound
+-- a change at a number below the bound preserves the bound
 pub still_below : (at after : ℕ → Option JobEntry) (end n : ℕ) (w : Option JobEntry) → ((k : ℕ) (place : JobEntry) → at k ≡ Some place → k < end) → n < end → ((q : ℕ) → after q ≡ cond (n == q) w (at q)) → (q : ℕ) (place : JobEntry) → after q ≡ Some place → q < end
 still_below at after end n w below low e q place found = ⊎_elim
     (λ same. let here : n ≡ q = eqb-true n q same in omega (arith, low, here))

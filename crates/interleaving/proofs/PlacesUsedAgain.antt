@@ -42,7 +42,7 @@ count-drop_if_stale a t jobs =
     let mapped = count_by-map is_some (drop_if_stale a t) jobs in
     omega (arith, fewer, mapped)
 
--- the creation of a job adds a place only if no place is free, provided that each live job had a place before
+-- if each live job had a place before, the creation of a job adds a place only if no place is free
 pub used_again : (a b : Parent) (t i : ℕ) (job : JobView) (old new : WorldValue) (moved : JobList) → moved.jobs ≡ moved_live_jobs b i old.view → moved.places ≡ old.places → live_jobs old.view ≤ old.places
     → new.view.jobs ≡ map (drop_if_stale a t) moved.jobs ++ Some job ∷ [] → new.places ≡ places_made moved (map (drop_if_stale a t) moved.jobs) → ReusesPlaces old new
 used_again a b t i job old new moved jobs places enough made after =

@@ -38,7 +38,7 @@ replay_append plan first [] more = refl
 replay_append plan None (e ∷ events) more = sym (replay_none plan more)
 replay_append plan (Some s) (e ∷ events) more = replay_append plan (state_after (step plan s e)) events more
 
--- the state after an event of a reachable state is reachable
+-- the state after an event from a reachable state is reachable
 pub reached_after : (plan : Plan) (s s' : State) (event : Event) (outcome : Outcome) → IsReached plan s → step plan s event ≡ Some (s', outcome) → IsReached plan s'
 reached_after plan s s' event outcome reached happened =
     (reached.0 ++ event ∷ [], replay_append plan (Some (start plan)) reached.0 (event ∷ []) ∙ ap (λ first. replay plan first (event ∷ [])) reached.1 ∙ ap state_after happened)

@@ -29,7 +29,7 @@ use Rattle.interleaving.proofs.Changes.{as_seen, seen_same}
 use Rattle.interleaving.proofs.Children.{made_by_itself}
 use Rattle.interleaving.proofs.ViewMoves.{move_seen}
 
--- ---- a done job is stale once its parent creates another one at the same position
+-- ---- a done job is stale once its parent has created another job at the same position
 
 drop_if_stale-kept : (a : Parent) (t : ℕ) (job : CreatedJob) (phase : Phase) → is_done phase ≡ false → drop_if_stale a t (Some (as_seen job phase)) ≡ Some (as_seen job phase)
 drop_if_stale-kept a t job phase going = ap (λ b. if b then None else Some (as_seen job phase)) (and_right (is_made_by a t job) (is_done phase) going)
@@ -56,7 +56,7 @@ may_get-made : (s : State) (job : CreatedJob) (a : Parent) → HasGreaterNumber 
 may_get-made s job (parent.Client c) after = refl
 may_get-made s job (parent.Job m) after = ap (λ (made : CreatedJob). is_unfinished made.stage) (get_or_append_left s.jobs (job ∷ []) no_job m after)
 
--- the relation that one submit of an actor created both jobs is symmetric
+-- `same_maker` is symmetric: whether one submit of an actor created both jobs does not depend on their order
 same_maker : (job old : CreatedJob) → is_made_by job.parent job.slot old ≡ true → is_made_by old.parent old.slot job ≡ true
 same_maker job old e =
     let made = maker_of old job.parent job.slot e in

@@ -21,7 +21,7 @@ use Rattle.interleaving.specs.ViewStep.{live_job, is_unfinished_job, may_get_in,
 abbrev pub seen : State → ℕ → Option JobView
 seen s n = job_seen s n (job_at s n)
 
--- the phase of a live job, given whether its parent may still get it, and the latest job of that submit
+-- the phase of a live job, computed from whether its parent may still get it and from the latest job of its submit
 abbrev pub phase_with : Bool → Option ℕ → ℕ → Stage → Option Phase
 phase_with asks latest j Queued = Some phase.Queued
 phase_with asks latest j (At i) = Some (phase.At i)
@@ -89,7 +89,7 @@ one_pool plan s s' p pool inside here other =
     (λ (apart : q ≢ p). other q apart ∙ sym (pool_at_view plan s q within) ∙ sym (get_or-set_other (live_view plan s).pools p q pool no_pool_view apart))
     (cases_eq q p))
 
--- the view of a pool is unchanged if the number of its running jobs is unchanged
+-- the view of a pool is unchanged if the number of running jobs of the pool is unchanged
 pub pool_seen-busy : (plan : Plan) (s : State) (p count : ℕ) → count ≡ busy plan s p → pool_view (pool_at plan p) (pool_part s p) ((pool_part s p).idle + count) ≡ pool_seen plan s p
 pool_seen-busy plan s p count e = ap (λ n. pool_view (pool_at plan p) (pool_part s p) ((pool_part s p).idle + n)) e
 

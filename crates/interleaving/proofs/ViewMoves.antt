@@ -1,4 +1,4 @@
--- The live view after an actor moved: after it worked, started again, or got the job that it waits for.
+-- The live view after an actor moved: it worked, started again, or got the job for which it waited.
 use Rattle.std.proofs.Common.{◌≡◌, ◌≢◌, ℕ, ◌+◌, Bool, true, false, if◌then◌else◌, List, set, slice_get, Option, Some, None, refl, sym, ap, subst, ◌∙◌, le_refl}
 use Rattle.std.specs.Option.{option_map}
 use Rattle.job_bodies.specs.declared.action.Action.{Action}

@@ -46,7 +46,7 @@ taken_commutes plan s p kept inside (suc idle) [] is_idle is_queue = refl
 taken_commutes plan s p kept inside (suc idle) (j ∷ queue) is_idle is_queue =
     ap (λ v. Some (v, outcome.Took j)) (take_seen plan s p j idle queue kept inside is_idle (head_of_queue plan s p j queue kept is_queue))
 
--- a pool number that is not below the number of pools has an empty part
+-- at a number for which there is no pool, the part of the state is the empty one
 no_pool_there : (plan : Plan) (s : State) (p : ℕ) → StateInvariant plan s → length plan.pools ≤ p → pool_part s p ≡ no_pool_part
 no_pool_there plan s p kept past = get_or_past s.pools p no_pool_part (omega (arith, kept.as_many))
 

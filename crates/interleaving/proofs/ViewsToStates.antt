@@ -26,7 +26,7 @@ answers_seen plan s event (Some outcome) new w reached a = answers_possible plan
 answers_in : (plan : Plan) (s : State) (event : Event) (answer : Option Outcome) (old new : View) → IsWellFormed plan → IsReached plan s → live_view plan s ≡ old → AnswersIn plan old event answer new → AnswersAs plan s event answer new
 answers_in plan s event answer old new w reached same a = answers_seen plan s event answer new w reached (subst (λ v. AnswersIn plan v event answer new) (sym same) a)
 
--- an answer in the view is the answer in each state with this view
+-- an answer that is right in the view is right in each state with this view
 pub raised : {E : Type 0} (plan : Plan) (event : Event) (old new : View) (answered : Result (Option Outcome) E) → IsWellFormed plan → IfOk answered (λ answer. AnswersIn plan old event answer new)
     → IfOk answered (λ answer. (s : State) → IsReached plan s → live_view plan s ≡ old → AnswersAs plan s event answer new)
 raised plan event old new (Ok answer) w a = λ s reached same. answers_in plan s event answer old new w reached same a

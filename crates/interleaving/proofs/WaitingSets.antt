@@ -74,7 +74,7 @@ others_of_all : (plan : Plan) (view : View) (members : List ℕ) → list_all (w
 others_of_all plan view members e =
     list_all_from_In (λ j. job_waits_unless_queued plan view members j (live_job view.jobs j)) members (λ j i. unless_queued_from_waits plan view members j (live_job view.jobs j) (list_all_at_In (waits_in plan view members) e i))
 
--- if the queue of some pool contains a member and fails its test, the members are not a waiting set
+-- if some pool's queue contains a member and the pool fails its test, the members are not a waiting set
 pub none_without_queues : (plan : Plan) (view : View) (members : List ℕ) (queues : Bool) → (IsTrue queues ↔ QueuesWait plan view members) → queues ≡ false → is_waiting_set_in plan view members ≡ false
 none_without_queues plan view members queues iff e =
     false_from_ne_true _ (λ set. both_ways queues e (iff.1 (queues_of_all plan view members (and_parts (not (is_none members)) _ set).1)))
@@ -83,8 +83,8 @@ waits_at_stage_others : (plan : Plan) (view : View) (members : List ℕ) (others
 waits_at_stage_others plan view members true of w queues e = all_wait plan view members of w queues e
 waits_at_stage_others plan view members false of w queues e = false_from_ne_true _ (λ all. both_ways _ e (others_of_all plan view members all))
 
--- if the queue of each pool that contains a member passes its test, the members are a waiting set exactly when each member that is not
--- queued is at a get of a member
+-- if each pool whose queue contains a member passes its test, the members are a waiting set exactly when each member that is not queued is
+-- at a get of a member
 pub set_as_others : (plan : Plan) (view : View) (members : List ℕ) (others : Bool) → IsReachableView plan view → IsWellFormed plan → is_none members ≡ false → QueuesWait plan view members → others ≡ unqueued_wait plan view members → others ≡ is_waiting_set_in plan view members
 set_as_others plan view members others of w some queues e = sym (ap (λ b. not b && list_all (waits_in plan view members) members) some ∙ waits_at_stage_others plan view members others of w queues (sym e))
 

@@ -1,4 +1,4 @@
--- The abstract view of the clients of a world, and its representation: the clients that moved, and the numbers of clients of the kinds.
+-- The abstract view of the clients of a world, and its representation by the clients that moved and the numbers of clients of each kind.
 use Rattle.std.specs.Prelude.{◌≡◌, ℕ, ◌+◌, ◌-◌, ◌<◌, ◌≤◌, List, [], ◌∷◌, ◌++◌, length, replicate, slice_index_or, Option, Some, None}
 use Rattle.job_bodies.specs.Plan.{Client}
 use Rattle.written_machine.specs.declared.client_state.ClientState.{ClientState}
@@ -31,7 +31,7 @@ IsFirst (parent.Job j) i = ⊥
 
 -- ---- the representation
 
--- for each client kind, the number of clients up to and including that kind; n clients belong to kinds before the list
+-- for each client kind, the number of clients up to and including that kind; n clients belong to kinds before those of the list
 abbrev pub ends_from : ℕ → List Client → List ℕ
 ends_from n [] = []
 ends_from n (kind ∷ kinds) = (n + kind.count) ∷ ends_from (n + kind.count) kinds
@@ -47,12 +47,13 @@ abbrev pub starting : ℕ → ℕ → List ℕ → List ClientState
 starting kind n [] = []
 starting kind n (end ∷ ends) = replicate (end - n) (record { kind = kind; position = 0 }) ++ starting (kind + 1) end ends
 
--- the state to which a client has moved, or `client`, its state at the start, if it has not moved
+-- the state to which a client has moved, or the state `client`, in which it starts, if it has not moved
 abbrev pub moved_or : Option ClientState → ClientState → ClientState
 moved_or None client = client
 moved_or (Some moved) client = moved
 
--- the states of the clients, numbered from n: for each client its state in `at` if it has moved, otherwise its state in the list
+-- the states of the clients, whose numbers start at n: for each client its state in `at` if it has moved, and otherwise its state in the
+-- list
 abbrev pub standing : (ℕ → Option ClientState) → ℕ → List ClientState → List ClientState
 standing at n [] = []
 standing at n (client ∷ clients) = moved_or (at n) client ∷ standing at (n + 1) clients

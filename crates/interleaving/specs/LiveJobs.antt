@@ -1,4 +1,4 @@
--- The abstract view of a world's live jobs, and of the index from submits to the latest jobs that they created.
+-- The abstract view of a world's live jobs, and of the index from submits to the latest jobs that the submits created.
 use Rattle.std.specs.Prelude.{◌≡◌, ◌≢◌, ℕ, ◌+◌, ◌<◌, ◌≤◌, ◌⊎◌, ◌==◌, Bool, true, false, List, length, slice_set, map, count_by, is_some, Option, Some, None, if◌then◌else◌}
 use Rattle.std.specs.Option.{option_map}
 use Rattle.written_machine.specs.declared.parent.Parent.{Parent}
@@ -22,12 +22,13 @@ pub record JobList : Type 0 where
   pub places : ℕ
   pub room : Room
 
--- the number of further jobs for which memory is reserved, if this actor creates them
+-- the number of further jobs of this actor for which memory is reserved
 abbrev pub room_for : Room → Parent → ℕ
 room_for room (parent.Client c) = room.of_clients
 room_for room (parent.Job j) = room.of_jobs
 
--- the number of places after a new job was added: one more than before if `jobs`, which has no stale job, has a live job for every place
+-- the number of places after a new job was added to `jobs`, which has no stale job: one more than before if each place holds a job of
+-- `jobs`
 abbrev pub places_made : JobList → List (Option JobView) → ℕ
 places_made list jobs = if count_by is_some jobs == list.places then list.places + 1 else list.places
 
@@ -61,13 +62,13 @@ pub record IsLatest (jobs : List (Option JobView)) (a : Parent) (t k : ℕ) : Ty
   pub passes : is_live_child a t (live_job jobs k) ≡ true
   pub none_later : (i : ℕ) → k < i → is_live_child a t (live_job jobs i) ≡ false
 
--- every job in the index is the latest live job of its submit, and the index has the latest live job of each submit of an actor that may
--- still get its jobs
+-- every job in the index is the latest live job of its submit, and the index has the latest live job of each submit whose actor may still
+-- get its jobs
 pub record AreFound (jobs : List (Option JobView)) (latest : LatestJobsView) : Type 0 where
   pub sound : (a : Parent) (t k : ℕ) → found latest a t ≡ Some k → IsLatest jobs a t k
   pub complete : (a : Parent) (t k : ℕ) → may_get_in jobs a ≡ true → IsLatest jobs a t k → found latest a t ≡ Some k
 
--- if job j created a live job at position t, its number exists and t is below its submit bound
+-- if job j created a live job at position t, then job j exists and t is below its submit bound
 abbrev pub AreSubmitBounds : List (Option JobEntry) → Type 0
 AreSubmitBounds items = (j t k : ℕ) → is_live_child (parent.Job j) t (live_job (jobs_in items) k) ≡ true → (j < length items) × ((place : JobEntry) → place_at items j ≡ Some place → t < place.submit_bound)
 
@@ -101,7 +102,7 @@ pub record AreOrphaned (j n : ℕ) (jobs after : List (Option JobView)) (latest 
   pub others : (a : Parent) (t : ℕ) → a ≢ parent.Job j → found later a t ≡ found latest a t
   pub behind : (t : ℕ) → n ≤ t → found later (parent.Job j) t ≡ found latest (parent.Job j) t
 
--- if `finished` is None, the index no longer has this job number for this submit; all other entries of the index are unchanged
+-- if `finished` is None, the index entry of this submit does not have the job `number` afterwards; all other entries are unchanged
 pub record IsGone (finished : Option JobView) (latest later : LatestJobsView) (a : Parent) (t number : ℕ) : Type 0 where
   pub sub : (b : Parent) (u k : ℕ) → found later b u ≡ Some k → (found latest b u ≡ Some k) × (finished ≡ None → is_call a t b u ≡ true → k ≢ number)
   pub stay : (b : Parent) (u k : ℕ) → found latest b u ≡ Some k → (finished ≡ None → k ≢ number) → found later b u ≡ Some k
@@ -117,7 +118,7 @@ RemovesNumber j t k false kept kept' latest latest' = (kept' ≡ kept) × (lates
 RemovesNumber j t k true kept kept' latest latest' = (kept'.items ≡ slice_set kept.items k None) × (kept'.places ≡ kept.places)
     × ((b : Parent) (u : ℕ) → found latest' b u ≡ (if is_call (parent.Job j) t b u then None else found latest b u))
 
--- the job that the index has for job j and position t, if any, is removed if it is done
+-- given the index entry of job j for position t: if it has a job and this job is done, the job is removed; otherwise nothing changes
 abbrev pub RemovesFound : ℕ → ℕ → Option ℕ → JobTableView → JobTableView → LatestJobsView → LatestJobsView → Type 0
 RemovesFound j t None kept kept' latest latest' = (kept' ≡ kept) × (latest' ≡ latest)
 RemovesFound j t (Some k) kept kept' latest latest' = RemovesNumber j t k (is_done_job (live_job (jobs_in kept.items) k)) kept kept' latest latest'

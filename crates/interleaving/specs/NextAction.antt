@@ -13,12 +13,12 @@ use Rattle.interleaving.specs.ViewStep.{point_in}
 use Rattle.interleaving.specs.declared.next_action.NextAction.{NextAction}
 use Rattle.interleaving.specs.Clients.{IsFirst}
 
--- the actor exists: its number is below the number of clients, or of jobs
+-- the actor exists: its number is below the number of clients or, for a job, below the number of jobs
 abbrev pub IsAmong : ℕ → ℕ → Parent → Type 0
 IsAmong clients jobs (parent.Client c) = c < clients
 IsAmong clients jobs (parent.Job j) = j < jobs
 
--- the next action at position i of the body: the position, the action there, and whether it is a submit and the body has a get of its job
+-- the next action at position i of the body: the position, the action there, and whether that is a submit for whose job the body has a get
 abbrev pub next_action_in : List Action → ℕ → NextAction
 next_action_in body i = record { position = i; action = slice_get body i; has_get = submits (slice_get body i) && has_get_of body i }
 

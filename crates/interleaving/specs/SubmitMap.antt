@@ -3,8 +3,8 @@ use Rattle.std.specs.Prelude.{ℕ, ◌==◌, ◌&&◌, ◌%◌, Bool, true, List
 use Rattle.std.specs.Map.{lookup}
 use Rattle.interleaving.specs.declared.submit_map.TheConstants.{TABLE_LEN}
 
--- the entries of the table, the calls whose table entry another call occupied, and the number of further calls for which memory is reserved
--- in `others`
+-- the entries of the table, the calls in `others` (whose table entries other calls occupied), and the number of further calls for which
+-- memory is reserved in `others`
 pub record SubmitMapView : Type 0 where
   pub table : List (Option ((ℕ × ℕ) × ℕ))
   pub others : List ((ℕ × ℕ) × ℕ)
@@ -25,7 +25,7 @@ abbrev pub is_for : ℕ × ℕ → Option ((ℕ × ℕ) × ℕ) → Bool
 is_for call None = true
 is_for call (Some entry) = same_pair entry.0 call
 
--- the job number in the entry if the entry belongs to the call, otherwise the number `other`
+-- the job number in the entry if the entry belongs to the call, and otherwise `other`
 abbrev pub number_or : ℕ × ℕ → Option ((ℕ × ℕ) × ℕ) → Option ℕ → Option ℕ
 number_or call None other = other
 number_or call (Some entry) other = if same_pair entry.0 call then Some entry.1 else other

@@ -20,8 +20,8 @@ pub(crate) struct PoolActivity {
 }
 
 impl PoolActivity {
-    /// Returns the activity with one more member in this phase. A duplicate of a member (`is_new`
-    /// is `false`) does not increase `at_work`.
+    /// Returns this activity with one more member, which is in this phase. If `is_new` is `false`,
+    /// the member is a duplicate and does not increase `at_work`.
     fn with(self, phase: Phase, is_new: bool) -> PoolActivity
         requires { self.at_work + 1 < 2 ^ 64 }
         ensures { result ≡ activity_with self phase is_new }

@@ -17,8 +17,8 @@ use written_machine::{ClientState, Parent};
 
 /// The states of all clients of a world.
 ///
-/// Stores only the clients that have moved. Each other client is at the start of its body, so that
-/// its number determines its state.
+/// Stores only the clients that have moved. Every other client is at the start of its body, and its
+/// number determines its client kind.
 #[derive(Drop)]
 pub struct Clients {
     // For each client kind, the number of clients of this kind and of all kinds before it.

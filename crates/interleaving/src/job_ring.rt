@@ -12,16 +12,17 @@ use std::alloc::{AllocError, Global};
 use std::collections::{HashMap, VecDeque};
 use std::marker::Model;
 
-// The ring is too long if half its length exceeds the number of live jobs by more than this number.
+// The number by which half the length of a ring may exceed the number of live jobs. A longer ring
+// is too long, and its first job moves into the map.
 const SPARE_NUMBERS: usize = 16;
 
 /// A sequence with an entry for each job ever created, by number. The entry of a job that is no
 /// longer live is a gap.
 ///
-/// The entries from number `base` are in a ring buffer, in which a look-up is an index operation.
-/// Gaps at the start of the ring are removed. If the ring is too long for the number of live jobs,
-/// its first job moves into a map. A long-lived job therefore does not keep the gaps after it in
-/// memory.
+/// The entries with numbers from `base` up are in a ring buffer, in which a look-up is an index
+/// operation. The ring never begins with a gap. If the ring is too long for the number of live
+/// jobs, its first job moves into a map, and the gaps after this job are removed. So a long-lived
+/// job does not keep the gaps after it in memory.
 #[derive(Drop)]
 pub(crate) struct JobRing {
     // The number of the first entry of `recent`.
@@ -119,8 +120,8 @@ impl JobRing {
         was_kept
     }
 
-    /// Reserves memory for one more job. If the ring is too long for `live` live jobs, moves its
-    /// first job into the map.
+    /// Reserves memory for one more job. `live` is the number of live jobs. If the ring is too long
+    /// for that number, moves the first job of the ring into the map.
     ///
     /// # Errors
     ///
@@ -140,7 +141,8 @@ impl JobRing {
         self.recent.reserve(1)
     }
 
-    // Moves the first job of the ring into the map if the ring is too long for `live` live jobs.
+    // Moves the first job of the ring into the map if the ring is too long for this number of live
+    // jobs.
     fn shorten(&mut self, live: usize) -> Result<(), AllocError>
         ensures items { self.new.items ≡ self.old.items }
         ensures span { self.new.span ≤ self.old.span }

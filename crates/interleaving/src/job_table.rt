@@ -1,4 +1,4 @@
-//! A table of the live jobs, whose places are reused.
+//! A table of the live jobs, which reuses the places of jobs that are no longer live.
 
 ghost use Rattle.std.specs.Prelude.{◌≡◌, ◌+◌, ◌<◌, ◌^◌, [], ◌∷◌, ◌++◌, length, count_by, is_some, IsSome, slice_set, ◌≤◌, None, Some, OnOk};
 
@@ -11,7 +11,8 @@ use std::marker::Model;
 #[derive(Clone, Copy)]
 pub(crate) struct JobEntry {
     pub(crate) job: JobView,
-    // An exclusive upper bound of the positions of this job's submits whose jobs are live.
+    // A bound of the submits of this job: each live job that it created was created at a position
+    // below this bound.
     pub(crate) submit_bound: usize,
 }
 

@@ -43,8 +43,9 @@ impl JobView {
         actor == self.parent && submit == self.slot
     }
 
-    /// Returns the job after the actor created another job by the submit at this position. Returns
-    /// `None` if the same submit created this job and it is done: the job is then no longer live.
+    /// Returns this job as it is once the actor has created another job by the submit at this
+    /// position. Returns `None` if the same submit created this job and this job is done, because
+    /// it is then no longer live.
     pub fn drop_if_stale(self, actor: Parent, submit: usize) -> Option<JobView>
         ensures { result ≡ drop_if_stale actor submit (Some self) }
     {
@@ -55,8 +56,8 @@ impl JobView {
         }
     }
 
-    /// Returns the job after the job with number `parent` finished. Returns `None` if the finished
-    /// job created this job and it is done: the job is then no longer live.
+    /// Returns this job as it is once job `parent` has finished. Returns `None` if `parent` created
+    /// this job and this job is done, because it is then no longer live.
     pub fn drop_if_orphan(self, parent: usize) -> Option<JobView>
         ensures { result ≡ drop_if_orphan parent (Some self) }
     {

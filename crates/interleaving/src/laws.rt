@@ -22,14 +22,14 @@ pub fn unfinished_jobs_are_live()
     ensures { UnfinishedJobsAreLive }
 {}
 
-/// Proves that, in every reachable state of a well-formed plan, a set of job numbers is a waiting
-/// set exactly when the test on the live view accepts it.
+/// Proves that, in every reachable state of a well-formed plan, the test on the live view accepts a
+/// set of job numbers exactly when the set is a waiting set.
 pub fn waiting_sets_are_seen()
     ensures { WaitingSetsAreSeen }
 {}
 
-/// Proves that, in every reachable state of a well-formed plan, a job that exists and is not live
-/// does not become live by any event.
+/// Proves that a job that exists and is not live never becomes live, by any event in any reachable
+/// state of a well-formed plan.
 pub fn dead_jobs_stay_dead()
     ensures { DeadJobsStayDead }
 {}

@@ -13,8 +13,8 @@ use std::alloc::{AllocError, Global};
 use std::marker::Model;
 use written_machine::Parent;
 
-/// The live jobs of a world, with an index of the latest jobs. For each submit of an actor that may
-/// still get its jobs, the index has the latest job that this submit created.
+/// The live jobs of a world, with an index of the latest jobs. If an actor may still get its jobs,
+/// the index has, for each of its submits, the latest live job that this submit created.
 #[derive(Drop)]
 pub struct LiveJobs {
     kept: JobTable,
@@ -96,8 +96,8 @@ impl LiveJobs {
         self.kept.set_phase(number, Phase::At(position));
     }
 
-    /// Removes the done job with this number when its parent gets it. No other job of the same
-    /// submit may be live.
+    /// Removes the done job with this number, because its parent gets it. The job must be the only
+    /// live job of its submit.
     pub fn remove(&mut self, number: usize, job: JobView)
         requires live { live_job self.old.jobs number ≡ Some job }
         requires done { is_done job.phase ≡ true }
@@ -125,8 +125,8 @@ impl LiveJobs {
         self.kept.reserve()
     }
 
-    /// Adds a new job. Removes the earlier job of the same submit if that job is done; only the job
-    /// `latest` can be done. Memory must have been reserved.
+    /// Adds a new job. Of the earlier jobs of the same submit, only the one with number `latest`
+    /// can be done. If it is done, removes it. Memory must have been reserved.
     pub fn create(&mut self, latest: Option<usize>, job: JobView)
         requires room { 0 < room_for self.old.room job.parent }
         requires parent { WasMade self.old.jobs job.parent }
@@ -149,9 +149,9 @@ impl LiveJobs {
         self.unfinished += 1;
     }
 
-    /// Finishes the job with this number. The job is then live only if its parent may still get it
-    /// and it is the latest of its submit. Removes the done jobs that it created, since no actor
-    /// can get them any more.
+    /// Finishes the job with this number. The job stays live only if its parent may still get it
+    /// and it is the latest job of its submit. Removes the done jobs that this job created, since
+    /// no actor can get them any more.
     pub fn finish(&mut self, number: usize, job: JobView)
         requires live { live_job self.old.jobs number ≡ Some job }
         requires going { is_done job.phase ≡ false }
@@ -194,8 +194,8 @@ impl LiveJobs {
     }
 }
 
-// Removes the done job that the actor created by this submit, if there is one. Only the job
-// `latest` can be done.
+// Removes the done job that the actor created by this submit, if there is one. Only the job with
+// number `latest` can be done.
 fn free_stale(kept: &mut JobTable, latest: Option<usize>, actor: Parent, submit: usize)
     requires { NoOtherIsStale (jobs_in kept.old.items) latest actor submit }
     ensures jobs { jobs_in kept.new.items
@@ -209,7 +209,7 @@ fn free_stale(kept: &mut JobTable, latest: Option<usize>, actor: Parent, submit:
     }
 }
 
-// Removes the job with this number if this submit of the actor created it and it is done.
+// Removes the job with this number if it is done and this submit of the actor created it.
 fn free_if_stale(kept: &mut JobTable, number: usize, actor: Parent, submit: usize)
     ensures jobs { jobs_in kept.new.items
         ≡ slice_set (jobs_in kept.old.items) number
@@ -247,8 +247,8 @@ fn raise_submit_bound(kept: &mut JobTable, actor: Parent, submit_bound: usize)
     }
 }
 
-// Stores the phase of the finished job with this number, or removes the job if `finished` is
-// `None`.
+// Stores the phase of the job with this number, which has finished. Removes the job instead if
+// `finished` is `None`.
 fn finish_in(kept: &mut JobTable, number: usize, finished: Option<JobView>)
     requires live { IsSome (live_job (jobs_in kept.old.items) number) }
     requires phased { IfSome finished
@@ -263,8 +263,7 @@ fn finish_in(kept: &mut JobTable, number: usize, finished: Option<JobView>)
     }
 }
 
-// Removes the index entry of this submit if it has the job with this number and `finished` is
-// `None`.
+// Removes the index entry of this submit if `finished` is `None` and the entry has this job number.
 fn remove_if_gone(
     latest: &mut LatestJobs,
     finished: Option<JobView>,

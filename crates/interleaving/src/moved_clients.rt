@@ -12,8 +12,8 @@ use written_machine::ClientState;
 
 /// A map from client numbers to the states of the clients that have moved.
 ///
-/// Most clients move for the first time in the order of their numbers. Those are in the vector
-/// `front`; all others are in the map.
+/// Most clients make their first moves in the order of their numbers. These clients are in the
+/// vector `front`. All other clients that have moved are in the map.
 #[derive(Drop)]
 pub(crate) struct MovedClients {
     front: Vec<ClientState>,
@@ -60,8 +60,8 @@ impl MovedClients {
         self.others.reserve(1)
     }
 
-    /// Moves the client with this number to this position of its body if it has moved before.
-    /// Returns whether it has.
+    /// If the client with this number has moved before, moves it to this position of its body and
+    /// returns `true`. Otherwise returns `false`.
     pub(crate) fn move_again(&mut self, number: usize, position: usize) -> bool
         ensures is_among { result ≡ is_some (moved_at self.old number) }
         ensures moves { (q : ℕ)

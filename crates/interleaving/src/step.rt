@@ -35,8 +35,8 @@ impl World {
     pub fn step(&mut self, plan: &Plan, event: Event) -> Result<Option<Outcome>, AllocError>
         requires { IsReachableView plan.now self.old.view }
 
-        // The result is that of the machine in `written_machine`, in every reachable state that has
-        // this live view.
+        // In every reachable state that has this live view, the result is that of the machine of
+        // `written_machine`.
         ensures answered { IfOk result (λ answer.
             (s : State)
             → IsReached plan.now s
@@ -45,7 +45,8 @@ impl World {
         ensures in_view { IfOk result
             (λ answer. AnswersIn plan.now self.old.view event answer self.new.view) }
 
-        // Also after an error, the world's view is the live view of a reachable state of this plan.
+        // After a result and after an error, the world's view is the live view of a reachable state
+        // of this plan.
         ensures of_plan { IsReachableView plan.now self.new.view }
         ensures well_formed { IsWellFormed plan.now }
 
@@ -57,8 +58,8 @@ impl World {
         self.act(plan, event)
     }
 
-    // Performs the event. Its contract is in terms of live views alone; `step` states what follows
-    // for states.
+    // Performs the event. The contract compares live views; the contract of `step` follows from it,
+    // and compares states.
     fn act(&mut self, plan: &Plan, event: Event) -> Result<Option<Outcome>, AllocError>
         requires { IsReachableView plan.now self.old.view }
         ensures answered { IfOk result

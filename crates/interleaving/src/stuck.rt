@@ -27,8 +27,8 @@ impl World {
     /// members.
     ///
     /// Returns `false` for an empty list, and if a number does not belong to an unfinished job.
-    /// Allocates no memory. If the list is sorted, each member is looked up a few times by binary
-    /// search; otherwise each look-up scans the list.
+    /// Allocates no memory. Looks up each member in the list a few times: by binary search if the
+    /// list is sorted, and otherwise by a scan.
     pub fn stuck(&self, plan: &Plan, members: &[usize]) -> bool
         requires { IsReachableView plan.now self.now.view }
         ensures in_words { (s : State)

@@ -20,7 +20,7 @@ impl World {
     ghost use Rattle.interleaving.specs.World.{ReusesPlaces};
 
     /// Performs a submit of the actor: offers a job of the class to the class's pool. If the body
-    /// has a get of this submit, no earlier job of this submit may be live. Allocates before it
+    /// has a get of this submit, the submit must not have a live job already. Allocates before it
     /// changes anything, so that an error leaves the world unchanged.
     pub(crate) fn submit(
         &mut self,
@@ -69,8 +69,8 @@ impl World {
         Ok(outcome)
     }
 
-    // Returns the number of the latest live job that the actor created by this submit. If the body
-    // has a get of this submit, no such job is live.
+    // Returns the number of the latest live job that the actor created by this submit. There is
+    // none if the body has a get of this submit.
     fn latest_before(&self, actor: Parent, next: NextAction) -> Option<usize>
         requires asks { may_get_in self.now.view.jobs actor ≡ true }
         requires has_get { next.has_get ≡ true

@@ -17,11 +17,11 @@ const TABLE_LEN: usize = 4096;
 
 /// A map from submit calls to job numbers.
 ///
-/// A call is in `table`, at the actor's number modulo the length of `table`, or in `others` if
-/// another call occupies that entry. A look-up reads `table` first.
+/// The entry of a call in `table` has the actor's number modulo the length of `table` as its index.
+/// If another call occupies this entry, the call is in `others`. A look-up reads `table` first.
 #[derive(Drop)]
 pub(crate) struct SubmitMap {
-    // Empty until `reserve` is first called.
+    // The entries of the table, of which there are none before the first call of `reserve`.
     table: Vec<Option<(SubmitKey, usize)>>,
     others: HashMap<SubmitKey, usize>,
 }
@@ -142,8 +142,8 @@ fn allocate_table(table: &mut Vec<Option<(SubmitKey, usize)>>, len: usize) -> Re
 }
 
 // Returns the number of the job that the call created, if `others` contains the call. Not inlined,
-// since such look-ups are rare. The caller checks that `others` is not empty, since a look-up in an
-// empty map also computes a hash.
+// since such look-ups are rare. The caller checks that `others` is not empty, since even a look-up
+// in an empty map computes a hash.
 #[inline(never)]
 fn get_other(others: &HashMap<SubmitKey, usize>, call: SubmitKey) -> Option<usize>
     ensures { result ≡ lookup (same_pair call) others.now.entries }

@@ -89,8 +89,8 @@ impl World {
 
     /// Returns the number of places for live jobs, free ones included.
     ///
-    /// A step increases it by at most 1, and only if it creates a job while each place holds a live
-    /// job. It never decreases.
+    /// A step increases this number by at most 1, and only if it creates a job while each place
+    /// holds a live job. The number never decreases.
     pub fn places(&self) -> usize
         ensures value { result ≡ self.now.places }
         ensures enough { live_jobs self.now.view ≤ result }
