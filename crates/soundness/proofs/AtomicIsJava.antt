@@ -1,5 +1,5 @@
--- Each state that the machine reaches with atomic submits is also reachable in Java's steps: the steps of each submit follow each
--- other without other events between them.
+-- Each state that the machine reaches with atomic submits is also reachable in Java's steps: the steps of each submit follow
+-- each other without other events between them.
 use Rattle.std.proofs.Common.{◌≡◌, ℕ, Bool, true, false, cond, not, ◌&&◌, eqb, ltb, List, [], ◌∷◌, ◌++◌, length, Option, Some, None, refl, sym, ap, subst, ◌∙◌}
 use Rattle.std.proofs.lemmas.Bool.{and_from, or_left, eq-eqb}
 use Rattle.std.proofs.lemmas.Option.{same_Some}
@@ -31,7 +31,7 @@ own a p = record { actor = a; pool = p } ∷ []
 own_is_calling : (a : Parent) (p : ℕ) → is_calling (own a p) a p ≡ true
 own_is_calling a p = or_left (same_parent a a && eqb p p) false (and_from (same_parent a a) (eqb p p) (same_actor_refl a) (eq-eqb p p refl))
 
--- the list with one call of actor a is empty without the calls of a
+-- without the calls of a, the list with one call of actor a is empty
 own_is_over : (a : Parent) (p : ℕ) → without_calls_of a (own a p) ≡ []
 own_is_over a p = ap (λ (b : Bool). cond (not b) (own a p) []) (same_actor_refl a)
 

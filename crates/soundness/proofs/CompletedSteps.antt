@@ -17,15 +17,16 @@ use Rattle.soundness.specs.Execute.{Call, JavaState, is_calling, without_calls_o
 abbrev pub has_call : List Call → ℕ → Bool
 has_call calls n = list_any (λ (call : Call). same_parent (parent.Job n) call.actor) calls
 
--- the number of completed steps of a job's submit: 2 if its call requests a thread, 1 if its call offers the job, and otherwise 0
+-- the number of completed steps of a job's submit: 2 if its call requests a thread, 1 if its call offers the job, and otherwise
+-- 0
 abbrev pub steps_done : Bool → Bool → ℕ
 steps_done requesting offering = cond requesting 2 (cond offering 1 0)
 
 abbrev pub mark : JavaState → ℕ → ℕ
 mark s n = steps_done (has_call s.requesting n) (has_call s.offering n)
 
--- the number of completed steps of a job's submit does not fall if each list of calls that contains a call of the job before also
--- contains one afterwards
+-- the number of completed steps of a job's submit does not fall if each list of calls that contained a call of the job still
+-- contains one
 pub steps_done-le : (requesting offering asking' offering' : Bool) → (requesting ≡ true → asking' ≡ true) → (offering ≡ true → offering' ≡ true) → steps_done requesting offering ≤ steps_done asking' offering'
 steps_done-le true offering true offering' more_requesting more_offering = omega arith
 steps_done-le true offering false offering' more_requesting more_offering = let requests_thread = more_requesting refl in absurd cc
@@ -67,7 +68,7 @@ new_has_call n p calls = or_left (eqb n n) (has_call calls n) (eq-eqb n n refl)
 abbrev pub by_place : {X : Type 0} → (ℕ → ℕ) → ℕ → List X → ℕ
 by_place {X = X} f n xs = sum_by (λ (entry : ℕ × X). f entry.0) (enumerate_from n xs)
 
--- the sum over the indices of a nonempty list is the term of the first index and the sum over the others
+-- the sum over the indices of a nonempty list is the term of the first index plus the sum over the others
 by_place-cons : {X : Type 0} (f : ℕ → ℕ) (n : ℕ) (x : X) (xs : List X) → by_place f n (x ∷ xs) ≡ f n + by_place f (n + 1) xs
 by_place-cons {X = X} f n x xs = sum_by-cons (λ (entry : ℕ × X). f entry.0) (n, x) (enumerate_from (n + 1) xs)
 
@@ -84,12 +85,12 @@ by_place-longer f n (x ∷ xs) (y ∷ ys) shorter =
 pub by_place-more : {X : Type 0} (f g : ℕ → ℕ) (j n : ℕ) (xs : List X) → n ≤ j → j < n + length xs → f j + 1 ≤ g j → ((i : ℕ) → f i ≤ g i) → by_place f n xs + 1 ≤ by_place g n xs
 by_place-more {X = X} f g j n xs low high here each = sum_by-le-at (λ (entry : ℕ × X). f entry.0) (λ (entry : ℕ × X). g entry.0) n xs j 1 low high (λ entry. each entry.0) (λ x. here)
 
--- if the term of one index is smaller by at most `less` in the second sum and no other term is smaller, the second sum is smaller
--- by at most `less`
+-- if the term of one index is smaller by at most `less` in the second sum and no other term is smaller, the second sum is
+-- smaller by at most `less`
 pub by_place-but_one : {X : Type 0} (f g : ℕ → ℕ) (j less : ℕ) → f j ≤ g j + less → ((i : ℕ) → i ≢ j → f i ≤ g i) → (n : ℕ) (xs : List X) → by_place f n xs ≤ by_place g n xs + less
 by_place-but_one f g j less here others n xs = from n xs
   where
-    -- the second sum over indices after j is not smaller
+    -- over the indices after j, the second sum is not smaller
     behind : {X : Type 0} (m : ℕ) (ys : List X) → j < m → by_place f m ys ≤ by_place g m ys
     behind m [] past = omega arith
     behind m (y ∷ ys) past =
@@ -111,7 +112,7 @@ by_place-but_one f g j less here others n xs = from n xs
         omega (arith, by_place-cons f m y ys, by_place-cons g m y ys))
         (cases_eq m j)
 
--- a sum over numbered elements that does not use the numbers is the sum over the elements
+-- a sum over numbered elements whose terms do not depend on the numbers is the sum over the elements
 pub sum_of_elements : {X : Type 0} (f : X → ℕ) (n : ℕ) (xs : List X) → sum_by (λ (entry : ℕ × X). f entry.1) (enumerate_from n xs) ≡ sum_by f xs
 sum_of_elements f n [] = refl
 sum_of_elements {X = X} f n (x ∷ xs) =

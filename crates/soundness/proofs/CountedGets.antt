@@ -1,5 +1,5 @@
--- Fewer jobs of a pool than its core size may block in any reachable state. A job *may block* if it is at a counted get or before
--- one.
+-- Fewer jobs of a pool than its core size may block in any reachable state. A job *may block* if it is at a counted get or
+-- before one.
 use Rattle.std.proofs.Common.{◌≡◌, ℕ, zero, suc, ◌+◌, ◌-◌, ◌<◌, ◌≤◌, Bool, true, false, cond, ◌&&◌, ◌||◌, inl, inr, ltb, eqb, length, get_or, slice_get, sum_by, Option, Some, None, refl, sym, ap, subst, ◌∙◌, arith, zero-add}
 use Rattle.std.specs.List.{enumerate_from}
 use Rattle.std.proofs.lemmas.Bool.{false≢true, cases_lt, cases_eq, cases_Bool, and_parts, and_right, or_parts, le-ltb, ltb-true, eqb-true, ne_eqb, not-false}
@@ -80,7 +80,7 @@ counted_get plan ranks k (Some (action.Work u)) e = absurd (false≢true e)
 counted_get plan ranks k (Some (action.Submit k')) e = absurd (false≢true e)
 counted_get plan ranks k (Some (action.Get t)) e = (t, refl)
 
--- if a get is not counted, the reach of the class of its job is below the rank of the pool of class k
+-- if a get of a job of class k is not counted, the class of the job that it gets has a reach below the rank of class k's pool
 pub uncounted_reach : (plan : Plan) (ranks : Ranks) (k u t : ℕ) → slice_get (class_at plan k).body u ≡ Some (action.Get t) → is_counted plan ranks k u ≡ false → reach ranks (submitted_class (class_at plan k).body t) < rank ranks (pool_of plan k)
 uncounted_reach plan ranks k u t is_get uncounted =
     let low = reach ranks (submitted_class (class_at plan k).body t) in
@@ -89,13 +89,13 @@ uncounted_reach plan ranks k u t is_get uncounted =
 
 -- ---- the weight of each job and the debts of its children cover its price
 
--- the price of a job of class k at this stage: 1 if it may block in pool p, and what it owes to its creator
+-- the price of a job of class k at this stage: what it owes to its creator, plus 1 if it may block in pool p
 abbrev price : Plan → Ranks → Vector → ℕ → ℕ → Stage → ℕ
 price plan ranks v p k stage = one_if (may_block_at plan ranks k stage && eqb (pool_of plan k) p) + cond (ltb (reach ranks k) (rank ranks p)) (open_weight plan v k stage) 0
 
 module _ (plan : Plan) (ranks : Ranks) (v : Vector) (p : ℕ) (s : State) (ordered : HasValidBodies plan) (ranked : RankLaws plan ranks) (laws : BlockedLaws plan (is_counted plan ranks) p v) (kept : StateInvariant plan s) where
-  -- the price of a running job with a reach below the pool's rank is covered: the job does not belong to the pool, and its weight
-  -- and the debts of its children cover its weight at its end
+  -- the price of a running job with a reach below the pool's rank is covered: the job is not of the pool, and its weight and
+  -- the debts of its children together are at least its weight at its end
   pays_low : (j i : ℕ) → j < length s.jobs → (job_at s j).stage ≡ Stage.At i → reach ranks (job_at s j).class < rank ranks p → price plan ranks v p (job_at s j).class (Stage.At i) ≤ job_weight v (job_at s j).class i + sum_by (debt_to plan ranks v (rank ranks p) j) s.jobs
   pays_low j i made at low =
       let k = (job_at s j).class in
@@ -114,8 +114,8 @@ module _ (plan : Plan) (ranks : Ranks) (v : Vector) (p : ℕ) (s : State) (order
       let back = returned-le-owed plan ranks v r s j i (length body - i) body (ordered.classes k) actor.ready (λ u t from below is_get. let falls = ranked.falls k u t is_get in omega arith) in
       omega (arith, ap one_if free, owes, along, last, back, vector.ends k exists)
 
-  -- the price of a running job with a reach of at least the pool's rank is covered: the job owes nothing, and if it is at a counted
-  -- get or before one, its weight and the debts of its children cover its weight at the first such get
+  -- the price of a running job with a reach of at least the pool's rank is covered: the job owes nothing, and if it may block,
+  -- its weight and the debts of its children together are at least its weight at the first counted get
   pays_high : (j i : ℕ) → j < length s.jobs → (job_at s j).stage ≡ Stage.At i → rank ranks p ≤ reach ranks (job_at s j).class → price plan ranks v p (job_at s j).class (Stage.At i) ≤ job_weight v (job_at s j).class i + sum_by (debt_to plan ranks v (rank ranks p) j) s.jobs
   pays_high j i made at high =
       let k = (job_at s j).class in

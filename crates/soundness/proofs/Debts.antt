@@ -108,14 +108,15 @@ module _ (plan : Plan) (ranks : Ranks) (v : Vector) (r : ℕ) (s : State) (j : �
       ∙ open_weight_is plan v job.class job.stage child.unclaimed
       ∙ ap (done_weight plan v) child.of_class
 
-  -- if the actions begin one position earlier, the debt of each job that the actions get does not fall
+  -- if the actions begin one position earlier, they get no fewer jobs, so no `debt_got` falls
   more_got : (body : List Action) (h n : ℕ) (job : CreatedJob) → debt_got plan ranks v r body (h + 1) n j job ≤ debt_got plan ranks v r body h (suc n) j job
   more_got body h n job = cond-le_cond (is_got_from body (h + 1) n job.slot) (is_got_from body h (suc n) job.slot) (debt_to plan ranks v r j job) (λ later. or_right (is_get_of job.slot (slice_get body h)) (is_got_from body (h + 1) n job.slot) later)
 
   more_got_all : (body : List Action) (h n : ℕ) → sum_by (debt_got plan ranks v r body (h + 1) n j) s.jobs ≤ sum_by (debt_got plan ranks v r body h (suc n) j) s.jobs
   more_got_all body h n = sum_by-le-sum_by (debt_got plan ranks v r body (h + 1) n j) (debt_got plan ranks v r body h (suc n) j) s.jobs (more_got body h n)
 
-  -- a get at position h adds the debt of the job that it finds, because no later action gets the same submit
+  -- a get at position h adds the debt of the job that it finds to the debts of the jobs that later actions get, because no
+  -- later action gets the same submit
   owed_at_get : (i h n t : ℕ) (body : List Action) → IsValidBody plan body → FindsChildren s j i body → i ≤ h → t < i → reach ranks (submitted_class body t) < r → slice_get body h ≡ Some (action.Get t)
       → sum_by (debt_got plan ranks v r body (h + 1) n j) s.jobs + done_weight plan v (submitted_class body t) ≤ sum_by (debt_got plan ranks v r body h (suc n) j) s.jobs
   owed_at_get i h n t body valid finds past before low is_next =
@@ -134,7 +135,8 @@ module _ (plan : Plan) (ranks : Ranks) (v : Vector) (r : ℕ) (s : State) (j : �
       let all : debt_got plan ranks v r body h (suc n) j job ≡ done_weight plan v (submitted_class body t) = ap (λ b. cond b (debt_to plan ranks v r j job) 0) now ∙ owes in
       sum_grows (debt_got plan ranks v r body (h + 1) n j) (debt_got plan ranks v r body h (suc n) j) s.jobs child.number (done_weight plan v (submitted_class body t)) no_job is_child.0 (more_got body h n) (omega (arith, nothing, all))
 
-  -- the action at position h and the n actions after it return at most the debts of the jobs that they get
+  -- if the n actions after position h return at most the debts of the jobs that they get, so do these actions together with the
+  -- one at h
   owed_at : (i h n : ℕ) (body : List Action) (next : Option Action) → IsValidBody plan body → FindsChildren s j i body → i ≤ h → ((t : ℕ) → next ≡ Some (action.Get t) → reach ranks (submitted_class body t) < r)
       → returned DoneWeight plan v body i (h + 1) n ≤ sum_by (debt_got plan ranks v r body (h + 1) n j) s.jobs → slice_get body h ≡ next
       → returned_by DoneWeight plan v body i next + returned DoneWeight plan v body i (h + 1) n ≤ sum_by (debt_got plan ranks v r body h (suc n) j) s.jobs

@@ -44,8 +44,8 @@ of_submit-agree f g (action.Get t) same = refl
 submits-agree : (f g : ℕ → ℕ) (body : List Action) → ((i k : ℕ) → slice_get body i ≡ Some (action.Submit k) → f k ≡ g k) → sum_by (of_submit f) body ≡ sum_by (of_submit g) body
 submits-agree f g body same = sum_by-agree_each (of_submit f) (of_submit g) body (λ i x e. of_submit-agree f g x (λ k is_submit. same i k (e ∙ ap Some is_submit)))
 
--- any two numbers of generations above the class's level give the same work of a new job, even if the levels belong to different
--- ranks
+-- if n and m are both above the level of a class, each by its own ranks, n and m generations give the same work of a new job of
+-- the class
 full_within-agree : (plan : Plan) (ranks ranks' : Ranks) (n m k : ℕ) → RankLaws plan ranks → RankLaws plan ranks' → level ranks k < n → level ranks' k < m → full_within plan n k ≡ full_within plan m k
 full_within-agree plan ranks ranks' zero m k laws laws' low low' = absurd (omega arith)
 full_within-agree plan ranks ranks' (suc n) zero k laws laws' low low' = absurd (omega arith)
@@ -62,7 +62,7 @@ full_within-agree plan ranks ranks' (suc n) (suc m) k laws laws' low low' =
 pub full_is_of_plan : (plan : Plan) (ranks ranks' : Ranks) (k : ℕ) → RankLaws plan ranks → RankLaws plan ranks' → full plan ranks k ≡ full plan ranks' k
 full_is_of_plan plan ranks ranks' k laws laws' = full_within-agree plan ranks ranks' (level ranks k + 1) (level ranks' k + 1) k laws laws' (omega arith) (omega arith)
 
--- the work of a new job is its actions, its take and its end, and the work of the jobs that it submits
+-- the work of a new job is its actions, its take and its end, plus the work of the jobs that it submits
 pub full_is : (plan : Plan) (ranks : Ranks) → RankLaws plan ranks → (k : ℕ) → full plan ranks k ≡ length (class_at plan k).body + 2 + sum_by (of_submit (full plan ranks)) (class_at plan k).body
 full_is plan ranks laws k =
     let body = (class_at plan k).body in
@@ -99,8 +99,8 @@ jobs_todo-staged plan ranks jobs j stage was inside e =
 jobs_todo_push : (plan : Plan) (ranks : Ranks) (jobs : List CreatedJob) (job : CreatedJob) → jobs_todo plan ranks (jobs ++ job ∷ []) ≡ jobs_todo plan ranks jobs + stage_todo plan ranks job.class job.stage
 jobs_todo_push plan ranks jobs job = sum_by_push (λ (x : CreatedJob). stage_todo plan ranks x.class x.stage) jobs job
 
--- the remaining work of a job before an action is one for the action, the work of the job that it submits, and the remaining work
--- after it
+-- the remaining work of a job before an action is one for the action, plus the work of the job that the action submits, plus
+-- the remaining work after it
 todo_before : (plan : Plan) (ranks : Ranks) (k i : ℕ) (x : Action) → slice_get (class_at plan k).body i ≡ Some x → stage_todo plan ranks k (Stage.At i) ≡ stage_todo plan ranks k (Stage.At (i + 1)) + 1 + of_submit (full plan ranks) x
 todo_before plan ranks k i x e =
     let body = (class_at plan k).body in

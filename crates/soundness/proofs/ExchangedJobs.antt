@@ -45,17 +45,16 @@ swapped_second t u = grind (arith, nat_tests)
 swapped_other : (t u w : ℕ) → w ≢ t → w ≢ u → swapped t u w ≡ w
 swapped_other t u w not_first not_second = grind (arith, nat_tests)
 
--- a position w equals the swapped n exactly when the swapped w equals n
+-- w equals the swapped n exactly when the swapped w equals n
 eqb-swapped : (t u w n : ℕ) → eqb w (swapped t u n) ≡ eqb (swapped t u w) n
 eqb-swapped t u w n = grind (arith, nat_tests)
 
--- the position at which actor b finds, before an exchange of positions t and u of actor a, the job that it finds at position w
--- after the exchange
+-- the position at which actor b found, before an exchange of positions t and u of actor a, the job that it finds at position w
+-- afterwards
 abbrev place_before : Parent → ℕ → ℕ → Parent → ℕ → ℕ
 place_before a t u b w = cond (same_parent a b) (swapped t u w) w
 
--- after an exchange, actor b counts as the creator of a job at position w exactly when it is the creator of the job at
--- `place_before` of w before the exchange
+-- actor b is the creator of a job at position w after an exchange exactly when it was the creator at `place_before` of w
 made_by_exchanged : (a b : Parent) (t u w : ℕ) (job : CreatedJob) (own his : Bool) → same_parent a b ≡ own → same_parent b job.parent ≡ his → is_made_by b w (exchanged_job a t u job) ≡ is_made_by b (place_before a t u b w) job
 made_by_exchanged a b t u w job own false is_own is_his =
     and_left (same_parent b job.parent) (eqb w (exchanged_job a t u job).slot) is_his ∙ sym (and_left (same_parent b job.parent) (eqb (place_before a t u b w) job.slot) is_his)
@@ -69,7 +68,7 @@ made_by_exchanged a b t u w job false true is_own is_his =
     ap (λ (x : Bool). same_parent b job.parent && eqb w (cond (x && eqb t job.slot) u (cond (x && eqb u job.slot) t job.slot))) same
     ∙ ap (λ (x : Bool). same_parent b job.parent && eqb (cond x (swapped t u w) w) job.slot) (sym is_own)
 
--- the job that actor b finds at position w after an exchange is the job that it finds at `place_before` of w before the exchange
+-- the job that actor b finds at position w after an exchange is the job that it found at `place_before` of w
 pub child-exchanged : (s : State) (a b : Parent) (t u w : ℕ) → child (after_exchange a t u s) b w ≡ child s b (place_before a t u b w)
 child-exchanged s a b t u w =
     ap last_of
@@ -132,8 +131,8 @@ pub record AreAlike (s : State) (a : Parent) (t u : ℕ) : Type 0 where
   pub first_unclaimed : (job_at s first).stage ≢ Stage.Claimed
   pub second_unclaimed : (job_at s second).stage ≢ Stage.Claimed
 
--- if actor b finds at w after the exchange an unclaimed job of class k that it found at v before, then a get of the submit at w
--- finds its job after the exchange
+-- let actor b find at w after the exchange the job that it found at v before; if this job has class k and is unclaimed, a get
+-- of the submit at w finds it
 found_after : (s : State) (a b : Parent) (t u v w k n : ℕ) → HaveParents s.jobs → child (after_exchange a t u s) b w ≡ child s b v → child s b v ≡ Some n → (job_at s n).class ≡ k → (job_at s n).stage ≢ Stage.Claimed → HasChild (after_exchange a t u s).jobs b w k
 found_after s a b t u v w k n parents as_before is_child of_class unclaimed =
     let made = child_is s.jobs b v n is_child in
@@ -145,7 +144,7 @@ found_after s a b t u v w k n parents as_before is_child of_class unclaimed =
       later = subst (λ (c : Parent). HasGreaterNumber c n) (sym (maker_of (job_at s n) b v made.1).0) (parents n made.0);
     }
 
--- after an exchange, a get by the same actor still finds an unclaimed job of its class
+-- after an exchange, a get by the actor whose jobs were exchanged still finds an unclaimed job of the same class
 own_found : (s : State) (a : Parent) (t u w k : ℕ) → HaveParents s.jobs → AreAlike s a t u → HasChild s.jobs a w k → (w ≡ t) ⊎ (w ≢ t) → (w ≡ u) ⊎ (w ≢ u) → HasChild (after_exchange a t u s).jobs a w k
 own_found s a t u w k parents alike found (inl at_first) at_second =
     let swaps = child-exchanged_own s a t u w ∙ ap (child s a) (ap (swapped t u) at_first ∙ swapped_first t u) in
@@ -159,7 +158,7 @@ own_found s a t u w k parents alike found (inr not_first) (inr not_second) =
     let stays = child-exchanged_own s a t u w ∙ ap (child s a) (swapped_other t u w not_first not_second) in
     found_after s a a t u w w k found.number parents stays found.is_child found.of_class found.unclaimed
 
--- after an exchange, a get by any actor still finds an unclaimed job of its class
+-- after an exchange, a get by any actor still finds an unclaimed job of the same class
 HasChild-exchanged : (s : State) (a b : Parent) (t u w k : ℕ) (own : Bool) → same_parent a b ≡ own → HaveParents s.jobs → AreAlike s a t u → HasChild s.jobs b w k → HasChild (after_exchange a t u s).jobs b w k
 HasChild-exchanged s a b t u w k true is_own parents alike found =
     let same = same_actor_true a b is_own in

@@ -42,7 +42,7 @@ none_fails (y ∷ rows) hold =
 
 -- ---- the failing conditions
 
--- the number of an element of a list that is numbered from n is at least n and below n plus the list's length
+-- in a list that is numbered from n, the number of an element is at least n and below n plus the length
 pub pool_numbers : {X : Type 0} (n : ℕ) (xs : List X) (entry : ℕ × X) → In entry (enumerate_from n xs) → (n ≤ entry.0) × (entry.0 < n + length xs)
 pool_numbers n [] entry i = absurd (not_In_nil i)
 pool_numbers {X} n (x ∷ xs) entry i =

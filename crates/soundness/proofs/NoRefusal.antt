@@ -35,7 +35,7 @@ use Rattle.soundness.proofs.BoundLaws.{StandingLaws, LifetimeLaws, BoundLaws}
 use Rattle.soundness.proofs.NeverRises.{jobs_weight, IsBalanced, busy_workers_weight-with_position, actors_weight-with_job, busy_workers_weight-with_job, never_rises_queued}
 use Rattle.soundness.proofs.WithinTotal.{busy_workers_weight-le, actors_weight-le-total}
 
--- at a submit, the weight of the jobs and of the submitted job as a queued one is at most the total
+-- at a submit, the weight of all jobs, plus that of the submitted job when queued, is at most the total
 submit_within_total : (get_return : GetReturn) (plan : Plan) (v : Vector) (s : State) (a : Parent) (body : List Action) (i k : ℕ) → HasValidBodies plan → VectorLaws get_return plan v → StateInvariant plan s → IsBalanced get_return plan v s → IsAtAction plan s a body i (Some (action.Submit k))
     → jobs_weight get_return plan v (moved_jobs a (i + 1) s) + queued_weight v k ≤ total plan v
 submit_within_total get_return plan v s a body i k ordered laws kept balanced at =
@@ -46,7 +46,7 @@ submit_within_total get_return plan v s a body i k ordered laws kept balanced at
 
 -- ---- a standing vector
 
--- the number of queued jobs of the pool is at most the weight of all jobs, because each of them has a weight of at least 1
+-- the number of queued jobs of the pool is at most the weight of all jobs, because each queued job weighs at least 1
 queued-le-actors_weight : (plan : Plan) (v : Vector) (p : ℕ) (jobs : List CreatedJob) → StandingLaws plan p v → HaveClasses (length plan.classes) jobs → count_by (is_queued_in plan p) jobs ≤ jobs_weight DoneWeight plan v jobs
 queued-le-actors_weight plan v p jobs laws classes =
     count_by-le-sum_by (is_queued_in plan p) (λ (job : CreatedJob). stage_weight DoneWeight plan v job.class job.stage) jobs no_job
@@ -55,8 +55,8 @@ queued-le-actors_weight plan v p jobs laws classes =
     let parts = and_parts (is_queued job.stage) (eqb (pool_of plan job.class) p) passes in
     subst (λ (stage : Stage). 1 ≤ stage_weight DoneWeight plan v job.class stage) (sym (queued_stage job.stage parts.0)) (laws.queued job.class (classes j no_job inside) (eqb-true (pool_of plan job.class) p parts.1)))
 
--- no submit finds the queue of a pool with a standing vector full, because the queued jobs and the submitted one would weigh more
--- than the total
+-- no submit finds the queue of a pool with a standing vector full, because otherwise the queued jobs and the submitted one
+-- would weigh more than the total
 pub standing_refuses_nothing : (plan : Plan) (v : Vector) (s : State) (a : Parent) (body : List Action) (i k : ℕ) → HasValidBodies plan → StandingLaws plan (pool_of plan k) v → StateInvariant plan s → IsBalanced DoneWeight plan v s → IsAtAction plan s a body i (Some (action.Submit k))
     → (pool_at plan (pool_of plan k)).queue ≤ length (pool_part s (pool_of plan k)).queue → ⊥
 standing_refuses_nothing plan v s a body i k ordered laws kept balanced at no_room =
@@ -122,8 +122,8 @@ lifetime_leaves_room plan v s a body i k ordered laws kept balanced at as_many =
     let limit = laws.within in
     omega (arith, made_jobs-moved plan s a (i + 1) p)
 
--- no submit to a pool with a lifetime vector finds the queue full and all threads started, because that many jobs cannot have
--- been submitted before
+-- no submit to a pool with a lifetime vector finds the queue full while the pool has max threads, because that many jobs cannot
+-- have been submitted before
 lifetime_refuses_nothing : (plan : Plan) (v : Vector) (s : State) (a : Parent) (body : List Action) (i k : ℕ) → HasValidBodies plan → LifetimeLaws plan (pool_of plan k) v → StateInvariant plan s → HaveJobs plan s → IsBalanced NoWeight plan v s → IsAtAction plan s a body i (Some (action.Submit k))
     → (pool_at plan (pool_of plan k)).queue ≤ length (pool_part s (pool_of plan k)).queue → (pool_at plan (pool_of plan k)).max ≤ threads plan s (pool_of plan k) → ⊥
 lifetime_refuses_nothing plan v s a body i k ordered laws kept have balanced at no_room all_started =
@@ -137,7 +137,7 @@ jobs-le-total plan v s p ordered laws kept balanced =
 
 -- ---- a standing or a lifetime vector
 
--- no submit to a pool with a bound whose rows hold finds the queue full and all threads started
+-- no submit to a pool with a bound whose rows hold finds the queue full while the pool has max threads
 pub not_refused : (plan : Plan) (bound : Bound) (s : State) (a : Parent) (body : List Action) (i k : ℕ) → HasValidBodies plan → BoundLaws plan (pool_of plan k) bound → StateInvariant plan s → HaveJobs plan s
     → IsBalanced (bound_get_return bound) plan (bound_vector bound) s → IsAtAction plan s a body i (Some (action.Submit k))
     → (pool_at plan (pool_of plan k)).queue ≤ length (pool_part s (pool_of plan k)).queue → (pool_at plan (pool_of plan k)).max ≤ threads plan s (pool_of plan k) → ⊥

@@ -18,8 +18,8 @@ use Rattle.written_machine.proofs.PoolInvariants.{pools_with_part}
 use Rattle.written_machine.proofs.InvariantStep.{done_still}
 use Rattle.written_machine.proofs.JobsMade.{made_jobs, made_jobs-staged, made_jobs-moved, made_jobs_push}
 
--- the number of threads of pool p after a change of the jobs and of the pool's part of the state: it grows at most with the
--- number of jobs submitted to the pool, and if it was at least core before the change, it is at least core afterwards
+-- the effect of a change on the threads of pool p: their number grows by at most the number of jobs that are newly submitted to
+-- the pool, and if it was at least core before the change, it is at least core afterwards
 pub record ThreadsChange (plan : Plan) (s : State) (jobs : List CreatedJob) (p : ℕ) (part : PoolPart) : Type 0 where
   pub by_jobs : part.idle + busy_jobs plan jobs p + made_jobs plan s.jobs p ≤ threads plan s p + made_jobs plan jobs p
   pub at_core : (pool_at plan p).core ≤ threads plan s p → (pool_at plan p).core ≤ part.idle + busy_jobs plan jobs p

@@ -51,8 +51,8 @@ returned_by-le get_return plan v body i (Some (action.Work u)) other = omega ari
 returned_by-le get_return plan v body i (Some (action.Submit k)) other = omega arith
 returned_by-le get_return plan v body i (Some (action.Get t)) other = below-le_next t i (returned_weight get_return plan v (submitted_class body t)) (λ same. other (ap (λ (u : ℕ). Some (action.Get u)) same))
 
--- if none of the actions from position h on gets the submit at i, these actions return for submits before i + 1 at most what they
--- return for submits before i
+-- if none of the actions from position h on gets the submit at i, these actions return for submits before i + 1 at most what
+-- they return for submits before i
 returned-le : (get_return : GetReturn) (plan : Plan) (v : Vector) (body : List Action) (i h n : ℕ) → ((u : ℕ) → h ≤ u → slice_get body u ≢ Some (action.Get i)) → returned get_return plan v body (i + 1) h n ≤ returned get_return plan v body i h n
 returned-le get_return plan v body i h zero ungot = omega arith
 returned-le get_return plan v body i h (suc n) ungot =
@@ -61,8 +61,8 @@ returned-le get_return plan v body i h (suc n) ungot =
 same_get : (t u : ℕ) → Some (action.Get t) ≡ Some (action.Get u) → t ≡ u
 same_get t u e = cc
 
--- the actions from position h on return for submits before i + 1 at most what they return for submits before i, and the weight of
--- one get of the submit at i
+-- the actions from position h on return for submits before i + 1 at most what they return for submits before i, plus the weight
+-- of one get of the submit at i
 returned_once_at : (get_return : GetReturn) (plan : Plan) (v : Vector) (body : List Action) (i h n : ℕ) (next : Option Action) → IsValidBody plan body
     → returned get_return plan v body (i + 1) (h + 1) n ≤ returned get_return plan v body i (h + 1) n + returned_weight get_return plan v (submitted_class body i) → slice_get body h ≡ next
     → returned_by get_return plan v body (i + 1) next + returned get_return plan v body (i + 1) (h + 1) n ≤ returned_by get_return plan v body i next + returned get_return plan v body i (h + 1) n + returned_weight get_return plan v (submitted_class body i)
@@ -106,8 +106,8 @@ at_end body i none = elim (cases_lt i (length body)) [
 ]
 
 module _ (get_return : GetReturn) (plan : Plan) (v : Vector) (weight : ℕ → ℕ) (body : List Action) where
-  -- if the number `after` is at most the weight at i + 1 and what the n actions from i + 1 on return, it is at most the weight at
-  -- i and what the n + 1 actions from i on return
+  -- if the number `after` is at most the weight at i + 1 plus what the n actions from i + 1 on return, it is at most the weight
+  -- at i plus what the n + 1 actions from i on return
   walk_action : (n i after : ℕ) (next : Option Action) → BodyLaws get_return plan v weight body → IsValidBody plan body → SubmitsCoverDone plan v body → i < length body → after ≤ weight (i + 1) + returned get_return plan v body (i + 1) (i + 1) n → slice_get body i ≡ next
       → after ≤ weight i + (returned_by get_return plan v body i next + returned get_return plan v body i (i + 1) n)
   walk_action n i after None laws valid pay inside rest is_next = let end = at_end body i is_next in absurd (omega arith)
@@ -121,7 +121,7 @@ module _ (get_return : GetReturn) (plan : Plan) (v : Vector) (weight : ℕ → �
       let back : returned_by get_return plan v body i (Some (action.Get t)) ≡ weight_back = ap (λ b. cond b weight_back 0) (lt-ltb t i (valid.behind i t is_next)) in
       omega (arith, rest, laws.get i t is_next, back, returned-le get_return plan v body i (i + 1) n (λ h later. no_submit plan body i (Some (action.Get t)) valid is_next refl h))
 
-  -- the weight at position i + n is at most the weight at position i and what the n actions between them return for submits
+  -- the weight at position i + n is at most the weight at position i plus what the n actions between them return for submits
   -- before i
   pub walk : (n i : ℕ) → BodyLaws get_return plan v weight body → IsValidBody plan body → SubmitsCoverDone plan v body → i + n ≤ length body → weight (i + n) ≤ weight i + returned get_return plan v body i i n
   walk zero i laws valid pay inside = let here : weight (i + 0) ≡ weight i = ap weight (omega arith) in omega (arith, here)

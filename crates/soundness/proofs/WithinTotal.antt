@@ -100,13 +100,13 @@ sum_by-agree_within f g xs same =
     zero_plus : (p : ℕ) → 0 + p ≡ p
     zero_plus p = omega arith
 
--- the weights of the busy workers and of the others, in a pool with workers of weight w, add up to the weight of all
+-- in a pool whose workers have weight w, the weight of the busy workers plus that of the others is the weight of all workers
 parts_of : (w max busy : ℕ) → busy ≤ max → w * (max - busy) + w * busy ≡ w * max
 parts_of w max busy within =
     let both : max - busy + busy ≡ max = omega arith in
     sym (mul-add w (max - busy) busy) ∙ ap (λ (n : ℕ). w * n) both
 
--- the weights of the busy workers and of the others, in all pools, add up to the weight of all workers
+-- in all pools together, the weight of the busy workers plus that of the others is the weight of all workers
 idle_and_busy_weight : (plan : Plan) (v : Vector) (s : State) → HasValidBodies plan → StateInvariant plan s → free_workers plan v s + busy_workers_weight plan v s ≡ all_workers plan v
 idle_and_busy_weight plan v s ordered kept =
     let numbered = enumerate_from 0 plan.pools in
@@ -121,7 +121,7 @@ idle_and_busy_weight plan v s ordered kept =
     let by_pool = workers_weight_by_pool plan v s.jobs (λ job i. ordered.pools job.class (All-at_In (λ (x : CreatedJob). x.class < length plan.classes) kept.classes i)) in
     omega (arith, joined, by_pool, sum_by-add free at_work numbered)
 
--- the weight of a state and of its busy workers is the weight of its clients and jobs and of all workers
+-- the weight of a state plus that of its busy workers is the weight of its clients and jobs plus that of all workers
 pub sum_of_is : (get_return : GetReturn) (plan : Plan) (v : Vector) (s : State) → HasValidBodies plan → StateInvariant plan s → sum_of get_return plan v s + busy_workers_weight plan v s ≡ actors_weight get_return plan v s + all_workers plan v
 sum_of_is get_return plan v s ordered kept = omega (arith, idle_and_busy_weight plan v s ordered kept)
 
@@ -131,8 +131,8 @@ busy_workers_weight-le plan v s ordered kept = omega (arith, idle_and_busy_weigh
 
 -- ---- the invariant
 
--- the weight of the clients and jobs of a balanced state is at most the total, which is the initial weight of the clients and the
--- weight of all workers
+-- the weight of the clients and jobs of a balanced state is at most the total, which is the initial weight of the clients plus
+-- the weight of all workers
 pub actors_weight-le-total : (get_return : GetReturn) (plan : Plan) (v : Vector) (s : State) → HasValidBodies plan → StateInvariant plan s → IsBalanced get_return plan v s → actors_weight get_return plan v s ≤ total plan v
 actors_weight-le-total get_return plan v s ordered kept balanced = omega (arith, busy_workers_weight-le plan v s ordered kept)
 

@@ -14,25 +14,25 @@ use Rattle.written_machine.specs.Step.{step}
 use Rattle.written_machine.specs.Reach.{replay, IsReached}
 use Rattle.written_machine.specs.Safe.{is_of_job_or_pool}
 
--- f of the class that the action submits, or 0 if the action is not a submit
+-- the value of f for the class that the action submits, or 0 if the action is not a submit
 abbrev pub of_submit : (ℕ → ℕ) → Action → ℕ
 of_submit f (Submit k) = f k
 of_submit f _ = 0
 
--- the number of job events and takes of a new job of class k and of the jobs that it submits, directly or through other jobs, up
--- to n generations of jobs
+-- the number of job events and takes of a new job of class k and of the jobs that it submits, directly or through other jobs,
+-- if jobs of at most n generations are counted
 abbrev pub full_within : Plan → ℕ → ℕ → ℕ
 full_within plan zero k = 0
 full_within plan (suc n) k = length (class_at plan k).body + 2 + sum_by (of_submit (full_within plan n)) (class_at plan k).body
 
--- the number of job events and takes of a new job of class k and of all jobs that it submits, directly or through other jobs. If
--- the rows of the ranks hold, the level of a class is above the level of each class that it submits, so level + 1 generations are
--- all of them
+-- the number of job events and takes of a new job of class k and of all jobs that it submits, directly or through other jobs.
+-- If the rows of the ranks hold, the level of a class is above the level of each class that it submits, so level + 1
+-- generations are all of them
 abbrev pub full : Plan → Ranks → ℕ → ℕ
 full plan ranks k = full_within plan (level ranks k + 1) k
 
--- if the rows of the ranks hold, the work of a new job of class k is one event for each action, one for its take and one for its
--- end, and the work of the jobs that it submits
+-- if the rows of the ranks hold, the work of a new job of class k is one event for each action, one for its take and one for
+-- its end, plus the work of the jobs that it submits
 abbrev pub FullIsWhole : Type 0
 FullIsWhole = (plan : Plan) (ranks : Ranks) (k : ℕ) → AllHold (rank_rows plan ranks) → full plan ranks k ≡ length (class_at plan k).body + 2 + sum_by (of_submit (full plan ranks)) (class_at plan k).body
 
@@ -64,8 +64,9 @@ pub record LeadsTo (plan : Plan) (s : State) (events : List Event) (s' : State) 
 abbrev pub IsQuiescent : Plan → State → Type 0
 IsQuiescent plan s = (event : Event) → IsTrue (is_of_job_or_pool event) → step plan s event ≡ None
 
--- If no client acts after a reachable state, the number of job events and takes that follow is at most the remaining work of that
--- state. When no job event and no take is possible any longer, no job is unfinished. Threads above core may end in between.
+-- If no client acts after a reachable state, the number of job events and takes that follow is at most the remaining work of
+-- that state. When no job event and no take is possible any longer, no job is unfinished. Threads above core may end in
+-- between.
 pub record Drains (plan : Plan) (ranks : Ranks) : Type 0 where
   pub bounded : (s s' : State) (events : List Event) → LeadsTo plan s events s' → count_by is_of_job_or_pool events ≤ todo plan ranks s
   pub drained : (s s' : State) (events : List Event) → LeadsTo plan s events s' → IsQuiescent plan s' → (j : ℕ) → IsFalse (is_unfinished (job_at s' j).stage)

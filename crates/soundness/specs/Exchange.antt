@@ -5,8 +5,8 @@ use Rattle.written_machine.specs.declared.parent.Parent.{Parent}
 use Rattle.written_machine.specs.State.{Stage, CreatedJob, State, job_at, is_made_by, child}
 use Rattle.written_machine.specs.State.Stage.{Claimed}
 
--- the job after an exchange of positions t and u of actor a: if a created the job at one of these positions, its position becomes
--- the other one
+-- the job after an exchange of positions t and u of actor a: if a created the job at one of these positions, its position
+-- becomes the other one
 abbrev pub exchanged_job : Parent → ℕ → ℕ → CreatedJob → CreatedJob
 exchanged_job a t u job = record job { slot = if is_made_by a t job then u else (if is_made_by a u job then t else job.slot) }
 
@@ -23,7 +23,7 @@ is_claimed _ = false
 abbrev pub are_alike : CreatedJob → CreatedJob → Bool
 are_alike job other = job.class == other.class && (not (is_claimed job.stage) && not (is_claimed other.stage))
 
--- both numbers are present, and the jobs with these numbers are alike
+-- both options have a number, and the jobs with these numbers are alike
 abbrev pub both_alike : State → Option ℕ → Option ℕ → Bool
 both_alike s (Some i) (Some j) = are_alike (job_at s i) (job_at s j)
 both_alike s _ _ = false
@@ -33,8 +33,8 @@ abbrev pub can_exchange : State → Parent → ℕ → ℕ → Bool
 can_exchange s a t u = both_alike s (child s a t) (child s a u)
 
 -- the effect of an exchange of positions t and u of actor a, from state s to state s'. In s', a get of a's submit at one of the
--- two positions finds the job that a get of the other submit finds in s. Every other get finds the same job in both states. Each
--- job has the same class, creator and stage in both states.
+-- two positions finds the job that a get of the other submit finds in s. Every other get finds the same job in both states.
+-- Each job has the same class, creator and stage in both states.
 pub record AreExchanged (s : State) (a : Parent) (t u : ℕ) (s' : State) : Type 0 where
   pub first : child s' a t ≡ child s a u
   pub second : child s' a u ≡ child s a t
@@ -44,7 +44,7 @@ pub record AreExchanged (s : State) (a : Parent) (t u : ℕ) (s' : State) : Type
   pub creators : (j : ℕ) → (job_at s' j).parent ≡ (job_at s j).parent
   pub stages : (j : ℕ) → (job_at s' j).stage ≡ (job_at s j).stage
 
--- the law that an exchange makes the gets of the two submits find each other's job, and changes nothing else that a get or a pool
--- depends on
+-- the law that an exchange swaps the jobs that gets of the two submits find, and changes nothing else on which a get or a pool
+-- depends
 abbrev pub ExchangesSwapTwoGets : Type 0
 ExchangesSwapTwoGets = (s : State) (a : Parent) (t u : ℕ) → AreExchanged s a t u (after_exchange a t u s)

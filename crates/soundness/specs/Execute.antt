@@ -21,8 +21,8 @@ pub record Call : Type 0 where
   pub actor : Parent
   pub pool : ℕ
 
--- a state of the machine with the calls in progress: `offering` are the calls that found at least core threads and whose next
--- step offers the job to the queue; `requesting` are the calls that found the queue full and whose next step requests a thread
+-- a state of the machine with the calls in progress: `offering` has the calls that found at least core threads, and whose next
+-- step offers the job to the queue; `requesting` has the calls that found the queue full, and whose next step requests a thread
 pub record JavaState : Type 0 where
   pub machine : State
   pub offering : List Call

@@ -1,5 +1,5 @@
--- Behavior of Java's steps that atomic submits never show. A call that found the queue full requests a thread without checking
--- the queue and the idle threads again.
+-- Behavior that Java's steps have and atomic submits do not. A call that found the queue full requests a thread without
+-- checking the queue and the idle threads again.
 use Rattle.std.specs.Prelude.{◌≡◌, ◌≤◌, ◌<◌, ◌+◌, ℕ, length, Some}
 use Rattle.job_bodies.specs.Plan.{Plan, pool_at}
 use Rattle.job_bodies.specs.WellFormed.{IsWellFormed}

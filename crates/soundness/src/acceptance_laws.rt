@@ -13,15 +13,15 @@ ghost use Rattle.soundness.specs.Headline.{
 };
 ghost use Rattle.soundness.specs.Headline.{AcceptedPlansMaySkip, AcceptedPlansMakeProgressWithSkips, AcceptedPlansDrainWithSkips};
 
-/// Proves that every reachable state is safe if a certificate accepts a well-formed plan: no submit
-/// was refused, each pool is within its maximum and its queue's capacity, and no set of unfinished
-/// jobs waits only for its own members, now or at later gets.
+/// Proves that, if a certificate accepts a well-formed plan, every reachable state is safe: no
+/// submit was refused, each pool is within its maximum and its queue's capacity, and no set of
+/// unfinished jobs waits only for its own members, now or at later gets.
 pub fn accepted_plans_are_safe()
     ensures { AcceptedPlansAreSafe }
 {}
 
-/// Proves that an event of a job or a take is possible in every reachable state with an unfinished
-/// job if a certificate accepts a well-formed plan.
+/// Proves that, if a certificate accepts a well-formed plan, an event of a job or a take is
+/// possible in every reachable state with an unfinished job.
 pub fn accepted_plans_make_progress()
     ensures { AcceptedPlansMakeProgress }
 {}
@@ -41,15 +41,15 @@ pub fn bounded_plans_refuse_nothing()
     ensures { BoundedPlansRefuseNothing }
 {}
 
-/// Proves that every reachable state is safe if a certificate accepts a well-formed plan, even if a
-/// submit takes the separate steps of Java's `execute` with other events between them.
+/// Proves that, if a certificate accepts a well-formed plan, every reachable state is safe even if
+/// a submit takes the separate steps of Java's `execute`, with other events between them.
 pub fn accepted_plans_are_java_safe()
     ensures { AcceptedPlansAreJavaSafe }
 {}
 
-/// Proves that an event of a job or a take is possible in every reachable state with an unfinished
-/// job if a certificate accepts a well-formed plan, even if a submit takes the separate steps of
-/// Java's `execute`.
+/// Proves that, if a certificate accepts a well-formed plan, an event of a job or a take is
+/// possible in every reachable state with an unfinished job, even if a submit takes the separate
+/// steps of Java's `execute`.
 pub fn accepted_plans_make_java_progress()
     ensures { AcceptedPlansMakeJavaProgress }
 {}
@@ -64,30 +64,31 @@ pub fn accepted_plans_java_drain()
 {}
 
 /// Proves that, if each pool of a well-formed plan has a standing or a lifetime vector whose rows
-/// hold, no reachable state has a refused submit, a pool with more threads than its maximum, or a
-/// queue longer than its capacity, even if a submit takes the separate steps of Java's `execute`.
+/// hold, the following is true even if a submit takes the separate steps of Java's `execute`: no
+/// reachable state has a refused submit, a pool with more threads than its maximum, or a queue
+/// longer than its capacity.
 pub fn bounded_plans_java_refuse_nothing()
     ensures { BoundedPlansJavaRefuseNothing }
 {}
 
 /// Proves that, if each pool of a well-formed plan has a standing or a lifetime vector whose rows
-/// hold, no call of `execute` ever finds the queue of a pool with a standing vector full. So no
-/// call requests a thread above core from such a pool.
+/// hold, the following is true of each pool with a standing vector: no call of `execute` ever finds
+/// its queue full, and so no call requests a thread above core from it.
 pub fn standing_pools_are_not_asked()
     ensures { StandingPoolsAreNotAsked }
 {}
 
-/// Proves that every reachable state is safe if a certificate accepts a well-formed plan, even if
-/// each submit takes the separate steps of Java's `execute`, and each client and each job may skip
-/// any submit of its body together with its get, and may get its jobs of one class in any order. An
-/// actor decides anew each time that it reaches the submit or the get.
+/// Proves that, if a certificate accepts a well-formed plan, every reachable state is safe even if
+/// each submit takes the separate steps of Java's `execute`, and if clients and jobs may skip
+/// submits of their bodies together with the gets of these submits, and may get their jobs of one
+/// class in any order. An actor decides anew each time that it reaches the submit or the get.
 pub fn accepted_plans_may_skip()
     ensures { AcceptedPlansMaySkip }
 {}
 
-/// Proves that, if a certificate accepts a well-formed plan, an event of a job or a take is
-/// possible without a skip or an exchange in every state with an unfinished job, even if actors
-/// skip submits and exchange alike jobs before.
+/// Proves that, if a certificate accepts a well-formed plan, the plan makes progress even if actors
+/// skip submits and exchange alike jobs: in every reachable state with an unfinished job, an event
+/// of a job or a take is possible, without a further skip or exchange.
 pub fn accepted_plans_make_progress_with_skips()
     ensures { AcceptedPlansMakeProgressWithSkips }
 {}

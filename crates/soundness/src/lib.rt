@@ -1,9 +1,9 @@
 //! What the conditions of a certificate guarantee for every state that a plan reaches.
 //!
-//! Each theorem is the contract of a function with an empty body. The definitions are in `specs/`, and apart from
-//! [`Note`] and its [`Section`] nothing here is used when a program runs. The theorems also hold if a submit takes
-//! several steps, as in Java's `execute`, if a client or a job skips a submit together with its get, and if it gets
-//! jobs of one class in any order.
+//! Each theorem is the contract of a function with an empty body. The definitions are in `specs/`.
+//! A running program uses only [`Note`] and its [`Section`]. The theorems also hold if a submit
+//! takes several steps, as in Java's `execute`, and if clients and jobs skip a submit together with
+//! its get, or get jobs of one class in any order.
 #![tactic(auto)]
 
 mod acceptance_laws;

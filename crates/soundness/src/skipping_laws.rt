@@ -4,23 +4,23 @@ ghost use Rattle.soundness.specs.Exchange.{ExchangesSwapTwoGets};
 ghost use Rattle.soundness.specs.Skipping.{DoneWithinQueued};
 ghost use Rattle.soundness.specs.Skipping.{AlikeJobsAreGotInAnyOrder};
 
-/// Proves that a done job of a class weighs at most as much as a queued job of that class if the
-/// rows of a vector and of the ranks hold. A skipped submit creates a done job in place of a queued
-/// one, so it does not increase the weight of a state.
+/// Proves that, if the rows of a vector and of the ranks hold, a done job of a class weighs at most
+/// as much as a queued job of that class. So a skipped submit, which creates a done job in place of
+/// a queued one, does not increase the weight of a state.
 pub fn done_within_queued()
     ensures { DoneWithinQueued }
 {}
 
-/// Proves what an exchange of an actor's jobs at two positions changes. After it, a get of each of
-/// the two submits finds the job that a get of the other one found before. Every other get finds
-/// the same job as before, and each job keeps its class, its creator and its stage.
+/// Proves what changes when an actor's jobs at two positions are exchanged: afterwards, a get of
+/// each of the two submits finds the job that a get of the other one found before. Every other get
+/// finds the same job as before, and each job keeps its class, its creator and its stage.
 pub fn exchanges_swap_two_gets()
     ensures { ExchangesSwapTwoGets }
 {}
 
-/// Proves that an actor at a get can get another of its jobs instead if that job is done, has the
-/// class of the job that the get waits for, and neither of the two was got. The actor exchanges the
-/// two jobs, and its next event gets the done one.
+/// Proves that an actor at a get can get another of its jobs instead. That job must be done and
+/// have the class of the job for which the get waits, and neither of the two may have been got. The
+/// actor exchanges the two jobs, and its next event gets the done one.
 pub fn alike_jobs_are_got_in_any_order()
     ensures { AlikeJobsAreGotInAnyOrder }
 {}

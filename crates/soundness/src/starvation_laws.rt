@@ -3,27 +3,28 @@
 ghost use Rattle.soundness.specs.CountedGets.{FewerThanCoreMayBlock, NoLooseWaitingSets};
 ghost use Rattle.soundness.specs.Drain.{FullIsWhole, FullIsOfThePlan};
 
-/// Proves that in every reachable state fewer jobs of a pool than its core size are at a counted
-/// get or before one if the rows of the ranks and of the pool's blocked vector hold.
+/// Proves that, if the rows of the ranks and of a pool's blocked vector hold, then in every
+/// reachable state fewer jobs of the pool than its core size are at a counted get or before one.
 pub fn fewer_than_core_may_block()
     ensures { FewerThanCoreMayBlock }
 {}
 
-/// Proves that no set of unfinished jobs waits only for its own members, now or at later gets, in
-/// any reachable state if the rows of the ranks and of a blocked vector for each pool hold. In such
-/// a set each running member has created an unfinished member, and its body still has a get of a
-/// job of that member's class.
+/// Proves that, if the rows of the ranks and of a blocked vector for each pool hold, no reachable
+/// state has a set of unfinished jobs that wait only for members of the set, now or at later gets.
+/// In such a set each running member has created an unfinished member, and its body still has a get
+/// of a job of that member's class.
 pub fn no_loose_waiting_sets()
     ensures { NoLooseWaitingSets }
 {}
 
 /// Proves that, if the rows of the ranks hold, the work of a new job is one event for each action,
-/// one for its take and one for its end, and the work of the jobs that it submits.
+/// one for its take and one for its end, plus the work of the jobs that it submits.
 pub fn full_is_whole()
     ensures { FullIsWhole }
 {}
 
-/// Proves that the work of a new job is the same number of events for all ranks whose rows hold.
+/// Proves that the work of a new job, as a number of events, is the same for all ranks whose rows
+/// hold.
 pub fn full_is_of_the_plan()
     ensures { FullIsOfThePlan }
 {}

@@ -2,13 +2,13 @@
 
 ghost use Rattle.soundness.specs.WeightLaws.{SumNeverRises, SumStaysWithinTotal, BoundsRefuseNothing, JobsStayWithinTotal};
 
-/// Proves that no event increases the weight of a reachable state if the rows of the vector hold.
+/// Proves that, if the rows of a vector hold, no event increases the weight of a reachable state.
 pub fn sum_never_rises()
     ensures { SumNeverRises }
 {}
 
-/// Proves that the weight of every reachable state is at most the vector's total if the rows of the
-/// vector hold.
+/// Proves that, if the rows of a vector hold, the weight of every reachable state is at most the
+/// vector's total.
 pub fn sum_stays_within_total()
     ensures { SumStaysWithinTotal }
 {}
@@ -19,8 +19,8 @@ pub fn bounds_refuse_nothing()
     ensures { BoundsRefuseNothing }
 {}
 
-/// Proves that the number of jobs ever submitted to a pool is at most the total of its lifetime
-/// vector if the rows of that vector hold.
+/// Proves that, if the rows of a pool's lifetime vector hold, the number of jobs ever submitted to
+/// the pool is at most the total of that vector.
 pub fn jobs_stay_within_total()
     ensures { JobsStayWithinTotal }
 {}
