@@ -43,7 +43,7 @@ conditions_to plan cert i =
     in_section section.Ranks (rank_rows plan cert.ranks)
     ++ flat_map (λ entry. pool_conditions plan cert entry.0) (enumerate_from 0 (take i plan.pools))
 
--- the notes are the failing ones of the conditions of the ranks and of the first i pools
+-- the notes are those conditions of the ranks and of the first i pools that fail
 pub record NotesTo (plan : Plan) (cert : Cert) (notes : List Note) (i : ℕ) : Type 0 where
   pub collected : notes ≡ filter note_fails (conditions_to plan cert i)
 
@@ -52,7 +52,7 @@ notes_begin plan cert notes ranks =
     let rows = rank_rows plan cert.ranks in
     record { collected = ranks ∙ sym (ap (filter note_fails) (append-nil (in_section section.Ranks rows)) ∙ failing_of_section section.Ranks rows) }
 
--- the notes of the first i + 1 elements are those of the first i elements, followed by those at index i
+-- the notes of the first i + 1 elements are those of the first i elements, followed by those of the element at index i
 one_more : {X : Type 0} (notes_at : ℕ → List Note) (n : ℕ) (xs : List X) (i : ℕ) → i < length xs
     → flat_map (λ (entry : ℕ × X). notes_at entry.0) (enumerate_from n (take (suc i) xs)) ≡ flat_map (λ (entry : ℕ × X). notes_at entry.0) (enumerate_from n (take i xs)) ++ notes_at (n + i)
 one_more notes_at n [] i inside = absurd (omega (arith, inside))
@@ -63,13 +63,15 @@ one_more notes_at n (x ∷ xs) (suc i) inside =
     let place : n + suc i ≡ n + 1 + i = omega arith in
     ap (λ (ns : List Note). notes_at n ++ ns) (one_more notes_at (n + 1) xs i (omega arith)) ∙ rw place (sym (append_assoc (notes_at n) _ _))
 
--- the notes of the first i + 1 elements, after some other notes, are those of the first i elements, followed by those at index i
+-- after some other notes, the notes of the first i + 1 elements are those of the first i elements, followed by those of the
+-- element at index i
 one_more_after : {X : Type 0} (prefix : List Note) (notes_at : ℕ → List Note) (xs : List X) (i : ℕ) → i < length xs
     → prefix ++ flat_map (λ (entry : ℕ × X). notes_at entry.0) (enumerate_from 0 (take (i + 1) xs)) ≡ prefix ++ flat_map (λ (entry : ℕ × X). notes_at entry.0) (enumerate_from 0 (take i xs)) ++ notes_at i
 one_more_after prefix notes_at xs i inside =
     rw add-one (ap (λ (ns : List Note). prefix ++ ns) (one_more notes_at 0 xs i inside) ∙ rw zero-add (sym (append_assoc prefix _ _)))
 
--- each pool's part of a certificate that fits the plan also fits, and its number is that of a pool of the plan
+-- if a certificate fits the plan, each of its pool parts fits the plan, and the number of the part is that of a pool of the
+-- plan
 pub part_fits : (plan : Plan) (cert : Cert) (i : ℕ) (pool : PoolCert) → IsTrue (cert_fits plan cert) → i < length cert.pools → pool ≡ get_or cert.pools i pool
     → IsTrue (pool_cert_fits plan pool) × (i < length plan.pools)
 part_fits plan cert i pool fits inside here =

@@ -103,8 +103,8 @@ pub(crate) fn push_pool_notes(
     push_blocked_notes(alloc, notes, plan, ranks, number, &pool.blocked)
 }
 
-/// Returns the failing conditions of a certificate, with both sides: those of the ranks, and then,
-/// for each pool, those of its bound and of its blocked vector.
+/// Returns the failing conditions of a certificate, each with its left and right side. Those of the
+/// ranks come first. Those of each pool follow: of its bound, and then of its blocked vector.
 ///
 /// # Errors
 ///

@@ -15,8 +15,7 @@ use job_bodies::Plan;
 use std::alloc::{AllocError, Global};
 
 /// Appends a line for each failing condition, and then their number, such as `failing 1`. Returns
-/// that number. Stores the failing conditions of only one pool at a time, so that they need little
-/// memory besides the text.
+/// that number. Stores the failing conditions of one pool at a time only, to save memory.
 ///
 /// # Errors
 ///
@@ -70,8 +69,8 @@ fn sum(count: usize, more: usize) -> Result<usize, AllocError>
     count.checked_add(more).ok_or(AllocError)
 }
 
-/// Appends a line for each note. The head of a section is formatted once for consecutive notes of
-/// that section.
+/// Appends a line for each note. If consecutive notes have the same section, its head is formatted
+/// only once.
 fn push_lines(
     alloc: Global,
     text: &mut String,
@@ -92,7 +91,7 @@ fn push_lines(
     Ok(())
 }
 
-/// Appends the line of the note, whose section has this head.
+/// Appends the line of the note, given the head of its section.
 fn push_line_with_head(
     text: &mut String,
     head: &str,

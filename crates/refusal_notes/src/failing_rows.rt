@@ -33,7 +33,7 @@ impl FailingRows {
     }
 
     /// Appends the failing rows to the notes, as notes of this section. Returns `AllocError` if
-    /// memory ran out now or during a visit.
+    /// memory runs out now, or ran out during a visit.
     pub fn push_notes(self, notes: &mut Vec<Note>, section: Section) -> Result<(), AllocError>
         ensures { (seen : List Seen)
             → Keeps self seen
