@@ -14,8 +14,8 @@ text_more text_at n (x ∷ xs) (suc i) d inside =
     let place : n + suc i ≡ n + 1 + i = omega arith in
     ap (λ (t : List ℕ). text_at n x ++ t) (text_more text_at (n + 1) xs i d (omega arith)) ∙ rw place (sym (append_assoc (text_at n x) _ _))
 
--- if `old` is `first` and the text of the first i elements, and `new` appends that of the element at index i, then `new` is `first` and the
--- text of the first i + 1 elements
+-- if `old` is `first` followed by the text of the first i elements, and `new` is `old` followed by the text of the element at index i, then
+-- `new` is `first` followed by the text of the first i + 1 elements
 pub appended_more : {X : Type 0} (text_at : ℕ → X → List ℕ) (xs : List X) (i : ℕ) (d : X) (first old new : List ℕ) → i < length xs → new ≡ old ++ text_at i (get_or xs i d)
     → old ≡ first ++ flat_map (λ entry. text_at entry.0 entry.1) (enumerate_from 0 (take i xs)) → new ≡ first ++ flat_map (λ entry. text_at entry.0 entry.1) (enumerate_from 0 (take (i + 1) xs))
 appended_more text_at xs i d first old new inside more prior =

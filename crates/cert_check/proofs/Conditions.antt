@@ -30,7 +30,7 @@ none_failing-cons x notes =
       | false ↦ refl
     ]
 
--- no note of a concatenation fails exactly when no note of either list fails
+-- no note of two lists together fails exactly when no note of either list fails
 none_failing-append : (xs ys : List Note) → none_failing (xs ++ ys) ≡ (none_failing xs && none_failing ys)
 none_failing-append [] ys = refl
 none_failing-append (x ∷ xs) ys =
@@ -84,7 +84,7 @@ conditions_hold plan cert =
     (none_failing-flat_map conditions_of numbered
     ∙ list_all-same (λ entry. none_failing (conditions_of entry)) (λ entry. pool_holds plan cert entry.0) numbered (λ entry. pool_holds-means plan cert entry.0))
 
--- if no condition of the ranks fails, the test of all pools decides whether a condition of the certificate fails
+-- if no condition of the ranks fails, a condition of the certificate fails exactly when some pool fails its test
 pub held : (plan : Plan) (cert : Cert) (all : Bool) → is_some (first_failing (rank_rows plan cert.ranks)) ≡ false
     → all ≡ list_all (λ entry. pool_holds plan cert entry.0) (enumerate_from 0 plan.pools) → all ≡ is_nil (failing plan cert)
 held plan cert all ranks pools =

@@ -26,7 +26,7 @@ fails_here test pools i all inside fails prior =
 pub passes_all : (test : ℕ → Bool) (pools : List Pool) (i : ℕ) (all : Bool) → length pools ≤ i → rest_passes test pools i ≡ all → true ≡ all
 passes_all test pools i all past prior = sym (at_drop_all (λ (ps : List Pool). list_all (λ entry. test entry.0) (enumerate_from i ps)) pools i past) ∙ prior
 
--- the conjunction of the results for the earlier pools and for the later ones is unchanged when pool i becomes an earlier one
+-- moving pool i from the later pools to the earlier ones does not change the conjunction of both results
 pub decides_more : (test : ℕ → Bool) (pools : List Pool) (i : ℕ) (prior all : Bool) → i < length pools → (prior && rest_passes test pools i) ≡ all
     → ((prior && test i) && rest_passes test pools (i + 1)) ≡ all
 decides_more test pools i prior all inside before =
@@ -49,7 +49,7 @@ decides_all test pools i prior all past before =
 abbrev pub rest_of_results : {Y : Type 0} → (ℕ → Y) → List Pool → ℕ → List Y
 rest_of_results f pools i = map (λ entry. f entry.0) (enumerate_from i (drop i pools))
 
--- the values so far, the value at pool i and the values at the later pools are all values
+-- the values so far, followed by the value at pool i and those at the later pools, are all values
 pub results_more : {Y : Type 0} (f : ℕ → Y) (pools : List Pool) (i : ℕ) (front all : List Y) → i < length pools → front ++ rest_of_results f pools i ≡ all → (front ++ f i ∷ []) ++ rest_of_results f pools (i + 1) ≡ all
 results_more {Y} f pools i front all inside prior =
     append_assoc front (f i ∷ []) (rest_of_results f pools (i + 1))

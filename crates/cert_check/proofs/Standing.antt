@@ -1,4 +1,4 @@
--- Certificates tested by their standing vectors alone: the test is exact, and a plan that passes it refuses no submit.
+-- The test of a certificate's standing vectors alone: the test is exact, and a plan that passes it refuses no submit.
 use Rattle.std.proofs.Common.{◌≡◌, ◌<◌, ◌≤◌, ℕ, Bool, true, false, ◌&&◌, not, cond, List, [], ◌∷◌, length, Option, Some, is_some, IsTrue, refl, sym, zero-add}
 use Rattle.std.specs.List.{list_all, enumerate_from}
 use Rattle.std.proofs.lemmas.Bool.{and_from, and_parts, ltb-false}
@@ -33,7 +33,7 @@ none_first (x ∷ rows) =
       | false ↦ none_first rows
     ]
 
--- the result of `is_none` is the negation of that of `is_some`
+-- if `is_some` is the negation of the answer, the answer is the negation of `is_some`
 pub none_found : (found : Option Row) (answer : Bool) → is_some found ≡ not answer → answer ≡ not (is_some found)
 none_found found true e = rw e refl
 none_found found false e = rw e refl
@@ -46,14 +46,14 @@ valid_standing_vector_holds : (plan : Plan) (p : ℕ) (bound : Bound) → is_val
 valid_standing_vector_holds plan p (Standing v) e = λ x i. ltb-false x.right x.left (not_failing (fails x) (list_all_at_In holds e i))
 valid_standing_vector_holds plan p (Lifetime v) e = absurd cc
 
--- a certificate whose pools all passed the test is accepted by its standing vectors
+-- if all pools passed the test, `accepted_standing` holds for the certificate
 pub passed_all : (plan : Plan) (cert : Cert) (i : ℕ) → IsTrue (cert_fits plan cert) → length plan.pools ≤ i
     → rest_passes (λ p. is_valid_standing_vector plan p (pool_cert_at cert p).bound) plan.pools i ≡ rest_passes (λ p. is_valid_standing_vector plan p (pool_cert_at cert p).bound) plan.pools 0 → accepted_standing plan cert ≡ true
 passed_all plan cert i fits past prior =
     let test : ℕ → Bool = λ p. is_valid_standing_vector plan p (pool_cert_at cert p).bound in
     and_from (cert_fits plan cert) (list_all (λ entry. test entry.0) (enumerate_from 0 plan.pools)) fits (sym (passes_all test plan.pools i _ past prior))
 
--- a certificate that is accepted by its standing vectors has for each pool a bound whose rows all hold
+-- if `accepted_standing` holds for a certificate, each pool has a bound whose rows all hold
 bounds_hold : (plan : Plan) (cert : Cert) → accepted_standing plan cert ≡ true → (p : ℕ) → p < length plan.pools → IsTrue (vector_fits plan (bound_vector (pool_cert_at cert p).bound)) × AllHold (bound_rows plan p (pool_cert_at cert p).bound)
 bounds_hold plan cert e p inside =
     let test = λ (p : ℕ). is_valid_standing_vector plan p (pool_cert_at cert p).bound in
@@ -63,10 +63,10 @@ bounds_hold plan cert e p inside =
           (list_all_at_In (λ entry. test entry.0) parts.1 (In-enumerate_from 0 plan.pools p (pool_at plan p) p (slice_get-get_or plan.pools p no_pool inside) (zero-add p))),
     )
 
--- a plan with a certificate that is accepted by its standing vectors refuses no submit
+-- if `accepted_standing` holds for a plan and a certificate, the plan refuses no submit
 pub standing_refuses_nothing : (plan : Plan) (cert : Cert) → IsWellFormed plan → accepted_standing plan cert ≡ true → RefusesNothing plan
 standing_refuses_nothing plan cert well_formed e = bounded_plans_refuse_nothing plan (λ p. (pool_cert_at cert p).bound) well_formed (bounds_hold plan cert e)
 
--- a plan with a certificate that is accepted by its standing vectors refuses no submit in Java's steps
+-- if `accepted_standing` holds for a plan and a certificate, the plan refuses no submit in Java's steps
 pub standing_java_refuses_nothing : (plan : Plan) (cert : Cert) → IsWellFormed plan → accepted_standing plan cert ≡ true → JavaRefusesNothing plan
 standing_java_refuses_nothing plan cert well_formed e = bounded_plans_java_refuse_nothing plan (λ p. (pool_cert_at cert p).bound) well_formed (bounds_hold plan cert e)

@@ -197,8 +197,8 @@ front_and_back_cert = record {
   ranks = record { pools = 1 ∷ 0 ∷ []; reach = 1 ∷ 0 ∷ []; levels = 1 ∷ 0 ∷ [] };
 }
 
--- a certificate for `two_pools`: the rank of the first pool is above the reach of the job that its jobs wait for, and the rank of the
--- second pool is not
+-- a certificate for `two_pools`: jobs of the first pool get a job whose reach is below the first pool's rank; jobs of the second pool get a
+-- job whose reach is not below the second pool's rank
 abbrev pub two_pools_cert : Cert
 two_pools_cert = record {
   pools =

@@ -71,14 +71,14 @@ large_weights_fit = refl
 pub larger_weights_do_not_fit : cert_fits (one_pool 1 1 2 1000000) (standing_cert 1000000001) ≡ false
 larger_weights_do_not_fit = refl
 
--- a client that repeatedly submits a job and never waits for it is not accepted
+-- a plan is not accepted if its client repeatedly submits a job and never waits for it
 pub fire_and_forget : verdict (forgetting true) forgetting_cert ≡ no (standing 1 2 0 0 ∷ [])
 fire_and_forget = refl
 
 pub fire_and_forget_fails : failing (forgetting true) forgetting_cert ≡ note (section.Standing 0) (row V7 (place.Client 0) 1 0) ∷ []
 fire_and_forget_fails = refl
 
--- a client that submits a job once and never waits for it is accepted
+-- a plan is accepted if its client submits a job once and never waits for it
 pub fire_and_forget_once : verdict (forgetting false) forgetting_cert ≡ yes (standing 1 2 0 0 ∷ [])
 fire_and_forget_once = refl
 
@@ -153,7 +153,7 @@ fan_out_in_two_fails = refl
 pub front_back : verdict front_and_back front_and_back_cert ≡ yes (standing 1000 1000 0 3 ∷ standing 4 4 0 1 ∷ [])
 front_back = refl
 
--- if two pools wait for each other, the gets of one of them are counted, and this pool needs one more worker
+-- if jobs of two pools wait for each other, the gets in one of the pools are counted, and this pool needs one more worker
 pub cross_pools_safe : verdict (two_pools 2) two_pools_cert ≡ yes (standing 2 2 0 0 ∷ standing 2 2 1 1 ∷ [])
 cross_pools_safe = refl
 

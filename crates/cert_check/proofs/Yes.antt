@@ -21,6 +21,6 @@ plans_read_are_well_formed bytes plan is =
     let entries = bind_ok (entries_of document.0) _ _ document.2 in
     well_formed_read entries.0 plan (are_within_limits document.0 entries.0 entries.1) entries.2
 
--- a plan is safe with the text of a certificate that accepts it
+-- if a certificate accepts a plan, the plan is safe with the text of the certificate
 pub safe_with : (plan : Plan) (cert : Cert) (text : List ℕ) → IsWellFormed plan → cert_of text plan ≡ Ok cert → IsTrue (accepted plan cert) → IsSafeWith plan text
 safe_with plan cert text well_formed is_cert is_accepted = record { cert = cert; is_cert = is_cert; promises = promises plan cert well_formed is_accepted }

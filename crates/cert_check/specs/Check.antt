@@ -19,7 +19,7 @@ abbrev pub checked_plan : List ℕ → Result Plan PlanFault → Result Verdict 
 checked_plan cert_text (Err f) = Err (fault.Plan f)
 checked_plan cert_text (Ok plan) = checked_cert plan (cert_of cert_text plan)
 
--- the first fault of the plan, or if there is none, the first fault of the certificate, or if there is none, the verdict
+-- the first fault of the plan; if there is none, the first fault of the certificate; if there is none either, the verdict
 abbrev pub checked : List ℕ → List ℕ → Result Verdict CheckFault
 checked plan_text cert_text = checked_plan cert_text (plan_of plan_text)
 
@@ -29,7 +29,7 @@ pub record IsSafeWith (plan : Plan) (cert_text : List ℕ) : Type 0 where
   pub is_cert : cert_of cert_text plan ≡ Ok cert
   pub promises : Promises plan cert
 
--- the plan text is a plan, and the certificate text is a certificate for it with which it is safe
+-- the first text is a plan, and the second text is a certificate with which this plan is safe
 pub record IsSafeToRun (plan_text cert_text : List ℕ) : Type 0 where
   pub plan : Plan
   pub is_plan : plan_of plan_text ≡ Ok plan

@@ -14,13 +14,15 @@ pub struct PoolLine {
     /// The limit of `standing`: the queue's capacity or, for a lifetime vector, the number of jobs
     /// that the pool accepts before it can refuse one.
     pub queue: u64,
-    /// The total of the blocked vector, which bounds the number of the pool's jobs at counted gets.
+    /// The total of the blocked vector. It bounds the number of the pool's jobs that are at counted
+    /// gets.
     pub blocked: u64,
     /// The limit of `blocked`: one less than the core size.
     pub limit: u64,
 }
 
-/// Whether a certificate accepts a plan, with the totals and limits of each pool in plan order.
+/// The verdict on a plan and a certificate: whether the certificate accepts the plan, and the
+/// totals and limits of each pool, in plan order.
 #[derive(Drop)]
 pub struct Verdict {
     pub yes: bool,

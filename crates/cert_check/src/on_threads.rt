@@ -28,9 +28,10 @@ pub(crate) struct PoolCheck {
     pub(crate) holds: bool,
 }
 
-/// Checks as [`check`](crate::check) does, and distributes the pools over up to `workers` threads,
-/// 1 to [`MAX_WORKERS`](job_bodies::MAX_WORKERS). Each thread calls the gate before it checks a
-/// pool, without holding a lock. If no thread can be started, the calling thread checks the pools.
+/// Checks a plan and a certificate, as [`check`](crate::check) does, on up to `workers` threads,
+/// each of which checks some of the pools. `workers` is from 1 to
+/// [`MAX_WORKERS`](job_bodies::MAX_WORKERS). Each thread calls the gate before it checks a pool,
+/// without holding a lock. If no thread can be started, the calling thread checks the pools.
 ///
 /// # Errors
 ///
@@ -158,7 +159,7 @@ fn check_pool<G: PoolGate>(plan: &Plan, cert: &Cert, gate: &G, pool: usize) -> O
 }
 
 /// Builds the verdict from the results of the pools, in plan order, and from the ranks. Returns
-/// `None` if the result of a pool is missing.
+/// `None` if a pool has no result.
 fn verdict_of(
     alloc: Global,
     plan: &Plan,

@@ -1,4 +1,4 @@
-//! Reading the text of a plan and then that of a certificate for it.
+//! The reading of two texts: a plan, and a certificate for it.
 
 ghost use Rattle.std.specs.Prelude.{◌≡◌, ◌≢◌, IfOk, IfErr, IsTrue, Ok, Err};
 ghost use Rattle.support.specs.declared.number.TheConstants.{MEMORY};
