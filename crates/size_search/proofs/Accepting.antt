@@ -63,7 +63,7 @@ standing_body plan p v = rows DoneWeight plan v ++ map (λ (entry : ℕ × Class
 abbrev blocked_body : Plan → ℕ → (ℕ → ℕ → Bool) → Vector → List Row
 blocked_body plan p counted v = rows DoneWeight plan v ++ flat_map (λ (entry : ℕ × Class). counted_rows counted v entry.0 entry.1) (classes_of plan p)
 
--- an entry of the classes of pool p is a class of the plan, with its number
+-- each entry in the list of the classes of pool p is a class of the plan, with its number
 in_pool : (plan : Plan) (p : ℕ) (entry : ℕ × Class) → In entry (classes_of plan p) → slice_get plan.classes entry.0 ≡ Some entry.1
 in_pool plan p entry at = at_number plan.classes entry (In-filter_from (λ (any : ℕ × Class). any.1.pool == p) (enumerate_from 0 plan.classes) at).0
 

@@ -1,5 +1,5 @@
--- The weight of an actor and of its open jobs together equals its weight at the end, if each job that it submits weighs as much done as
--- queued.
+-- If each job that an actor submits weighs as much done as queued, the weight of the actor and of its open jobs together is the same at
+-- each position: the actor's weight at the end of its body.
 use Rattle.std.proofs.Common.{◌≡◌, ℕ, zero, suc, ◌+◌, ◌-◌, ◌<◌, ◌≤◌, max, Bool, true, cond, List, [], ◌∷◌, length, drop, get_or, slice_get, Option, Some, None, refl, sym, ap, subst, ◌∙◌, arith}
 use Rattle.std.proofs.Math.Seq.{drop-length}
 use Rattle.std.proofs.lemmas.Bool.{false≢true}
@@ -18,7 +18,7 @@ pub record GivesAllBack (plan : Plan) (v : Vector) (body : List Action) : Type 0
   pub got : (i k : ℕ) → slice_get body i ≡ Some (Submit k) → has_get_of body i ≡ true
   pub same : (i k : ℕ) → slice_get body i ≡ Some (Submit k) → done_weight plan v k ≡ queued_weight v k
 
--- a submit is the submit of its class
+-- an action that is a submit is the submit of its class
 is_the_submit : (x : Option Action) → submits x ≡ true → x ≡ Some (Submit (class_of_submit x))
 is_the_submit (Some (Submit k)) is_submit = refl
 is_the_submit (Some (Work u)) is_submit = absurd (false≢true is_submit)

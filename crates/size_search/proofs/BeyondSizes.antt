@@ -1,4 +1,4 @@
--- No sizes are enough: the conditions of a certificate contradict a cause, which does not depend on sizes.
+-- No sizes are enough for a plan with a cause: the conditions of a certificate exclude the cause, and the cause does not depend on sizes.
 use Rattle.std.proofs.Common.{◌≡◌, ℕ, ◌<◌, ◌≤◌, true, List, [], ◌∷◌, length, map, filter, get_or, slice_get, IsTrue, subst, sym, ap, arith, refl}
 use Rattle.job_bodies.specs.declared.action.Action.{Action}
 use Rattle.job_bodies.specs.Plan.{Class, Client, Plan, no_class, no_client, class_at, client_at}
@@ -32,7 +32,7 @@ queued_weighs : (plan : Plan) (p : ℕ) (bound : Bound) → BoundLaws plan p bou
 queued_weighs plan p (Standing v) laws = laws.queued
 queued_weighs plan p (Lifetime v) laws = laws.queued
 
--- the bound of the pool of class k: no action makes an actor heavier, and a job of class k has weight in the queue
+-- the consequences of the bound of class k's pool: no action makes an actor heavier, and a queued job of class k has weight
 record IsBounded (plan : Plan) (cert : Cert) (bound : Bound) (k : ℕ) : Type 0 where
   weighed : IsWeighed (bound_get_return bound) plan (bound_vector bound) cert.ranks
   weighs : 1 ≤ queued_weight (bound_vector bound) k

@@ -80,7 +80,7 @@ weight-bound plan v least body last (Get t ∷ rest) small low =
 
 -- ---- weights, from the end of a body
 
--- the suffix of a body that is one action longer begins with that action
+-- the suffix of a body from a position is the action at this position, followed by the suffix from the next position
 pub longer_rest : (body : List Action) (behind position : ℕ) (x : Action) → behind < length body → position ≡ length body - 1 - behind → slice_get body position ≡ Some x → drop (length body - (behind + 1)) body ≡ x ∷ drop (length body - behind) body
 longer_rest body behind position x inside is at =
     let first : length body - (behind + 1) ≡ position = omega (arith, inside, is) in

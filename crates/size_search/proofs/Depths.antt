@@ -105,7 +105,7 @@ all_submit plan met k j each at i is_met =
     (λ (earlier : met i ≡ true). follows (each i earlier) at)
     (or_cases (eqb i k) (met i) is_met)
 
--- a class of level n or above is impossible, if all except n of the plan's classes submit it and no class submits itself
+-- if all except n of the plan's classes are known to submit class k, and no class submits itself, the level of class k is below n
 deep_circle : (plan : Plan) → HasValidBodies plan → NoCircle plan → (n k : ℕ) (met : ℕ → Bool) → k < length plan.classes → n ≤ level_of plan n k → length plan.classes ≤ how_many plan met + n → AllSubmit plan met k → ⊥
 deep_circle plan ordered none zero k met inside deep many each =
     ⊎_elim

@@ -49,7 +49,7 @@ total-grows plan other v same grows =
 abbrev pub maxless : Pool → Pool
 maxless pool = record pool { max = 0 }
 
--- each core of a plan that fits is at least the one that is needed with the plan's own maximums
+-- in each plan that satisfies `IsWideFit`, a core is at least the one that the certificate needs with the maximums of `plan`
 cores_least : (plan other : Plan) (cert : Cert) (p : ℕ) → p < length plan.pools → IsWideFit plan cert other → core_needed plan (pool_cert_at cert p).blocked ≤ (pool_at other p).core
 cores_least plan other cert p inside fits =
     let as_many : length other.pools ≡ length plan.pools = sym (length-outline other) ∙ (ap (λ (any : Plan). length any.pools) fits.same_outline ∙ length-outline plan) in
@@ -137,7 +137,7 @@ wide_fit_fits plan other cert fits =
     ∙ (sym (ap (λ (any : Plan). cert_fits any cert) fits.same_outline)
     ∙ (cert_fits-pools other (outline other).pools cert (length-outline other) ∙ (and_parts (cert_fits other cert) (is_nil (failing other cert)) fits.accepts).0))
 
--- no maximum of the widened plan is above the limit, if some plan fits
+-- if some plan satisfies `IsWideFit`, no maximum of the widened plan is above the limit
 pub wide_fit_has_room : (plan other : Plan) (cert : Cert) (p : ℕ) → IsWideFit plan cert other → p < length (widened plan cert).pools → (pool_at (widened plan cert) p).max ≤ MAX_SIZE
 wide_fit_has_room plan other cert p fits there =
     let as_many : length other.pools ≡ length plan.pools = sym (length-outline other) ∙ (ap (λ (any : Plan). length any.pools) fits.same_outline ∙ length-outline plan) in

@@ -78,7 +78,7 @@ bound_limit-pool : (plan : Plan) (p : ℕ) (bound : Bound) → bound_limit plan 
 bound_limit-pool plan p (Standing v) = refl
 bound_limit-pool plan p (Lifetime v) = refl
 
--- a queue of this capacity makes room for a total t, if the pool has m threads, f of them prestarted
+-- in a pool of m threads, f of them prestarted, a queue raised from q to at least t + f - m makes room for a total t
 queue_makes_room : (t q m f : ℕ) → t ≤ max q (t + f - m) + m - f
 queue_makes_room t q m f = omega arith
 
@@ -104,7 +104,7 @@ raised_totals plan cert =
 
 -- ---- the least of the plans that fit
 
--- the other pool has no smaller core and queue, and has room for the totals
+-- the other pool's core and queue are no smaller than this pool's, and it has room for the totals
 record HasRoom (plan : Plan) (cert : PoolCert) (pool other : Pool) : Type 0 where
   max : other.max ≡ pool.max
   prestart : other.prestart ≡ pool.prestart
@@ -125,7 +125,7 @@ pub cond-le-self : (b : Bool) (n : ℕ) → cond b n 0 ≤ n
 cond-le-self true n = omega arith
 cond-le-self false n = omega arith
 
--- no smaller queue makes room for a total t
+-- a queue q' that makes room for a total t is no smaller than the raised queue
 no_smaller_queue : (t q m f q' f' : ℕ) → f ≤ f' → f' ≤ m → q ≤ q' → t ≤ q' + m - f' → max q (t + f - m) ≤ q'
 no_smaller_queue t q m f q' f' more within no_smaller room = omega arith
 
@@ -200,7 +200,7 @@ raised_sized plan other cert well fits = sized_from_places (raised plan cert).po
 
 -- ---- the fitted plan
 
--- the fitted plan is the raised plan, if that has valid sizes and only totals fail
+-- the fitted plan is the raised plan, whose sizes are valid and in which only totals fail
 record IsRaised (plan : Plan) (cert : Cert) (fit : Plan) : Type 0 where
   only_at_totals : fails_only_at_totals plan cert ≡ true
   sized : list_all has_valid_sizes (raised plan cert).pools ≡ true
@@ -323,7 +323,7 @@ smallest_is_well_formed plan well = well_formed_changed plan (smallest plan) wel
           most_queue = omega (arith, declared.core, declared.max, declared.most_max);
         }
 
--- a plan that the certificate accepts with any cores and queues is one that fits the smallest plan
+-- if the certificate accepts a plan that differs only in cores and queues, that plan fits the smallest plan
 fits_smallest : (plan other : Plan) (cert : Cert) → IsResized plan other → accepted other cert ≡ true → IsFit (smallest plan) cert other
 fits_smallest plan other cert resized is_accepted = record {
   resized = record { well_formed = resized.well_formed; same_shape = resized.same_shape ∙ sym (smallest-shape plan) };

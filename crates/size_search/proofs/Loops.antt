@@ -13,11 +13,11 @@ turn F pools i inside = at_drop_more (λ (ps : List Pool). F (enumerate_from i p
 
 -- ---- pools made from the plan's pools
 
--- the pools made from the pools from index i on
+-- the results of `made` for the pools from index i on
 abbrev pub rest_made : (ℕ × Pool → Pool) → List Pool → ℕ → List Pool
 rest_made made pools i = map made (enumerate_from i (drop i pools))
 
--- a loop that appends the pool made from pool i still has to append those after it
+-- after a loop appended the pool made from pool i, the pools made from index i + 1 on are still missing
 pub made_more : (made : ℕ × Pool → Pool) (pools : List Pool) (i : ℕ) (front all : List Pool) → i < length pools → front ++ rest_made made pools i ≡ all
     → (front ++ made (i, get_or pools i no_pool) ∷ []) ++ rest_made made pools (i + 1) ≡ all
 made_more made pools i front all inside prefix_is =

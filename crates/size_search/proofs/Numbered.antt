@@ -14,13 +14,13 @@ numbered_at f n (x ∷ xs) (suc i) d e inside =
     let place : n + 1 + i ≡ n + suc i = omega arith in
     numbered_at f (n + 1) xs i d e (omega arith) ∙ ap (λ j. f (j, get_or xs i d)) place
 
--- after the end of the list, the default is returned
+-- at an index past the end of the list, the default is returned
 pub numbered_past : {X Y : Type 0} (f : ℕ × X → Y) (n : ℕ) (xs : List X) (i : ℕ) (e : Y) → length xs ≤ i → get_or (map f (enumerate_from n xs)) i e ≡ e
 numbered_past f n [] i e past = refl
 numbered_past f n (x ∷ xs) zero e past = absurd (omega arith)
 numbered_past f n (x ∷ xs) (suc i) e past = numbered_past f (n + 1) xs i e (omega arith)
 
--- a list made with the indices, mapped by a function that ignores them, is a list made without them
+-- if g (f (i, x)) is h x for every index i, mapping f over the numbered elements and then g is mapping h over the elements
 pub map-numbered : {X Y Z : Type 0} (g : Y → Z) (f : ℕ × X → Y) (h : X → Z) (n : ℕ) (xs : List X) → ((i : ℕ) (x : X) → g (f (i, x)) ≡ h x) → map g (map f (enumerate_from n xs)) ≡ map h xs
 map-numbered g f h n [] forgets = refl
 map-numbered g f h n (x ∷ xs) forgets = ap₂ (λ y ys. y ∷ ys) (forgets n x) (map-numbered g f h (n + 1) xs forgets)

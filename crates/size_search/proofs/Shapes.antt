@@ -42,7 +42,7 @@ numbers-map : {X Y Z : Type 0} (f : ℕ → Z) (g : X → Y) (n : ℕ) (xs : Lis
 numbers-map f g n [] = refl
 numbers-map f g n (x ∷ xs) = ap (λ ys. f n ∷ ys) (numbers-map f g (n + 1) xs)
 
--- a sum over the indexed elements of a mapped list is a sum over the elements of the list
+-- a sum over the numbered elements of a mapped list is a sum over the numbered elements of the list itself
 pub sum_by-changed : {X Y : Type 0} (f : ℕ × Y → ℕ) (g : X → Y) (n : ℕ) (xs : List X) → sum_by f (enumerate_from n (map g xs)) ≡ sum_by (λ (entry : ℕ × X). f (entry.0, g entry.1)) (enumerate_from n xs)
 sum_by-changed f g n xs = ap (sum_by f) (enumerated-map g n xs) ∙ sum_by-map f (λ entry. (entry.0, g entry.1)) (enumerate_from n xs)
   where
@@ -108,7 +108,7 @@ blocked_body-shape plan ranks p v = refl
 vector_fits-pools : (plan : Plan) (pools : List Pool) (v : Vector) → length pools ≡ length plan.pools → vector_fits (record plan { pools = pools }) v ≡ vector_fits plan v
 vector_fits-pools plan pools v as_many = rw as_many refl
 
--- of the pools, only their number affects whether a certificate fits the plan
+-- whether a certificate fits a plan depends on the number of its pools, and on no other property of them
 pub cert_fits-pools : (plan : Plan) (pools : List Pool) (cert : Cert) → length pools ≡ length plan.pools → cert_fits (record plan { pools = pools }) cert ≡ cert_fits plan cert
 cert_fits-pools plan pools cert as_many =
     let other = record plan { pools = pools } in

@@ -31,14 +31,14 @@ pool_at-without_maxes plan p = get_or-changed maxless plan.pools p no_pool
 wider_pool : (plan wide : Plan) (p : ℕ) → IsWider plan wide → maxless (pool_at wide p) ≡ maxless (pool_at plan p)
 wider_pool plan wide p wider = sym (pool_at-without_maxes wide p) ∙ (ap (λ (any : Plan). pool_at any p) wider.same_but_maxes ∙ pool_at-without_maxes plan p)
 
--- a plan that is no smaller than the declared one is no smaller than a wider one
+-- cores and queues that are no smaller than a plan's are no smaller than those of a wider plan, which has the same ones
 no_smaller_than_wider : (plan wide other : Plan) → IsWider plan wide → IsNoSmaller other plan → IsNoSmaller other wide
 no_smaller_than_wider plan wide other wider larger = record {
   core = λ p. omega (arith, larger.core p, ap (λ (pool : Pool). pool.core) (wider_pool plan wide p wider));
   queue = λ p. omega (arith, larger.queue p, ap (λ (pool : Pool). pool.queue) (wider_pool plan wide p wider));
 }
 
--- a plan that is widened twice has the least maximums, as one that is widened once
+-- a plan that was widened twice has the least maximums too
 pub widened_again : (plan wide wider : Plan) (cert : Cert) → IsLeastWide plan cert wide → IsLeastWide wide cert wider → IsLeastWide plan cert wider
 widened_again plan wide wider cert first second = record {
   wider = record {

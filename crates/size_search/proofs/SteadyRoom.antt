@@ -126,7 +126,7 @@ some_fit_wide plan well free small low none = none other (record { well_formed =
 abbrev filled : ℕ → Pool → Pool
 filled n pool = record pool { core = max pool.core n; queue = max pool.queue n }
 
--- some plan fits the plan with these pools, if each maximum is above the total
+-- if each maximum of these pools is above the total, some plan fits the plan with these pools
 room_is_left : (plan : Plan) (pools : List Pool) → IsWellFormed (with_pools plan pools) → IsWithoutCause plan → IsTrue (has_small_numbers (steady_vector plan)) → length pools ≡ length plan.pools
     → ((p : ℕ) → p < length pools → steady_total plan < (get_or pools p no_pool).max) → NoneFits (with_pools plan pools) (steady_cert plan) → ⊥
 room_is_left plan pools well free small as_many room none =

@@ -187,14 +187,14 @@ hold_but_totals plan cert only_totals =
           (λ x i. pool_inside plan cert p (note part x) inside (In-append_right of_bound (In-map (note part) (In-append_left (blocked_total plan p pool.blocked ∷ []) i))));
     }
 
--- a note that fails does not belong to rows that all hold
+-- a note that fails is not among the notes of rows that all hold
 fails_not : (part : Section) (rows : List Row) (n : Note) → AllHold rows → ltb n.right n.left ≡ true → In n (in_section part rows) → is_total n.place ≡ true
 fails_not part rows n hold wrong i =
     let found = In-map_from (note part) rows i in
     let right : ltb n.right n.left ≡ false = subst (λ (y : Note). ltb y.right y.left ≡ false) found.2 (le-ltb found.0.right found.0.left (hold found.0 found.1)) in
     absurd (false≢true (sym right ∙ wrong))
 
--- a note that fails, of rows that all hold and an appended total, is that total
+-- if all rows hold except a total that is appended to them, a note that fails is at the place of a total
 fails_at_total : (part : Section) (rows : List Row) (t : Row) (n : Note) → AllHold rows → is_total t.place ≡ true → ltb n.right n.left ≡ true → In n (in_section part (rows ++ t ∷ [])) → is_total n.place ≡ true
 fails_at_total part rows t n hold at_total wrong i =
     let found = In-map_from (note part) (rows ++ t ∷ []) i in

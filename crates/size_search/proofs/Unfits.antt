@@ -21,7 +21,7 @@ use Rattle.size_search.proofs.LeastMaxes.{length-widened, widened-outline, widen
 
 -- ---- the first reason
 
--- if the result of two options is None, both are
+-- `option_or` gives None only if both options are None
 or_parts : {X : Type 0} (first second : Option X) → option_or first second ≡ None → (first ≡ None) × (second ≡ None)
 or_parts None second none = (refl, none)
 or_parts (Some x) second none = absurd cc
@@ -182,7 +182,7 @@ widened_sizes plan cert p well there small =
       most_queue = omega (arith, declared.most_queue);
     }
 
--- the code returns `why_not_widened`, if the certificate fits the plan
+-- if the certificate fits the plan, the code returns `why_not_widened`
 pub why_not_widened_is : (plan : Plan) (cert : Cert) (pools : List Pool) (found : Option Unfit) → cert_fits plan cert ≡ true → pools ≡ (widened plan cert).pools → found ≡ first_unfit (enumerate_from 0 pools) → why_not_widened plan cert ≡ found
 why_not_widened_is plan cert pools found fits is e =
     ap (λ (fit : Bool). cond fit (first_unfit (enumerate_from 0 (widened plan cert).pools)) (Some Shape)) fits

@@ -19,7 +19,7 @@ use Rattle.soundness.specs.Accepted.{accepted}
 abbrev pub core_needed : Plan → Vector → ℕ
 core_needed plan v = total plan v + 1
 
--- the queue that rules S2 and L3 require: the total, or for a lifetime bound, what the threads that are not prestarted leave of it
+-- the queue that rule S2 or L3 requires: the total or, for a lifetime bound, the total minus the number of threads that are not prestarted
 abbrev pub queue_needed : Plan → Bound → Pool → ℕ
 queue_needed plan (Standing v) pool = total plan v
 queue_needed plan (Lifetime v) pool = total plan v + first_workers pool - pool.max
@@ -32,11 +32,11 @@ with_core plan v pool = record pool { core = max pool.core (core_needed plan v) 
 abbrev pub with_queue : Plan → Bound → Pool → Pool
 with_queue plan bound pool = record pool { queue = max pool.queue (queue_needed plan bound pool) }
 
--- the pool with its core raised first, and then its queue, since a prestarted pool with a larger core can need a larger queue
+-- the pool with its core raised, and then its queue: a prestarted pool with a larger core can need a larger queue
 abbrev pub raised_pool : Plan → PoolCert → Pool → Pool
 raised_pool plan cert pool = with_queue plan cert.bound (with_core plan cert.blocked pool)
 
--- the plan with each core and each queue raised to what the certificate needs, if it is below that
+-- the plan with each core and each queue raised to what the certificate needs, unless it is already that large
 abbrev pub raised : Plan → Cert → Plan
 raised plan cert = record plan { pools = map (λ entry. raised_pool plan (pool_cert_at cert entry.0) entry.1) (enumerate_from 0 plan.pools) }
 
@@ -49,8 +49,8 @@ is_total _ = false
 abbrev pub fails_only_at_totals : Plan → Cert → Bool
 fails_only_at_totals plan cert = cert_fits plan cert && list_all (λ note. is_total note.place) (failing plan cert)
 
--- the raised plan; None if a condition fails that no core or queue affects, if a raised core is above its pool's maximum, or if a raised
--- queue is above the limit
+-- the raised plan, or None if a condition fails that does not depend on cores and queues, if a raised core is above its pool's maximum, or
+-- if a raised queue is above the limit
 abbrev pub fitted : Plan → Cert → Option Plan
 fitted plan cert = if fails_only_at_totals plan cert && list_all has_valid_sizes (raised plan cert).pools then Some (raised plan cert) else None
 
@@ -80,12 +80,12 @@ pub record IsFit (plan : Plan) (cert : Cert) (other : Plan) : Type 0 where
   pub no_smaller : IsNoSmaller other plan
   pub accepts : IsTrue (accepted other cert)
 
--- the fit fits the plan, as `IsFit` says, and no plan that fits has a smaller core or queue
+-- `fit` fits the plan (`IsFit`), and no plan that fits has a smaller core or queue
 pub record IsLeastFit (plan : Plan) (cert : Cert) (fit : Plan) : Type 0 where
   pub fits : IsFit plan cert fit
   pub least : (other : Plan) → IsFit plan cert other → IsNoSmaller other fit
 
--- no plan fits: the certificate accepts no plan that differs from this one only in larger cores and queues
+-- no plan fits (`IsFit`): the certificate accepts no plan that differs from this one only in larger cores and queues
 abbrev pub NoneFits : Plan → Cert → Type 0
 NoneFits plan cert = (other : Plan) → ¬ IsFit plan cert other
 

@@ -13,10 +13,10 @@ use Rattle.size_search.specs.declared.found.NoSizes.TheVariants.{Cause, TooLarge
 use Rattle.size_search.specs.declared.found.SizesFound.{SizesFound}
 use Rattle.size_search.specs.declared.found.SizesFound.TheVariants.{Found, NotFound}
 
--- The certificate accepts the plan with these sizes, which differs from the plan only in larger sizes. Among all such plans that the
--- certificate accepts, none has a smaller maximum or a smaller core, and among those with these maximums none has a smaller queue. With
--- larger maximums a smaller queue can be enough: in a lifetime bound, each thread that is not prestarted takes one of the jobs. A maximum
--- that grows equals its core.
+-- Call a plan *larger* if it differs from the given one only in sizes, and none is smaller. The fit is larger, and the certificate accepts
+-- it. No larger plan that the certificate accepts has a smaller maximum or a smaller core, and none that has the fit's maximums has a
+-- smaller queue. With larger maximums a smaller queue can be enough: in a lifetime bound, each thread that is not prestarted starts with a
+-- job, which needs no place in the queue. A maximum of the fit that is larger than the plan's equals the core of its pool.
 pub record IsSized (plan : Plan) (cert : Cert) (fit : Plan) : Type 0 where
   pub fits : IsWideFit plan cert fit
   pub no_smaller : IsNoSmaller fit plan
@@ -29,8 +29,8 @@ pub record IsSized (plan : Plan) (cert : Cert) (fit : Plan) : Type 0 where
 abbrev pub IsTooLarge : Plan → Type 0
 IsTooLarge plan = (has_small_numbers (steady_vector plan) ≡ false) ⊎ (MAX_SIZE ≤ steady_total plan)
 
--- the result is true of the plan: the sizes that were found have these properties, or the cause that was found holds, or the steady
--- certificate is too large and the pool that is named exists
+-- the result is true of the plan: the sizes that were found are `IsSized`, or the cause that was found holds, or the steady certificate is
+-- too large and the pool that is named exists
 abbrev pub IsFound : Plan → SizesFound → Type 0
 IsFound plan (Found fit cert) = IsSized plan cert fit
 IsFound plan (NotFound (Cause cause)) = IsCause plan cause

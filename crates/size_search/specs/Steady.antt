@@ -61,7 +61,8 @@ weights_from plan v least body last (x ∷ rest) = weight_at plan v least body l
 
 -- ---- the rows of the vector
 
--- the weight of a job at its end: 1 more than its open jobs ever have, so that the job weighs at least 1 in every state
+-- the weight of a job at its end: 1 more than the largest weight that its open jobs have together, so that the job weighs at least 1 in
+-- every state
 abbrev pub job_end : Vector → List Action → ℕ
 job_end v body = most v body + 1
 

@@ -22,6 +22,6 @@ pub record IsSteadyAccepted (plan : Plan) : Type 0 where
   pub only_totals : (x : Note) → In x (failing plan (steady_cert plan)) → x.place ≡ Total
   pub is_accepted : IsTrue (accepted plan (steady_cert plan)) ↔ AreEnough plan
 
--- the steady certificate of a plan is accepted in this sense, if the plan has no cause and the weights are within their limit
+-- if a plan has no cause and the weights are within their limit, its steady certificate is `IsSteadyAccepted`
 abbrev pub SteadyCertificatesAccept : Type 0
 SteadyCertificatesAccept = (plan : Plan) → IsWellFormed plan → IsWithoutCause plan → IsTrue (has_small_numbers (steady_vector plan)) → IsSteadyAccepted plan

@@ -17,8 +17,8 @@ use Rattle.size_search.specs.Widened.{widened, IsWideFit}
 abbrev pub failing_elsewhere : Plan → Cert → Option Note
 failing_elsewhere plan cert = find (λ note. not (is_total note.place)) (failing plan cert)
 
--- the reason why the raised sizes of a pool are invalid: its core is above its maximum, its maximum, which was raised for a core, is above
--- the limit, or its queue is above the limit; None if they are valid
+-- the reason why the raised sizes of a pool are invalid, or None if they are valid: `Core` if the core is above the maximum, or if the
+-- maximum, which was raised for a core, is above the limit; `Queue` if the queue is above the limit
 abbrev pub unfit_pool : ℕ → Pool → Option Unfit
 unfit_pool p pool = if nat_lt pool.max pool.core || nat_lt MAX_SIZE pool.max then Some (Core p) else (if nat_lt MAX_SIZE pool.queue then Some (Queue p) else None)
 
@@ -27,7 +27,7 @@ abbrev pub first_unfit : List (ℕ × Pool) → Option Unfit
 first_unfit [] = None
 first_unfit (entry ∷ entries) = option_or (unfit_pool entry.0 entry.1) (first_unfit entries)
 
--- the reason why the plan has no fitted plan, or None; a condition that no size changes takes precedence over a size
+-- the reason why the plan has no fitted plan, or None; a failing condition that no size changes takes precedence over an invalid size
 abbrev pub why_unfit : Plan → Cert → Option Unfit
 why_unfit plan cert =
     if cert_fits plan cert
@@ -38,6 +38,6 @@ why_unfit plan cert =
 abbrev pub why_not_widened : Plan → Cert → Option Unfit
 why_not_widened plan cert = if cert_fits plan cert then first_unfit (enumerate_from 0 (widened plan cert).pools) else Some Shape
 
--- if the reason is the core of a pool, this pool has a larger maximum in all sizes with which the certificate accepts the plan
+-- if the core of a pool is the reason why the plan is not fitted, this pool has a larger maximum in each plan that satisfies `IsWideFit`
 abbrev pub ReportedCoresNeedLargerMaxes : Type 0
 ReportedCoresNeedLargerMaxes = (plan other : Plan) (cert : Cert) (p : ℕ) → IsWellFormed plan → why_unfit plan cert ≡ Some (Core p) → IsWideFit plan cert other → (pool_at plan p).max < (pool_at other p).max

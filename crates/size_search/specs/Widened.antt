@@ -26,12 +26,12 @@ pub record IsWideFit (plan : Plan) (cert : Cert) (other : Plan) : Type 0 where
   pub no_smaller_max : (p : ℕ) → (pool_at plan p).max ≤ (pool_at other p).max
   pub accepts : IsTrue (accepted other cert)
 
--- no plan of `IsWideFit`, whose cores and queues are no smaller than this plan's, has a smaller core than the fit: a larger maximum saves
--- no core
+-- `fit` has the least cores: no plan that satisfies `IsWideFit`, and whose cores and queues are no smaller than this plan's, has a smaller
+-- core. So a larger maximum never allows a smaller core.
 abbrev pub HasLeastCores : Plan → Cert → Plan → Type 0
 HasLeastCores plan cert fit = (other : Plan) → IsWideFit plan cert other → IsNoSmaller other plan → (p : ℕ) → (pool_at fit p).core ≤ (pool_at other p).core
 
--- there is no plan of `IsWideFit`: the certificate accepts no plan that differs only in sizes and has no smaller maximum
+-- no plan satisfies `IsWideFit`: the certificate accepts no plan that differs only in sizes and has no smaller maximum
 abbrev pub NoneFitsWide : Plan → Cert → Type 0
 NoneFitsWide plan cert = (other : Plan) → ¬ IsWideFit plan cert other
 
@@ -46,18 +46,19 @@ pub record IsWider (plan other : Plan) : Type 0 where
   pub same_but_maxes : without_maxes other ≡ without_maxes plan
   pub no_smaller_max : (p : ℕ) → (pool_at plan p).max ≤ (pool_at other p).max
 
--- the wide plan differs only in larger maximums, and none is larger than necessary: every plan that fits the given plan fits the wide one,
--- and a maximum that grew is at most the core that its pool needs
+-- `wide` differs from the plan only in larger maximums, and none is larger than necessary: every plan that satisfies `IsWideFit` for the
+-- plan satisfies it for `wide`, and a maximum that grew is at most the core that its pool needs
 pub record IsLeastWide (plan : Plan) (cert : Cert) (wide : Plan) : Type 0 where
   pub wider : IsWider plan wide
   pub least : (other : Plan) → IsWideFit plan cert other → IsWideFit wide cert other
   pub needed : (p : ℕ) → (pool_at plan p).max < (pool_at wide p).max → (pool_at wide p).max ≤ core_needed wide (pool_cert_at cert p).blocked
 
--- each maximum is at least the core that is needed with the plan's own maximums
+-- each maximum of `wide` is at least the core that the certificate needs with the maximums of `plan`
 abbrev pub LeavesRoom : Plan → Cert → Plan → Type 0
 LeavesRoom plan cert wide = (p : ℕ) → p < length plan.pools → core_needed plan (pool_cert_at cert p).blocked ≤ (pool_at wide p).max
 
--- each plan of `IsWideFit` has at least the cores that are needed, and the maximums of the widened plan: a larger maximum saves no core
+-- each plan that satisfies `IsWideFit` has at least the cores that the certificate needs with this plan's maximums, and at least the
+-- maximums of the widened plan: a larger maximum never allows a smaller core
 pub record WidenedMaxesAreLeast : Type 0 where
   pub cores : (plan other : Plan) (cert : Cert) (p : ℕ) → p < length plan.pools → IsWideFit plan cert other → core_needed plan (pool_cert_at cert p).blocked ≤ (pool_at other p).core
   pub maxes : (plan other : Plan) (cert : Cert) → IsWideFit plan cert other → IsWideFit (widened plan cert) cert other

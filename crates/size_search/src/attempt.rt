@@ -16,16 +16,17 @@ pub(crate) struct Attempt {
     pub(crate) cert: Cert,
     /// The core and maximum that each pool needs.
     pub(crate) threads: Vec<PoolThreads>,
-    /// The sum by which all sizes of the plan grow.
+    /// The sum of the increases of all sizes, compared with the plan.
     pub(crate) cost: u64,
-    /// The largest number of candidate pools in a round in which no pool had a large enough core.
-    /// Repeated rounds are not counted.
+    /// The largest number of pools from which one round had to choose a pool to raise, or 0 if
+    /// every round had a pool with a large enough core. Rounds that were repeated because a maximum
+    /// grew do not count.
     pub(crate) choices: usize,
 }
 
-/// Searches for a certificate, starting with these cores and maximums. In the first round in which
-/// no pool has a large enough core, passes over the `passed_over` pools with the smallest
-/// shortfall.
+/// Searches for a certificate, starting with these cores and maximums. The first round in which no
+/// pool has a large enough core passes over the `passed_over` pools that need the smallest
+/// increases, and raises the next one.
 pub(crate) fn attempt_from(
     alloc: Global,
     cache: &mut VectorCache,
@@ -45,7 +46,7 @@ pub(crate) fn attempt_from(
     }
 }
 
-/// Returns the sum by which the sizes of `fit` exceed those of the plan.
+/// Returns the sum of the increases of all sizes from the plan to `fit`.
 pub(crate) fn growth(plan: &Plan, fit: &Plan) -> u64 {
     let mut growth = 0u64;
     for (pool, fit) in plan.pools().iter().zip(fit.pools()) {

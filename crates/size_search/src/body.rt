@@ -1,4 +1,7 @@
 //! The weights of an actor over its body, given the weights of the jobs that it submits.
+//!
+//! The *open* jobs at a position are those that the actor submitted before it and gets at it or
+//! later.
 
 ghost use Rattle.std.specs.Prelude.{◌≡◌, ◌≤◌, ◌<◌, ◌+◌, ◌*◌, IfOk, length, slice_index};
 ghost use Rattle.job_bodies.specs.ValidBody.{IsValidBody};
@@ -41,8 +44,8 @@ fn done(plan: &Plan, vector: &Vector, class: usize) -> u64
     number_of(vector, class, actions + 2)
 }
 
-/// Returns the weight of the open jobs after the action at this position. `current_weight` is their
-/// weight before it.
+/// Returns the weight of the open jobs after the action at this position. `current_weight` is the
+/// weight of the open jobs before the action.
 fn open_weight_after(
     plan: &Plan,
     vector: &Vector,

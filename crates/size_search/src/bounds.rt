@@ -8,9 +8,9 @@ use least_vectors::Kind;
 use std::alloc::Global;
 use weights::Bound;
 
-/// Returns the vector that bounds the pool's queue: the standing vector, or the lifetime vector  if
-/// the queue has to grow less with it. `pool_threads` are the core and maximum of this pool, and
-/// `maxes` the maximums of all pools.
+/// Returns the vector that bounds the pool's queue: the standing vector, or the lifetime vector if
+/// that one requires a smaller increase of the queue. `pool_threads` are the core and maximum of
+/// this pool, and `maxes` the maximums of all pools.
 pub(crate) fn bound_of(
     alloc: Global,
     cache: &mut VectorCache,
@@ -49,7 +49,7 @@ pub(crate) fn bound_of(
 }
 
 /// Returns the queue capacity that the pool needs if it is given this number of jobs in its
-/// lifetime. Each thread that is not prestarted starts with one job, which needs no place in the
+/// lifetime. Each thread that is not prestarted starts with a job, which needs no place in the
 /// queue.
 fn lifetime_queue(pool: &Pool, pool_threads: PoolThreads, jobs: u64) -> u64 {
     let first_workers = if pool.prestart { pool_threads.core } else { 0 };

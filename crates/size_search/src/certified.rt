@@ -10,8 +10,9 @@ use least_vectors::{Kind, reach};
 use std::alloc::{AllocError, Global};
 use weights::{Ranks, Vector};
 
-/// Returns the certificate of an assignment in which every pool has a rank. The sizes that it needs
-/// are computed afterwards from the plan's sizes, and can be smaller than those of the assignment.
+/// Returns the certificate of an assignment in which every pool has a rank. The caller computes the
+/// sizes that this certificate needs from the plan's sizes. They can be smaller than those of the
+/// assignment.
 pub(crate) fn cert_of(
     alloc: Global,
     cache: &mut VectorCache,
@@ -55,9 +56,9 @@ fn pool_certs(
     Ok(pools)
 }
 
-/// Returns the blocked vector that was found for a pool when it got this rank. The final reaches
-/// give the same counted gets as the reaches in that round, because every pool that had no rank
-/// then has at least this rank now.
+/// Returns the blocked vector that was found for a pool in the round in which the pool got this
+/// rank. The vector is still valid: each pool that had no rank in that round now has at least this
+/// rank, so `reach` gives the same counted gets as the reaches of that round.
 fn blocked_of(
     alloc: Global,
     cache: &VectorCache,

@@ -1,5 +1,5 @@
-//! The laws about plans for which no sizes are enough, and about all others. Each is the contract
-//! of a function with an empty body.
+//! Laws about the existence of sizes with which a certificate accepts a plan. Each law is the
+//! contract of a function with an empty body.
 
 ghost use Rattle.size_search.specs.NoSizesHelp.{NoSizesHelp};
 ghost use Rattle.size_search.specs.NoSizesHelp.{SizesExist};
@@ -11,9 +11,9 @@ pub fn no_sizes_help()
     ensures { NoSizesHelp }
 {}
 
-/// States that a plan whose steady certificate is within the limits has sizes that some certificate
-/// accepts exactly when no class submits itself, directly or through other classes, and no
-/// repeating client causes a submit that is never got.
+/// States when a plan whose steady certificate is within the limits has sizes with which some
+/// certificate accepts it: exactly when no class submits itself, directly or through other classes,
+/// and no repeating client causes a submit that is never got.
 pub fn sizes_exist()
     ensures { SizesExist }
 {}

@@ -31,7 +31,7 @@ pub(crate) fn core_needed(plan: &Plan, blocked: &Vector) -> u64
 }
 
 /// Returns the queue capacity that a pool with this core and maximum needs. With a lifetime bound,
-/// each thread that is not prestarted takes one of the jobs.
+/// each thread that is not prestarted starts with a job, which needs no place in the queue.
 fn queue_needed(plan: &Plan, bound: &Bound, pool: &Pool) -> u64
     requires well_formed { IsWellFormed plan.now }
     requires fits { IsTrue (vector_fits plan.now (bound_vector bound.now)) }
@@ -104,8 +104,8 @@ fn failing_elsewhere(alloc: Global, plan: &Plan, cert: &Cert) -> Result<Option<N
     Ok(first_elsewhere(&failing))
 }
 
-/// Returns the reason why the plan cannot be fitted, or `None` if it can. `raised` are the plan's
-/// pools with raised sizes.
+/// Returns the reason why the plan cannot be fitted, or `None` if there is none. `raised` are the
+/// plan's pools with raised sizes.
 fn unfit(
     alloc: Global,
     plan: &Plan,
@@ -122,10 +122,11 @@ fn unfit(
     }
 }
 
-/// Returns the plan with each core and each queue raised to what the certificate needs: the least
-/// cores and queues, among those no smaller than the plan's, with which the certificate accepts the
-/// plan. A plan that is already accepted is returned unchanged. Larger maximums would not allow a
-/// smaller core. If there are no such cores and queues, returns the plan and the reason.
+/// Returns the plan with each core and each queue raised to what the certificate needs. Among the
+/// cores and queues that are no smaller than the plan's, these are the least with which the
+/// certificate accepts the plan. A plan that is already accepted is returned unchanged. Larger
+/// maximums would not allow smaller cores. If there are no such cores and queues, returns the plan
+/// and the reason.
 ///
 /// # Errors
 ///
@@ -178,8 +179,8 @@ fn smallest_pools(alloc: Global, plan: &Plan) -> Result<Vec<Pool>, AllocError>
 }
 
 /// Returns the plan with each core and each queue set to 1. [`fitted`] raises the sizes of that
-/// plan to the least cores and queues with which the certificate accepts the plan, and they can be
-/// smaller than those that the plan declares.
+/// plan to the least cores and queues with which the certificate accepts the plan. These can be
+/// smaller than the declared ones.
 ///
 /// # Errors
 ///

@@ -17,7 +17,8 @@ use job_bodies::Plan;
 use std::alloc::{AllocError, Global};
 
 /// Returns the plan with the least sizes that its steady certificate needs, or
-/// [`NoSizes::TooLarge`] if they are too large. `obstacle` gives the pool that the latter names.
+/// [`NoSizes::TooLarge`] if they are too large. `obstacle` determines the pool that `TooLarge`
+/// names.
 pub(crate) fn fit_steady(
     alloc: Global,
     plan: &Plan,

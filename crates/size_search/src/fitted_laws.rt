@@ -1,12 +1,13 @@
-//! Laws about fitted plans. Each is the contract of a function with an empty body.
+//! Laws about fitted plans. Each law is the contract of a function with an empty body.
 
 ghost use Rattle.size_search.specs.Fitted.{FittedSizesAreLeast, AcceptedPlansFit, LargerSizesAreAccepted, SmallestFitIsLeast};
 ghost use Rattle.size_search.specs.Widened.{WidenedMaxesAreLeast};
 ghost use Rattle.size_search.specs.Unfit.{ReportedCoresNeedLargerMaxes};
 
-/// States that a fitted plan differs from its plan only in larger cores and queues, that the
-/// certificate accepts it, and that no other such plan that the certificate accepts has a smaller
-/// core or queue. If there is no fitted plan, there is no such plan.
+/// Call a plan *larger* if it differs from the given one only in cores and queues, and none is
+/// smaller. States that the fitted plan is larger, that the certificate accepts it, and that no
+/// larger plan that the certificate accepts has a smaller core or queue. If there is no fitted
+/// plan, the certificate accepts no larger plan.
 pub fn fitted_sizes_are_least()
     ensures { FittedSizesAreLeast }
 {}
@@ -28,17 +29,17 @@ pub fn smallest_fit_is_least()
     ensures { SmallestFitIsLeast }
 {}
 
-/// States that larger maximums save no core. In all sizes with which a certificate accepts a plan,
-/// and whose maximums are no smaller than the plan's, the cores are at least those that the
-/// certificate needs with the plan's maximums. So the maximums are at least those of the widened
-/// plan.
+/// States that a larger maximum never allows a smaller core. Take sizes with which the certificate
+/// accepts the plan, and in which no maximum is smaller than the plan's. Their cores are at least
+/// those that the certificate needs with the plan's maximums. So their maximums are at least those
+/// of the widened plan.
 pub fn widened_maxes_are_least()
     ensures { WidenedMaxesAreLeast }
 {}
 
-/// States that, if a plan is not fitted because of the core of a pool, that pool has a larger
-/// maximum in all sizes with which the certificate accepts the plan, and whose maximums are no
-/// smaller than the plan's.
+/// States that a pool needs a larger maximum if its core is the reason why the plan is not fitted.
+/// The pool's maximum is larger in all sizes with which the certificate accepts the plan and in
+/// which no maximum is smaller than the plan's.
 pub fn reported_cores_need_larger_maxes()
     ensures { ReportedCoresNeedLargerMaxes }
 {}

@@ -19,8 +19,8 @@ pub enum SizesFound {
 /// The reason why no sizes were found.
 #[derive(Clone, Copy, PartialEq, Eq)]
 pub enum NoSizes {
-    /// A cause that the plan has, and with which no certificate accepts any sizes. The plan can
-    /// still be safe.
+    /// A cause for which no certificate accepts the plan with any sizes. The plan can still be
+    /// safe.
     Cause(Cause),
     /// The first attempt failed at the pool with this number, and the plan's steady certificate
     /// needs sizes above 1,000,000 or has a weight above its limit. Other sizes can exist.
@@ -38,7 +38,8 @@ pub(crate) enum Obstacle {
 
 impl Obstacle {
     /// Returns the number of the pool to report: that of the obstacle, or 0 if the obstacle names
-    /// no pool of the plan. The search is not trusted to name one.
+    /// no pool of the plan. The search is not trusted, so an obstacle can name a pool that does not
+    /// exist.
     pub(crate) fn pool(self, plan: &Plan) -> usize
         requires { 0 < length plan.now.pools }
         ensures { result < length plan.now.pools }

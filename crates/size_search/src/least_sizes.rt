@@ -30,8 +30,8 @@ pub(crate) fn least_sizes(
 }
 
 /// Returns the plan with its maximums raised until none is below the core that its pool needs.
-/// Raising one maximum can make another raise necessary. If there are more iterations than pools,
-/// some pool is raised again, and no sizes are enough.
+/// Raising one maximum can make another raise necessary. Repeats the raises at most once for each
+/// pool: if that is not enough, some maximum was raised twice, and no sizes are enough.
 fn widest(alloc: Global, plan: &Plan, cert: &Cert) -> Result<Result<Plan, Unfit>, AllocError>
     ensures { IfOk result (λ answer. IfOk answer (IsLeastWide plan.now cert.now)) }
 {
@@ -61,9 +61,7 @@ fn have_same_maxes(plan: &Plan, other: &Plan) -> bool {
         .all(|(pool, other)| pool.max == other.max)
 }
 
-/// Returns why the plan was not widened.
-///
-/// Converts the reason why its maximums could not be raised to an obstacle.
+/// Returns the obstacle for the reason why the maximums could not be raised.
 fn obstacle_of_wide(unfit: Unfit) -> Obstacle {
     match unfit {
         Unfit::Core(pool) => Obstacle::Pool(pool),
@@ -71,8 +69,9 @@ fn obstacle_of_wide(unfit: Unfit) -> Obstacle {
     }
 }
 
-/// Converts the reason why the plan with raised maximums was not fitted to an obstacle. A core
-/// above its maximum need not exceed the limit of sizes.
+/// Returns the obstacle for the reason why the plan with raised maximums could not be fitted. A
+/// core above its pool's maximum gives an unknown obstacle, since it need not exceed the limit of
+/// sizes.
 fn obstacle_of_fit(unfit: Unfit) -> Obstacle {
     match unfit {
         Unfit::Queue(pool) => Obstacle::Pool(pool),

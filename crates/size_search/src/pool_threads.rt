@@ -19,7 +19,7 @@ impl PoolThreads {
         }
     }
 
-    /// Returns the sum by which core and maximum must grow so that both are at least this core.
+    /// Returns the sum of the increases of core and maximum that make both at least this core.
     pub(crate) fn shortfall(self, core: u64) -> u64 {
         let max = core.saturating_sub(self.max);
         core.saturating_sub(self.core).saturating_add(max)

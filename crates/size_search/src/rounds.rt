@@ -16,8 +16,8 @@ pub(crate) struct RankAssignment {
     pub(crate) assigned: Vec<Option<(u64, CacheHit)>>,
     /// Whether a maximum was raised.
     pub(crate) has_widened: bool,
-    /// The largest number of candidate pools in a round in which no pool had a large enough core,
-    /// or 0 if there was no such round.
+    /// The largest number of pools from which one round had to choose a pool to raise, or 0 if
+    /// every round had a pool with a large enough core.
     pub(crate) choices: usize,
 }
 
@@ -74,7 +74,8 @@ impl RankAssignment {
         Ok(hits)
     }
 
-    /// Gives the rank to each pool whose core is large enough. Returns `false` if there is none.
+    /// Gives the rank to each pool whose core is large enough. Returns `false` if there is no such
+    /// pool.
     fn assign_all(&mut self, hits: &[CacheHit], rank: u64) -> bool {
         let mut any = false;
         for hit in hits {
@@ -86,8 +87,8 @@ impl RankAssignment {
         any
     }
 
-    /// Gives the rank to the `choice`-th pool, ordered by shortfall, and raises its core to what it
-    /// needs.
+    /// Gives the rank to the `choice`-th pool in the order of shortfalls, and raises its core to
+    /// what the pool needs.
     fn assign_one(
         &mut self,
         hits: &[CacheHit],
@@ -106,8 +107,8 @@ impl RankAssignment {
         Ok(())
     }
 
-    /// Returns the obstacle if no pool can get the core that it needs: the pool with the smallest
-    /// shortfall.
+    /// Returns the obstacle of a round in which no pool can get the core that it needs: the pool
+    /// with the smallest shortfall.
     fn obstacle_of(&self, hits: &[CacheHit]) -> Obstacle {
         match self.choice_of(hits, 0) {
             Some(hit) => Obstacle::Pool(hit.pool),
@@ -115,7 +116,7 @@ impl RankAssignment {
         }
     }
 
-    /// Returns the `choice`-th pool, ordered by shortfall and counted from 0.
+    /// Returns the `choice`-th pool in the order of shortfalls, counted from 0.
     fn choice_of(&self, hits: &[CacheHit], choice: usize) -> Option<CacheHit> {
         for hit in hits {
             let shortfall = self.shortfall(hit);
@@ -139,7 +140,8 @@ impl RankAssignment {
         }
     }
 
-    /// Returns the sum by which the pool's core and maximum must grow for this vector.
+    /// Returns the pool's shortfall: the sum of the increases of its core and maximum that this
+    /// vector requires.
     fn shortfall(&self, hit: &CacheHit) -> u64 {
         match self.threads.get(hit.pool) {
             Some(pool_threads) => pool_threads.shortfall(core_for(hit)),
@@ -148,12 +150,13 @@ impl RankAssignment {
     }
 }
 
-/// Returns the core that a pool with this blocked vector needs, so that one thread is not blocked.
+/// Returns the core that a pool with this blocked vector needs: one thread more than can be
+/// blocked.
 fn core_for(hit: &CacheHit) -> u64 {
     hit.total.saturating_add(1)
 }
 
-/// Returns the cache hits whose core is at most `MAX_SIZE`.
+/// Returns the cache hits of the pools that need a core of at most `MAX_SIZE`.
 fn within_limit(alloc: Global, hits: &[CacheHit]) -> Result<Vec<CacheHit>, AllocError> {
     hits.iter()
         .filter(|hit| core_for(hit) <= MAX_SIZE)
@@ -162,9 +165,10 @@ fn within_limit(alloc: Global, hits: &[CacheHit]) -> Result<Vec<CacheHit>, Alloc
 }
 
 /// Gives each pool a rank and a blocked vector, starting with these cores and maximums. In each
-/// round, all pools whose core is large enough get the rank. If there are none, the core of the
-/// pool with the smallest shortfall is raised, and this pool gets the rank. The first time this
-/// happens, the `passed_over` pools with the smallest shortfall are passed over.
+/// round, all pools whose core is large enough get the rank. If there are none, raises the core of
+/// the pool with the smallest shortfall (the sum by which its core and maximum must grow), and
+/// gives the rank to this pool. The first time that this happens, passes over the `passed_over`
+/// pools with the smallest shortfalls, and raises the next one.
 pub(crate) fn assign_ranks(
     alloc: Global,
     cache: &mut VectorCache,
@@ -195,9 +199,10 @@ pub(crate) fn assign_ranks(
     Ok(assignment)
 }
 
-/// Repeats the rounds until no maximum grows, and returns the last assignment. A larger maximum can
-/// increase totals,  because a pool whose workers have weight adds this weight once for each of its
-/// threads. In the last repetition no worker gets weight, so that the loop ends.
+/// Repeats the rounds until no maximum grows, and returns the last assignment. The repetition is
+/// needed because a larger maximum can increase totals: a pool whose workers have weight adds this
+/// weight once for each of its threads. The last repetition that is allowed gives workers no
+/// weight, so that totals no longer depend on maximums.
 pub(crate) fn assign_ranks_to_fixpoint(
     alloc: Global,
     cache: &mut VectorCache,

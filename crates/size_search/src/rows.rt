@@ -24,7 +24,7 @@ fn put_row(jobs: &mut Vector, number: usize, row: Vec<u64>)
 }
 
 /// Sets the row of the class with this number, whose level is `level`. If a weight in the row is
-/// above the limit, sets no row and returns `false`.
+/// above the limit, changes nothing and returns `false`.
 fn set_class_row(
     alloc: Global,
     plan: &Plan,
@@ -50,7 +50,8 @@ fn set_class_row(
     Ok(true)
 }
 
-/// Sets the row of the class if it has this level. Returns `false` if a weight is above the limit.
+/// Sets the row of the class if the class has this level. Returns `false` if a weight in the row is
+/// above the limit.
 fn set_row_of_level(
     alloc: Global,
     plan: &Plan,

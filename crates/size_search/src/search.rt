@@ -22,35 +22,37 @@ use job_bodies::{MAX_POOLS, Plan};
 use least_vectors::Levels;
 use std::alloc::{AllocError, Global};
 
-/// The number of further attempts that start with another pool, and, in a plan with more than
-/// [`FEW_POOLS`] pools, of attempts that reset one pool to its declared sizes.
+/// The maximum number of further attempts that raise another pool first. In a plan with more than
+/// [`FEW_POOLS`] pools, also the maximum number of attempts that reset one pool to its declared
+/// sizes.
 const FURTHER_ATTEMPTS: usize = 3;
 
-/// In a plan with at most this many pools, each pool whose core or maximum has grown is reset in an
-/// attempt of its own.
+/// The maximum number of pools in a plan for which each pool whose core or maximum has grown is
+/// reset in an attempt of its own.
 const FEW_POOLS: usize = 8;
 
 /// Searches for sizes with which a certificate accepts the plan, with few and small increases. If
 /// `first` accepts the plan as it is, returns the plan unchanged, with `first`.
 ///
-/// In rounds, as in the search for a certificate, pools get ranks and blocked vectors. If no pool
-/// has a large enough core in a round, the core of the pool with the smallest shortfall is raised.
-/// Then the queues are computed, and all sizes are reduced to what the certificate needs. Further
-/// attempts start with another pool, or reset one pool to its declared sizes. The attempt with the
-/// smallest sum of increases is the result. If no attempt succeeds, the result is the plan's steady
-/// certificate with the least sizes for it. Sizes are returned only if a search for a certificate
-/// succeeds again with them, unless the steady certificate is too large.
+/// An attempt works in rounds, in which pools get ranks and blocked vectors, as in the search for a
+/// certificate. If no pool has a large enough core in a round, the attempt raises the core of the
+/// pool that needs the smallest increase. After the rounds it computes the queues, and reduces all
+/// sizes to what the certificate needs. Further attempts raise another pool first, or start with
+/// one pool reset to its declared sizes. The result is the attempt with the smallest sum of
+/// increases. If no attempt succeeds, the result is the plan's steady certificate with the least
+/// sizes for it. Unless the steady certificate is too large, sizes are returned only if a new
+/// search finds a certificate of the plan with these sizes.
 ///
 /// If no sizes are found, either the plan has a cause for which no sizes are enough, or the steady
-/// certificate is too large. So within the limits, sizes are found exactly when they exist: when no
-/// class submits itself, directly or through other classes, and no repeating client causes a submit
-/// that is never got.
+/// certificate is too large. So if the steady certificate is not too large, sizes are found exactly
+/// when some exist: when no class submits itself, directly or through other classes, and no
+/// repeating client causes a submit that is never got.
 ///
-/// The contract proves that the certificate accepts the plan with these sizes. It also proves that
-/// they are the least for this certificate. Among sizes that are no smaller than declared, the
+/// The contract proves that the certificate accepts the plan with these sizes, and that they are
+/// the least for this certificate. Among the sizes that are no smaller than the declared ones, the
 /// certificate accepts none with a smaller maximum or a smaller core, and none with these maximums
-/// and a smaller queue. A maximum that grows equals its core. With larger maximums, smaller queues
-/// can be enough, and another certificate can need smaller sizes.
+/// and a smaller queue. A maximum that is larger than declared equals the core of its pool. With
+/// larger maximums, smaller queues can be enough. Another certificate can need smaller sizes.
 ///
 /// # Errors
 ///
@@ -140,7 +142,7 @@ fn cheapest_attempt(
     }
 }
 
-/// Returns the cheapest attempt that starts with the plan's own sizes.
+/// Returns the cheapest of the attempts that start with the plan's own sizes.
 fn best_from_declared(
     alloc: Global,
     cache: &mut VectorCache,
@@ -207,7 +209,8 @@ fn cheaper_attempt(first: Attempt, second: Result<Attempt, Obstacle>) -> Attempt
     first
 }
 
-/// Returns the attempt or its obstacle as a value, and only running out of memory as an error.
+/// Separates an obstacle from an allocation failure: returns the attempt or the obstacle as `Ok`,
+/// and an [`AllocError`] as `Err`.
 fn outcome(
     attempt: Result<Attempt, AttemptError>,
 ) -> Result<Result<Attempt, Obstacle>, AllocError> {
@@ -218,8 +221,8 @@ fn outcome(
     }
 }
 
-/// Returns the pools whose core and maximum have grown most: all that have grown if the plan has at
-/// most [`FEW_POOLS`] pools, otherwise at most three.
+/// Returns the pools whose core and maximum have grown most. These are all pools that have grown if
+/// the plan has at most [`FEW_POOLS`] pools, and otherwise at most [`FURTHER_ATTEMPTS`] of them.
 fn most_raised_pools(
     alloc: Global,
     best: &Attempt,
@@ -248,8 +251,8 @@ fn most_raised_pools(
     Ok(raised)
 }
 
-/// Returns the cores and maximums that the attempt needs, with those of this pool reset to the
-/// declared ones.
+/// Returns the cores and maximums that the attempt needs, except that this pool has its declared
+/// ones.
 fn reset_pool(
     alloc: Global,
     best: &Attempt,

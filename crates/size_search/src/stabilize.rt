@@ -1,4 +1,4 @@
-//! Sizes that are unchanged if the search runs again with them.
+//! Sizes with which a new search finds a certificate again.
 
 ghost use Rattle.std.specs.Prelude.{IfOk};
 ghost use Rattle.size_search.specs.Submitted.{IsWithoutCause};
@@ -15,7 +15,7 @@ use cert_text::Cert;
 use job_bodies::Plan;
 use std::alloc::{AllocError, Global};
 
-/// The maximum number of refinement rounds.
+/// The maximum number of times that the search is repeated.
 const MAX_TURNS: usize = 4;
 
 /// The result of a search for a certificate of the plan with the sizes that were found.
@@ -29,11 +29,11 @@ enum Recheck {
     Nothing,
 }
 
-/// Returns the plan with these sizes if the search finds a certificate for it again. Otherwise
-/// repeats this with the larger sizes that the search finds. If that does not end within the
-/// maximum number of rounds, returns the plan with the sizes for its steady certificate, with which
-/// the search always finds a certificate. If those sizes are too large, returns the plan with the
-/// current sizes.
+/// Returns the plan with these sizes if a new search finds a certificate that accepts it. If the
+/// new search finds a certificate that needs larger sizes, repeats this with those sizes, at most
+/// [`MAX_TURNS`] times. Otherwise returns the plan with the sizes for its steady certificate, with
+/// which the search always finds a certificate. If those sizes are too large, returns the plan with
+/// the current sizes.
 pub(crate) fn stabilize(
     alloc: Global,
     plan: &Plan,

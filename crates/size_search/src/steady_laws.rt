@@ -2,10 +2,10 @@
 
 ghost use Rattle.size_search.specs.SteadyLaws.{SteadyCertificatesAccept};
 
-/// States when the steady certificate is accepted. If no class submits itself, no repeating client
-/// causes a submit that is never got, and the weights are within their limit, then only conditions
-/// on its total can fail. So it is accepted exactly when no queue is smaller than the total and
-/// every core is larger.
+/// States when the steady certificate accepts its plan. If no class submits itself, no repeating
+/// client causes a submit that is never got, and the weights are within their limit, then only
+/// conditions on the certificate's total can fail. So the certificate accepts the plan exactly when
+/// every queue is at least the total and every core is larger than the total.
 pub fn steady_certificates_accept()
     ensures { SteadyCertificatesAccept }
 {}

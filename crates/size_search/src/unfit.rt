@@ -21,8 +21,8 @@ pub enum Unfit {
     Queue(usize),
 }
 
-/// Returns the reason why a pool with raised sizes is invalid, or `None` if it is valid. A maximum
-/// above the limit was raised for a core, so that the core is the reason.
+/// Returns the reason why a pool with raised sizes is invalid, or `None` if it is valid. If the
+/// maximum is above the limit, it was raised for the core, so the core is the reason.
 fn unfit_pool(number: usize, pool: &Pool) -> Option<Unfit>
     ensures { result ≡ spec.unfit_pool number pool.now }
 {

@@ -10,7 +10,8 @@ use weights::submitted_class;
 /// plan needs a quarter of them.
 const MAX_VECTORS: usize = 32_768;
 
-/// The kind of a pool's vector, with everything except maximums on which the vector depends.
+/// Everything except maximums and `enough` on which a pool's lightest vector depends: the kind of
+/// the vector, and for a blocked vector two further properties.
 #[derive(PartialEq, Drop)]
 enum VectorKey {
     Standing,
@@ -29,7 +30,7 @@ struct CacheKey {
     vector: VectorKey,
     /// The maximum of each pool.
     maxes: Vec<u64>,
-    /// A total that is small enough, so that no further weight is given to workers.
+    /// The total at which the search for the vector stops giving weight to workers.
     enough: u64,
 }
 
@@ -41,24 +42,25 @@ struct CacheEntry {
 }
 
 impl CacheEntry {
-    /// Returns whether this entry is valid for the key.
+    /// Returns whether the vector of this entry is the result for the key.
     fn matches_key(&self, key: &CacheKey) -> bool {
         self.key.enough == key.enough
             && self.key.vector == key.vector
             && self.is_valid_for(&key.maxes)
     }
 
-    /// Returns whether the cached vector is also the result for these maximums. The maximums must
-    /// be equal for pools whose workers got weight. They may be larger for the other pools: workers
-    /// of these would then add no less to the total, so they would get no weight now either.
+    /// Returns whether the cached vector is also the result for these maximums. A pool whose
+    /// workers got weight must have the same maximum as in the entry. Any other pool may have a
+    /// larger one: with it, weight of a worker of this pool would add no less to the total, so a
+    /// new search would give the worker no weight either.
     fn is_valid_for(&self, maxes: &[u64]) -> bool {
         self.key.maxes.iter().zip(maxes).enumerate().all(|(pool, (before, now))| before == now
             || (before < now && !self.is_lender(pool)))
     }
 
     /// Returns whether the workers of the pool got weight in the search for the cached vector.
-    /// Returns `false` if there is no vector: then workers got weight only for the sake of a class
-    /// that is never submitted, and larger maximums are not tried again for such a class.
+    /// Returns `false` if there is no vector. Such a search gave workers weight only because of a
+    /// class that is never submitted, and larger maximums are not tried again for such a class.
     fn is_lender(&self, pool: usize) -> bool {
         match &self.answer {
             Some(summary) => summary.lenders.contains(&pool),
@@ -171,7 +173,7 @@ impl<'a> VectorCache<'a> {
     }
 
     /// Returns the weight of the workers of each pool in the vector of the cache hit, or `None` if
-    /// it has no vector.
+    /// the hit has no vector.
     pub(crate) fn workers_at(&self, hit: CacheHit) -> Option<&[u64]> {
         let entry = self.pools.get(hit.pool)?.entries.get(hit.index?)?;
         match &entry.answer {
@@ -223,7 +225,8 @@ impl PoolCache {
         self.entries.iter().position(|entry| entry.matches_key(key))
     }
 
-    /// Returns the cache hit at this index, which is empty if the entry has no vector.
+    /// Returns the cache hit for the entry at this index. The hit is empty if the entry has no
+    /// vector.
     fn hit(&self, pool: usize, index: usize) -> CacheHit {
         let mut hit = CacheHit::empty(pool);
         if let Some(entry) = self.entries.get(index) {
