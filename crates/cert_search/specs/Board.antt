@@ -1,4 +1,4 @@
--- The work list of one round: the state of each pool, and the operations by which workers claim and return pools.
+-- The work list of one round: the state of each pool, and the operations by which workers claim pools and give them back.
 use Rattle.std.specs.Prelude.{ℕ, Bool, true, false, List, map, Option, Some, None, slice_get, slice_set}
 use Rattle.held_machines.specs.Replay.{Leads}
 use Rattle.cert_search.specs.declared.board.PoolStatus.{PoolStatus}
@@ -19,7 +19,7 @@ abbrev pub claimed : List PoolStatus → ℕ → Option PoolStatus → Option (L
 claimed statuses p (Some Free) = Some (slice_set statuses p Claimed)
 claimed statuses p _ = None
 
--- the states after pool p was returned, or None if no worker had claimed it
+-- the states after pool p was given back, or None if no worker had claimed it
 abbrev pub returned : List PoolStatus → ℕ → Option PoolStatus → Option (List PoolStatus)
 returned statuses p (Some Claimed) = Some (slice_set statuses p Done)
 returned statuses p _ = None

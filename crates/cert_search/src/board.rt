@@ -17,7 +17,7 @@ use std::marker::Model;
 pub(crate) enum PoolStatus {
     /// A pool that no worker has claimed.
     Free,
-    /// A pool that a worker has claimed and not returned.
+    /// A pool that a worker has claimed and not given back.
     Claimed,
     /// A pool that was searched, in this round or an earlier one.
     Done,
@@ -28,11 +28,12 @@ pub(crate) enum PoolStatus {
 pub(crate) enum BoardEvent {
     /// Claims a free pool.
     Claim(usize),
-    /// Returns a pool that was claimed.
+    /// Gives back a pool that was claimed.
     Return(usize),
 }
 
-/// Returns the state, at the start of a round, of a pool that has a rank or has none.
+/// Returns the state of a pool at the start of a round: done if the pool has a rank, and otherwise
+/// free.
 fn initial_status(has_rank: bool) -> PoolStatus
     ensures { result ≡ spec.initial_status has_rank }
 {
@@ -93,7 +94,7 @@ impl PoolStatuses {
         self.statuses.iter().all(|status| is_done(*status))
     }
 
-    /// Claims the pool if it is free, and returns whether it was.
+    /// Claims the pool if it is free, and returns whether it was free.
     fn claim(&mut self, pool: usize) -> bool
         ensures taken { IsTrue result
             → spec.claimed self.old pool (slice_get self.old pool) ≡ Some self.new }
@@ -110,7 +111,7 @@ impl PoolStatuses {
         }
     }
 
-    /// Returns the pool to the board if it was claimed, and returns whether it was.
+    /// Gives the pool back to the board if it was claimed, and returns whether it was claimed.
     fn give_back(&mut self, pool: usize) -> bool
         ensures given { IsTrue result
             → spec.returned self.old pool (slice_get self.old pool) ≡ Some self.new }
@@ -189,8 +190,8 @@ pub(crate) fn claim(board: &mut Held<Board>) -> Result<Option<usize>, AllocError
     }
 }
 
-/// Returns a pool to the board, and returns whether it was claimed. A pool that was not claimed is
-/// unchanged.
+/// Gives a pool back to the board, and returns whether the pool was claimed. If it was not, the
+/// board is unchanged.
 ///
 /// # Errors
 ///

@@ -48,7 +48,7 @@ impl Draft {
             .collect(alloc)
     }
 
-    /// Returns the rank of each pool, and `rank` for a pool that has none yet.
+    /// Returns the rank of each pool. A pool that has none yet gets the value `rank`.
     pub(crate) fn ranks_or(&self, alloc: Global, rank: u64) -> Result<Vec<u64>, AllocError> {
         self.pools
             .iter()
@@ -56,9 +56,9 @@ impl Draft {
             .collect(alloc)
     }
 
-    /// Records the results of a round, and gives the rank to each pool whose blocked vector was
-    /// found. Returns `false` if no pool gets the rank, or if the first round found no bound for
-    /// some pool.
+    /// Records the results of a round, and gives this rank to each pool whose blocked vector was
+    /// found. Returns `false` if no pool got the rank, or if this was the first round and it found
+    /// no bound for some pool.
     pub(crate) fn note(&mut self, found: Vec<PoolVectors>, rank: u64) -> bool {
         let mut moved = false;
         let mut bounded = true;

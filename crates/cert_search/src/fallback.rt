@@ -12,9 +12,9 @@ use job_bodies::Plan;
 use size_search::{cause_of, steady};
 use std::alloc::{AllocError, Global};
 
-/// Returns the steady certificate of the plan, if this certificate accepts the plan with the sizes
-/// that the plan declares. If the plan has a cause for which no sizes are enough, no certificate
-/// accepts the plan.
+/// Returns the plan's steady certificate if it accepts the plan with its declared sizes. If the
+/// plan has a cause for which no sizes are enough, returns `None`, because no certificate accepts
+/// the plan.
 pub(crate) fn steady_if_accepted(alloc: Global, plan: &Plan) -> Result<Option<Cert>, AllocError>
     ensures accepted { IfOk result
         (λ found. IfSome found (λ cert. IsTrue (accepted plan.now cert))) }
@@ -27,8 +27,8 @@ pub(crate) fn steady_if_accepted(alloc: Global, plan: &Plan) -> Result<Option<Ce
     }
 }
 
-/// Returns the steady certificate of the plan, if it accepts the plan. No class of the plan may
-/// submit itself.
+/// Returns the plan's steady certificate if it accepts the plan. No class of the plan may submit
+/// itself.
 fn without_circle(alloc: Global, plan: &Plan) -> Result<Option<Cert>, AllocError>
     requires free { NoCircle plan.now }
     requires well_formed { IsWellFormed plan.now }

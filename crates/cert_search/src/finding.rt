@@ -23,9 +23,9 @@ use std::thread::Threads;
 pub enum SearchFault {
     /// Memory ran out, or a thread could not be started.
     Memory,
-    /// In some round a worker claimed a pool that the plan does not have, a worker returned a pool
-    /// that was not claimed, a pool was never returned to the board, or the results were not one
-    /// for each pool without a rank. No proof covers what threads do under a lock, so this is
+    /// In some round a worker claimed a pool that the plan does not have, a worker gave back a pool
+    /// that was not claimed, a pool was never given back, or a pool without a rank had no result or
+    /// several, or another pool had one. No proof covers what threads do under a lock, so this is
     /// checked at run time.
     Mixed,
     /// The gate returned `false` for a pool.
@@ -41,16 +41,17 @@ impl From<AllocError> for SearchFault {
 }
 
 /// Searches for a certificate of the plan with `workers` workers, 1 to 64. If the rounds find none,
-/// returns the plan's steady certificate, which depends only on the bodies, if it accepts the plan.
-/// So `None` means that the steady certificate does not accept the plan with its own sizes, and the
-/// plan can still be safe. For a plan whose sizes are large enough for its steady certificate, the
-/// result is a certificate exactly when no cause of [`size_search`] holds. Tests, and no proof,
-/// show that the number of workers does not change the certificate.
+/// tries the plan's steady certificate, which depends only on the bodies. So `None` means that the
+/// steady certificate does not accept the plan with its own sizes. The plan can still be safe. If
+/// the sizes of a plan are large enough for its steady certificate, the result is a certificate
+/// exactly when [`cause_of`](job_bodies::cause_of) finds no cause. The number of workers does not
+/// change the certificate. This is tested, and not proved.
 ///
 /// In each round the workers search for the vectors of the pools without a rank. A pool whose
-/// blocked vector is found gets the round's number as its rank. In the next round, gets that wait
-/// for pools with a rank are not counted. A pool whose jobs have the same counted gets as in the
-/// previous round, which found no blocked vector for it, has none in this round either.
+/// blocked vector is found gets the round's number as its rank. In the next round, a get is not
+/// counted if its job depends only on pools that have a rank by then. If the jobs of a pool without
+/// a rank have the same counted gets as in the previous round, the round does not search for a
+/// blocked vector of the pool, because the previous round found none.
 ///
 /// # Errors
 ///

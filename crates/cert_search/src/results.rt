@@ -7,11 +7,12 @@ ghost use Rattle.cert_search.specs.Results as spec;
 use crate::SearchFault;
 use crate::round::PoolVectors;
 
-/// Returns the results, if there is exactly one for each pool without a rank, and no other.
+/// Returns the results if there is exactly one for each pool without a rank, and no other.
 ///
 /// # Errors
 ///
-/// Returns [`SearchFault::Mixed`] exactly when the results are not such.
+/// Returns [`SearchFault::Mixed`] if a pool without a rank has no result or several, or if there is
+/// another result.
 pub(crate) fn check_complete(
     has_rank: &[bool],
     found: Vec<PoolVectors>,

@@ -23,7 +23,7 @@ pub(crate) struct Round<'a> {
     pub(crate) reach: &'a [u64],
     /// The reach of each class in the previous round. It is empty in the first round.
     pub(crate) reach_before: &'a [u64],
-    /// The rank that pools get in this round: the round's number, from 0 on.
+    /// The rank that pools get in this round: the round's number, counted from 0.
     pub(crate) rank: u64,
 }
 
@@ -31,15 +31,15 @@ pub(crate) struct Round<'a> {
 #[derive(Drop)]
 pub(crate) struct PoolVectors {
     pub(crate) pool: usize,
-    /// The bound of the pool's queue, which only the first round searches for.
+    /// The bound of the pool's queue. Only the first round searches for it.
     pub(crate) bound: Option<Bound>,
     pub(crate) blocked: Option<Vector>,
 }
 
 impl Round<'_> {
-    /// Searches for the vectors of a pool. If the jobs of the pool have the same counted gets as in
-    /// the previous round, which found no blocked vector, does not search for a blocked vector
-    /// again. Returns [`SearchFault::Mixed`] if the plan does not have the pool.
+    /// Searches for the vectors of a pool. Does not search for a blocked vector if the jobs of the
+    /// pool have the same counted gets as in the previous round, because that round found none.
+    /// Returns [`SearchFault::Mixed`] if the plan does not have the pool.
     fn search_pool(&self, alloc: Global, pool: usize) -> Result<PoolVectors, SearchFault>
         ensures named { IfOk result (λ found. found.pool ≡ pool) }
         ensures exists { IfOk result (λ _. pool < length self.now.plan.now.pools) }
@@ -98,8 +98,8 @@ impl Round<'_> {
     }
 
     /// Claims pools and searches for their vectors, until no pool is free or the round must stop.
-    /// Asks the gate before each search. The board is not locked while the gate is asked or a
-    /// search runs.
+    /// Calls the gate before each search. The board is locked neither during a call of the gate nor
+    /// during a search.
     fn search_free_pools<R: Wait, G: PoolGate>(
         &self,
         rt: &R,
