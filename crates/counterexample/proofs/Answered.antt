@@ -62,7 +62,7 @@ pub is_stuck : (plan : Plan) (events : List Event) (members : List ℕ) (standin
     → IsStuck plan events members standing reason
 is_stuck plan events members standing view reason comes rising waits shown = record { rising = rising; none_refused = comes.none_refused; leads = (comes.state, comes.reaches, (waits, shown)) }
 
--- the answer of a world whether the members are a waiting set holds for the state that the events reach
+-- the answer of a world whether the members are a waiting set is right for the state that the events reach
 pub in_words_at : (plan : Plan) (events : List Event) (members : List ℕ) (view : View) (stuck : Bool) → (comes : ComesTo plan events view)
     → ((s : State) → IsReached plan s → live_view plan s ≡ view → IsTrue stuck ↔ IsWaitingSet plan s members) → IsTrue stuck ↔ IsWaitingSet plan comes.state members
 in_words_at plan events members view stuck comes in_words = in_words comes.state (events, comes.reaches) comes.seen

@@ -76,7 +76,7 @@ comes_further plan front view after e o s s' none reached is_step seen no_refusa
       (In-append_cases (outcomes plan (Some (start plan)) front) (Some o ∷ []) j);
 }
 
--- the replay stops at an event that is not possible
+-- the replay stops at an event that is not possible, if no earlier event is a refused submit
 pub stops_short : (plan : Plan) (front rest : List Event) (e : Event) (s : State) → NoneRefused plan front → Reaches plan front s → step plan s e ≡ None → StopsShort plan (front ++ e ∷ rest)
 stops_short plan front rest e s none reached is_step = record {
   none_refused = λ p i.

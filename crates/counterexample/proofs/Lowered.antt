@@ -98,7 +98,7 @@ ordered-lowered plan most ordered between = record {
     there : (p : ℕ) → p < length (lowered plan most).pools → p < length plan.pools
     there p inside = omega (arith, length-lowered plan most)
 
--- the invariant holds for the lowered plan as well, if no pool has more threads than its lowered maximum
+-- if no pool has more threads than its lowered maximum, the invariant holds for the lowered plan as well
 pub kept-lowered : (plan : Plan) (most : ℕ → ℕ) (s : State) → StateInvariant plan s → ((p : ℕ) → p < length plan.pools → threads plan s p ≤ most p) → StateInvariant (lowered plan most) s
 kept-lowered plan most s kept within = record {
   classes = kept.classes;
@@ -118,11 +118,11 @@ kept-lowered plan most s kept within = record {
 
 -- ---- the steps of the lowered plan
 
--- a pool that starts a thread has fewer than core, or its queue is full
+-- a pool that starts a thread has fewer than core threads, or its queue is full
 pub started_when : (pool : PoolView) → answer pool ≡ offer.Started → (pool.threads < pool.core) ⊎ (pool.capacity ≤ length pool.queue)
 started_when pool e = grind (arith, common_steps)
 
--- the outcome of a submit is `Started` only if the pool's response is
+-- if the outcome of a submit is `Started`, so is the pool's response
 started_given : (plan : Plan) (s s' : State) (a : Parent) (i k n : ℕ) (given : Offer) → answered plan s a i k given ≡ (s', outcome.Started n) → given ≡ offer.Started
 started_given plan s s' a i k n offer.Started e = refl
 started_given plan s s' a i k n offer.Queued e = let same : outcome.Queued (length s.jobs) ≡ outcome.Started n = ap (λ (x : State × Outcome). x.1) e in absurd cc
@@ -136,7 +136,7 @@ started_answer : (plan : Plan) (s s' : State) (a : Parent) (body : List Action) 
 started_answer plan s s' a body i k n at is_step =
     started_given plan s s' a i k n (answer (pool_seen plan s (pool_of plan k))) (same_Some (submitted plan s a i k) (s', outcome.Started n) (sym (step_of plan s a body i k at) ∙ is_step))
 
--- each pool that a submit makes start a thread has fewer threads than its lowered maximum, or than core
+-- if a submit makes a pool start a thread, the pool has fewer threads than its lowered maximum, or fewer than core
 abbrev pub StartsBelow : Plan → (ℕ → ℕ) → State → Type 0
 StartsBelow plan most s = (a : Parent) (body : List Action) (i k : ℕ) → IsAtAction plan s a body i (Some (action.Submit k)) → answer (pool_seen plan s (pool_of plan k)) ≡ offer.Started
     → (threads plan s (pool_of plan k) < most (pool_of plan k)) ⊎ (threads plan s (pool_of plan k) < (pool_at plan (pool_of plan k)).core)

@@ -1,5 +1,5 @@
--- Permanent waiting sets last. In the plan whose pools with queued members have their current threads as maximum, the set is
--- full, and each event has the same effect as in the original plan.
+-- Permanent waiting sets last. Take the plan in which each pool with queued members has its current number of threads as its
+-- maximum. There the set is full, and each event has the same effect as in the original plan.
 use Rattle.std.proofs.Common.{◌≡◌, ℕ, Bool, true, false, cond, eqb, ◌<◌, ◌≤◌, ◌⊎◌, inl, inr, ⊎_elim, List, length, refl, sym, ap, subst, ◌∙◌, arith}
 use Rattle.std.specs.List.{list_any}
 use Rattle.std.proofs.lemmas.Bool.{and_parts, eqb-true}
@@ -97,7 +97,7 @@ module _ (plan : Plan) (s : State) (members : List ℕ) (well_formed : IsWellFor
     full = λ q j member queued. sym (max_is q j member queued);
   }
 
-  -- if a pool starts a thread later, it has fewer threads than its lowered maximum or than core
+  -- if a pool starts a thread later, it has fewer threads than its lowered maximum, or fewer than core
   starts_below : (now : State) → IsReached plan now → StartsBelow plan most now
   starts_below now reached_now a body i k at starts =
       let q = pool_of plan k in
@@ -107,7 +107,8 @@ module _ (plan : Plan) (s : State) (members : List ℕ) (well_formed : IsWellFor
       ⊎_elim (λ (full : threads plan s q ≡ (pool_at plan q).max). inl full) (λ (standing : HasStanding plan q). inr (starts_below_core plan now a body i k well_formed reached_now standing at starts)) (set.starts_no_thread q found.0 found.1 found.2))
       (started_below (pool_seen plan now q) starts)
 
-  -- the induction hypothesis for a list of events
+  -- the induction hypothesis for a list of events: the plan reaches its last state, and in the lowered plan the set has stayed
+  -- since s
   record BothStay (now : State) : Type 0 where
     reached_now : IsReached plan now
     stayed : Stayed low members s now

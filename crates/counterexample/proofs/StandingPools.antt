@@ -48,7 +48,8 @@ steps_keep plan holds stays (e ∷ events) s s' held replayed =
 
 -- ---- the threads of the pool
 
--- a pool with a standing vector starts a thread only if it has fewer than core, since a submit never finds its queue full
+-- a pool with a standing vector starts a thread only if it has fewer than core threads, since a submit never finds its queue
+-- full
 pub starts_below_core : (plan : Plan) (s : State) (a : Parent) (body : List Action) (i k : ℕ) → IsWellFormed plan → IsReached plan s → HasStanding plan (pool_of plan k) → IsAtAction plan s a body i (Some (action.Submit k))
     → answer (pool_seen plan s (pool_of plan k)) ≡ offer.Started → threads plan s (pool_of plan k) < (pool_at plan (pool_of plan k)).core
 starts_below_core plan s a body i k well_formed reached standing at starts =

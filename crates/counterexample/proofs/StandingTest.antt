@@ -1,4 +1,4 @@
--- The test `all_start_no_thread` of a live view holds exactly when the property that it tests holds in the state.
+-- The test `all_start_no_thread` of a live view is true exactly when the tested property holds in the state.
 use Rattle.std.proofs.Common.{◌≡◌, ℕ, ◌<◌, ◌⊎◌, inl, inr, ⊎_elim, Bool, true, false, cond, ◌&&◌, ◌||◌, not, eqb, ltb, List, [], length, slice_get, Option, Some, None, is_some, refl, sym, ap, subst, ◌∙◌, arith}
 use Rattle.std.specs.List.{list_all}
 use Rattle.std.proofs.lemmas.Bool.{false≢true, and_parts, and_from, or_left, or_right, eqb-true, eq-eqb, lt-ltb}

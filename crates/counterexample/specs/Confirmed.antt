@@ -41,7 +41,8 @@ IsReason plan members standing s None = ¬ AreFullOrStanding plan s members stan
 
 -- ---- the result
 
--- no event is a refused submit, and after all the events the members wait only for each other, permanently if there is a reason
+-- no event is a refused submit, and after all events the members wait only for each other; they do so permanently if there is a
+-- reason
 pub record IsStuck (plan : Plan) (events : List Event) (members : List ℕ) (standing : List Vector) (reason : Option Reason) : Type 0 where
   pub rising : IsTrue (are_rising members)
   pub none_refused : NoneRefused plan events
@@ -57,8 +58,8 @@ HasEnding plan events members standing front (Refused p) = BeginsWith events fro
 HasEnding plan events members standing front (StuckForever stuck reason) = (front ≡ events) × (stuck.items ≡ members) × IsStuck plan events members standing (Some reason)
 HasEnding plan events members standing front (StuckNow stuck) = (front ≡ events) × (stuck.items ≡ members) × IsStuck plan events members standing None
 
--- the answer of `confirmed`: None exactly when no event is refused and the events do not lead to a waiting set with these
--- members in ascending order; otherwise a witness with its ending
+-- the answer of `confirmed`: None exactly when no event is a refused submit and the events do not lead to a waiting set whose
+-- numbers are these members in ascending order; otherwise a witness with its ending
 abbrev pub IsAnswer : Plan → List Event → List ℕ → List Vector → Option Witness → Type 0
 IsAnswer plan events members standing None = NoneRefused plan events × (IsTrue (are_rising members) → ¬ LeadsTo plan events (λ s. IsWaitingSet plan s members))
 IsAnswer plan events members standing (Some witness) = HasEnding plan events members standing witness.events.items witness.ending

@@ -1,4 +1,4 @@
--- Permanent waiting sets. Each pool with a queued member has all its threads or never starts another one.
+-- Permanent waiting sets: each pool with a queued member has all its threads, or never has more than core threads.
 use Rattle.std.specs.Prelude.{◌≡◌, ◌≤◌, ◌<◌, ◌⊎◌, ℕ, List, length, Some}
 use Rattle.job_bodies.specs.Plan.{Plan, pool_at}
 use Rattle.job_bodies.specs.WellFormed.{IsWellFormed}
@@ -20,8 +20,8 @@ pub record HasStanding (plan : Plan) (p : ℕ) : Type 0 where
 abbrev pub StandingPoolsStayAtCore : Type 0
 StandingPoolsStayAtCore = (plan : Plan) (p : ℕ) (s : State) → IsWellFormed plan → p < length plan.pools → HasStanding plan p → IsReached plan s → threads plan s p ≤ (pool_at plan p).core
 
--- the pool starts no thread while a job is queued: it has all its threads, or it never has more than core threads, which it
--- already has if a job is queued
+-- the pool starts no thread while a job is queued: it has all its threads, or it never has more than core threads (and has that
+-- many if a job is queued)
 abbrev pub StartsNoThread : Plan → State → ℕ → Type 0
 StartsNoThread plan s p = IsFull plan s p ⊎ HasStanding plan p
 

@@ -28,7 +28,7 @@ LeadsTo plan events holds = (s : State) × Reaches plan events s × holds s
 abbrev pub NoneRefused : Plan → List Event → Type 0
 NoneRefused plan events = (p : ℕ) → ¬ In (Some (outcome.Refused p)) (outcomes plan (Some (start plan)) events)
 
--- the last event is a submit that pool p refuses; each earlier event is possible, and none is a refused submit
+-- the last event is a submit that pool p refuses; each earlier event is possible and not a refused submit
 pub record EndsRefused (plan : Plan) (events : List Event) (p : ℕ) : Type 0 where
   pub front : List Event
   pub last : Event

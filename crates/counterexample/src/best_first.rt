@@ -1,5 +1,5 @@
-//! A best-first search for a violation. Several measures take turns in selecting the open state
-//! that is visited next.
+//! A best-first search for a violation. Several measures take turns in selecting the next state to
+//! expand.
 
 use crate::branches::Branch;
 use crate::choices::Choices;
@@ -11,20 +11,21 @@ use std::alloc::{AllocError, Global};
 use std::collections::{BinaryHeap, HashSet};
 use std::hash::{BuildHasherDefault, FoldHasher};
 
-/// The maximum number of vectors whose loss is a measure.
+/// The maximum number of vectors whose losses are used as measures.
 const MAX_VECTORS: usize = 2;
 
-/// A state that the search reached.
+/// A state that the search reached. It is open until the search visits its successors, and then
+/// closed.
 #[derive(Clone, Copy)]
 struct Node {
-    /// The number of the preceding state, from which `branch` leads to this state. The start is its
-    /// own predecessor.
+    /// The number of the preceding state, from which `branch` leads to this state. The start has
+    /// its own number here.
     before: usize,
     branch: Branch,
     is_open: bool,
 }
 
-/// A reached state, with the total loss of each vector on the way to it.
+/// A reached state that was recreated, with the weight that each vector lost on the way to it.
 #[derive(Drop)]
 struct ReplayedState<'a> {
     walk: Walk<'a>,
@@ -65,9 +66,10 @@ struct BestFirst<'a> {
     potentials: &'a [Potential],
     nodes: Vec<Node>,
     seen: HashSet<u64, BuildHasherDefault<FoldHasher>, Global>,
-    /// For each measure, a heap of the open states, which has the most promising state on top.
+    /// For each measure, a heap of the open states with the most promising one on top. The heap can
+    /// also contain closed states.
     opens: Vec<BinaryHeap<(u64, usize), Global>>,
-    /// Every state with a lower number is closed.
+    /// A lower bound of the numbers of the open states.
     oldest: usize,
     /// The number of states that the search may still visit.
     left: usize,
@@ -141,8 +143,9 @@ impl<'a> BestFirst<'a> {
         Ok(number)
     }
 
-    /// Closes an open state, and returns its number. The measures take turns, each selecting its
-    /// most promising state; one further turn selects the oldest state.
+    /// Closes an open state, and returns its number. The measures take turns, in each of which one
+    /// measure selects its most promising state. In one further turn the oldest open state is
+    /// selected.
     fn next_open(&mut self, turn: usize) -> Option<usize> {
         let measures = self.opens.len().saturating_add(1);
         let measure = turn.checked_rem(measures)?;
@@ -177,7 +180,8 @@ impl<'a> BestFirst<'a> {
         None
     }
 
-    /// Visits the successors of this state, and returns the first permanent violation.
+    /// Visits the successors of the state with this number, and returns the first permanent
+    /// violation.
     fn expand(&mut self, number: usize) -> Result<Option<(Script, Violation)>, AllocError> {
         let replayed = self.replayed(number)?;
         for branch in &replayed.walk.branches(self.alloc)? {
@@ -196,8 +200,8 @@ impl<'a> BestFirst<'a> {
         Ok(None)
     }
 
-    /// Visits the state that this branch leads to, and returns that state's violation, if any. A
-    /// state that was reached before is not visited again.
+    /// Visits the state to which this branch leads, and returns its violation, if any. Returns
+    /// `None` if the state was reached before.
     fn visit(
         &mut self,
         replayed: &ReplayedState<'a>,
@@ -273,7 +277,8 @@ impl<'a> BestFirst<'a> {
         Ok(ReplayedState { walk, lost })
     }
 
-    /// Returns the events that lead to this state, followed by those of this branch.
+    /// Returns the events that lead to the state with this number, followed by those of this
+    /// branch.
     fn script_of(&self, number: usize, branch: Branch) -> Result<Script, AllocError> {
         let mut replayed = self.replayed(number)?;
         replayed.walk.choose(branch.place, branch.newer)?;

@@ -39,7 +39,7 @@ impl<'a> Walk<'a> {
     }
 
     /// Returns the branches from this state. If some client is back at its first submit, no new
-    /// client of the same client kind is tried, because both would act alike.
+    /// client of the same client kind is tried, because that client would act like the new one.
     pub(crate) fn branches(&self, alloc: Global) -> Result<Vec<Branch>, AllocError> {
         let mut branches = Vec::new(alloc);
         for (place, (choice, ready)) in self.choices.all.iter().zip(&self.ready).enumerate() {
@@ -63,7 +63,7 @@ impl<'a> Walk<'a> {
             && !ready.is_empty())
     }
 
-    /// Returns the weight that the state loses in this branch, by this vector.
+    /// Returns the weight under this vector that the state loses in this branch.
     pub(crate) fn loss(&self, branch: Branch, potential: &Potential) -> u64 {
         let Some(choice) = self.choices.all.get(branch.place).copied() else {
             return 0;
@@ -78,7 +78,7 @@ impl<'a> Walk<'a> {
     }
 
     /// Returns the number of threads that do not wait at a get. A pool with fewer than `core`
-    /// threads counts as having `core`.
+    /// threads is counted with `core` threads.
     pub(crate) fn moving_threads(&self) -> u64 {
         let mut threads = 0u64;
         for pool in &self.machine.pools {
@@ -95,7 +95,7 @@ impl<'a> Walk<'a> {
         threads.saturating_sub(waiting)
     }
 
-    /// Returns the smallest number of jobs that any pool can still accept.
+    /// Returns the number of further jobs that the pool with the least room still accepts.
     pub(crate) fn least_room(&self) -> u64 {
         let mut least = u64::MAX;
         for pool in &self.machine.pools {

@@ -5,7 +5,7 @@ use job_bodies::{Action, Plan};
 use std::alloc::{AllocError, Global};
 use written_machine::Parent;
 
-/// The entry of a position that is not a submit, in place of the index of a choice.
+/// The value that a position without a submit has in place of the index of a choice.
 const NO_CHOICE: usize = usize::MAX;
 
 /// A choice of what happens next in a walk.
@@ -77,8 +77,8 @@ impl Choices {
         }
     }
 
-    /// Returns the index of the choice for an actor at this position of its body: [`NO_CHOICE`] if
-    /// the action is not a submit, `None` at the end of the body.
+    /// Returns the index of the choice for an actor at this position of its body. Returns
+    /// [`NO_CHOICE`] if the action there is not a submit, and `None` at the end of the body.
     pub(crate) fn place_of(
         &self,
         machine: &Machine,

@@ -25,11 +25,12 @@ use weights::Vector;
 /// ascending order and without duplicates. `standing` has one vector for each pool, which may prove
 /// that the pool never has more than `core` threads; `standing` may be empty.
 ///
-/// The arguments are not trusted. A vector that is not a standing vector of its pool, or that fails
-/// a condition, proves nothing. If a submit is refused, the witness ends at the first such submit,
-/// and later events are removed. Returns `None` if no submit is refused and the members are not in
-/// ascending order or do not wait only for each other after the last event. Also returns `None` if
-/// an event is not possible.
+/// The arguments are not trusted. A vector that fails a condition of a standing vector of its pool
+/// proves nothing. The events are replayed up to the first that is a refused submit or is not
+/// possible. If it is a refused submit, the witness ends there, and later events are removed. If it
+/// is not possible, returns `None`. If all events are possible and none is a refused submit,
+/// returns `None` unless the members are in ascending order and wait only for each other after the
+/// last event.
 ///
 /// # Errors
 ///
@@ -66,8 +67,8 @@ fn refused(mut events: Vec<Event>, length: usize, pool: usize) -> Witness
     }
 }
 
-/// Returns the witness that consists of the events, which lead to this world, if the members wait
-/// only for each other in this world.
+/// Returns the witness that consists of these events, if the members wait only for each other in
+/// this world, to which the events lead.
 fn stuck(
     plan: &Plan,
     world: &World,
@@ -102,7 +103,7 @@ fn reason(plan: &Plan, world: &World, members: &[usize], standing: &[Vector]) ->
         → live_view plan.now s ≡ world.now.view
         → IsReason plan.now members.now standing.now s result }
 {
-    // The contract of this call states that the plan is well-formed, which the proof needs.
+    // The contract of this call states that the plan is well-formed. The proof needs this.
     let _pools = plan.pools();
     if all_start_no_thread(plan, world, members, &[]) {
         Some(Reason::PoolsAreFull)

@@ -13,9 +13,9 @@ use std::alloc::{AllocError, Global};
 
 /// Returns the description of a witness.
 ///
-/// The first line has the form `refused by db, after 7 events of 2 clients`. The events, the pools
-/// and what each job waits for follow. If jobs wait only for each other, the last line says why
-/// they do so permanently, or what may end the wait.
+/// The first line has the form `refused by db, after 7 events of 2 clients`. The lines after it
+/// show the events, the pools, and what each waiting job waits for. If jobs wait only for each
+/// other, a last line says why they do so permanently, or what may end the wait.
 ///
 /// # Errors
 ///

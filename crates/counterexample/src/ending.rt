@@ -5,8 +5,8 @@
 pub enum Ending {
     /// The last event is a submit that the pool with this number refuses.
     Refused(usize),
-    /// After the last event, the jobs with these numbers wait only for each other, permanently, for
-    /// this reason.
+    /// After the last event, the jobs with these numbers wait only for each other. They do so
+    /// permanently, for this reason.
     StuckForever(Vec<usize>, Reason),
     /// After the last event, the jobs with these numbers wait only for each other. A later event
     /// may end the wait.

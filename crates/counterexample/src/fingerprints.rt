@@ -1,8 +1,9 @@
 //! Fingerprints of states, by which a search recognises the states that it has reached.
 //!
 //! Two states have the same fingerprint if they differ only in the numbers of jobs and clients, in
-//! finished jobs that no actor will get, or in clients that are again at their first submit. Other
-//! states may collide by chance. The search then continues from only one of them.
+//! finished jobs that no actor will get, or in clients that are again at their first submit. Two
+//! other states may have the same fingerprint by chance. The search then continues from only one of
+//! them.
 
 use crate::choices::{Choice, Choices};
 use crate::machine::{Job, Machine, Phase};
@@ -11,15 +12,15 @@ use written_machine::Parent;
 
 /// A factor of the hash function.
 const FACTOR: u64 = 0x9e37_79b9_7f4a_7c15;
-/// The hash input for the phase of a done job. The number of a position is smaller.
+/// The hash input for the phase of a done job. It is greater than the number of any position.
 const DONE: u64 = 1_000_001;
-/// The hash input for the phase of a queued job.
+/// The hash input for the phase of a queued job. It is greater than the number of any position.
 const QUEUED: u64 = 1_000_002;
-/// The tag of a job that no actor will get.
+/// The hash input that marks a job that no actor will get.
 const ROOT: u64 = 3;
-/// The tag of a client.
+/// The hash input that marks a client.
 const CLIENT: u64 = 5;
-/// The tag of a pool.
+/// The hash input that marks a pool.
 const POOL: u64 = 7;
 
 /// Returns the fingerprint of a state.
@@ -55,15 +56,16 @@ fn mixed(first: u64, second: u64) -> u64 {
     mixed ^ (mixed >> 31)
 }
 
-/// The fingerprints of the parts of a state. An actor's part includes the jobs that it will get.
+/// The fingerprints of the parts of a state. The fingerprint of an actor includes those of the jobs
+/// that the actor will get.
 #[derive(Drop)]
 struct Prints<'a> {
     machine: &'a Machine<'a>,
-    /// For each job, the fingerprint of the jobs that it will get.
+    /// For each job, the sum of the fingerprints of the jobs that it will get.
     of_jobs: Vec<u64>,
-    /// For each client, the fingerprint of the jobs that it will get.
+    /// For each client, the sum of the fingerprints of the jobs that it will get.
     of_active_clients: Vec<u64>,
-    /// For each job, its place in its pool's queue, counted from 1. 0 if the job is not queued.
+    /// For each job, its place in its pool's queue, counted from 1, or 0 if the job is not queued.
     places: Vec<u64>,
     whole: u64,
 }
@@ -86,9 +88,9 @@ impl Prints<'_> {
         }
     }
 
-    /// Adds the fingerprint of a job to that of the actor that will get the job. If no actor will,
-    /// adds it to the whole, unless the job is done. The jobs that this job will get must have been
-    /// added before.
+    /// Adds the fingerprint of a job to that of the actor that will get the job. If no actor will
+    /// get it and the job is not done, adds the fingerprint to that of the whole state. The jobs
+    /// that this job will get must have been added before.
     fn add_job(&mut self, number: usize, job: &Job) {
         let of_jobs = self.of_jobs.get(number).copied().unwrap_or(0);
         let phase = match job.phase {
@@ -120,13 +122,14 @@ impl Prints<'_> {
         }
     }
 
-    /// Returns `true` if the job's parent has not got the job yet, and will.
+    /// Returns `true` if the job's parent will still get the job.
     fn will_get(&self, job: &Job, number: usize) -> bool {
         self.machine.is_to_get(job.parent, job.submit)
             && self.machine.child(job.parent, job.submit) == Some(number)
     }
 
-    /// Adds a client, unless it is at its first submit.
+    /// Adds the fingerprint of a client to that of the whole state, unless the client is at its
+    /// first submit.
     fn add_client(&mut self, choices: &Choices, number: usize) {
         let actor = Parent::Client(number);
         let Some((position, _)) = self.machine.point(actor) else {

@@ -15,14 +15,15 @@ pub fn witnessed_plans_are_not_safe()
 {}
 
 /// Proves that a pool never has more than `core` threads if some vector satisfies the conditions of
-/// the pool's standing vector. The other pools may do anything, and may refuse submits.
+/// a standing vector of the pool. This holds whatever the other pools do: they may even refuse
+/// submits.
 pub fn standing_pools_stay_at_core()
     ensures { StandingPoolsStayAtCore }
 {}
 
-/// Proves that a waiting set is still a waiting set after every list of events, and that none of
-/// its jobs ever moves again, if each pool with a queued member has `max` threads, or has a
-/// standing vector whose conditions hold.
+/// Proves that a permanent waiting set lasts: after every list of events it is still a waiting set,
+/// and none of its jobs has moved. A waiting set is permanent if each pool with a queued member has
+/// `max` threads, or has a standing vector whose conditions hold.
 pub fn permanent_waiting_sets_stay()
     ensures { PermanentWaitingSetsStay }
 {}

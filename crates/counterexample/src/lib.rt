@@ -1,7 +1,7 @@
 //! Counterexamples to a plan: the search for one, its confirmation on the machine, and its text.
 //!
-//! A [`Witness`] is a list of events that end in a refused submit, or after which jobs wait only
-//! for each other. The search is not trusted: [`confirmed`] replays what it finds.
+//! A [`Witness`] is a list of events that ends in a refused submit, or after which jobs wait only
+//! for each other. The search is not trusted: [`confirmed`] replays the events that it finds.
 #![tactic(auto)]
 
 mod active_clients;

@@ -1,5 +1,6 @@
-//! The weight that a state loses in a choice, by a vector. The total weight of a state never rises.
-//! If a vector exceeds its bound, a walk that violates the bound loses at most the excess.
+//! The loss of a choice: how much it decreases a state's weight under a vector. The weight never
+//! rises. If the vector's total exceeds the bound by `e`, a walk that violates the bound loses at
+//! most `e` in all.
 
 use crate::choices::Choice;
 use crate::machine::Machine;
@@ -8,10 +9,10 @@ use crate::vectors::Potential;
 use job_bodies::{Action, MAX_ACTIONS};
 use written_machine::Parent;
 
-/// The greatest loss that is returned.
+/// The maximum loss that is returned, also for a choice whose loss cannot be computed.
 const MAX_LOST: u64 = 1_000_000;
-/// The maximum number of ancestors that are followed when the end of a job unblocks its parent, the
-/// end of the parent unblocks the grandparent, and so on.
+/// The maximum number of ancestors that are followed when the end of a job unblocks its parent, and
+/// the end of the parent unblocks the grandparent, and so on.
 const MAX_PARENTS: usize = 16;
 
 /// A state, and the vector by which its losses are measured.
@@ -21,8 +22,8 @@ pub(crate) struct Losses<'a> {
     potential: &'a Potential,
 }
 
-/// A body, the weight of an actor at each position of the body, and the weight that remains after
-/// the end of the body.
+/// A body, the weight of an actor at each position of the body, and the weight that remains when
+/// the actor has ended.
 #[derive(Clone, Copy)]
 struct WeightedBody<'a> {
     body: &'a [Action],
@@ -35,8 +36,8 @@ impl WeightedBody<'_> {
         self.row.get(position).copied().unwrap_or(0)
     }
 
-    /// Returns the weight of an actor that has performed all work actions from this position to the
-    /// next submit or get, and whether the actor is then at the end of its body.
+    /// Returns the weight of an actor that has performed the work actions from this position up to
+    /// the next submit or get, and whether the actor has then reached the end of its body.
     fn settled(&self, position: usize) -> (u64, bool) {
         let mut position = position;
         for _ in 0..MAX_ACTIONS {
@@ -55,7 +56,7 @@ impl<'a> Losses<'a> {
         Losses { machine, potential }
     }
 
-    /// Returns the loss of a possible choice, which this actor makes.
+    /// Returns the loss of a possible choice that this actor makes.
     pub(crate) fn of(&self, choice: Choice, actor: Option<Parent>) -> u64 {
         let lost = match choice {
             Choice::Begin(kind) => self.of_begin(kind),
@@ -162,8 +163,8 @@ impl<'a> Losses<'a> {
         }
     }
 
-    /// Returns the loss when a job of the class is taken from its queue. If the job then runs to
-    /// its end, includes the actors that this end unblocks.
+    /// Returns the loss of a take of a job of the class from its queue. If the job then runs to its
+    /// end, this includes the loss of the actors that its end unblocks.
     fn of_take(&self, class: usize) -> Option<u64> {
         let pool = self.machine.plan.class_at(class)?.pool;
         let mut job = self.machine.pools.get(pool)?.next_to_take()?;

@@ -117,8 +117,9 @@ impl<'a> Machine<'a> {
         }
     }
 
-    /// Returns the actor's position in its body, and the action at this position, which is `None`
-    /// at the end of the body. Returns `None` if the actor is a queued or done job.
+    /// Returns the actor's position in its body, and the action there, which is `None` at the end
+    /// of the body. If the actor is a queued or done job, it has no position, and the whole result
+    /// is `None`.
     pub(crate) fn point(&self, actor: Parent) -> Option<(usize, Option<Action>)> {
         match actor {
             Parent::Client(number) => {
@@ -159,7 +160,8 @@ impl<'a> Machine<'a> {
         }
     }
 
-    /// Returns `true` if the rest of the actor's body has a get of the submit at this position.
+    /// Returns `true` if the actor's body has a get of the submit at this position, and the actor
+    /// has not passed that get.
     pub(crate) fn is_to_get(&self, actor: Parent, submit: usize) -> bool {
         let Some((position, _)) = self.point(actor) else {
             return false;

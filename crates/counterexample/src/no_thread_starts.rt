@@ -10,8 +10,8 @@ use job_bodies::Plan;
 use weights::Vector;
 
 /// Returns `true` if each queued member is in the queue of a pool that starts no thread while a job
-/// is queued: the pool has `max` threads, or its vector in `standing` proves that it never has more
-/// than `core` threads. Allocates no memory.
+/// is queued. Such a pool has `max` threads, or its vector in `standing` proves that it never has
+/// more than `core` threads. Allocates no memory.
 pub(crate) fn all_start_no_thread(
     plan: &Plan,
     world: &World,

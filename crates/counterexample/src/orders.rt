@@ -1,4 +1,5 @@
-//! Orders of the choices of a walk, as a key for each choice. The least key comes first.
+//! Orders of the choices of a walk. An order gives each choice a key, and the choice with the least
+//! key comes first.
 
 use crate::choices::Choice;
 use std::alloc::{AllocError, Global};
@@ -56,9 +57,9 @@ pub(crate) fn shuffle(keys: &mut [u64], rng: &mut Rng) {
     }
 }
 
-/// The parameters of a fixed order: the order of the three groups of choices (first submits, other
-/// submits, takes), and whether clients that have moved come before new ones, later choices before
-/// earlier ones, and later client kinds before earlier ones.
+/// The parameters of a fixed order. They determine the order of the three groups of choices (first
+/// submits, other submits, takes), and whether clients that have moved come before new ones, later
+/// choices before earlier ones, and later client kinds before earlier ones.
 #[derive(Clone, Copy)]
 struct OrderParams {
     groups: usize,

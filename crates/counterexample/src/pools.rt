@@ -106,14 +106,14 @@ impl SearchPool {
         self.idle
     }
 
-    /// Returns the number of threads, but at least `core`: the pool starts the others before it
-    /// queues a job.
+    /// Returns the number of threads, or `core` if the pool has fewer: the pool starts `core`
+    /// threads before it queues a job.
     pub(crate) fn threads_to_come(&self) -> u64 {
         self.threads.max(self.core)
     }
 
     /// Returns the number of further jobs that the pool accepts if no thread takes a job from the
-    /// queue meanwhile.
+    /// queue before that.
     pub(crate) fn room(&self) -> u64 {
         let places = self.capacity.saturating_sub(self.queue.len() as u64);
         places.saturating_add(self.max.saturating_sub(self.threads))
@@ -124,8 +124,8 @@ impl SearchPool {
         &self.queue
     }
 
-    /// Returns `true` if no thread of the pool is idle, so that a queued job waits only for running
-    /// jobs. If `permanent` is `true`, the pool must also have `max` threads.
+    /// Returns `true` if the pool is closed: no thread is idle, so that a queued job waits only for
+    /// running jobs. If `permanent` is `true`, a closed pool must also have `max` threads.
     pub(crate) fn is_closed(&self, permanent: bool) -> bool {
         self.idle == 0 && (!permanent || self.threads == self.max)
     }

@@ -14,9 +14,11 @@ pub(crate) struct Replay<'a> {
     pub(crate) machine: Machine<'a>,
     pub(crate) script: Script,
     pub(crate) is_refused: bool,
-    /// For each client of the script, its actor in the replay, if it has moved there.
+    /// For each client of the script, the corresponding client of the replay, or `None` if it has
+    /// not moved in the replay.
     clients: Vec<Option<Parent>>,
-    /// For each job of the script, its actor in the replay, if it was created there.
+    /// For each job of the script, the corresponding job of the replay, or `None` if the replay has
+    /// not created it.
     jobs: Vec<Option<Parent>>,
 }
 
@@ -87,8 +89,8 @@ impl<'a> Replay<'a> {
         }
     }
 
-    /// Returns the actor for this client of the script. Adds the client to the replay if it has not
-    /// moved yet.
+    /// Returns the client of the replay that corresponds to this client of the script. Adds the
+    /// client to the replay if it has not moved yet.
     fn client(&mut self, script: &Script, client: usize) -> Result<Option<Parent>, AllocError> {
         if let Some(actor) = self.clients.get(client).copied().unwrap_or(None) {
             return Ok(Some(actor));

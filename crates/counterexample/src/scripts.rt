@@ -5,8 +5,8 @@ use job_bodies::Plan;
 use std::alloc::{AllocError, Global};
 use written_machine::{Event, Parent};
 
-/// An event, and the number of the job that it created. The number of a client in the event is its
-/// number in the lightweight machine.
+/// An event of a script, and the job that it created. Clients have the numbers of [`Machine`], in
+/// the order of their first steps.
 #[derive(Clone, Copy, PartialEq, Eq)]
 pub(crate) struct ScriptStep {
     pub(crate) event: Event,
@@ -51,8 +51,8 @@ impl Script {
         Ok(())
     }
 
-    /// Returns the events with the client numbers of the plan. The clients of a client kind get its
-    /// lowest numbers, in the order of their first steps.
+    /// Returns the events with the clients renumbered as in the plan. The clients of a client kind
+    /// get the lowest numbers of the kind, in the order of their first steps.
     pub(crate) fn events(&self, alloc: Global, plan: &Plan) -> Result<Vec<Event>, AllocError> {
         let numbers = self.numbers(alloc, plan)?;
         self.steps
@@ -66,7 +66,7 @@ impl Script {
             .collect(alloc)
     }
 
-    /// Returns the number in the plan of each client that moves.
+    /// Returns, for each client of the script, its number in the plan.
     fn numbers(&self, alloc: Global, plan: &Plan) -> Result<Vec<usize>, AllocError> {
         let mut next = Vec::with_capacity(alloc, plan.clients().len())?;
         let mut clients = 0usize;

@@ -40,8 +40,8 @@ pub struct SearchResult {
     pub states: usize,
 }
 
-/// Searches for a witness against the plan: events that end in a refused submit, or in jobs that
-/// wait only for each other, possibly not permanently. Visits at most `states` states. If the
+/// Searches for a witness against the plan: events that end in a refused submit, or after which
+/// jobs wait only for each other, possibly not permanently. Visits at most `states` states. If the
 /// search finds no witness, the plan may still have one. The result is the same for each call with
 /// the same arguments.
 ///
@@ -119,8 +119,8 @@ impl Search<'_> {
         self.reserved = 0;
     }
 
-    /// Performs the walks in fixed orders. The first walk may use all remaining states, and the
-    /// others together half of them.
+    /// Performs the walks in fixed orders. The first walk may use all remaining states. All other
+    /// walks together may use half of the states that then remain.
     fn in_fixed_orders(&mut self) -> Result<Option<CandidateWitness>, AllocError> {
         let first = self.fixed_rules(0)?;
         if let Some(found) = self.walk_once(first, None)? {
@@ -137,8 +137,8 @@ impl Search<'_> {
         Ok(None)
     }
 
-    /// Performs the guided walks, which lose as little weight as possible of a vector that exceeds
-    /// its bound.
+    /// Performs the guided walks. Each of them loses as little weight as possible of a vector that
+    /// exceeds its bound.
     fn guided(&mut self, potentials: &[Potential]) -> Result<Option<CandidateWitness>, AllocError> {
         self.reserve_half();
         for potential in potentials {
@@ -192,7 +192,8 @@ impl Search<'_> {
         }
     }
 
-    /// Performs a walk by these rules, and returns a permanent violation if the walk finds one.
+    /// Performs a walk by these rules, and returns a probable witness if the walk finds a permanent
+    /// violation.
     fn walk_once(
         &mut self,
         rules: Rules,
@@ -229,7 +230,8 @@ impl Search<'_> {
         }
     }
 
-    /// Returns the result of a search that found no permanent violation.
+    /// Returns the result of a search that found no permanent violation: the events in `stuck_now`,
+    /// if any.
     fn stuck_now_result(&mut self) -> Result<Option<CandidateWitness>, AllocError> {
         match self.stuck_now.take() {
             Some(script) => {
@@ -240,7 +242,7 @@ impl Search<'_> {
         }
     }
 
-    /// Returns the rules of a walk in the fixed order with this number.
+    /// Returns the rules of a walk that makes its choices in fixed order `number`.
     fn fixed_rules(&self, number: usize) -> Result<Rules, AllocError> {
         Ok(Rules {
             keys: fixed_order(self.alloc, &self.choices.all, number)?,
@@ -250,8 +252,8 @@ impl Search<'_> {
         })
     }
 
-    /// Returns the rules of the guided walk with this number. The first walks choose in the fixed
-    /// orders, and the others in random orders.
+    /// Returns the rules of the guided walk with this number. The first guided walks choose in the
+    /// fixed orders, and the others in random orders.
     fn guided_rules(&mut self, number: usize) -> Result<Rules, AllocError> {
         let mut rules = self.fixed_rules(number)?;
         if number >= FIXED_ORDERS {
@@ -283,7 +285,8 @@ fn longest_walk(plan: &Plan) -> usize {
     room.saturating_mul(12).saturating_add(128) as usize
 }
 
-/// Shortens this script, which ends in this violation, and returns it as a probable witness.
+/// Shortens this script, which ends in this violation, and returns the shorter one as a probable
+/// witness.
 fn answer_of(
     alloc: Global,
     plan: &Plan,

@@ -7,7 +7,7 @@ use job_bodies::Plan;
 use std::alloc::{AllocError, Global};
 use written_machine::Event;
 
-/// The maximum number of events that are replayed to shorten one script, in addition to
+/// The maximum number of events that are replayed to shorten one script, not counting
 /// [`WHOLE_REPLAYS`] replays of the whole script.
 const MAX_REPLAYED: u64 = 6_000_000;
 /// The number of replays of the whole script that are always allowed.
@@ -27,7 +27,7 @@ struct Shortener<'a> {
     left: u64,
 }
 
-/// Returns a script with the same violation that is not longer.
+/// Returns a script that has the same violation and is not longer.
 pub(crate) fn shorten_script(
     alloc: Global,
     plan: &Plan,
@@ -101,7 +101,7 @@ impl Shortener<'_> {
         Ok(())
     }
 
-    /// Tries, for each event, to remove that event and all later events of the same actor.
+    /// Tries, for each event, to remove this event and all later events of its actor.
     fn with_actors_still(&mut self) -> Result<(), AllocError> {
         for from in (0..self.script.steps.len()).rev() {
             if let Some(act) = self.script.steps.get(from).copied() {
@@ -112,7 +112,8 @@ impl Shortener<'_> {
     }
 
     /// Removes the events for which `is_out` returns `true`, if the rest still has the violation
-    /// and is shorter. Does nothing if too few events may still be replayed.
+    /// and is shorter. Does nothing if the script is longer than the number of events that may
+    /// still be replayed.
     fn try_without<F: Fn(usize, Event) -> bool>(&mut self, is_out: F) -> Result<(), AllocError>
         requires { F.IsAlwaysCallable is_out }
     {
@@ -141,8 +142,8 @@ impl Shortener<'_> {
     }
 }
 
-/// Returns an upper bound on the number of parts of this size that cover this length. The last part
-/// may be smaller.
+/// Returns an upper bound on the number of parts of length `size` into which `length` is divided.
+/// The last part may be shorter.
 fn parts(length: usize, size: usize) -> usize {
     length.checked_div(size).unwrap_or(0).saturating_add(1)
 }

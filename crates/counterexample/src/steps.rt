@@ -68,12 +68,14 @@ pub(crate) fn kind_of(plan: &Plan, client: usize) -> Option<&Client> {
     None
 }
 
-/// Returns the number of the job's class, or a number that no class has if the job is not live.
+/// Returns the number of the job's class. If the job is not live, returns a number that no class
+/// has.
 pub(crate) fn class_of(world: &World, job: usize) -> usize {
     world.job(job).map_or(usize::MAX, |job| job.class)
 }
 
-/// Returns the next action of the event's actor, or `None` at the end of its body and for a pool.
+/// Returns the next action of the event's actor. Returns `None` if the actor is at the end of its
+/// body, or if the event is a pool's.
 fn next_action(world: &World, plan: &Plan, event: Event) -> Option<Action> {
     match event {
         Event::Client(client) => {
@@ -91,8 +93,8 @@ fn next_action(world: &World, plan: &Plan, event: Event) -> Option<Action> {
     }
 }
 
-/// Returns the description of an actor's step that performed `action`. Without an action, the actor
-/// was at the end of its body, or a thread of a pool ended.
+/// Returns the description of an actor's step that performed `action`. If `action` is `None`, the
+/// actor was at the end of its body, or the event ended a thread of a pool.
 fn act(
     alloc: Global,
     plan: &Plan,

@@ -10,8 +10,8 @@ use interleaving::{Event, World};
 use job_bodies::Plan;
 use std::alloc::{AllocError, Global};
 
-/// The maximum number of lines for the events. If there would be more, one line replaces the middle
-/// lines.
+/// The maximum number of lines for the events. If the events need more lines, one line replaces
+/// those in the middle.
 const MAX_LINES: usize = 20;
 
 /// The number of lines before the line that replaces the middle lines.
@@ -20,8 +20,8 @@ const FIRST_LINES: usize = 9;
 /// The number of lines after the line that replaces the middle lines.
 const LAST_LINES: usize = 10;
 
-/// Returns the story of the events from the plan's initial state: the events, the pools after them,
-/// and what each member waits for. An event that is not possible is skipped.
+/// Returns the story of the events from the plan's initial state. It shows the events, the state of
+/// the pools after them, and what each member waits for. An event that is not possible is skipped.
 ///
 /// # Errors
 ///

@@ -1,4 +1,4 @@
-//! The vectors that exceed the bounds that the sizes of a plan set for them.
+//! The vectors of a plan's pools that exceed the bounds set by the plan's sizes.
 
 use job_bodies::Plan;
 use least_vectors::{Kind, Levels, ResizedPlan, reach};
@@ -13,7 +13,7 @@ pub(crate) struct Potential {
     pub(crate) clients: Vec<Vec<u64>>,
 }
 
-/// Returns the lightest vectors of the pools, as far as they are heavier than the plan's sizes
+/// Returns, of the lightest vectors of the pools, those that are heavier than the plan's sizes
 /// allow. They show where the plan may fail.
 pub(crate) fn missed_vectors(alloc: Global, plan: &Plan) -> Result<Vec<Potential>, AllocError> {
     let mut vectors = MissedVectors {
@@ -80,8 +80,8 @@ impl MissedVectors {
     }
 
     /// Assigns this rank to each pool without a rank whose blocked vector for this rank is within
-    /// its bound, and returns whether a pool got the rank. The other pools' blocked vectors remain
-    /// recorded only if no pool got it.
+    /// its bound, and returns whether a pool got the rank. If none did, the blocked vectors that
+    /// exceed their bounds remain recorded.
     fn rank_pools(
         &mut self,
         growing: &ResizedPlan,

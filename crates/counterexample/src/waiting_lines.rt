@@ -7,7 +7,7 @@ use std::alloc::AllocError;
 /// The maximum number of waiting jobs that are listed.
 const MAX_LINES: usize = 20;
 
-/// Appends a line for each member of a waiting set, such as
+/// Appends a line for each member of a waiting set, of the form
 /// `job 0 (report) waits for job 1 (section)` or `job 1 (section) waits in the queue of p, ..`.
 pub(crate) fn push_waits(
     text: &mut String,
@@ -58,8 +58,8 @@ fn push_wait(
     }
 }
 
-/// Returns the member that the job with this number waits for at its position, and that member's
-/// class.
+/// Returns the member for which the job with this number waits at its position, and the class of
+/// that member.
 fn child_at(
     plan: &Plan,
     world: &World,

@@ -5,8 +5,8 @@ use job_bodies::MAX_POOLS;
 use std::alloc::{AllocError, Global};
 use written_machine::Parent;
 
-/// The limit on the work to reduce one set: the number of removals that are tried, times the number
-/// of jobs.
+/// The maximum work for reducing one set: the number of members whose removal is tried, times the
+/// number of jobs.
 const MAX_LOOKS: usize = 4_000_000;
 
 /// A set of jobs of a machine, by number.
@@ -34,8 +34,9 @@ impl JobSet {
         Ok(members)
     }
 
-    /// Returns a subset that is still a set of jobs that wait only for each other, and from which
-    /// no member can be removed. Stops earlier if [`MAX_LOOKS`] is reached.
+    /// Returns a subset whose members still wait only for each other, and from which no member can
+    /// be removed. If [`MAX_LOOKS`] is reached before that, returns the subset that was found so
+    /// far.
     pub(crate) fn made_least(
         self,
         alloc: Global,
@@ -91,10 +92,11 @@ impl JobSet {
         }
     }
 
-    /// Repeatedly removes the members that wait for a job outside the set, or for none, until each
+    /// Repeatedly removes the members that wait for no job or for a job outside the set, until each
     /// member waits only for members.
     ///
-    /// Each round except the first and the last finds fewer closed pools than the round before.
+    /// Two rounds more than there are pools are enough: each round except the first and the last
+    /// finds fewer closed pools than the round before.
     fn shrink(
         &mut self,
         alloc: Global,
@@ -110,9 +112,9 @@ impl JobSet {
         Ok(())
     }
 
-    /// Returns, for each pool, whether it is closed: a job in its queue would wait only for
-    /// members, because no thread is idle and each running job is a member. If `permanent` is
-    /// `true`, the pool must also have `max` threads.
+    /// Returns, for each pool, whether it is closed. A job in the queue of a closed pool waits only
+    /// for members, because no thread is idle and each running job is a member. If `permanent` is
+    /// `true`, a closed pool must also have `max` threads.
     fn closed_pools(
         &self,
         alloc: Global,
@@ -136,8 +138,9 @@ impl JobSet {
         Ok(closed)
     }
 
-    /// Removes each member that does not wait only for members, and returns `true` if it removed
-    /// one. Visits the jobs from the latest to the first, since a job waits for a later one.
+    /// Removes each member that waits for no job or for a job outside the set, and returns `true`
+    /// if it removed one. Visits the jobs from the latest to the first, because a job waits for a
+    /// job that was created after it.
     fn shrink_once(&mut self, machine: &Machine, closed: &[bool]) -> bool {
         let mut changed = false;
         for number in (0..machine.jobs.len()).rev() {

@@ -1,5 +1,5 @@
-//! Walks. A walk repeatedly makes a possible choice: the first one in an order, or the one that
-//! loses the least weight of a vector.
+//! Walks. A walk repeatedly makes a possible choice: the one that comes first in an order, or the
+//! one that loses the least weight under a vector.
 
 use crate::choices::{Choice, Choices};
 use crate::losses::Losses;
@@ -12,8 +12,8 @@ use job_bodies::{Action, Plan};
 use std::alloc::{AllocError, Global};
 use written_machine::Parent;
 
-/// The factor for the loss of a choice. It is greater than every key, so that a choice with a
-/// smaller loss comes first, and the keys decide among equal losses.
+/// The factor by which the loss of a choice is multiplied before its key is added. It is greater
+/// than every key, so that the keys decide only among equal losses.
 const FOR_A_LOSS: u64 = 10_000_000_000_000;
 
 /// The violation that a list of events ends in.
@@ -21,7 +21,7 @@ const FOR_A_LOSS: u64 = 10_000_000_000_000;
 pub(crate) enum Violation {
     /// The last event is a refused submit.
     Refused,
-    /// Some jobs wait only for each other, and the pools in whose queues they wait have `max`
+    /// Some jobs wait only for each other, and each pool in whose queue one of them waits has `max`
     /// threads.
     StuckForever,
     /// Some jobs wait only for each other. A later event may end the wait.
@@ -31,13 +31,14 @@ pub(crate) enum Violation {
 /// The rules of a walk.
 #[derive(Drop)]
 pub(crate) struct Rules {
-    /// The key of each choice. The possible choice with the least key is made.
+    /// The key of each choice. Of the possible choices that lose the least weight, the walk makes
+    /// the one with the least key. Without a vector no choice loses weight.
     pub(crate) keys: Vec<u64>,
     /// The maximum number of clients that move.
     pub(crate) max_active_clients: usize,
     /// The maximum number of states that the walk visits, including the initial state.
     pub(crate) max_states: usize,
-    /// Whether the keys are replaced at random steps of the walk.
+    /// Whether the keys are replaced by random numbers at random steps of the walk.
     pub(crate) changing: bool,
 }
 
@@ -69,13 +70,14 @@ pub(crate) struct Walk<'a> {
     pub(crate) ready: Vec<Vec<Parent>>,
     /// For each client kind, the number of its clients that have moved.
     pub(crate) begun: Vec<u64>,
-    /// Whether an actor has stopped at a get or at its end since this flag was last cleared.
+    /// Whether, since this flag was last cleared, an actor has stopped at a get or at its end.
     pub(crate) has_blocked: bool,
 }
 
 /// Performs a walk by these rules, until a submit is refused, a permanent violation is found, no
 /// choice is possible, or the limit of states is reached. Each step makes a choice, and then
-/// performs all work, gets of done jobs, ends and restarts of bodies that follow.
+/// performs the steps that are possible without another choice: work, gets of done jobs, and ends
+/// and restarts of bodies.
 pub(crate) fn perform_walk<'a>(
     alloc: Global,
     plan: &'a Plan,
@@ -173,8 +175,8 @@ impl<'a> Walk<'a> {
         }
     }
 
-    /// Makes the choice with this index. The actor that makes it is the one after which `newer`
-    /// actors became ready for it.
+    /// Makes the choice with this index, by the actor after which `newer` actors became ready for
+    /// it.
     pub(crate) fn choose(&mut self, place: usize, newer: usize) -> Result<WalkStep, AllocError> {
         match self.choices.all.get(place).copied() {
             Some(Choice::Begin(kind)) => {
@@ -205,8 +207,8 @@ impl<'a> Walk<'a> {
         }
     }
 
-    /// Returns the index of the possible choice that loses the least weight of the vector; among
-    /// equal losses, the one with the least key.
+    /// Returns the index of the possible choice that loses the least weight under the vector. Among
+    /// equal losses, returns the choice with the least key.
     fn first_possible(&self, rules: &Rules, potential: Option<&Potential>) -> Option<usize> {
         let mut best = None;
         let mut least = u64::MAX;
@@ -288,7 +290,7 @@ impl<'a> Walk<'a> {
         Ok(WalkStep::Advanced)
     }
 
-    /// Performs the first submit of a new client, which is at that submit.
+    /// Performs the first submit of a new client, which has reached that submit.
     fn submit_of(&mut self, client: Parent) -> Result<WalkStep, AllocError> {
         let place = match self.machine.point(client) {
             Some((position, _)) => self.choices.place_of(&self.machine, client, position),
