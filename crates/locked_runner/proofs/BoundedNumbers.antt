@@ -1,4 +1,4 @@
--- If the bound on a run's events is within its limit, the numbers of jobs and units are small enough not to be capped.
+-- If the bound on the number of a run's events is within its limit, the numbers of jobs and units are too small to be capped.
 use Rattle.std.proofs.Common.{◌≡◌, ◌≤◌, ◌+◌, ◌-◌, ◌*◌, ℕ, zero, suc, List, [], ◌∷◌, length, slice_get, Some, sum_by, refl, subst, arith}
 use Rattle.std.proofs.Math.Nat.{mul-add, mul_left_comm, mul-le-mul_left}
 use Rattle.std.proofs.lemmas.List.Sums.{sum_by-cons}
@@ -14,7 +14,7 @@ use Rattle.locked_runner.specs.Complete.{rounds_of, events_of_client}
 use Rattle.soundness.specs.Drain.{of_submit}
 use Rattle.locked_runner.specs.RunNumbers.{units_of, units_in, submitted, quantity_within, total_quantity, greatest, submitted_by, by_jobs, units_of_clients, events_of_clients, jobs, units, most_events, capped}
 
--- if a number is at most c times another, this is still so after both are multiplied by n
+-- if x is at most c times y, then n times x is at most c times n times y
 scaled : (c n x y : ℕ) → x ≤ c * y → n * x ≤ c * (n * y)
 scaled c n x y most = subst (λ (z : ℕ). n * x ≤ z) (mul_left_comm n c y) (mul-le-mul_left n most)
 

@@ -1,4 +1,4 @@
--- Capped numbers: a sum or product of capped numbers, when capped, is the capped sum or product of the numbers.
+-- Capped numbers. If the terms of a sum or the factors of a product are capped first, the capped result is the same.
 use Rattle.std.proofs.Common.{◌≡◌, ◌≤◌, ◌<◌, ◌+◌, ◌*◌, ℕ, zero, suc, List, [], ◌∷◌, ◌++◌, length, map, take, get_or, min, slice_get, Some, sum_by, refl, sym, ap, ◌∙◌, inl, inr, arith}
 use Rattle.std.proofs.Math.Nat.{mul-le-mul, min-eq_left, min-eq_right}
 use Rattle.std.proofs.lemmas.Bool.{cases_lt}
@@ -8,7 +8,7 @@ use Rattle.std.proofs.lemmas.List.Sums.{sum_by-cons}
 pub capped_sum : (m a b : ℕ) → min (min a m + min b m) m ≡ min (a + b) m
 capped_sum m a b = omega arith
 
--- a factor at or above the cap gives a product at or above the cap, unless the other factor is 0
+-- if a factor is at or above the cap, so is the product, unless the other factor is 0
 product_past : (m a b : ℕ) → m ≤ b → min (suc a * b) m ≡ m
 product_past m a b past = let more : 1 * b ≤ suc a * b = mul-le-mul (omega arith) (omega arith) in omega arith
 
@@ -38,7 +38,7 @@ sum_of m a b a' b' all first second is = omega arith
 pub product_of : (m a b c a' b' one once all : ℕ) → a' ≡ a → b' ≡ b → one ≡ min c m → once ≡ min (b' * one) m → all ≡ min (a' * once) m → all ≡ min (a * (b * c)) m
 product_of m a b c a' b' one once all first second third fourth fifth = cc (capped_products m a b c)
 
--- the list that F gives for the first i elements, followed by the value of element i, is the list for the first i + 1 elements
+-- the values for the first i elements, followed by the value for element i, are the values for the first i + 1 elements
 pub pushed : {X : Type 0} (F : X → ℕ) (xs : List X) (i : ℕ) (x : X) (so_far new : List ℕ) (n : ℕ) → i < length xs → x ≡ get_or xs i x → so_far ≡ map F (take i xs) → new ≡ so_far ++ n ∷ [] → n ≡ F x
     → new ≡ map F (take (i + 1) xs)
 pushed F xs i x so_far new n inside at is is-new is-n =

@@ -1,4 +1,4 @@
--- The number of events, capped at the greatest u64, is enough to test the limits.
+-- To test the limits, the number of events capped at the greatest u64 is enough.
 use Rattle.std.proofs.Common.{◌≡◌, ◌≤◌, ◌∙◌, ℕ, Bool, false, ◌||◌, nat_lt, inl, inr, sym, ap, arith}
 use Rattle.std.proofs.lemmas.Bool.{or_parts, ltb-false, lt-ltb, le-ltb, cases_lt}
 use Rattle.job_bodies.specs.Plan.{Plan}

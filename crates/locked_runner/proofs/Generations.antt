@@ -38,7 +38,7 @@ add_generation plan own_quantity n numbers next formed is are k inside =
     let sums : capped (own_quantity class + submitted (slice_index numbers) class.body) ≡ capped (own_quantity class + submitted (quantity_within plan own_quantity n) class.body) = omega arith in
     at ∙ sums
 
--- quantities that one more generation does not change are also those of all further generations
+-- if one more generation never changes the quantities, any number of further generations leaves them unchanged
 after : (plan : Plan) (own_quantity : Class → ℕ) (n d : ℕ) (numbers : List ℕ) → AreQuantities plan own_quantity n numbers → ((m : ℕ) → AreQuantities plan own_quantity m numbers → AreQuantities plan own_quantity (suc m) numbers)
     → AreQuantities plan own_quantity (d + n) numbers
 after plan own_quantity n zero numbers are stays =

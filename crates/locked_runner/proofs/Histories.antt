@@ -49,7 +49,7 @@ made_of plan history view jobs led seen s reached = sym (length-view plan s) ∙
 pub jobs_of : (plan : Plan) (history : List Event) (view : View) (jobs : ℕ) → IsReachedBy plan history view → Makes plan history jobs → length view.jobs ≡ jobs
 jobs_of plan history view jobs led makes = ap (λ (v : View). length v.jobs) (sym led.2) ∙ (length-view plan led.0 ∙ makes led.0 led.1)
 
--- if the history is a run, the completeness test, which is exact for each state with this view, is true
+-- if the history is a run, the completeness test is true, provided that the test is exact for each state with this view
 pub complete_of : (plan : Plan) (rounds : ℕ) (history : List Event) (view : View) (lists : List (List (Receipt Event))) (complete : Bool) → IsReachedBy plan history view
     → ((s : State) → live_view plan s ≡ view → IsTrue complete ↔ IsComplete plan rounds history s) → IsRun plan rounds history lists → IsTrue complete
 complete_of plan rounds history view lists complete led tested run = (tested run.last (same_last plan history view run.last led run.legal)).1 run.complete

@@ -28,7 +28,7 @@ submitted_agree f g body same = sums_agree (of_submit f) (of_submit g) body (λ 
     one i (Submit k) e = same i k e
     one i (Get t) e = refl
 
--- two numbers of generations that are both enough, each according to its own ranks, give the same quantity
+-- if two numbers of generations are both enough, each for its own ranks, they give the same quantity
 generations_agree : (plan : Plan) (ranks ranks' : Ranks) (own_quantity : Class → ℕ) (n m k : ℕ) → RankLaws plan ranks → RankLaws plan ranks' → level ranks k < n → level ranks' k < m
     → quantity_within plan own_quantity n k ≡ quantity_within plan own_quantity m k
 generations_agree plan ranks ranks' own_quantity zero m k laws laws' low low' = absurd (omega arith)

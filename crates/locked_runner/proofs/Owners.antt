@@ -1,4 +1,4 @@
--- The owners of the events of a history with one more event.
+-- The owners of the events of a history to which an event is added.
 use Rattle.std.proofs.Common.{◌≡◌, ◌≢◌, ℕ, ◌+◌, ◌<◌, List, [], ◌∷◌, ◌++◌, length, take, drop, map, append_assoc, Option, Some, None, slice_get, inl, inr, sym, ap, ◌∙◌, subst, arith, length-append}
 use Rattle.std.proofs.lemmas.Bool.{cases_lt, cases_eq}
 use Rattle.std.proofs.lemmas.Option.{none-some, same_Some, slice_get_past}
@@ -51,7 +51,7 @@ class_exists plan s view j job formed reached seen at = elim (cases_lt j (length
 pub owner_of_job : (plan : Plan) (s : State) (view : View) (j : ℕ) (job : JobView) (p : ℕ) → live_view plan s ≡ view → live_job view.jobs j ≡ Some job → p ≡ pool_of plan job.class → owner_by (event.Job j) p ≡ owner_in plan s (event.Job j)
 owner_of_job plan s view j job p seen at is = ap (λ (q : ℕ). Some (owner.Pool q)) (is ∙ ap (pool_of plan) (class_seen plan s view j job seen at))
 
--- the owner of the last event is the one that the last pool determines
+-- the last pool determines the owner of the last event
 last_owned : (plan : Plan) (history : List Event) (pools : List ℕ) (event : Event) (pool : ℕ) → length pools ≡ length history
     → ((s : State) → Reaches plan history s → owner_by event pool ≡ owner_in plan s event)
     → (n : ℕ) (s : State) (e : Event) (p : ℕ) → n ≡ length history → slice_get (history ++ event ∷ []) n ≡ Some e → slice_get (pools ++ pool ∷ []) n ≡ Some p → Reaches plan (take n (history ++ event ∷ [])) s

@@ -17,7 +17,7 @@ owner_at plan history pools owner r pool legal are at receipt =
     let before = prefix_is_legal plan history legal.0 r.number legal.1 in
     sym (are.each r.number before.0 r.event pool receipt.event at before.1) ∙ receipt.owned before.0 before.1
 
--- if the history has the event of the receipt at its number, the receipt belongs to the owner of that event
+-- if the history has the receipt's event at the receipt's number, the receipt belongs to the owner of that event
 pub owned_where : (plan : Plan) (history : List Event) (pools : List ℕ) (owner : Owner) (r : Receipt Event) (event : Event) (pool : ℕ) (found : Option Owner) (same owned : Bool) → IsLegal plan history → ArePoolsOf plan history pools
     → slice_get history r.number ≡ Some event → slice_get pools r.number ≡ Some pool → found ≡ owner_by event pool → (IsTrue same ↔ (event ≡ r.event)) → IsTrue same → (IsTrue owned ↔ (found ≡ Some owner)) → IsTrue owned ↔ IsReceiptOf plan history owner r
 owned_where plan history pools owner r event pool found same owned legal are event_at pool_at is_found is_same so is_owned =
@@ -29,7 +29,7 @@ owned_where plan history pools owner r event pool found same owned legal are eve
       λ receipt. is_owned.1 (value_holds ∙ owner_at plan history pools owner r pool legal are pool_at receipt),
     )
 
--- if the history has another event at its number, the receipt belongs to no owner
+-- if the history has another event at the receipt's number, the receipt belongs to no owner
 pub other_event : (plan : Plan) (history : List Event) (owner : Owner) (r : Receipt Event) (event : Event) (same : Bool) → slice_get history r.number ≡ Some event → (IsTrue same ↔ (event ≡ r.event)) → same ≡ false → IsTrue same ↔ IsReceiptOf plan history owner r
 other_event plan history owner r event same event_at is_same differs = (
   λ so. absurd cc,

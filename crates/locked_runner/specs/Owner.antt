@@ -9,8 +9,8 @@ use Rattle.written_machine.specs.Reach.{Reaches}
 use Rattle.locked_runner.specs.declared.owner.Owner.{Owner}
 use Rattle.locked_runner.specs.declared.owner.Owner.TheVariants as owner
 
--- the owner of the event in the state before it: the client, or the pool whose thread takes the job or performs its actions;
--- no thread of a run performs a retirement
+-- the owner of the event in the state before it: the client, or the pool whose thread takes the job or performs its actions; a retirement
+-- has no owner, because no thread of a run performs it
 abbrev pub owner_in : Plan → State → Event → Option Owner
 owner_in plan s (event.Client c) = Some (owner.Client c)
 owner_in plan s (event.Job j) = Some (owner.Pool (pool_of plan (job_at s j).class))
@@ -34,7 +34,7 @@ pool_lists entry = replicate entry.1.max (owner.Pool entry.0)
 abbrev pub lists_of : Plan → List Owner
 lists_of plan = map client_list (enumerate_from 0 (kinds_of plan)) ++ flat_map pool_lists (enumerate_from 0 plan.pools)
 
--- the owner of the event, given the pool of its job if it is an event of a job
+-- the owner of the event; if it is an event of a job, it is computed from the pool of this job
 abbrev pub owner_by : Event → ℕ → Option Owner
 owner_by (event.Client c) pool = Some (owner.Client c)
 owner_by (event.Job j) pool = Some (owner.Pool pool)

@@ -18,7 +18,8 @@ pub record IsReplayedAs (plan : Plan) (history : List Event) (world : View) (poo
   pub owned : ArePoolsOf plan history pools
   pub counted : IsCounted (units_done plan history) units
 
--- true: the history, followed by the event, is replayed; false: it is not legal, and the history without the event is replayed
+-- if the flag is true, the history followed by the event is replayed; if it is false, the history followed by the event is not legal, and
+-- the history alone is replayed
 abbrev pub ReplaysEvent : Plan → List Event → Event → Bool → View → List ℕ → Option ℕ → Type 0
 ReplaysEvent plan history event true world pools units = IsReplayedAs plan (history ++ event ∷ []) world pools units
 ReplaysEvent plan history event false world pools units = (¬ IsLegal plan (history ++ event ∷ [])) × IsReplayedAs plan history world pools units

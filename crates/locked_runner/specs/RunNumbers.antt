@@ -36,8 +36,8 @@ quantity_within plan own_quantity (suc n) k = own_quantity (class_at plan k) + s
 abbrev pub greatest : List ℕ → ℕ
 greatest = fold (λ a n. max a n) 0
 
--- the quantity of one job with all jobs that it causes; this many generations are all of them, since the level of a class is above the
--- levels of the classes that it submits
+-- the quantity of one job with all jobs that it causes. The level of a class is above the levels of the classes that it submits, so this
+-- many generations are all of them.
 abbrev pub total_quantity : Plan → Ranks → (Class → ℕ) → ℕ → ℕ
 total_quantity plan ranks own_quantity k = quantity_within plan own_quantity (greatest ranks.levels + 1) k
 

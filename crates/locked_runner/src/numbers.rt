@@ -18,8 +18,8 @@ pub struct RunNumbers {
     pub jobs: u64,
     /// The units of work of clients and jobs.
     pub units: u64,
-    /// An upper bound of the number of events. It counts a take event for each job, although a job
-    /// whose submit starts a thread has none.
+    /// An upper bound of the number of events. It counts a take event for each job, although there
+    /// is none for a job that a new thread starts.
     pub events: u64,
 }
 
@@ -88,8 +88,8 @@ fn by_jobs(
     Ok(submitted_by_all(plan, rounds, &numbers))
 }
 
-/// Returns the sum of `numbers[k]` over all submits of the clients in all their rounds, for the
-/// submitted class k.
+/// Returns the sum of `numbers[k]` over all submits of the clients in all their rounds, in which
+/// `k` is the class that is submitted.
 fn submitted_by_all(plan: &Plan, rounds: u64, numbers: &[u64]) -> u64
     ensures { (f : ℕ → ℕ)
         → spec.AreCapped plan.now f numbers.now
@@ -108,7 +108,8 @@ fn submitted_by(client: &Client, rounds: u64, numbers: &[u64]) -> u64
     in_all_rounds(client, rounds, submitted(&client.body, numbers))
 }
 
-/// Returns the units of work of the clients in all their rounds, without those of jobs.
+/// Returns the units of work that the clients do in all their rounds. Those of jobs are not
+/// included.
 fn units_of_all(plan: &Plan, rounds: u64) -> u64
     ensures { result ≡ capped (sum_by (spec.units_of_clients rounds) plan.now.clients) }
 {
@@ -125,7 +126,7 @@ fn units_of_clients(client: &Client, rounds: u64) -> u64
     in_all_rounds(client, rounds, units_in(&client.body))
 }
 
-/// Returns the number of events of the clients in all their rounds, without those of jobs.
+/// Returns the number of events of the clients in all their rounds. Those of jobs are not included.
 fn events_of_all(plan: &Plan, rounds: u64) -> u64
     ensures { result ≡ capped (sum_by (spec.events_of_clients rounds) plan.now.clients) }
 {
@@ -136,8 +137,8 @@ fn events_of_all(plan: &Plan, rounds: u64) -> u64
     total
 }
 
-/// Returns the quantity of all clients of a kind in all their rounds, given that of one client in
-/// one round.
+/// Returns the quantity of all clients of a kind in all their rounds. `in_one` is the quantity of
+/// one client in one round.
 fn in_all_rounds(client: &Client, rounds: u64, in_one: u64) -> u64
     ensures { (n : ℕ)
         → in_one ≡ capped n
@@ -167,7 +168,8 @@ fn units_in(body: &[Action]) -> u64
     total
 }
 
-/// Returns the sum of `numbers[k]` over the submits of the body, for the submitted class k.
+/// Returns the sum of `numbers[k]` over the submits of the body, in which `k` is the class that is
+/// submitted.
 fn submitted(body: &[Action], numbers: &[u64]) -> u64
     ensures { result ≡ capped (spec.submitted (slice_index numbers.now) body.now) }
 {
@@ -214,8 +216,8 @@ fn greatest(levels: &[u64]) -> u64
     greatest
 }
 
-/// Returns, for each class, the quantity of one job and of the jobs that it causes, with one more
-/// generation of them than `numbers` has.
+/// Returns, for each class, the quantity of one job and of the jobs that it causes. The result
+/// includes one more generation of these jobs than `numbers`.
 fn add_generation(
     alloc: Global,
     plan: &Plan,

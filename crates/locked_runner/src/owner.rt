@@ -53,7 +53,8 @@ fn pool_of_class(plan: &Plan, class: usize) -> u8
 }
 
 /// Returns the owner of the event, or `None` for a retirement, which no thread of a run performs.
-/// `pool` is the pool of the job that performs the event, and is not used if no job does.
+/// `pool` is the pool of the job that performs the event. It is not used if no job performs the
+/// event.
 pub(crate) fn owner_by(event: Event, pool: u8) -> Option<Owner>
     ensures { result ≡ spec.owner_by event pool }
 {

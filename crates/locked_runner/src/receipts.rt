@@ -13,8 +13,9 @@ use interleaving::Event;
 use job_bodies::Plan;
 use std::alloc::{AllocError, Global};
 
-/// Returns `true` if the receipts of each list are in ascending order, and each is the history's
-/// event at its number and belongs to the owner of the list.
+/// Returns `true` if the receipts of each list are in ascending order and belong to the owner of
+/// the list. A receipt belongs to an owner if the history has the receipt's event at the receipt's
+/// number, and the event belongs to this owner.
 pub(crate) fn lists_fit(
     plan: &Plan,
     history: &[Event],
@@ -60,7 +61,7 @@ fn list_fits(
     true
 }
 
-/// Returns `true` if the history has the receipt's event at the receipt's number, and the event
+/// Returns `true` if the receipt's event is the history's event at the receipt's number, and
 /// belongs to the owner.
 fn receipt_fits(
     _plan: &Plan,

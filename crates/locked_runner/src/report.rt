@@ -39,9 +39,9 @@ impl Model for RunReport {
 ///
 /// - 20: memory ran out.
 /// - 40: the run exceeds a limit, and nothing was started.
-/// - 41: a list has a receipt that does not belong there: the history has no such event at the
-///   receipt's number, the event belongs to another client or pool, or the numbers of the list are
-///   not in ascending order.
+/// - 41: the receipts of a list are not in ascending order, or one of them does not belong there:
+///   the history has another event or none at the receipt's number, or the event belongs to another
+///   client or pool.
 /// - 42: the history has an impossible event or is not complete, or one of its events is not in
 ///   exactly one place of the lists, or its number of jobs or units differs from the computed one.
 /// - 43: the gate failed.

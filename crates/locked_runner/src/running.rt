@@ -20,10 +20,10 @@ use weights::Ranks;
 /// Runs a certified plan. A thread for each client, and `max` threads for each pool, perform the
 /// events of its machine. The gate does the declared work.
 ///
-/// A client of a repeating kind performs its body `rounds` times, any other client once. `rounds`
-/// must be at least 1. With 0, a repeating client performs no event. If its body has an action, the
-/// client is then not at the end of its body, so that the run is not complete and the result is
-/// fault 42.
+/// A client of a repeating kind performs its body `rounds` times, and any other client once.
+/// `rounds` should be at least 1. With 0 rounds, a repeating client performs no event. If its body
+/// has an action, the client never reaches the end of its body, so the run is not complete and the
+/// result is fault 42.
 ///
 /// # Errors
 ///

@@ -14,8 +14,8 @@ use std::sync::{Condvar, Mutex, MutexGuard, Wait};
 ///
 /// A thread whose actor is at a get waits on the machine's own condition variable. A worker thread
 /// without a job waits on the condition variable of its pool's hand-off queue. Only the end of a
-/// job can unblock a get, and only a submit brings a worker thread a job, so that other events wake
-/// no thread.
+/// job can unblock a get, and only a submit can give a worker thread a job. So other events wake no
+/// thread.
 #[derive(Drop)]
 pub(crate) struct Shared<'a> {
     pub(crate) plan: &'a Plan,
@@ -120,8 +120,9 @@ impl<'a> Shared<'a> {
         None
     }
 
-    /// Waits for the next job of the pool, and returns it. Jobs that a submit has started come
-    /// before the head of the queue. Returns `None` if the run is to stop or is complete.
+    /// Waits for the next job of the pool, and returns it. First come the jobs that a submit has
+    /// started, and then the job at the head of the queue. Returns `None` if the run is to stop or
+    /// is complete.
     pub(crate) fn next_job<R: Wait>(&self, rt: &R, pool: usize) -> Option<Work> {
         let Some(handoff) = self.handoffs.get(pool) else {
             self.end(rt);
@@ -153,8 +154,8 @@ impl<'a> Shared<'a> {
         None
     }
 
-    /// Releases the lock and returns the work. If there is none, because the job was not found,
-    /// stops the run.
+    /// Releases the lock and returns the work. If there is no work, the job was not found, and the
+    /// run is stopped.
     fn check_work<R: Wait>(
         &self,
         rt: &R,
@@ -235,7 +236,7 @@ impl<'a> Shared<'a> {
         let Some(handoff) = self.handoffs.get(pool) else {
             return self.end_without_worker(rt);
         };
-        // A hand-off queue has room for `max` jobs of its pool, so that no job is lost.
+        // A hand-off queue has room for `max` jobs of its pool, so no job is lost.
         if handoff.started.lock(rt).push_back(job).is_err() {
             self.progress.lock(rt).note(ThreadFault::Memory);
             return Wakeup::All;

@@ -13,7 +13,7 @@ use std::alloc::{AllocError, Global};
 use std::marker::Model;
 
 /// A world whose contracts mention only its live view. They do not mention the number of its
-/// places, since the state of the plan's machine does not determine that number.
+/// places, because a state of the plan's machine does not determine that number.
 #[derive(Drop)]
 pub struct ViewedWorld {
     world: World,
