@@ -9,7 +9,7 @@ use Rattle.std.proofs.lemmas.Slice.Zip.{get_or-zip, length-zip}
 abbrev pub front_of : {X Y A : Type 0} → (X × Y → List A) → List X → List Y → ℕ → List A
 front_of f xs ys n = flat_map f (take n (zip xs ys))
 
--- the step for one more pair
+-- the text after one more pair
 pub pair_more : {X Y A Z : Type 0} (f : X × Y → List A) (xs : List X) (ys : List Y) (dx : X) (dy : Y) (old text longer : List A) (processed : List Z) (z : Z) (x : X) (y : Y)
     → length processed < length xs → length processed < length ys → x ≡ get_or xs (length processed) dx → y ≡ get_or ys (length processed) dy
     → longer ≡ text ++ f (x, y) → text ≡ old ++ front_of f xs ys (length processed) → longer ≡ old ++ front_of f xs ys (length (processed ++ z ∷ []))
@@ -24,7 +24,7 @@ pair_more {X} {Y} {A} f xs ys dx dy old text longer processed z x y in_xs in_ys 
     longer_is ∙ (ap (λ (t : List A). t ++ f (x, y)) prefix_is ∙ (append_assoc old (front_of f xs ys n) (f (x, y)) ∙ ap (λ (t : List A). old ++ t) (sym turn))) in
     subst (λ (m : ℕ). longer ≡ old ++ front_of f xs ys m) (sym (length-append processed (z ∷ []))) next
 
--- after the last pair
+-- the text after the last pair
 pub pair_all : {X Y A : Type 0} (f : X × Y → List A) (xs : List X) (ys : List Y) (old text : List A) (n : ℕ) → n ≡ min (length xs) (length ys) → text ≡ old ++ front_of f xs ys n → text ≡ old ++ flat_map f (zip xs ys)
 pair_all {X} {Y} {A} f xs ys old text n all prefix_is =
     let everything : take n (zip xs ys) ≡ zip xs ys = take_all n (zip xs ys) (rw (length-zip xs ys) (omega (arith, all))) in

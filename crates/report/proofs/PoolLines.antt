@@ -9,7 +9,7 @@ use Rattle.job_bodies.specs.Plan.{Pool, Plan, no_pool}
 use Rattle.report.specs.Sizes as spec
 use Rattle.report.specs.Sizes.{changed, pool_changes, pool_text, both_text, both_changes, both_pools, sizes_text}
 
--- after the first n pools
+-- the text after the lines of the first n pools, and the number of their sizes that change
 pub record IsTextOfFirst (declared fit : Plan) (old : List ℕ) (n : ℕ) (text : List ℕ) (changes : ℕ) : Type 0 where
   pub text_is : text ≡ old ++ flat_map both_text (take n (both_pools declared fit))
   pub changes_are : changes ≡ sum_by both_changes (take n (both_pools declared fit))
@@ -33,7 +33,7 @@ at_most_three declared fit =
 pub text_of_none : (declared fit : Plan) (old : List ℕ) → IsTextOfFirst declared fit old 0 old 0
 text_of_none declared fit old = record { text_is = sym (append-nil old); changes_are = refl; few = omega arith }
 
--- after one more pool
+-- the text and the number after one more pool
 pub text_of_more : {X : Type 0} (declared fit : Plan) (old : List ℕ) (processed : List X) (x : X) (text longer : List ℕ) (changes more : ℕ) (d f : Pool)
     → length processed < length declared.pools → length processed < length fit.pools → d ≡ get_or declared.pools (length processed) no_pool → f ≡ get_or fit.pools (length processed) no_pool
     → longer ≡ text ++ pool_text d f → more ≡ changes + pool_changes d f → IsTextOfFirst declared fit old (length processed) text changes → IsTextOfFirst declared fit old (length (processed ++ x ∷ [])) longer more
@@ -55,7 +55,7 @@ text_of_more declared fit old processed x text longer changes more d f in_declar
     } in
     subst (λ (m : ℕ). IsTextOfFirst declared fit old m longer more) (sym (length-append processed (x ∷ []))) next
 
--- after the last pool, and the number of sizes that change
+-- the text and the number after the last pool
 pub text_of_all : (declared fit : Plan) (old text whole : List ℕ) (n changes : ℕ) → n ≡ min (length declared.pools) (length fit.pools) → IsTextOfFirst declared fit old n text changes
     → whole ≡ text ++ (codes "changes " ++ (decimal changes ++ 10 ∷ [])) → (whole ≡ old ++ sizes_text declared fit) × (changes ≡ spec.changes declared fit)
 text_of_all declared fit old text whole n changes all processed whole_is =

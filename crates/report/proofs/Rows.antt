@@ -4,11 +4,11 @@ use Rattle.std.specs.List.{enumerate_from, join_by}
 use Rattle.std.proofs.lemmas.List.{at_drop_more}
 use Rattle.std.proofs.lemmas.List.Folds.{flat_map-map}
 
--- the contributions of the elements from this index
+-- the texts of the elements from this index on
 abbrev pub rest_of : {X Y : Type 0} → (ℕ × X → List Y) → List X → ℕ → List Y
 rest_of f xs i = flat_map f (enumerate_from i (drop i xs))
 
--- the step for one more element
+-- the text after one more element
 pub part_more : {X Y : Type 0} (f : ℕ × X → List Y) (xs : List X) (i : ℕ) (d x : X) (front all : List Y) → i < length xs → x ≡ get_or xs i d → front ++ rest_of f xs i ≡ all → (front ++ f (i, x)) ++ rest_of f xs (i + 1) ≡ all
 part_more {X} {Y} f xs i d x front all inside here prefix_is =
     let turn : rest_of f xs i ≡ f (i, x) ++ rest_of f xs (i + 1) =

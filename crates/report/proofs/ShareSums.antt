@@ -8,11 +8,11 @@ use Rattle.job_bodies.specs.Plan.{Plan}
 use Rattle.weights.specs.Vector.{Vector, client_weight, workers_weight, total}
 use Rattle.report.specs.Shares.{client_shares, worker_shares}
 
--- the values for the elements from this index
+-- the values for the elements from this index on
 abbrev pub rest_given : {X Y : Type 0} → (ℕ × X → Y) → List X → ℕ → List Y
 rest_given f xs i = map f (enumerate_from i (drop i xs))
 
--- the step for one more element
+-- the values after one more element
 pub given_more : {X Y : Type 0} (f : ℕ × X → Y) (xs : List X) (i : ℕ) (x : X) (front all : List Y) → i < length xs → x ≡ get_or xs i x → front ++ rest_given f xs i ≡ all → (front ++ f (i, x) ∷ []) ++ rest_given f xs (i + 1) ≡ all
 given_more {X} {Y} f xs i x front all inside here prefix_is =
     let turn : rest_given f xs i ≡ f (i, x) ∷ rest_given f xs (i + 1) =
@@ -20,7 +20,7 @@ given_more {X} {Y} f xs i x front all inside here prefix_is =
     ∙ ap (λ (y : X). f (i, y) ∷ rest_given f xs (i + 1)) (sym here) in
     append_assoc front (f (i, x) ∷ []) (rest_given f xs (i + 1)) ∙ (sym (ap (λ (ys : List Y). front ++ ys) turn) ∙ prefix_is)
 
--- after the last element
+-- the values after the last element
 pub given_all : {X Y : Type 0} (f : ℕ × X → Y) (xs : List X) (i : ℕ) (front all : List Y) → length xs ≤ i → front ++ rest_given f xs i ≡ all → front ≡ all
 given_all {X} {Y} f xs i front all past prefix_is =
     sym (append-nil front) ∙ (sym (ap (λ (ys : List Y). front ++ ys) (at_drop_all (λ (ys : List X). map f (enumerate_from i ys)) xs i past)) ∙ prefix_is)

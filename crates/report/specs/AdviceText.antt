@@ -8,7 +8,7 @@ use Rattle.size_search.specs.declared.found.SizesFound.{SizesFound}
 use Rattle.size_search.specs.declared.found.SizesFound.TheVariants.{Found, NotFound}
 use Rattle.report.specs.Sizes.{both_pools}
 
--- the number of jobs that can wait at once, for which this core size leaves a thread
+-- the line that says how many jobs can block at once, so that this core size leaves a free thread
 abbrev pub core_line : List ℕ → ℕ → List ℕ
 core_line name core =
     name ++ (codes ": up to " ++ (decimal (core - 1) ++ (codes " of its jobs may wait for jobs at once, and core " ++ (decimal core ++ (codes " leaves a thread" ++ 10 ∷ [])))))
@@ -44,11 +44,11 @@ abbrev pub advice_text : Plan → SizesFound → List ℕ
 advice_text plan (Found fit cert) = reasons_text plan fit
 advice_text plan (NotFound cause) = cause_advice_text cause
 
--- the declared sizes may be safe
+-- the line that says that the declared sizes may be safe
 abbrev pub maybe_text : List ℕ
 maybe_text = codes "neither a certificate for the declared sizes nor a counterexample was found: the sizes may be safe" ++ 10 ∷ []
 
--- what is left undecided
+-- the line that says what is not decided
 abbrev pub open_text : SizesFound → List ℕ
 open_text (NotFound (Cause cause)) = codes "no certificate accepts this plan with any sizes, and no counterexample was found" ++ 10 ∷ []
 open_text (NotFound (TooLarge p)) = maybe_text

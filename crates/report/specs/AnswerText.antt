@@ -26,7 +26,7 @@ not_decided_head = codes "NOT DECIDED" ++ 10 ∷ []
 abbrev pub fit_part : Plan → Plan → List ℕ
 fit_part plan fit = (codes "with these sizes a certificate accepts the plan:" ++ 10 ∷ []) ++ sizes_text plan fit
 
--- those sizes, or why there are none
+-- the sizes that were found, or why there are none
 abbrev pub sizes_part : Plan → SizesFound → List ℕ
 sizes_part plan (Found fit cert) = fit_part plan fit
 sizes_part plan (NotFound cause) = no_sizes_text plan cause
@@ -41,7 +41,7 @@ pub record TellsNotSafe (plan : Plan) (witness : Witness) (sizes : SizesFound) (
   pub is_story : IsDescription plan witness story
   pub is : text ≡ ((not_safe_head ++ story) ++ sizes_part plan sizes) ++ advice_text plan sizes
 
--- the answer, the sizes, the advice for them, and what is left undecided
+-- the answer, the sizes, the advice for them, and what is not decided
 abbrev pub TellsNotDecided : Plan → SizesFound → List ℕ → Type 0
 TellsNotDecided plan sizes text = text ≡ ((not_decided_head ++ sizes_part plan sizes) ++ advice_text plan sizes) ++ open_text sizes
 

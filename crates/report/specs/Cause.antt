@@ -6,15 +6,15 @@ use Rattle.size_search.specs.declared.found.NoSizes.{NoSizes}
 use Rattle.size_search.specs.declared.cause.Cause.TheVariants.{Circle, ClientNeverGets, ClassNeverGets}
 use Rattle.size_search.specs.declared.found.NoSizes.TheVariants.{Cause, TooLarge}
 
--- a class whose jobs submit jobs of the same class, directly or through other jobs
+-- the line for a class whose jobs submit jobs of the same class, directly or through other jobs
 abbrev pub circle_text : List ℕ → List ℕ
 circle_text name = codes "class " ++ name ++ codes " submits itself" ++ 10 ∷ []
 
--- a submit that is made forever, and whose jobs are never got
+-- the line for a submit that is made without limit, and whose jobs are never got
 abbrev pub never_got_text : List ℕ → List ℕ → ℕ → List ℕ
 never_got_text kind name action = kind ++ (codes " " ++ (name ++ (codes " action " ++ (decimal action ++ (codes ": submits for ever, never got" ++ 10 ∷ [])))))
 
--- sizes of a pool above the limit
+-- the line for sizes above the limit, which names this pool
 abbrev pub above_text : List ℕ → List ℕ
 above_text name = codes "pool " ++ name ++ codes ": sizes above " ++ decimal MAX_SIZE ++ 10 ∷ []
 
@@ -25,6 +25,6 @@ cause_text plan (Cause (ClientNeverGets c i)) = never_got_text (codes "client") 
 cause_text plan (Cause (ClassNeverGets k i)) = never_got_text (codes "class") (class_at plan k).name i
 cause_text plan (TooLarge p) = above_text (pool_at plan p).name
 
--- no sizes were found, and why
+-- a line that no sizes were found, and the line of the cause
 abbrev pub no_sizes_text : Plan → NoSizes → List ℕ
 no_sizes_text plan cause = codes "no fitting sizes found" ++ 10 ∷ cause_text plan cause

@@ -1,7 +1,7 @@
 -- A picture of a plan, as a Graphviz graph.
 use Rattle.std.specs.Prelude.{◌≡◌, ℕ, List, [], ◌∷◌, ◌++◌, codes}
 
--- one graph with some content
+-- the text is one graph with some content
 pub record IsPicture (text : List ℕ) : Type 0 where
   pub inside : List ℕ
   pub is : text ≡ ((codes "digraph plan {" ++ 10 ∷ []) ++ inside) ++ (codes "}" ++ 10 ∷ [])

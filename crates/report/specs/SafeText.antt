@@ -24,7 +24,7 @@ threads_text pool =
     then (if pool.core == 1 then codes "1 thread" else decimal pool.core ++ codes " threads")
     else decimal pool.core ++ codes " to " ++ decimal pool.max ++ codes " threads"
 
--- the number of jobs of the bound
+-- the maximum number of jobs in the queue at one time, or ever submitted to the pool
 abbrev pub most_text : Bound → ℕ → List ℕ
 most_text (Standing v) n = if n == 1 then codes "up to 1 job waits at once" else codes "up to " ++ decimal n ++ codes " jobs wait at once"
 most_text (Lifetime v) n = if n == 1 then codes "at most 1 job is ever given to it" else codes "at most " ++ decimal n ++ codes " jobs are ever given to it"
@@ -53,7 +53,7 @@ worker_parts plan shares = flat_map (worker_part plan) (enumerate_from 0 shares)
 abbrev pub share_texts : Plan → Vector → List (List ℕ)
 share_texts plan v = client_parts plan (client_shares plan v) ++ worker_parts plan (worker_shares plan v)
 
--- the most jobs in the queue, and the shares in them
+-- the maximum number of jobs, and the shares in it
 abbrev pub places_text : Plan → Bound → ℕ → List ℕ
 places_text plan bound n =
     if n == 0 then codes "no job waits in it" else most_text bound n ++ codes " (" ++ separated (share_texts plan (bound_vector bound)) ++ codes ")"
@@ -93,7 +93,7 @@ waiting_text pool n =
     then []
     else codes ": at most " ++ (decimal n ++ (codes " of its " ++ (decimal pool.core ++ (codes " core threads at once where others must go on, " ++ (decimal (pool.core - n) ++ codes " left")))))
 
--- the most threads that wait, if the vector fits the plan
+-- the maximum number of core threads that wait at counted gets at once, if the vector fits the plan
 abbrev pub left_text : Plan → Pool → Vector → List ℕ
 left_text plan pool blocked = if vector_fits plan blocked then waiting_text pool (total plan blocked) else []
 

@@ -1,5 +1,5 @@
--- The shares in the bound of a vector: of the clients, by their weight before their first action, and of each pool's
--- workers.
+-- The shares in the total of a vector: those of the clients, from their weight before their first action, and those of each
+-- pool's workers.
 use Rattle.std.specs.Prelude.{ℕ, ◌*◌, List, map}
 use Rattle.std.specs.List.{enumerate_from}
 use Rattle.job_bodies.specs.Plan.{Plan}
@@ -9,6 +9,6 @@ use Rattle.weights.specs.Vector.{Vector, client_weight, workers_weight}
 abbrev pub client_shares : Plan → Vector → List ℕ
 client_shares plan v = map (λ entry. entry.1.count * client_weight v entry.0 0) (enumerate_from 0 plan.clients)
 
--- the share of each pool's workers, for its maximum size
+-- the share of each pool's workers, of which there are as many as the pool's maximum
 abbrev pub worker_shares : Plan → Vector → List ℕ
 worker_shares plan v = map (λ entry. workers_weight v entry.0 * entry.1.max) (enumerate_from 0 plan.pools)

@@ -7,7 +7,7 @@ use job_bodies::{MAX_SIZE, Plan};
 use size_search::{Cause, NoSizes};
 use std::alloc::AllocError;
 
-/// Appends that no sizes were found for the plan, and why, such as `no fitting sizes found` and
+/// Appends a line that no sizes were found for the plan, and a line with the reason, such as
 /// `class render submits itself`.
 ///
 /// # Errors

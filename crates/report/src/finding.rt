@@ -7,11 +7,11 @@ use size_search::SizesFound;
 /// A finding about a plan with its declared sizes.
 #[derive(Drop)]
 pub enum PlanFinding {
-    /// This certificate accepts the plan.
+    /// A certificate that accepts the plan.
     Safe(Cert),
-    /// This is a witness against the plan, and this is the result of the search for other sizes.
+    /// A witness against the plan, and the result of the search for other sizes.
     NotSafe(Witness, SizesFound),
-    /// Neither a certificate nor a witness was found, so the declared sizes can be safe. This is
-    /// the result of the search for other sizes.
+    /// The result of the search for other sizes. Neither a certificate nor a witness was found, so
+    /// the declared sizes may be safe.
     NotDecided(SizesFound),
 }

@@ -28,7 +28,8 @@ struct AnswerParts {
     witness: Value,
 }
 
-/// Writes the finding about the plan in the file of this name, with these warnings.
+/// Returns the JSON text of the finding about a plan, with these warnings. `file` is the name of
+/// the plan's file.
 ///
 /// # Errors
 ///
@@ -47,7 +48,7 @@ pub fn finding_json(
     line_of(alloc, &value)
 }
 
-/// Writes the faults of the plan's text in the file of this name.
+/// Returns the JSON text of the faults of a plan's text. `file` is the name of the plan's file.
 ///
 /// # Errors
 ///
@@ -62,7 +63,7 @@ pub fn faults_json(alloc: Global, file: &str, faults: &Faults) -> Result<String,
     line_of(alloc, &value)
 }
 
-/// Writes one fault that has no place in the plan's text, with this message.
+/// Returns the JSON text of one fault with this message, which has no place in the plan's text.
 ///
 /// # Errors
 ///
@@ -111,7 +112,7 @@ fn answer_value(alloc: Global, word: &str, rest: AnswerParts) -> Result<Value, A
     })
 }
 
-/// Writes a value, followed by a newline.
+/// Returns the text of the value, followed by a newline.
 fn line_of(alloc: Global, value: &Value) -> Result<String, AllocError>
     ensures { IfOk result (λ text. spec.IsLineOf (data_of value.now) (string_bytes text)) }
 {

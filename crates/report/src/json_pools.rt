@@ -50,8 +50,8 @@ fn pool_value(
     })
 }
 
-/// Converts the bound of a queue: how many jobs it holds at most, or the pool ever gets, and whose
-/// jobs they are.
+/// Converts a pool's bound: the maximum number of jobs in its queue at one time, or ever submitted
+/// to it, and the share of each submitter.
 fn bound_value(alloc: Global, plan: &Plan, bound: &Bound) -> Result<Value, AllocError> {
     let vector = bound.vector();
     if !vector.fits(plan) {
@@ -79,8 +79,8 @@ fn bound_value(alloc: Global, plan: &Plan, bound: &Bound) -> Result<Value, Alloc
     json!(in alloc; {"clients": clients, "kind": kind, "threads": threads, "total": total})
 }
 
-/// Converts how many core threads wait at most at gets that need a free thread, and how many are
-/// left.
+/// Converts the maximum number of core threads that wait at counted gets at once, and the number of
+/// core threads that are left.
 fn blocked_value(
     alloc: Global,
     plan: &Plan,

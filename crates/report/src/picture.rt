@@ -97,7 +97,7 @@ fn push_pool(
     text.push_str("  }\n")
 }
 
-/// Appends how many jobs the queue holds at most, or how many the pool ever gets.
+/// Appends the maximum number of jobs in the queue at one time, or ever submitted to the pool.
 fn push_bound(text: &mut String, plan: &Plan, bound: &Bound) -> Result<(), AllocError> {
     match total_of(plan, bound.vector()) {
         Some(total) => {

@@ -13,7 +13,7 @@ use job_bodies::{Plan, Pool};
 use std::alloc::{AllocError, Global};
 use weights::{Bound, Vector};
 
-/// Appends two lines for each pool, and that no job starves.
+/// Appends two lines for each pool, and a line that says what holds for all of them.
 pub(crate) fn push_safe(
     alloc: Global,
     text: &mut String,
@@ -69,8 +69,8 @@ fn push_lines(
     push_waits(alloc, text, plan, number, pool, &part.blocked)
 }
 
-/// Returns how many places of its queue each pool needs at most, in the certificate's order. That
-/// is known if a standing vector that fits the plan bounds the queue.
+/// Returns the number of queue places that each pool needs, in the certificate's order. It is
+/// `None` unless a standing vector that fits the plan bounds the pool's queue.
 ///
 /// # Errors
 ///
@@ -152,7 +152,7 @@ fn push_queue(
     text.push_str(")")
 }
 
-/// Appends the number of jobs of a bound.
+/// Appends the maximum number of jobs in the queue at one time, or ever submitted to the pool.
 pub(crate) fn push_most(text: &mut String, bound: &Bound, total: u64) -> Result<(), AllocError>
     ensures { Pushes result text.old text.new (spec.most_text bound.now total) }
 {
@@ -263,8 +263,8 @@ fn push_separated(alloc: Global, text: &mut String, parts: &[String]) -> Result<
     text.push_str(&row)
 }
 
-/// Appends the line with the pools that the pool's jobs wait for, and with the number of its
-/// threads that wait.
+/// Appends the line with the pools for which the pool's jobs wait, and the maximum number of its
+/// core threads that wait at counted gets at once.
 fn push_waits(
     alloc: Global,
     text: &mut String,
@@ -283,7 +283,8 @@ fn push_waits(
     text.push('\n')
 }
 
-/// Appends how many core threads of a pool wait at most at gets that need a free thread.
+/// Appends the maximum number of core threads that wait at counted gets at once, if the vector fits
+/// the plan.
 fn push_left(
     text: &mut String,
     plan: &Plan,
@@ -313,7 +314,7 @@ fn push_waiting(text: &mut String, pool: &Pool, most: u64) -> Result<(), AllocEr
     )
 }
 
-/// Appends the pools that jobs of this pool wait for.
+/// Appends the names of the pools for which jobs of this pool wait.
 fn push_waited(
     alloc: Global,
     text: &mut String,

@@ -2,8 +2,8 @@
 
 ghost use Rattle.report.specs.Sizes.{UnchangedSizesAreTheDeclaredPlan};
 
-/// States that a plan that differs from the declared one only in sizes, with no size changed, is
-/// the declared one.
+/// Proves that a fitted plan equals the declared one if it differs at most in sizes, and no size
+/// changes.
 pub fn unchanged_sizes_are_the_declared_plan()
     ensures { UnchangedSizesAreTheDeclaredPlan }
 {}

@@ -15,7 +15,8 @@ use size_search::SizesFound;
 use std::alloc::{AllocError, Global};
 
 /// Writes the finding: `SAFE`, with the bound of each queue and the shares in it; `NOT SAFE`, with
-/// the story of the witness and the sizes that would be safe; or `NOT DECIDED`, with those sizes.
+/// the story of the witness and the result of the search for sizes; or `NOT DECIDED`, with that
+/// result.
 ///
 /// # Errors
 ///

@@ -7,7 +7,8 @@ use job_bodies::{Plan, Pool};
 use size_search::{Cause, NoSizes, SizesFound};
 use std::alloc::AllocError;
 
-/// Appends what the sizes that were found, or the cause why there are none, mean for the user.
+/// Appends the advice for the user: the reason for each size that grows, or what to do if no sizes
+/// were found.
 pub(crate) fn push_advice(
     text: &mut String,
     plan: &Plan,
@@ -88,7 +89,7 @@ fn push_advice_for_cause(text: &mut String, cause: NoSizes) -> Result<(), AllocE
     }
 }
 
-/// Appends what is left undecided.
+/// Appends a line that says what is not decided.
 pub(crate) fn push_open(text: &mut String, sizes: &SizesFound) -> Result<(), AllocError>
     ensures { Pushes result text.old text.new (spec.open_text sizes.now) }
 {

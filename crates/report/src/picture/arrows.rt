@@ -8,8 +8,7 @@ use job_bodies::{Action, Plan};
 use std::alloc::{AllocError, Global};
 use weights::Ranks;
 
-/// The number of times that an actor submits jobs of a class, gets them, and gets them by a counted
-/// get.
+/// The numbers of submits, of gets and of counted gets of a class in a body.
 #[derive(Clone, Copy)]
 struct Calls {
     submits: u64,
@@ -45,8 +44,8 @@ pub(crate) fn push_arrows(
     Ok(())
 }
 
-/// Counts the calls in a body for each class. `ranked` has the number of the body's class and the
-/// ranks that decide which gets are counted.
+/// Returns, for each class, the numbers of its submits and gets in the body. `ranked` has the
+/// number of the body's class, and the ranks, which determine the counted gets.
 fn calls_of(
     alloc: Global,
     plan: &Plan,
@@ -77,7 +76,7 @@ fn calls_of(
     Ok(calls)
 }
 
-/// Returns whether the ranks count the get at this position of the class.
+/// Returns whether the get at this position of the class's body is counted.
 fn is_counted(plan: &Plan, ranked: Option<(usize, &Ranks)>, position: usize) -> bool {
     match ranked {
         Some((class, ranks)) => ranks.fits(plan) && counts(plan, ranks, class, position),
