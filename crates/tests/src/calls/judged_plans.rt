@@ -180,7 +180,8 @@ fn is_counted(plan: &Plan, ranks: &Ranks, class: usize, position: usize) -> Opti
     Some(RanksOf::new(plan, ranks).counted(class, position))
 }
 
-/// Jobs of class `a` wait for jobs of `b`, which wait for jobs of `d`. The ranks decide which count.
+/// Jobs of class `a` wait for jobs of `b`, which wait for jobs of `d`. The ranks decide which of
+/// these gets are counted.
 #[test]
 fn gets_that_are_counted(rt: HostRuntime) -> Result<(), Fail> {
     let (plan, cert) = read(rt.alloc(), THERE_AND_BACK, THERE_AND_BACK_CERT)?;

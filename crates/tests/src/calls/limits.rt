@@ -31,8 +31,8 @@ impl Source for Failing {
     }
 }
 
-/// After 2,097,156 bytes the program makes no further call, so a failure of that call would not
-/// occur.
+/// The program makes no call after it has read 2,097,156 bytes, so a source that would fail at the
+/// next call has no effect.
 #[test]
 fn a_source_that_fails_at_the_limit(rt: HostRuntime) -> Result<(), Fail> {
     for (left, ended, written) in [

@@ -66,7 +66,7 @@ fn in_bytes<R: Threads + Wait + Sync>(
 
 // Appends a note for each call of the source whose failure does not result in fault 60 and no
 // output. The program makes one call more than those that return bytes, to find the end of the
-// input. It never makes a later call, so its failure changes nothing.
+// input. It makes no later call, so a source that would fail at one has no effect.
 fn push_failing_reads<R: Threads + Wait + Sync>(
     rt: &R,
     alloc: Global,

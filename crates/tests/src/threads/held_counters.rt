@@ -6,8 +6,8 @@ use std::alloc::AllocError;
 use std::process::Abort;
 use std::test::Fail;
 
-// Changes, the number of each receipt, if the change is possible, and the count after the change,
-// which is always between 0 and 2.
+// Changes, each with the number of its receipt (`None` if the change is not possible) and the count
+// after it, which is always between 0 and 2.
 const CHANGES: &[(Change, Option<u64>, u64)] = &[
     (Change::Down, None, 0),
     (Change::Up, Some(0), 1),

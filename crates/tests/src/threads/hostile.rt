@@ -6,9 +6,9 @@ use locked_runner::RunFault;
 use std::test::Fail;
 
 // The first round has 8 events before the second round begins, and the second round has 10. The
-// gate is called for the work of the inner job. Two events of the first round precede it: the
-// submits of the client and of the outer job. In a later round, a take of each job precedes it,
-// too.
+// gate is called for the work of the inner job. Two events of the first round precede this call:
+// the submits of the client and of the outer job. In a later round, the takes of both jobs precede
+// it, too.
 #[test]
 fn a_gate_that_fails_ends_the_run_where_it_stands(rt: HostRuntime) -> Result<(), Fail> {
     for (call, events) in [(1, 2), (2, 12), (3, 22)] {

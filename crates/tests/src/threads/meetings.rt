@@ -19,9 +19,9 @@ const WORKING_CLIENTS_CERT: &str = r#"{"version":1,"pools":[{
     "blocked":{"workers":[0],"classes":[[0,0,0,0]],"clients":[[0,0,0,0]]}}],
     "ranks":{"pools":[0],"reach":[0],"levels":[0]}}"#;
 
-// A plan and its certificate, the number of threads and clients in place of two, the actors whose
-// work is held, the number of such actors that must work at the same time, and the numbers of jobs
-// and units of work.
+// A plan and its certificate, the text that replaces `= 2` in the plan (the number of threads and
+// of clients), the actors whose work is held, the number of such actors that must work at the same
+// time, and the numbers of jobs and units of work.
 type Case = (
     &'static str,
     &'static str,
