@@ -1,4 +1,5 @@
-//! `sizing`: finds out whether the thread pools of a plan can refuse a task or starve.
+//! `sizing`: finds out whether the thread pools of a plan can refuse a task, and whether its jobs
+//! can deadlock.
 #![tactic(auto)]
 
 mod version;
