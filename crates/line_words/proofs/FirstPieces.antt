@@ -27,7 +27,7 @@ cut_there c text within =
     let here : get_or text (place c text) 0 ≡ c = eqb-true _ c (passes_at_first (λ b. b == c) text 0 within) in
     split_at_first (λ b. b == c) text 0 within ∙ ap (λ (b : ℕ). before c text ++ b ∷ rest_after c text) here
 
--- a text without a byte c is the part before it, and the part after it is empty
+-- if a text has no byte c, `before` is the whole text and `rest_after` is empty
 pub uncut : (c : ℕ) (text : List ℕ) → length text ≤ place c text → (text ≡ before c text) × (rest_after c text ≡ [])
 uncut c text past = (sym (take_all (place c text) text past), drop_all (place c text + 1) text (omega arith))
 

@@ -10,19 +10,19 @@ use Rattle.line_words.specs.Pieces.{split_space, words_of, is_space}
 use Rattle.line_words.proofs.Partial.{map_some, map_none}
 use Rattle.line_words.proofs.Splits.{has_no}
 
--- a text without a space is not split
+-- `split_space` of a text without a space is None
 pub split_nowhere : (text : List ℕ) → position is_space text ≡ None → split_space text ≡ None
 unfolding split_space
 split_nowhere text e = rw e refl
 
--- the slices before and after the place of the first space are the two parts of the text
+-- `split_space` returns the slices before and after the first space
 pub split_at : (text : List ℕ) (place : ℕ) → position is_space text ≡ Some place → Some (take place text, take (length text - (place + 1)) (drop (place + 1) text)) ≡ split_space text
 unfolding split_space
 split_at text place e =
     let whole : take (length text - (place + 1)) (drop (place + 1) text) ≡ drop (place + 1) text = take_rest text (place + 1) in
     rw (e, whole) refl
 
--- ---- a text that has a first space
+-- ---- a text that has a space
 place_of_space : (prefix rest : List ℕ) → has_no 32 prefix ≡ true → position_or_len is_space (prefix ++ 32 ∷ rest) ≡ length prefix
 place_of_space [] rest none = refl
 place_of_space (b ∷ prefix) rest none =

@@ -25,7 +25,7 @@ pub not_zero : (n : ℕ) → (n == 0) ≡ false → 0 < n
 not_zero n other = grind (arith, nat_tests)
 
 -- ---- the loop of `leading_number`
--- after one more digit was read, the value is that of all digits read until then
+-- after one more digit was read, the value is that of all digits read so far
 pub digits_more : (text : List ℕ) (i value : ℕ) → is_ascii_digit (get_or text i 0) ≡ true → i < length text → value ≡ digits_value 10 (take i text)
     → value * 10 + (get_or text i 0 - 48) ≡ digits_value 10 (take (i + 1) text)
 digits_more text i value digit inside e =
@@ -69,7 +69,7 @@ none_past text i value inside digits e past =
     let prefix : take i (take n text) ≡ take i text = take-take i n text (counted_to text i inside digits) in
     rw (past_limit (take n text) i value (e ∙ ap (digits_value 10) (sym prefix)) past) refl
 
--- if the digits at the start are empty or have a leading zero, the text does not begin with a number
+-- if a text has no digits at the start, or these have a leading zero, it does not begin with a number
 pub none_begun : (text : List ℕ) (i : ℕ) → digit_count text ≡ i → (not (length (take i text) == 0) && not (has_leading_zero (take i text))) ≡ false → None ≡ leading_number text
 unfolding leading_number number_of is_whole_number
 none_begun text i all begins = rw (all, begins) refl
@@ -91,7 +91,7 @@ no_number text i inside other =
 stops_at_count : (text : List ℕ) → digit_count text < length text → is_ascii_digit (get_or text (digit_count text) 0) ≡ false
 stops_at_count text within = prefix_len_stops is_ascii_digit text 0 within
 
--- a number at the start of a text is the value of its digits, and the rest is the text after them
+-- the number at the start of a text is the value of the digits there, and the rest is the text after these digits
 pub prefix_read : (text : List ℕ) (n : ℕ) (rest : List ℕ) → Some (n, rest) ≡ leading_number text → (number_of (take (digit_count text) text) ≡ Some n) × (drop (digit_count text) text ≡ rest)
 unfolding leading_number
 prefix_read text n rest read =
@@ -139,7 +139,7 @@ digits_in_line text =
       | inr more ↦ more
     ]
 
--- if the first line continues after its digits, it is not the text of a number
+-- a first line that continues after its digits is not the text of a number
 line_continues : (text : List ℕ) → digit_count text < place 10 text → number_of (first_line text) ≡ None
 line_continues text less =
     let inside : place 10 text ≤ length text = no_more_before 10 text in

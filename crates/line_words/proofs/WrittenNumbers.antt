@@ -1,4 +1,4 @@
--- Proofs that a text is that of a number exactly when it is the decimal digits of the number.
+-- Proofs that `number_of` a text is a number exactly when the text is the decimal digits of this number.
 use Rattle.std.proofs.Common.{◌≡◌, ℕ, zero, suc, ◌<◌, ◌^◌, true, false, not, ◌==◌, ◌&&◌, nat_lt, nat_le, List, [], ◌∷◌, length, slice_index, decimal, Some, refl, sym, ap, subst, ◌∙◌, arith, rules}
 use Rattle.std.specs.Char.{is_ascii_digit}
 use Rattle.std.specs.List.{list_all}
@@ -19,7 +19,7 @@ digits_are = numerals_by_value _ (search rules)
 leading_alone : (text : List ℕ) → not (has_leading_zero text) ≡ true → 0 < length text → slice_index text 0 ≡ 48 → length text ≡ 1
 leading_alone text none some leads = grind (arith, nat_tests)
 
--- a text that is that of a number is the decimal digits of the number, which is within the limit
+-- if `number_of` returns a number, the number is within the limit, and the text is its decimal digits
 pub number_read : (text : List ℕ) (n : ℕ) → number_of text ≡ Some n → (is_valid_number n ≡ true) × (text ≡ decimal n)
 unfolding number_of is_whole_number
 number_read text n read =

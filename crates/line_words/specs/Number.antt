@@ -22,7 +22,7 @@ is_whole_number text = not (length text == 0) && not (has_leading_zero text) && 
 unfoldable pub number_of : List ℕ → Option ℕ
 number_of text = if is_whole_number text && nat_le (digits_value 10 text) MAX_LINE_NUMBER then Some (digits_value 10 text) else None
 
--- how many digits are at the start of the text
+-- the number of digits at the start of the text
 abbrev pub digit_count : List ℕ → ℕ
 digit_count text = prefix_len is_ascii_digit text
 

@@ -11,7 +11,7 @@ pub slice_get_push : {X : Type 0} (xs : List X) (y : X) → slice_get (xs ++ y �
 slice_get_push [] y = refl
 slice_get_push (x ∷ xs) y = slice_get_push xs y
 
--- an element of a list with y appended is an element of the list, or y at the last index
+-- if y is appended to a list, each element of the new list is an element of the old one, or is y at the last index
 pub slice_get_push_cases : {X : Type 0} (xs : List X) (y : X) (i : ℕ) (x : X) → slice_get (xs ++ y ∷ []) i ≡ Some x → (slice_get xs i ≡ Some x) ⊎ ((i ≡ length xs) × (y ≡ x))
 slice_get_push_cases [] y zero x e = inr (refl, same_Some y x e)
 slice_get_push_cases [] y (suc i) x e = absurd cc
@@ -30,7 +30,7 @@ slice_get-set_other (x ∷ xs) zero (suc k) y other = refl
 slice_get-set_other (x ∷ xs) (suc i) zero y other = refl
 slice_get-set_other (x ∷ xs) (suc i) (suc k) y other = slice_get-set_other xs i k y (λ e. other (ap suc e))
 
--- an element of a list that was set to y at i is y at i, or the list's element at another index
+-- if y replaces the element at i, the new list has y at i, and the old element at each other index
 pub slice_get_set_cases : {X : Type 0} (xs : List X) (i : ℕ) (y : X) (k : ℕ) (x : X) → slice_get (set xs i y) k ≡ Some x → ((k ≡ i) × (y ≡ x)) ⊎ ((k ≢ i) × (slice_get xs k ≡ Some x))
 slice_get_set_cases [] i y k x e = absurd cc
 slice_get_set_cases (z ∷ xs) zero y zero x e = inl (refl, same_Some y x e)

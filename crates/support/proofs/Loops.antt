@@ -6,11 +6,11 @@ use Rattle.support.specs.declared.read_error.ReadError.{ReadError}
 use Rattle.support.specs.declared.read_error.ReadError.TheVariants.{Memory, Fault}
 use Rattle.support.specs.Results.{Fails}
 
--- the values that a reading returns, with the values of `prefix` before them
+-- the result of a reading, with the values of `prefix` before its values
 abbrev pub prepend : {Y F : Type 0} → List Y → Result (List Y) F → Result (List Y) F
 prepend prefix read = read >>= λ ys. Ok (prefix ++ ys)
 
--- the values in `prefix`, followed by those of the elements from index i on, are the result for all elements
+-- the result of reading all elements is the values in `prefix`, followed by the result of reading the elements from index i on
 pub record Reads {X Y F : Type 0} (read : ℕ → X → Result Y F) (xs : List X) (i : ℕ) (prefix : List Y) : Type 0 where
   pub rest : prepend prefix (read_each read i (drop i xs)) ≡ read_each read 0 xs
 
@@ -24,7 +24,7 @@ drop_at [] i x e = absurd cc
 drop_at (y ∷ xs) zero x e = let same : y ≡ x = cc in rw same
 drop_at (y ∷ xs) (suc i) x e = drop_at xs i x e
 
--- the element that a loop reads at an index within the list is the element there
+-- the element that a loop reads at an index within the list is the list's element at that index
 pub at_index : {X : Type 0} (xs : List X) (i : ℕ) (x : X) → i < length xs → x ≡ get_or xs i x → slice_get xs i ≡ Some x
 at_index [] i x within e = absurd (omega arith)
 at_index (y ∷ xs) zero x within e = ap (λ (z : _). Some z) (sym e)

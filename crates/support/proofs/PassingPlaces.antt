@@ -89,7 +89,7 @@ In-places_from test n (x ∷ xs) zero d inside passes =
 In-places_from test n (x ∷ xs) (suc i) d inside passes =
     In-cons_if (test x) n (places_from test (n + 1) xs) (subst (λ k. In k (places_from test (n + 1) xs)) (sym (one_more n i)) (In-places_from test (n + 1) xs i d (omega arith) passes))
 
--- the places of a list whose first place is n are at least n and below n plus its length
+-- if the first element has place n, all places are at least n and below n plus the length of the list
 pub places_from-below : {X : Type 0} (test : X → Bool) (n : ℕ) (xs : List X) {j : ℕ} → In j (places_from test n xs) → (n ≤ j) × (j < n + length xs)
 places_from-below test n xs {j} i = let place = place_at_In test n xs j i in (omega (arith, place.from), omega (arith, place.from, place.inside))
 
@@ -171,7 +171,7 @@ above_middle before m behind k pairs i =
     let less = pairs (length before) (length before + suc found.0) k (omega arith) (omega (arith, found.1, length-append before (m ∷ behind))) in
     omega (arith, less, get_or-append-add before (m ∷ behind) (suc found.0) k, found.2, get_or_at before m behind k (length before) refl)
 
--- replacing an element by one that fails removes its place, and keeps the places before and after it
+-- replacing an element by one that fails removes its place; `before` has the places before it and `behind` those after it
 pub places_from-set_removes : {X : Type 0} (test : X → Bool) (n : ℕ) (xs : List X) (i : ℕ) (y : X) (before behind : List ℕ) → i < length xs → test y ≡ false → places_from test n xs ≡ before ++ (n + i) ∷ behind
     → places_from test n (set xs i y) ≡ before ++ behind
 places_from-set_removes test n xs i y before behind inside fails e =
@@ -182,7 +182,7 @@ places_from-set_removes test n xs i y before behind inside fails e =
     let gone : filter keep ((n + i) ∷ behind) ≡ filter keep behind = filter-cons_if_dropped keep true (n + i) behind (ap not (eq-eqb (n + i) (n + i) refl)) in
     places_from-set_fails test n xs i y inside fails ∙ ap (filter keep) e ∙ filter-append keep before ((n + i) ∷ behind) ∙ ap₂ (λ ks ms. ks ++ ms) prefix (gone ∙ back)
 
--- replacing an element by one that passes appends its place if no element at or after index i passed before
+-- if no element at or after index i passes, replacing the element at i by one that passes appends its place
 pub places_from-set_last : {X : Type 0} (test : X → Bool) (n : ℕ) (xs : List X) (i : ℕ) (y : X) → i < length xs → test y ≡ true → ((k : ℕ) (d : X) → i ≤ k → k < length xs → test (get_or xs k d) ≡ false)
     → places_from test n (set xs i y) ≡ places_from test n xs ++ (n + i) ∷ []
 places_from-set_last test n [] i y inside passes none = absurd (omega arith)

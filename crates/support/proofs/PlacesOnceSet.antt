@@ -17,7 +17,7 @@ entry_once_set slots p q o = ⊎_elim
     (λ other. inr (get_or-set_other slots p q o None (λ e. other (sym e))))
     (cases_eq p q)
 
--- if the new entry of the slot has the same number as the old one, each slot has an entry for the same numbers as before
+-- if the new entry of a slot has the same number as the old one, each slot has an entry for the same number as before
 pub has_once_stored : {V : Type 0} (slots : List (Option (Entry V))) (p : ℕ) (o : Option (Entry V)) → ((n : ℕ) → has_number n o ≡ has_number n (entry_at slots p)) → (n q : ℕ) → has_number n (entry_at (set slots p o) q) ≡ has_number n (entry_at slots q)
 has_once_stored slots p o same n q = ⊎_elim
     (λ here. ap (has_number n) here.1 ∙ same n ∙ ap (λ k. has_number n (entry_at slots k)) here.0)
@@ -81,7 +81,7 @@ pub written_here : {V : Type 0} (o : Option (Entry V)) (n q : ℕ) (w : V) (othe
 written_here None n q w other has = absurd cc
 written_here (Some entry) n q w other has = if_same n entry.number q (Some w) (Some entry.value) other (eqb-true entry.number n has)
 
--- ---- a number that is stored in a slot that is free or already has it
+-- ---- a number is stored in a slot that is free or already has the number
 pub inserted_here : {V : Type 0} (o : Option (Entry V)) (n q : ℕ) (v : V) (old new : Option V) → is_free_for n o ≡ true → ((n ≡ q → ⊥) → new ≡ old)
     → (if n == q then Some v else new) ≡ (if n == q then Some v else value_or q o old)
 inserted_here None n q v old new free overflow = ⊎_elim

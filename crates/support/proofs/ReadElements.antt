@@ -44,7 +44,7 @@ read_at read xs ys i y e here =
     let found = read_from read 0 xs ys i y e here in
     (found.0, found.1, subst (λ (k : ℕ). read k found.0 ≡ Ok y) (zero-add i) found.2)
 
--- if reading an element preserves its image, the images of all values are the images of the elements
+-- if g of each value is f of the element from which the value was read, `map g` of the values is `map f` of the elements
 read_images_from : {X Y Z F : Type 0} (read : ℕ → X → Result Y F) (f : X → Z) (g : Y → Z) (n : ℕ) (xs : List X) (ys : List Y) → ((i : ℕ) (x : X) (y : Y) → read i x ≡ Ok y → g y ≡ f x)
     → read_each read n xs ≡ Ok ys → map g ys ≡ map f xs
 read_images_from {F = F} read f g n [] ys same e = ap (map g) (sym (ok_injective {F = F} _ _ e))

@@ -12,12 +12,12 @@ given x = Ok x
 pub ok_injective : {A F : Type 0} (x y : A) → given {F = F} x ≡ given y → x ≡ y
 ok_injective x y e = cc
 
--- if two steps succeed, the first has a value, and the second succeeds with it
+-- if two steps in order succeed, the first returns a value, and the second succeeds for this value
 pub bind_ok : {A B F : Type 0} (r : Result A F) (f : A → Result B F) (y : B) → (r >>= f) ≡ Ok y → (x : A) × (r ≡ Ok x) × (f x ≡ Ok y)
 bind_ok (Ok x) f y e = (x, refl, e)
 bind_ok (Err fault) f y e = absurd cc
 
--- if two steps succeed, the first has a value, and the second succeeds with it, in continuation-passing style
+-- `bind_ok` in continuation-passing style
 pub bind_ok_then : {A B F P : Type 0} (r : Result A F) (f : A → Result B F) (y : B) → (r >>= f) ≡ Ok y → ((x : A) → r ≡ Ok x → f x ≡ Ok y → P) → P
 bind_ok_then (Ok x) f y e next = next x refl e
 bind_ok_then (Err fault) f y e next = absurd cc

@@ -57,7 +57,7 @@ value_or_other : {V : Type 0} (o : Option (Entry V)) (n : ℕ) (other : Option V
 value_or_other None n other off = refl
 value_or_other (Some entry) n other off = ap (λ b. if b then Some entry.value else other) off
 
--- the value of each number after number n in the overflow map got value w
+-- the value of each number after w was written for number n in the overflow map
 found_aside : {V : Type 0} (o : Option (Entry V)) (n q : ℕ) (w : V) (old new : Option V) → (n ≡ q → has_number q o ≡ false) → new ≡ (if n == q then Some w else old) → value_or q o new ≡ (if n == q then Some w else value_or q o old)
 found_aside o n q w old new off is = ⊎_elim
     (λ e.
@@ -125,7 +125,7 @@ counted_here {V} (Some entry) n before after long left None free once counts len
     let one : one_more (is_some {T = V} (if entry.number == n then Some entry.value else None)) ≡ 0 = ap one_more found in
     omega (arith, counts, lengths, one)
 
--- number n has value v, and the count grew by one exactly when n had no value before
+-- in the new map number n has value v, and the count grew by one exactly when n had no value before
 pub record IsPut {V : Type 0} (old : Numbered V) (n : ℕ) (v : V) (new : Numbered V) : Type 0 where
   pub values : (q : ℕ) → value_at new q ≡ (if n == q then Some v else value_at old q)
   pub count : count_of new ≡ count_of old + (if is_some (value_at old n) then 0 else 1)

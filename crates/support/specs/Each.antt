@@ -4,7 +4,7 @@ use Rattle.std.specs.declared.alloc.Global.{Global}
 use Rattle.support.specs.declared.read_error.ReadError.{ReadError}
 use Rattle.support.specs.declared.read_error.ReadError.TheVariants.{Memory, Fault}
 
--- the call for each element returned the value at the element's index, counted from i
+-- the calls for the elements returned these values, one for each; the index of the first element is i
 abbrev pub AllReturned : {X Y F : Type 0} → (ℕ → X → Result Y (ReadError F) → Type 0) → ℕ → List X → List Y → Type 0
 AllReturned reads i [] [] = Unit {0}
 AllReturned reads i [] (y ∷ ys) = ⊥

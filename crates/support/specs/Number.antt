@@ -1,4 +1,4 @@
--- The numbers of the faults. Other definitions, and the code, use the constants.
+-- The numbers of the faults. All other definitions and the code use the constants.
 use Rattle.std.specs.Prelude.{◌≡◌}
 use Rattle.support.specs.declared.number.TheConstants as fault
 

@@ -6,7 +6,7 @@ use Rattle.support.specs.declared.entry.Entry.{Entry}
 use Rattle.support.specs.declared.places.TheConstants.{TABLE_LEN}
 use Rattle.support.specs.Entry.{has_number, value_or, entry_at, taken}
 
--- an id map: a table of slots, in which each number has one slot, and the values of the numbers whose slot was occupied
+-- an id map: a table of slots, in which each number has one slot, and an overflow map for the numbers whose slot was occupied
 pub record Numbered (V : Type 0) : Type 0 where
   pub slots : List (Option (Entry V))
   pub overflow : List (ℕ × V)

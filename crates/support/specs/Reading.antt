@@ -16,12 +16,12 @@ abbrev pub ok_or : {A F : Type 0} → Option A → F → Result A F
 ok_or (Some x) fault = Ok x
 ok_or None fault = Err fault
 
--- checks each element with its index, if the index of the first element is i; the result is Ok or the first fault
+-- checks each element with its index; the first element has index i, and the result is Ok or the first fault
 abbrev pub check_each : {X F : Type 0} → (ℕ → X → Result (Unit {0}) F) → ℕ → List X → Result (Unit {0}) F
 check_each check i [] = Ok tt
 check_each check i (x ∷ xs) = check i x >>= λ _. check_each check (i + 1) xs
 
--- reads each element with its index, if the index of the first element is i; the result has the values or the first fault
+-- reads each element with its index; the first element has index i, and the result has the values or the first fault
 abbrev pub read_each : {X Y F : Type 0} → (ℕ → X → Result Y F) → ℕ → List X → Result (List Y) F
 read_each read i [] = Ok []
 read_each read i (x ∷ xs) = read i x >>= λ y. read_each read (i + 1) xs >>= λ ys. Ok (y ∷ ys)

@@ -3,7 +3,7 @@ use Rattle.std.specs.Prelude.{◌≡◌, Result, Ok, Err}
 use Rattle.support.specs.declared.read_error.ReadError.{ReadError}
 use Rattle.support.specs.declared.read_error.ReadError.TheVariants.{Memory, Fault}
 
--- the definition has the same fault as this error; nothing is claimed if memory ran out
+-- the definition gives the fault of this error; nothing is claimed if memory ran out
 abbrev pub Fails : {Y F : Type 0} → ReadError F → Result Y F → Type 0
 Fails Memory read = Unit {0}
 Fails (Fault fault) read = read ≡ Err fault

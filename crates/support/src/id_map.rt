@@ -13,7 +13,7 @@ use std::alloc::{AllocError, Global};
 use std::marker::Model;
 
 /// A map from numbers to values. It is fast if few numbers have values at once and most of these
-/// numbers are close to each other: most look-ups then take an index and no hash.
+/// numbers are close to each other: most look-ups then index a table and hash nothing.
 ///
 /// The slot of a number is the number modulo the length of the table of slots. If that slot is
 /// occupied when the number is inserted, the value is stored in the overflow map. A look-up checks
@@ -22,7 +22,8 @@ use std::marker::Model;
 pub struct IdMap<V> {
     // The table of slots. Empty until the first insertion.
     slots: Vec<Option<Entry<V>>>,
-    // The values of the numbers whose slot was occupied. No number is both here and in its slot.
+    // The values of the numbers whose slot was occupied when they were inserted. No number is both
+    // here and in its slot.
     overflow: OverflowMap<V>,
 }
 
@@ -54,7 +55,7 @@ impl<V> IdMap<V> {
         }
     }
 
-    /// Returns the value of this number, or `None` if it has none.
+    /// Returns the value stored for key `number`, or `None`.
     #[inline(always)]
     #[tactic(auto, unfolding(crate::specs::Numbered::value_at))]
     pub fn get(&self, number: usize) -> Option<&V>
@@ -73,7 +74,7 @@ impl<V> IdMap<V> {
         self.overflow.get(number)
     }
 
-    /// Returns whether the number has a value.
+    /// Returns whether a value is stored for key `number`.
     #[inline(always)]
     pub fn contains(&self, number: usize) -> bool
         ensures { result ≡ is_some (value_at self.now number) }
@@ -81,7 +82,7 @@ impl<V> IdMap<V> {
         self.get(number).is_some()
     }
 
-    /// Returns a mutable reference to the value of this number, or `None` if it has none.
+    /// Returns a mutable reference to the value stored for key `number`, or `None`.
     #[inline(always)]
     pub fn get_mut(&mut self, number: usize) -> Option<&mut V>
         ensures* writes_back { sem 𝓛 (returns_mut_value V.row self.entry number result) }
@@ -93,7 +94,7 @@ impl<V> IdMap<V> {
         self.overflow.get_mut(number)
     }
 
-    /// Sets the value of this number, replacing an earlier value.
+    /// Stores `value` for key `number`, replacing an earlier value.
     ///
     /// # Errors
     ///
@@ -122,7 +123,7 @@ impl<V> IdMap<V> {
         Ok(())
     }
 
-    /// Removes the entry of this number and returns its value, or `None` if it has none.
+    /// Removes the value stored for key `number` and returns it, or `None` if there was none.
     #[inline(always)]
     #[tactic(auto, unfolding(crate::specs::Numbered::value_at, crate::specs::Numbered::count_of))]
     pub fn remove(&mut self, number: usize) -> Option<V>

@@ -27,8 +27,8 @@ pub const NO_SUCH_CLASS: u8 = 10;
 pub const BAD_ACTION: u8 = 11;
 /// A submit fills a slot that is already filled.
 pub const SLOT_OPEN: u8 = 12;
-/// A get names an empty slot. In a plan built from lists, where a get names a position: this
-/// position has no earlier submit, or an earlier get names it too.
+/// A get names an empty slot. In a plan that is built from lists, a get names a position instead:
+/// no earlier submit is at that position, or an earlier get names it too.
 pub const SLOT_EMPTY: u8 = 13;
 
 // ---- out of memory
@@ -54,8 +54,8 @@ pub const CERT_TOO_LONG: u8 = 34;
 
 /// A run exceeds one of its limits.
 pub const RUN_TOO_LARGE: u8 = 40;
-/// The list of a client or a pool has a receipt of an event that is not its own, or that the
-/// history does not have.
+/// The receipts of a client or a pool contain an event of another client or pool, or an event that
+/// the history does not contain.
 pub const STRANGE: u8 = 41;
 /// The history and the receipts are not those of a complete run.
 pub const MIXED: u8 = 42;

@@ -51,7 +51,7 @@ impl<V> OverflowMap<V> {
         self.map.is_empty()
     }
 
-    /// Returns the value of this number, or `None` if it has none.
+    /// Returns the value stored for key `number`, or `None`.
     #[inline(never)]
     pub(crate) fn get(&self, number: usize) -> Option<&V>
         ensures { option_copied result ≡ lookup (nat_eq number) self.now }
@@ -59,7 +59,7 @@ impl<V> OverflowMap<V> {
         self.map.get(&number)
     }
 
-    /// Returns a mutable reference to the value of this number, or `None` if it has none.
+    /// Returns a mutable reference to the value stored for key `number`, or `None`.
     #[inline(never)]
     pub(crate) fn get_mut(&mut self, number: usize) -> Option<&mut V>
         ensures* writes_back { sem 𝓛 (returns_mut_overflow V.row self.entry number result) }
@@ -68,7 +68,7 @@ impl<V> OverflowMap<V> {
         self.map.get_mut(&number)
     }
 
-    /// Sets the value of this number, replacing an earlier value.
+    /// Stores `value` for key `number`, replacing an earlier value.
     ///
     /// # Errors
     ///
@@ -90,7 +90,7 @@ impl<V> OverflowMap<V> {
         Ok(())
     }
 
-    /// Removes the entry of this number and returns its value, or `None` if it has none.
+    /// Removes the value stored for key `number` and returns it, or `None` if there was none.
     #[inline(never)]
     pub(crate) fn remove(&mut self, number: usize) -> Option<V>
         ensures value { result ≡ lookup (nat_eq number) self.old }
@@ -102,7 +102,7 @@ impl<V> OverflowMap<V> {
         self.map.remove(&number)
     }
 
-    /// Removes the entry of this number, if there is one.
+    /// Removes the value stored for key `number`, if there is one.
     #[inline(always)]
     pub(crate) fn forget(&mut self, number: usize)
     where

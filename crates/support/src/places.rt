@@ -12,7 +12,7 @@ use std::alloc::AllocError;
 // The number of slots. A power of two, so that the slot of a number needs no division.
 const TABLE_LEN: usize = 256;
 
-/// Returns the index of the number's slot.
+/// Returns the index of the slot for `number`.
 #[inline(always)]
 pub(crate) fn place_of(number: usize) -> usize
     ensures { result ≡ place_of number }
@@ -20,7 +20,7 @@ pub(crate) fn place_of(number: usize) -> usize
     number % TABLE_LEN
 }
 
-/// Returns whether the number's slot has an entry for it.
+/// Returns whether the slot for `number` has the entry of `number`.
 #[inline(always)]
 pub(crate) fn is_in_slot<V>(slots: &Vec<Option<Entry<V>>>, number: usize) -> bool
     ensures in_slot { result ≡ has_number number (entry_at slots.now.items (place_of number)) }
@@ -30,7 +30,7 @@ pub(crate) fn is_in_slot<V>(slots: &Vec<Option<Entry<V>>>, number: usize) -> boo
     place < slots.len() && has_number(&slots[place], number)
 }
 
-/// Returns whether the number's slot is free or has an entry for this number. Returns `false` if
+/// Returns whether the slot for `number` is free or has the entry of `number`. Returns `false` if
 /// there are no slots yet.
 #[inline(always)]
 pub(crate) fn can_store<V>(slots: &Vec<Option<Entry<V>>>, number: usize) -> bool
@@ -42,7 +42,7 @@ pub(crate) fn can_store<V>(slots: &Vec<Option<Entry<V>>>, number: usize) -> bool
     place < slots.len() && is_free_for(&slots[place], number)
 }
 
-/// Stores the number and this value in the number's slot.
+/// Stores `number` and `value` in the slot for `number`.
 #[inline(always)]
 pub(crate) fn store<V: Drop>(slots: &mut Vec<Option<Entry<V>>>, number: usize, value: V)
     requires { place_of number < vec_len slots.old }
@@ -82,7 +82,8 @@ fn allocate_slots<V: Drop>(slots: &mut Vec<Option<Entry<V>>>, len: usize) -> Res
     Ok(())
 }
 
-/// Appends the numbers that are in their slots. None of them may be in the list before.
+/// Appends the number of each entry in the slots. The list must not contain any of these numbers
+/// yet.
 ///
 /// # Errors
 ///
