@@ -31,7 +31,7 @@ within_bounds low high n h =
     let p = and_parts _ _ h in
     (leb-true low n p.0, leb-true n high p.1)
 
--- each element of a list passes a test that `list_all` says all elements pass
+-- if `list_all` holds for a test, each element of the list passes it
 pub list_all_get : {X : Type 0} (test : X → Bool) (xs : List X) (i : ℕ) (x : X) → list_all test xs ≡ true → slice_get xs i ≡ Some x → test x ≡ true
 list_all_get test [] i x h e = cc
 list_all_get test (y ∷ xs) zero x h e =
@@ -39,7 +39,7 @@ list_all_get test (y ∷ xs) zero x h e =
     ap test (sym same) ∙ (and_parts _ _ h).0
 list_all_get test (y ∷ xs) (suc i) x h e = list_all_get test xs i x (and_parts (test y) _ h).1 e
 
--- each element of a list passes, with its index, a test that `list_all` says all elements pass with their indices
+-- if `list_all` holds for a test of pairs of an index and an element, each element of the list passes it with its index
 pub list_all_enumerated : {X : Type 0} (test : ℕ × X → Bool) (n : ℕ) (xs : List X) (i : ℕ) (x : X) → list_all test (enumerate_from n xs) ≡ true → slice_get xs i ≡ Some x → test (n + i, x) ≡ true
 list_all_enumerated test n [] i x h e = cc
 list_all_enumerated test n (y ∷ xs) zero x h e =

@@ -54,7 +54,7 @@ each_passed check xs h i x e = subst (λ (k : ℕ). check k x ≡ Ok tt) (zero-a
 pub each_passes : {X F : Type 0} (check : ℕ → X → Result (Unit {0}) F) (xs : List X) → EachPlace xs (λ i x. check i x ≡ Ok tt) → check_each check 0 xs ≡ Ok tt
 each_passes check xs h = each_passes_from check 0 xs (λ i x e. subst (λ (k : ℕ). check k x ≡ Ok tt) (sym (zero-add i)) (h i x e))
 
--- `list_all` holds for a test that each element passes
+-- if each element passes a test, `list_all` holds for it
 pub list_all_from : {X : Type 0} (test : X → Bool) (xs : List X) → EachPlace xs (λ i x. test x ≡ true) → list_all test xs ≡ true
 list_all_from test [] h = refl
 list_all_from test (y ∷ xs) h = and_from (test y) _ (h 0 y refl) (list_all_from test xs (λ i x e. h (suc i) x e))
@@ -66,7 +66,7 @@ list_all_enumerated_from test n (y ∷ xs) h =
     let first : test (n, y) ≡ true = subst (λ (k : ℕ). test (k, y) ≡ true) place (h 0 y refl) in
     and_from (test (n, y)) _ first (list_all_enumerated_from test (n + 1) xs (each_of_tail (λ i x. test (i, x) ≡ true) n y xs h))
 
--- each element fails a test for which `list_any` does not hold
+-- if `list_any` does not hold for a test, each element fails it
 pub list_any_get : {X : Type 0} (test : X → Bool) (xs : List X) → list_any test xs ≡ false → EachPlace xs (λ i x. test x ≡ false)
 list_any_get test [] h i x e = cc
 list_any_get test (y ∷ xs) h zero x e =

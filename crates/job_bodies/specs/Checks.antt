@@ -13,19 +13,19 @@ use Rattle.job_bodies.specs.declared.limits.TheConstants.{MAX_ACTIONS, MAX_SIZE,
 use Rattle.job_bodies.specs.Plan.{Pool, Class, Client}
 use Rattle.job_bodies.specs.WellFormed.{is_valid_name, has_valid_sizes, is_within, is_valid_get}
 
--- the fault with this number of the text, or of the plan as a whole
+-- the fault `number` of the text, or of the plan as a whole
 abbrev pub at_text : ℕ → PlanFault
 at_text number = record { number = number; part = part.Text; index = 0; action = None }
 
--- the fault with this number of the entry at `index` in the list for `part`
+-- the fault `number` of the entry at `index` in the list for `part`
 abbrev pub at_entry : Part → ℕ → ℕ → PlanFault
 at_entry part index number = record { number = number; part = part; index = index; action = None }
 
--- the fault with this number of the action at position `action` in the body of an entry
+-- the fault `number` of the action at position `action` in the body of the entry at `index` in the list for `part`
 abbrev pub at_action : Part → ℕ → ℕ → ℕ → PlanFault
 at_action part index action number = record { number = number; part = part; index = index; action = Some action }
 
--- the check that a name is valid and is none of the earlier names of its list
+-- the check that a name is valid and is not one of the earlier names of its list
 abbrev pub check_name : List (List ℕ) → Part → ℕ → List ℕ → Result (Unit {0}) PlanFault
 check_name earlier part index name =
     ensure (is_valid_name name) (at_entry part index BAD_NAME) >>= λ _. ensure (not (list_any (bytes_eq name) earlier)) (at_entry part index DOUBLE_NAME)

@@ -51,7 +51,7 @@ client_at plan c = slice_index_or plan.clients c no_client
 abbrev pub pool_names : Plan → List (List ℕ)
 pool_names plan = map (λ pool. pool.name) plan.pools
 
--- the number of threads that the pool has at first, all idle: core if they are prestarted, and otherwise 0
+-- the number of threads that the pool has at first, all idle: core if the core threads are prestarted, and otherwise 0
 abbrev pub first_workers : Pool → ℕ
 first_workers pool = if pool.prestart then pool.core else 0
 
@@ -60,12 +60,12 @@ abbrev pub submits : Option Action → Bool
 submits (Some (Submit k)) = true
 submits _ = false
 
--- the class that the action submits, if it is a submit
+-- the class that the action submits; 0 if it is not a submit
 abbrev pub class_of_submit : Option Action → ℕ
 class_of_submit (Some (Submit k)) = k
 class_of_submit _ = 0
 
--- the class of the job that the submit at position t of the body creates, for which a get of that submit waits
+-- the class that the submit at position t of the body submits; a get of t waits for a job of this class
 abbrev pub submitted_class : List Action → ℕ → ℕ
 submitted_class body t = class_of_submit (slice_get body t)
 

@@ -34,7 +34,7 @@ has_valid_sizes pool = is_within 1 MAX_SIZE pool.core && is_within pool.core MAX
 abbrev pub is_valid_pool : Pool → Bool
 is_valid_pool pool = is_valid_name pool.name && has_valid_sizes pool
 
--- whether a get of t at position i is valid: t is the position of an earlier submit of the body, and no earlier get names it
+-- whether a get of t at position i is valid: t is the position of an earlier submit of the body, and no earlier get names t
 abbrev pub is_valid_get : List Action → ℕ → ℕ → Bool
 is_valid_get body i t = nat_lt t i && submits (slice_get body t) && not (has_get_of (take i body) t)
 

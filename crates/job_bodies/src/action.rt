@@ -17,7 +17,7 @@ pub enum Action {
 }
 
 impl Action {
-    /// Returns whether this action is a get of the submit at this position of the same body.
+    /// Returns whether this action is a get of the submit at position `submit` of the same body.
     pub fn gets(self, submit: usize) -> bool
         ensures { result ≡ spec.gets submit self }
     {
@@ -28,8 +28,7 @@ impl Action {
     }
 }
 
-/// Returns whether one of these actions of a body is a get of the submit at this position of the
-/// body.
+/// Returns whether one of these actions is a get of the submit at position `submit` of their body.
 pub fn has_get_of(actions: &[Action], submit: usize) -> bool
     ensures { result ≡ spec.has_get_of actions.now submit }
 {

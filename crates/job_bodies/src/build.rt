@@ -129,7 +129,7 @@ fn check_client_bodies(classes: usize, clients: &[Client]) -> Result<(), PlanFau
     Ok(())
 }
 
-/// Checks each action of each body of a class, then of a client kind.
+/// Checks each action in the body of each class, and then of each client kind.
 pub(crate) fn check_bodies(classes: &[Class], clients: &[Client]) -> Result<(), PlanFault>
     ensures { (pools : List spec.Pool)
         → result ≡ check_bodies (plan_of_lists pools classes.now clients.now) }

@@ -27,7 +27,7 @@ pub(crate) fn check_pool(pools: &[Pool], index: usize) -> Result<(), PlanFault>
 }
 
 /// Checks that the class at this index has a valid name that no earlier class has, and that its
-/// pool is one of the plan's pools, of which there are `pools`.
+/// pool is below `pools`, the number of the plan's pools.
 pub(crate) fn check_class(pools: usize, classes: &[Class], index: usize) -> Result<(), PlanFault>
     requires { index < length classes.now }
     ensures { let names = map (λ class. class.name) classes.now in
@@ -60,8 +60,9 @@ pub(crate) fn check_length(part: Part, index: usize, body: &[Action]) -> Result<
     ensure(short, PlanFault::at_entry(part, index, TOO_MANY))
 }
 
-/// Returns whether one of these actions is a get of the submit at position `submit`. Uses the table
-/// `got` of the actions, which has an entry for each position of a valid body.
+/// Returns whether one of these actions is a get of the submit at position `submit`. Uses `got`,
+/// the table of the submits that these actions get. The table has an entry for each position that a
+/// valid body can have.
 fn has_get_in_table(actions: &[Action], got: &[bool; MAX_ACTIONS], submit: usize) -> bool
     requires { IsTableOf actions.now got.now }
     ensures { result ≡ has_get_of actions.now submit }
@@ -86,7 +87,7 @@ fn add_to_table(got: &mut [bool; MAX_ACTIONS], action: Action)
 }
 
 /// Returns whether a get at `position` that names `submit` is valid: `submit` is the position of an
-/// earlier submit of the body, and no earlier get names it.
+/// earlier submit of the body, and no earlier get names `submit`.
 fn is_valid_get(body: &[Action], got: &[bool; MAX_ACTIONS], position: usize, submit: usize) -> bool
     requires position { position < length body.now }
     requires table { IsTableOf (take position body.now) got.now }

@@ -15,21 +15,23 @@ pub enum Part {
     Client,
 }
 
-/// A fault of a plan: its number, and the entry and the action that have it, each counted from 0.
+/// A fault of a plan: its number, and the entry and the action that have the fault.
 #[derive(Clone, Copy, Debug, PartialEq, Eq)]
 pub struct PlanFault {
     /// The fault's number: 1 to 13, or 20 if memory ran out.
     pub number: u8,
     /// The part of the plan that has the fault.
     pub part: Part,
-    /// The index of the pool, class or client kind in its list, or 0 if the part is `Text`.
+    /// The index of the pool, class or client kind in its list, counted from 0. It is 0 if the part
+    /// is `Text`.
     pub index: usize,
-    /// The position in its body of the action that has the fault, or `None` if no action has it.
+    /// The position in its body of the action that has the fault, counted from 0, or `None` if no
+    /// action has the fault.
     pub action: Option<usize>,
 }
 
 impl PlanFault {
-    /// Returns the fault with this number of the text, or of the plan as a whole.
+    /// Returns the fault `number` of the text, or of the plan as a whole.
     pub fn at_text(number: u8) -> PlanFault
         ensures { result ≡ at_text number }
     {
@@ -41,7 +43,7 @@ impl PlanFault {
         }
     }
 
-    /// Returns the fault with this number of the entry at `index` in the list for `part`.
+    /// Returns the fault `number` of the entry at `index` in the list for `part`.
     pub fn at_entry(part: Part, index: usize, number: u8) -> PlanFault
         ensures { result ≡ at_entry part index number }
     {
@@ -53,8 +55,8 @@ impl PlanFault {
         }
     }
 
-    /// Returns the fault with this number of the action at position `action` in the body of the
-    /// entry at `index` in the list for `part`.
+    /// Returns the fault `number` of the action at position `action` in the body of the entry at
+    /// `index` in the list for `part`.
     pub fn at_action(part: Part, index: usize, action: usize, number: u8) -> PlanFault
         ensures { result ≡ at_action part index action number }
     {

@@ -7,7 +7,8 @@ use crate::{Part, PlanFault};
 use std::fmt;
 use support::FaultHead;
 
-/// The entry that has a fault, formatted as ` at pool 0`, or as nothing if the part is `Text`.
+/// The entry that has a fault, formatted as ` at pool 0`, or as an empty text if the part is
+/// `Text`.
 #[derive(Clone, Copy)]
 struct FaultEntry {
     part: Part,
@@ -27,7 +28,7 @@ impl fmt::Display for FaultEntry {
     }
 }
 
-/// The position of the action that has a fault, formatted as ` action 2`, or as nothing if no
+/// The position of the action that has a fault, formatted as ` action 2`, or as an empty text if no
 /// action has the fault.
 #[derive(Clone, Copy)]
 struct Position(Option<usize>);

@@ -39,7 +39,7 @@ pub const MAX_LINE_NUMBER: usize = 1_000_000_000;
 /// The maximum number of rounds of a recording: the rounds are numbered from 0 to
 /// [`MAX_LINE_NUMBER`].
 pub const MAX_RECORDED_ROUNDS: u64 = 1_000_000_001;
-/// The maximum number of steps when a body is compared with a recorded path.
+/// The maximum number of steps of the comparison of a body with a recorded path.
 pub const MAX_PATH_STEPS: u64 = 1_000_000;
 
 /// The maximum number of threads of a search or a check. The minimum is 1.
@@ -57,8 +57,8 @@ pub const MAX_ROUNDS: u64 = 1_000_000;
 pub const MAX_RUN_CLIENTS: u64 = 64;
 /// The maximum number of threads of all pools of a run in total.
 pub const MAX_RUN_CARRIERS: u64 = 64;
-/// The maximum number of events of a run. It limits the number that is computed from the plan
-/// before the run.
+/// The maximum number of events of a run. The number of events is computed from the plan before the
+/// run.
 pub const MAX_RUN_EVENTS: u64 = 1_000_000;
 
 /// Returns whether `n` is from `low` to `high`, both included.

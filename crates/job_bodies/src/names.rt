@@ -79,7 +79,8 @@ fn has_name<T: Named>(entries: &[T], name: &str) -> bool
     entries.iter().any(|entry| name == entry.name())
 }
 
-/// Checks that `name`, the name of the entry at `index`, is valid and that no earlier entry has it.
+/// Checks that `name`, the name of the entry at `index`, is valid and that no earlier entry has the
+/// same name.
 #[tactic(auto, using(crate::proofs::Loops::list_any_of_names))]
 pub(crate) fn check_name<T: Named>(
     entries: &[T],

@@ -42,8 +42,8 @@ impl Model for Pool {
 }
 
 impl Pool {
-    /// Returns whether the sizes are in range: core from 1, the maximum from core, and the queue
-    /// from 1, each to 1,000,000.
+    /// Returns whether the sizes are in range: core is at least 1, the maximum at least core, the
+    /// queue at least 1, and none of them above 1,000,000.
     pub fn has_valid_sizes(&self) -> bool
         ensures { result ≡ has_valid_sizes self.now }
     {
@@ -52,8 +52,8 @@ impl Pool {
             && is_within(1, MAX_SIZE, self.queue)
     }
 
-    /// Returns the number of threads that the pool has at first, all idle: core if they are
-    /// prestarted, and otherwise 0.
+    /// Returns the number of threads that the pool has at first, all idle: core if the core threads
+    /// are prestarted, and otherwise 0.
     pub fn first_workers(&self) -> u64
         ensures { result ≡ spec.first_workers self.now }
     {
@@ -124,8 +124,8 @@ impl Plan {
     ///
     /// # Errors
     ///
-    /// Returns the first fault, with the entry that has it and, if an action has it, with the
-    /// action. The faults are checked in this order:
+    /// Returns the first fault with the entry that has it, and with the action if an action has it.
+    /// The faults are checked in this order:
     ///
     /// 1. Fault 2 of the text: a list of pools, classes or client kinds has too many entries.
     /// 2. Fault 2 of a class, then of a client kind: its body has too many actions.

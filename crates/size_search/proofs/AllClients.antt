@@ -10,7 +10,7 @@ use Rattle.size_search.specs.declared.submitted_classes.SubmittedClasses.{Submit
 use Rattle.size_search.specs.ByClients.{client_bodies}
 use Rattle.size_search.specs.Reaching.{Has, Covers, IsReaching}
 
--- the set has the classes that the first client kinds submit, up to this number
+-- the set has the classes that the first `number` client kinds submit, and every class of the set is submitted
 pub record AreBegun (plan : Plan) (r : SubmittedClasses) (number : ℕ) : Type 0 where
   pub reaching : IsReaching plan (client_bodies plan) r
   pub covers : (c : ℕ) → c < number → Covers r (client_at plan c).body
@@ -18,8 +18,8 @@ pub record AreBegun (plan : Plan) (r : SubmittedClasses) (number : ℕ) : Type 0
 pub is_of_client : (plan : Plan) (c : ℕ) → c < length plan.clients → In (client_at plan c).body (client_bodies plan)
 is_of_client plan c inside = In-map (λ (client : Client). client.body) (In-get_or plan.clients c no_client inside)
 
--- if the set has the classes that the client kinds before this one submit, and those that this one submits, it has the classes of all kinds
--- up to this one
+-- if the old set has the classes that the first `number` client kinds submit, and the new set has the old classes and those that the next
+-- kind submits, the new set has the classes that the first `number` + 1 kinds submit
 pub covers_one_more : (plan : Plan) (old new : SubmittedClasses) (number : ℕ) → ((k : ℕ) → Has old k → Has new k) → ((c : ℕ) → c < number → Covers old (client_at plan c).body) → Covers new (client_at plan number).body
     → (c : ℕ) → c < number + 1 → Covers new (client_at plan c).body
 covers_one_more plan old new number kept before this =

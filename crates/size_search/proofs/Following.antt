@@ -1,4 +1,4 @@
--- Once the bodies of all classes that were found have been scanned, these are exactly the classes that are submitted.
+-- Proof that the classes found are exactly the submitted classes once the bodies of all of them have been scanned.
 use Rattle.std.proofs.Common.{◌≡◌, ℕ, ◌+◌, ◌<◌, ◌≤◌, suc, Bool, true, false, not, get_or, slice_get, Some, count_by, ◌⊎◌, ◌↔◌, inl, inr, ⊎_elim, List, [], ◌∷◌, ◌++◌, length, take, refl, sym, ap, subst, ◌∙◌, arith}
 use Rattle.std.proofs.lemmas.List.{length_push, nil_from_length}
 use Rattle.support.specs.In.{In, here, there}
@@ -75,20 +75,21 @@ follows_one plan bodies old mid new number same pending grows covers only reachi
 
 -- ---- loops
 
--- the set after the first i actions of one body were added
+-- the set after the classes that the first i actions of a body submit were added
 pub record IsAdded (start r : SubmittedClasses) (body : List Action) (i : ℕ) : Type 0 where
   pub grows : Grows start r
   pub covers : Covers r (take i body)
   pub only : (k : ℕ) → Has r k → Has start k ⊎ In (Submit k) body
 
--- the set after the bodies of the first client kinds that repeat were added
+-- the set after the classes that the repeating ones of the first `number` client kinds submit were added
 pub record AreAdded (plan : Plan) (r : SubmittedClasses) (number : ℕ) : Type 0 where
   pub reaching : IsReaching plan (repeated_bodies plan) r
   pub covers : (c : ℕ) → c < number → (client_at plan c).repeat ≡ true → Covers r (client_at plan c).body
 
 -- ---- after the loop
 
--- the set after some rounds: no class is pending, or the number of pending and unfound classes has decreased by at least 1 in each round
+-- the set after some rounds: no class is pending, or each round has decreased the number of pending classes plus the number of classes not
+-- found by at least 1
 pub record IsFollowed (plan : Plan) (start r : SubmittedClasses) (rounds : ℕ) : Type 0 where
   pub reaching : (bodies : List (List Action)) → IsReaching plan bodies start → IsReaching plan bodies r
   pub kept : (k : ℕ) → Has start k → Has r k

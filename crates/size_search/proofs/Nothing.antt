@@ -54,8 +54,8 @@ client_read plan items c client same inside read = element_read items plan.clien
 pub is_repeated : (plan : Plan) (c : ℕ) → c < length plan.clients → (client_at plan c).repeat ≡ true → In (client_at plan c).body (repeated_bodies plan)
 is_repeated plan c inside repeats = In-map (λ (client : Client). client.body) (In-filter (λ (client : Client). client.repeat) (In-get_or plan.clients c no_client inside) repeats)
 
--- if the set has the classes of the repeating client kinds before this one, and those of this one if it repeats, it has those of all
--- repeating kinds up to this one
+-- if the set has the classes that the repeating ones of the first `number` client kinds submit, and those that the next kind submits if it
+-- repeats, it has those that the repeating ones of the first `number` + 1 kinds submit
 pub covers_next_client : (plan : Plan) (r : SubmittedClasses) (number : ℕ) → ((c : ℕ) → c < number → (client_at plan c).repeat ≡ true → Covers r (client_at plan c).body)
     → ((client_at plan number).repeat ≡ true → Covers r (client_at plan number).body) → (c : ℕ) → c < number + 1 → (client_at plan c).repeat ≡ true → Covers r (client_at plan c).body
 covers_next_client plan r number before this c within repeats =

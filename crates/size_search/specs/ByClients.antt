@@ -8,7 +8,7 @@ use Rattle.size_search.specs.Submitted.{IsSubmitted}
 abbrev pub client_bodies : Plan → List (List Action)
 client_bodies plan = map (λ (client : Client). client.body) plan.clients
 
--- a mark for each class, true exactly when a client, or a job that a client causes, submits it
+-- the marks have one entry for each class, which is true exactly when clients submit the class, directly or through other jobs
 pub record MarksSubmitted (plan : Plan) (marks : List Bool) : Type 0 where
   pub as_many : length marks ≡ length plan.classes
   pub submitted : (k : ℕ) → (slice_index_or marks k false ≡ true) ↔ IsSubmitted plan (client_bodies plan) k

@@ -5,7 +5,7 @@ use Rattle.job_bodies.specs.declared.action.Action.{Action}
 use Rattle.job_bodies.specs.declared.action.Action.TheVariants.{Submit}
 use Rattle.job_bodies.specs.Plan.{Client, Plan, class_at, client_at, submits, has_get_of}
 
--- one of the bodies submits the class, or the body of a class that is itself submitted does
+-- the class is submitted: by one of the bodies, or by the body of a class that is itself submitted
 pub data IsSubmitted (plan : Plan) (bodies : List (List Action)) : ℕ → Type 0 where
   begins : {k : ℕ} {body : List Action} → In body bodies → In (Submit k) body → IsSubmitted plan bodies k
   follows : {j k : ℕ} → IsSubmitted plan bodies j → In (Submit k) (class_at plan j).body → IsSubmitted plan bodies k
@@ -14,7 +14,7 @@ pub data IsSubmitted (plan : Plan) (bodies : List (List Action)) : ℕ → Type 
 pub record SubmitsOnly (plan : Plan) (bodies : List (List Action)) (body : List Action) : Type 0 where
   pub submitted : (k : ℕ) → In (Submit k) body → IsSubmitted plan bodies k
 
--- the action at position i is a submit of which the body has no get
+-- the action at position i is a submit, and the body has no get of it
 pub record IsNeverGot (body : List Action) (i : ℕ) : Type 0 where
   pub is_submit : submits (slice_get body i) ≡ true
   pub not_got : has_get_of body i ≡ false

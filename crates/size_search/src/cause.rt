@@ -1,6 +1,6 @@
 //! The causes for which no sizes are enough.
 
-/// A cause for which no certificate accepts a plan with any sizes.
+/// A reason why no certificate accepts a plan, whatever its sizes.
 #[derive(Clone, Copy, PartialEq, Eq)]
 pub enum Cause {
     /// The class with this number submits itself, directly or through other classes.

@@ -13,7 +13,7 @@ use crate::submitted_classes::SubmittedClasses;
 use job_bodies::{Action, Plan, has_get_of};
 use std::alloc::{AllocError, Global};
 
-/// Returns a cause for which no sizes are enough, or `None` if the plan has none.
+/// Returns a cause for which no sizes are enough, or `None` if the plan has no such cause.
 ///
 /// # Errors
 ///

@@ -11,7 +11,7 @@ use crate::submitted_classes::SubmittedClasses;
 use job_bodies::Plan;
 use std::alloc::{AllocError, Global};
 
-/// Returns, for each class, whether a client, or a job that a client causes, submits it.
+/// Returns, for each class, whether clients submit it, directly or through other jobs.
 ///
 /// # Errors
 ///

@@ -15,9 +15,9 @@ use std::alloc::{AllocError, Global};
 /// A set of classes that are submitted.
 #[derive(Drop)]
 pub(crate) struct SubmittedClasses {
-    /// For each class, whether it was found.
+    /// For each class, whether the set has it.
     is_found: Vec<bool>,
-    /// The classes that were found and whose bodies have not been scanned yet.
+    /// The classes of the set whose bodies have not been scanned yet.
     pending: Vec<usize>,
 }
 
@@ -33,14 +33,14 @@ impl SubmittedClasses {
         })
     }
 
-    /// Returns whether the class is submitted.
+    /// Returns whether the set has the class.
     pub(crate) fn has(&self, class: usize) -> bool
         ensures { result ≡ slice_index_or self.now.is_found.items class false }
     {
         class < self.is_found.len() && self.is_found[class]
     }
 
-    /// Returns, for each class, whether it is submitted.
+    /// Returns, for each class, whether the set has it.
     pub(crate) fn into_marks(self) -> Vec<bool>
         ensures { result.items ≡ self.is_found.items }
     {
@@ -77,7 +77,8 @@ impl SubmittedClasses {
         Ok(())
     }
 
-    /// Adds the classes that the body of one pending class submits, if there is one.
+    /// Adds the classes that the body of a pending class submits. Does nothing if no class is
+    /// pending.
     fn follow(&mut self, plan: &Plan) -> Result<(), AllocError>
         requires { length self.old.is_found.items ≡ length plan.now.classes }
         ensures reaching { OnOk result
@@ -99,7 +100,7 @@ impl SubmittedClasses {
         Ok(())
     }
 
-    /// Adds the classes that jobs of these classes submit, directly or through other jobs.
+    /// Adds the classes that jobs of the classes in the set submit, directly or through other jobs.
     pub(crate) fn add_all(&mut self, plan: &Plan) -> Result<(), AllocError>
         requires { length self.old.is_found.items ≡ length plan.now.classes }
         ensures submitted { OnOk result ((bodies : List (List Action)) → IsReaching plan.now bodies self.old → ((body : List Action) → In body bodies → Covers self.old body)

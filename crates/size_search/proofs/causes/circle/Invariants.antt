@@ -1,4 +1,4 @@
--- No class before this one submits itself.
+-- The loop of `circle`: no class before the current one submits itself.
 use Rattle.std.proofs.Common.{ℕ, ◌<◌, [], ◌∷◌}
 use Rattle.job_bodies.specs.Plan.{class_at}
 use Rattle.size_search.specs.Submitted.{IsSubmitted}

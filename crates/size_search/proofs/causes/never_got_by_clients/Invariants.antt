@@ -1,4 +1,4 @@
--- No client kind before this one repeats and has a submit without a get.
+-- The loop of `never_got_by_clients`: no client kind before the current one repeats and has a submit without a get.
 use Rattle.std.proofs.Common.{ℕ, ◌<◌}
 use Rattle.size_search.specs.Submitted.{NeverGotByClients}
 use Rattle.size_search.proofs.causes.never_got_by_clients.Given as goal

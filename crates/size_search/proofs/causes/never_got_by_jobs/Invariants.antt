@@ -1,4 +1,4 @@
--- No submitted class before this one has a submit without a get.
+-- The loop of `never_got_by_jobs`: no submitted class before the current one has a submit without a get.
 use Rattle.std.proofs.Common.{ℕ, ◌<◌}
 use Rattle.size_search.specs.Submitted.{NeverGotByJobs}
 use Rattle.size_search.proofs.causes.never_got_by_jobs.Given as goal

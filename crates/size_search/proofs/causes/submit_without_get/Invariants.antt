@@ -1,4 +1,4 @@
--- No position before this one has a submit without a get.
+-- The loop of `submit_without_get`: no position before the current one has a submit without a get.
 use Rattle.std.proofs.Common.{ℕ, ◌<◌}
 use Rattle.size_search.specs.Submitted.{IsNeverGot}
 use Rattle.size_search.proofs.causes.submit_without_get.Given as goal

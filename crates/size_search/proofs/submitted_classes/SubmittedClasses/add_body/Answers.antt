@@ -11,8 +11,8 @@ use Rattle.size_search.proofs.Following.{covers_more, IsAdded}
 use Rattle.size_search.proofs.submitted_classes.SubmittedClasses.add_body.Goals as goal
 use Rattle.size_search.proofs.submitted_classes.SubmittedClasses.add_body.Goals.{in-Submit+in_ok-add, in_default}
 
--- the set has the classes of the first i + 1 actions, if it has those of the first i actions and the class that the next action submits, if
--- any
+-- if the set has the classes that the first i actions submit, and the class of the next action if that is a submit, it has the classes that
+-- the first i + 1 actions submit
 covers_next : (r : SubmittedClasses) (body : List Action) (i : ℕ) (x : Action) → take (i + 1) body ≡ take i body ++ x ∷ [] → Covers r (take i body) → ((k : ℕ) → x ≡ Submit k → Has r k) → Covers r (take (i + 1) body)
 covers_next r body i x next before of_this = record {
   found = λ k at.
