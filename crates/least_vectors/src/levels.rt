@@ -19,8 +19,9 @@ pub struct Levels {
     /// The classes in ascending order of levels: each class comes after all classes that it
     /// submits.
     pub order: Vec<usize>,
-    /// For each class, whether a client submits it, directly or through jobs of other classes. A
-    /// plan never has jobs of other classes, so these do not count towards any total.
+    /// For each class, whether clients submit it, directly or through other jobs. No jobs of a
+    /// class that is not submitted are ever created, so such a class does not count towards any
+    /// total.
     pub submitted: Vec<bool>,
 }
 
@@ -52,14 +53,14 @@ impl Levels {
         Ok(Some(levels))
     }
 
-    /// Returns whether a client submits the class, directly or through jobs of other classes.
+    /// Returns whether clients submit the class, directly or through other jobs.
     pub(crate) fn is_submitted(&self, class: usize) -> bool {
         self.submitted.get(class).copied().unwrap_or(false)
     }
 
     /// Gives `level` to each class that has no level yet and submits only classes of lower levels.
-    /// For each class, `known` has the length of a prefix of its body that submits only classes of
-    /// lower levels, so that no action of this prefix is checked again.
+    /// For each class, `known` has the length of a prefix of the body that was found to submit only
+    /// classes of lower levels, so that no action of this prefix is checked again.
     fn add_level(&mut self, plan: &Plan, level: u64, known: &mut [usize]) -> Result<(), AllocError>
         ensures { vec_len self.new.of_classes ≡ vec_len self.old.of_classes }
     {
@@ -76,7 +77,7 @@ impl Levels {
     }
 
     /// Returns the length of the longest prefix of the class's body that submits only classes below
-    /// `level`. It is at least `known`.
+    /// `level`. The result is at least `known`.
     fn known_actions(&self, class: &Class, level: u64, known: usize) -> usize {
         let mut known = known;
         for action in class.body.iter().skip(known) {

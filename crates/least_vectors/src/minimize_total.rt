@@ -1,5 +1,6 @@
 //! The search for a vector with a small total. A *loan* gives each worker of one pool a weight, so
-//! that the queued jobs of this pool, the *lender*, can weigh less.
+//! that the queued jobs of this pool, the *lender*, can weigh less. A [`Sketch`] has the parts of a
+//! vector that determine its total.
 
 ghost use Rattle.std.specs.Prelude.{◌≡◌, ◌<◌, ◌≤◌, length, IfOk, IfSome, IsTrue, vec_len};
 ghost use Rattle.weights.specs.Vector.{vector_fits};
@@ -32,15 +33,16 @@ pub(crate) struct Loan {
 #[derive(Drop)]
 pub(crate) struct Loans {
     pub(crate) workers: Vec<u64>,
-    /// The pools that got a loan at some time. The workers of some of them may weigh 0 again.
+    /// The pools whose workers got a weight by a loan. The workers of some of them may weigh 0
+    /// again.
     pub(crate) lenders: Vec<usize>,
     pub(crate) sketch: Sketch,
 }
 
-/// Makes loans until the total of the target is within its limit, or no further loan makes the
+/// Makes loans until the total is within the limit of the target, or no further loan makes the
 /// total smaller. Returns the resulting worker weights and their sketch.
 ///
-/// While the total is above its limit, one more pool becomes a lender: each of its workers gets the
+/// While the total is above the limit, one more pool becomes a lender: each of its workers gets the
 /// largest weight that a job of the pool has in its body, so that its queued jobs weigh less. Each
 /// time, the loan that gives the smallest total is chosen.
 ///
@@ -49,9 +51,9 @@ pub(crate) struct Loans {
 /// workers of one pool get the least weight with which fewer such classes are above the limit.
 ///
 /// A cache has the sketches of all combinations of worker weights that were tried, so none is
-/// computed twice. The largest weight of a lender's jobs comes from the sketch in which its workers
-/// weigh 0. For the last lender, this is the sketch before its loan. For another lender, it is
-/// often one that was tried and not chosen.
+/// computed twice. The largest weight of a lender's jobs comes from the sketch in which the
+/// lender's workers weigh 0. For the last lender, this is the sketch before its loan. For another
+/// lender, it is often a sketch that was tried and not chosen.
 pub(crate) fn minimize_total(
     alloc: Global,
     plan: &Plan,
@@ -84,7 +86,7 @@ pub(crate) fn minimize_total(
     })
 }
 
-/// Returns a vector for the target with a total within its limit, or `None` if the search finds
+/// Returns a vector for the target whose total is within the limit, or `None` if the search finds
 /// none.
 pub(crate) fn least_vector(
     alloc: Global,
@@ -105,8 +107,8 @@ pub(crate) fn least_vector(
     vector_of(alloc, plan, target, workers, &sketch)
 }
 
-/// Returns the next loan, or `None` if no loan helps. The sketch at `place` is that of the worker
-/// weights `workers`, which are unchanged afterwards.
+/// Returns the next loan, or `None` if no loan helps. `place` is the index of the sketch for
+/// `workers`. `workers` is modified during the call and restored before it returns.
 fn next_loan(
     sketch_cache: &mut SketchCache,
     workers: &mut [u64],
@@ -125,11 +127,12 @@ fn next_loan(
     }
 }
 
-/// Returns the loan that gives the smallest total, or `None` if no loan gives a total below that of
-/// the sketch at `place`. This sketch is that of the worker weights `workers`, which are unchanged
-/// afterwards.
+/// Returns the loan that gives the smallest total, or `None` if no loan makes the total smaller.
+/// `place` is the index of the sketch for `workers`. `workers` is modified during the call and
+/// restored before it returns.
 ///
-/// A loan is not tried if the workers alone would weigh as much as the smallest total found before.
+/// A loan is not tried if the workers alone would weigh at least as much as the smallest total
+/// found so far.
 fn best_loan(
     sketch_cache: &mut SketchCache,
     workers: &mut [u64],
@@ -172,8 +175,10 @@ fn best_loan(
     Ok(best)
 }
 
-/// Returns the largest weight that a job of the pool has in its body if the pool's workers and done
-/// jobs weigh 0. If its workers weigh 0 now, the sketch at `place` has this number.
+/// Returns the largest weight that a job of the pool has in its body if the workers and the done
+/// jobs of the pool weigh 0. Uses the sketch at `place` if the workers weigh 0 in it. `place` is
+/// the index of the sketch for `workers`. `workers` is modified during the call and restored before
+/// it returns.
 fn peak(
     sketch_cache: &mut SketchCache,
     workers: &mut [u64],

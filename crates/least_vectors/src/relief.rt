@@ -13,9 +13,9 @@ use std::alloc::AllocError;
 const HALVINGS: usize = 20;
 
 /// Returns the loan after which the fewest classes that are never submitted have a weight above the
-/// limit. If several loans are equal in this, returns the one with the least weight of all workers.
-/// Returns `None` if no loan leaves fewer such classes than the sketch at `place` has. This sketch
-/// is that of the worker weights `workers`, which are unchanged afterwards.
+/// limit. Among several such loans, returns the one with the least weight of all workers in total.
+/// Returns `None` if no loan makes the number of these classes smaller. `place` is the index of the
+/// sketch for `workers`. `workers` is modified during the call and restored before it returns.
 pub(crate) fn relieving_loan(
     sketch_cache: &mut SketchCache,
     workers: &mut [u64],
@@ -62,9 +62,9 @@ pub(crate) fn relieving_loan(
     Ok(best)
 }
 
-/// Returns the least weight of the pool's workers with which at most `overweight_unsubmitted`
-/// classes that are never submitted are above the weight limit. Bisection finds it, because heavier
-/// workers never leave more such classes above the limit.
+/// Returns the least weight of a worker of the pool with which at most `overweight_unsubmitted`
+/// classes that are never submitted have a weight above the limit. Uses bisection, which is correct
+/// because heavier workers never leave more such classes above the limit.
 fn least_weight(
     sketch_cache: &SketchCache,
     workers: &mut [u64],

@@ -18,15 +18,15 @@ use weights::Vector;
 pub struct VectorSummary {
     /// The weight of a worker of each pool.
     pub workers: Vec<u64>,
-    /// The pools whose workers had weight at some time in the search. For other maximums, the
-    /// search gives the same result if the maximums of these pools are equal and those of the other
-    /// pools are not smaller.
+    /// The pools whose workers had weight at some time in the search. With other maximums, the
+    /// search gives the same result if these pools keep their maximums and no other pool has a
+    /// smaller one.
     pub lenders: Vec<usize>,
     /// The total of the vector.
     pub total: u64,
 }
 
-/// The kind of a vector of a pool. It does not depend on the core and the queue of the pool.
+/// The kind of a vector of a pool, which is independent of the core and the queue of the pool.
 #[derive(Clone, Copy)]
 pub enum Kind<'a> {
     /// A standing vector. The workers of each pool may have weight.
@@ -34,7 +34,7 @@ pub enum Kind<'a> {
     /// A lifetime vector. No workers have weight.
     Lifetime,
     /// A blocked vector, for this rank of the pool. The workers of the pool itself never have
-    /// weight: the maximum of them would weigh at least core, but the total must be below core.
+    /// weight: together they would weigh at least core, but the total must be below core.
     Blocked {
         /// The reach of each class.
         reach: &'a [u64],

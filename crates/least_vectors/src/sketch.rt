@@ -9,8 +9,8 @@ use job_bodies::{Action, Class, Client, MAX_WEIGHT, Plan};
 use std::alloc::{AllocError, Global};
 use weights::submitted_class;
 
-/// The total of a sketch without a vector: a weight is above the limit, or a client that repeats
-/// would need ever more weight. A total that overflows is this number too.
+/// The total of a sketch for which no vector exists, because a weight is above the limit or a
+/// client that repeats would need ever more weight. A total that overflows is also this number.
 pub(crate) const TOO_HEAVY: u64 = u64::MAX;
 
 /// The parts of a vector that determine its total, without the weights at the positions of bodies.
@@ -22,8 +22,8 @@ pub(crate) struct Sketch {
     pub(crate) done: Vec<u64>,
     /// The weight of a client of each kind at the start of its body.
     pub(crate) starts: Vec<u64>,
-    /// For each pool, the largest weight that a job has in its body if its done jobs weigh 0. Jobs
-    /// of classes that are never submitted are ignored.
+    /// For each pool, the largest weight that a job of the pool has in its body if the done jobs of
+    /// the pool weigh 0. Jobs of classes that are never submitted are ignored.
     pub(crate) peaks: Vec<u64>,
     /// The weight of all workers in total.
     pub(crate) on_loan: u64,
@@ -65,8 +65,8 @@ impl Sketch {
     }
 
     /// Computes the weights of a queued and of a done job of the class. A done job gets the
-    /// greatest weight that its body allows, since a get then returns more to its actor, but no
-    /// more than a queued job.
+    /// greatest weight that its body allows, because a get then returns more to its actor. It never
+    /// weighs more than a queued job.
     fn weigh_class(
         &mut self,
         target: &Target,

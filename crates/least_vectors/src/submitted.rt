@@ -1,10 +1,10 @@
-//! The classes that clients submit, directly or through jobs of other classes.
+//! The classes that clients submit, directly or through other jobs.
 
 use job_bodies::{Action, Plan};
 use std::alloc::{AllocError, Global};
 
-/// Returns, for each class, whether a client submits it, directly or through jobs of other classes.
-/// In `order`, each class must come after all classes that it submits.
+/// Returns, for each class, whether clients submit it, directly or through other jobs. In `order`,
+/// each class must come after all classes that it submits.
 pub(crate) fn submitted_classes(
     alloc: Global,
     plan: &Plan,

@@ -9,19 +9,18 @@ use weights::submitted_class;
 pub(crate) enum WeightRequirement<'a> {
     /// While the job is queued, as in a standing vector.
     WhileQueued,
-    /// At each get of a job whose class has at least this rank as its reach, as in a blocked
-    /// vector.
+    /// At each get of a job of a class whose reach is at least `rank`, as in a blocked vector.
     AtGets {
         /// The reach of each class.
         reach: &'a [u64],
         rank: u64,
     },
-    /// At every point, including done, as in a lifetime vector. A get then returns no weight to its
-    /// actor, and workers weigh 0.
+    /// At every point, also when the job is done, as in a lifetime vector. A get then returns no
+    /// weight to its actor, and workers weigh 0.
     Everywhere,
 }
 
-/// The pools whose workers may have weight, so that their queued jobs can weigh less.
+/// The pools whose workers may have weight, so that queued jobs of these pools can weigh less.
 #[derive(Clone, Copy, PartialEq, Eq)]
 pub(crate) enum Lenders {
     /// All pools.
@@ -43,7 +42,7 @@ pub(crate) struct Target<'a> {
     pub(crate) limit: u64,
     /// The pools whose workers may have weight.
     pub(crate) lenders: Lenders,
-    /// The maximum of each pool, or `None` if these are the plan's.
+    /// The maximum of each pool, or `None` if the plan's maximums are used.
     pub(crate) maxes: Option<&'a [u64]>,
 }
 

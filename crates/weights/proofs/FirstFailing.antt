@@ -26,7 +26,7 @@ passing_row_extends rows x holds = first_failing-append rows (x ∷ []) ∙ rw h
     or_else_none None = refl
     or_else_none (Some x) = refl
 
--- if a list has a failing row, a row appended to it does not change the first one
+-- if a list has a failing row, appending a row does not change the first failing row
 pub found_before : (rows : List Row) (x y : Row) → first_failing rows ≡ Some y → first_failing (rows ++ x ∷ []) ≡ Some y
 found_before rows x y found = first_failing-append rows (x ∷ []) ∙ rw found refl
 

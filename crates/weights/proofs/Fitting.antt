@@ -26,19 +26,19 @@ pub record Fits (plan : Plan) (v : Vector) : Type 0 where
   pub small_class : (k i : ℕ) → slice_index (class_weights v k) i ≤ MAX_WEIGHT
   pub small_client : (c i : ℕ) → slice_index (client_weights v c) i ≤ MAX_WEIGHT
 
--- if all numbers of a list are at most MAX_WEIGHT, each of them is
+-- if all numbers of a list are at most MAX_WEIGHT, so is the number at each index
 pub small_in : (xs : List ℕ) (i : ℕ) → list_all is_small xs ≡ true → slice_index xs i ≤ MAX_WEIGHT
 small_in [] i small = omega arith
 small_in (x ∷ xs) zero small = leb-true x MAX_WEIGHT (and_parts _ _ small).0
 small_in (x ∷ xs) (suc i) small = small_in xs i (and_parts (is_small x) _ small).1
 
--- if all numbers of all rows are at most MAX_WEIGHT, each of them is
+-- if all numbers of all rows are at most MAX_WEIGHT, so is the number at each index of each row
 small_at : (rows : List (List ℕ)) (k i : ℕ) → list_all (list_all is_small) rows ≡ true → slice_index (slice_index_or rows k []) i ≤ MAX_WEIGHT
 small_at [] k i small = omega arith
 small_at (row ∷ rows) zero i small = small_in row i (and_parts (list_all is_small row) _ small).0
 small_at (row ∷ rows) (suc k) i small = small_at rows k i (and_parts (list_all is_small row) _ small).1
 
--- each element of a list passes, with its index, a test that `list_all` says all elements pass with their indices
+-- if `list_all` holds for a test of pairs of an index and an element, each element of the list passes it with its index
 passed_at : {X : Type 0} (test : ℕ × X → Bool) (xs : List X) (i : ℕ) (d : X) → list_all test (enumerate_from 0 xs) ≡ true → i < length xs → test (i, get_or xs i d) ≡ true
 passed_at test xs i d all inside =
     let found : test (0 + i, get_or xs i d) ≡ true = list_all_enumerated test 0 xs i _ all (slice_get-get_or xs i d inside) in
@@ -74,7 +74,7 @@ pub record ClassFits (plan : Plan) (v : Vector) (k : ℕ) (class : Class) : Type
   pub small_worker : workers_weight v class.pool ≤ MAX_WEIGHT
   pub is_class : class_at plan k ≡ class
 
--- the weights of a job of class k at its positions are its weights without the first one, which is that of a queued job
+-- the weights of a job of class k at its positions are the weights of the class without the first one, which is the weight of a queued job
 pub at_position : (v : Vector) (k i : ℕ) → slice_index (drop 1 (class_weights v k)) i ≡ job_weight v k i
 at_position v k i =
     let swapped : 1 + i ≡ i + 1 = omega arith in
@@ -105,7 +105,7 @@ class_fits plan v k class well all here =
       is_class = same;
     }
 
--- the last of the weights of class k is that of a done job
+-- the last weight of class k is the weight of a done job
 pub last_is_done : (plan : Plan) (v : Vector) (k : ℕ) → IsTrue (vector_fits plan v) → k < length plan.classes → slice_index (class_weights v k) (length (class_weights v k) - 1) ≡ done_weight plan v k
 last_is_done plan v k all inside =
     let long = (fits plan v all).class k inside in

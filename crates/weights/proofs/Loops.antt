@@ -29,11 +29,12 @@ fails_here test xs i x all inside here fails prior =
 pub passes_all : {X : Type 0} (test : ℕ × X → Bool) (xs : List X) (i : ℕ) (all : Bool) → length xs ≤ i → list_all test (enumerate_from i (drop i xs)) ≡ all → true ≡ all
 passes_all {X} test xs i all past prior = sym (at_drop_all (λ (ys : List X). list_all test (enumerate_from i ys)) xs i past) ∙ prior
 
--- the images of the elements from i on pass exactly when that of the element at i does and those from i + 1 on do
+-- the images of the elements from i on all pass exactly when the image of the element at i passes and those of the elements from i + 1 on
+-- all pass
 pub images_turn : {X Y : Type 0} (test : Y → Bool) (view : X → Y) (xs : List X) (i : ℕ) (d : X) → i < length xs → list_all test (map view (drop i xs)) ≡ (test (view (get_or xs i d)) && list_all test (map view (drop (i + 1) xs)))
 images_turn {X} test view xs i d inside = at_drop_more (λ (ys : List X). list_all test (map view ys)) xs i d inside
 
--- after the term of one more element was added, the sum and the remaining terms have the same total
+-- adding the term of one more element to the sum does not change the total of the sum and the remaining terms
 pub sum_more : {X : Type 0} (f : ℕ × X → ℕ) (xs : List X) (i : ℕ) (x : X) (sum all : ℕ) → i < length xs → x ≡ get_or xs i x
     → sum + sum_by f (enumerate_from i (drop i xs)) ≡ all → sum + f (i, x) + sum_by f (enumerate_from (i + 1) (drop (i + 1) xs)) ≡ all
 sum_more f xs i x sum all inside here prior =

@@ -73,7 +73,7 @@ pub counted_at : (plan : Plan) (ranks : Ranks) (k : ℕ) (class : Class) (i : �
 counted_at plan ranks k class i action same here =
     ap (λ (c : Class). is_counted_action plan ranks k (slice_get c.body i)) same ∙ ap (is_counted_action plan ranks k) here
 
--- b ≤ a exactly when a < b does not hold
+-- `leb b a` is the negation of `ltb a b`
 not_below : (a b : ℕ) → leb b a ≡ not (ltb a b)
 not_below a b = elim (cases_lt a b) [
   | inl below ↦ lt-leb b a below ∙ sym (ap not (lt-ltb a b below))

@@ -10,7 +10,7 @@ use Rattle.weights.specs.Visits.{Visits}
 pub visits_none : {S : Type 0} (has_seen : S → List Row → Type 0) (old : S) → Visits has_seen old old []
 visits_none has_seen old = record { extends = λ before seen. subst (has_seen old) (sym (append-nil before)) seen }
 
--- two walks in order are one walk over the rows of the first and then those of the second
+-- two walks in order are one walk over the rows of the first walk and then those of the second
 pub visits_then : {S : Type 0} (has_seen : S → List Row → Type 0) (old now new : S) (xs ys : List Row) → Visits has_seen old now xs → Visits has_seen now new ys → Visits has_seen old new (xs ++ ys)
 visits_then has_seen old now new xs ys first second =
     record { extends = λ before seen. subst (has_seen new) (append_assoc before xs ys) (second.extends (before ++ xs) (first.extends before seen)) }
@@ -53,12 +53,12 @@ pub walk_ends : {S X : Type 0} (has_seen : S → List Row → Type 0) (old new :
 walk_ends has_seen old new rows_at xs i past walked =
     visits_same has_seen old new _ _ (ap (λ (ys : List _). all_rows rows_at 0 ys) (take_all i xs past)) walked.prior
 
--- the rows of all elements, if each element has one
+-- if each element has one row, the rows of a list are its elements mapped to their rows
 pub one_each : {X : Type 0} (f : X → Row) (xs : List X) → flat_map (λ x. f x ∷ []) xs ≡ map f xs
 one_each f [] = refl
 one_each f (x ∷ xs) = ap (λ (rows : List Row). f x ∷ rows) (one_each f xs)
 
--- the rows of all elements, if those of elements that fail the test are left out, are those of the elements that pass
+-- without the rows of the elements that fail a test, the rows of a list are those of the elements that pass
 pub of_passing : {X : Type 0} (test : X → Bool) (f : X → List Row) (xs : List X) → flat_map (λ x. if test x then f x else []) xs ≡ flat_map f (filter test xs)
 of_passing test f [] = refl
 of_passing test f (x ∷ xs) =
@@ -68,7 +68,7 @@ of_passing test f (x ∷ xs) =
       | false ↦ of_passing test f xs
     ]
 
--- the rows of all elements, if each element has one that does not depend on its index
+-- if each element has one row, which does not depend on the index, the rows of a list are its elements mapped to their rows
 pub one_each_placeless : {X : Type 0} (f : X → Row) (n : ℕ) (xs : List X) → all_rows (λ _ x. f x ∷ []) n xs ≡ map f xs
 one_each_placeless f n [] = refl
 one_each_placeless f n (x ∷ xs) = ap (λ (rows : List Row). f x ∷ rows) (one_each_placeless f (n + 1) xs)

@@ -1,4 +1,4 @@
--- A body, and the weights of its actor at each position of it.
+-- A body, and the weight of its actor at each position.
 use Rattle.std.specs.Prelude.{◌≤◌, ◌<◌, ℕ, List, length, slice_index}
 use Rattle.job_bodies.specs.declared.action.Action.{Action}
 use Rattle.job_bodies.specs.Plan.{Plan}

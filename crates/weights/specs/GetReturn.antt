@@ -17,7 +17,7 @@ abbrev pub returned_weight : GetReturn → Plan → Vector → ℕ → ℕ
 returned_weight DoneWeight plan v k = done_weight plan v k
 returned_weight NoWeight plan v k = 0
 
--- the weight that a job of class k still has after its get
+-- the weight that a job of class k still has after it was got
 abbrev pub claimed_weight : GetReturn → Plan → Vector → ℕ → ℕ
 claimed_weight DoneWeight plan v k = 0
 claimed_weight NoWeight plan v k = done_weight plan v k

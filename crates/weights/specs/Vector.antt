@@ -52,7 +52,7 @@ has_small_numbers v = list_all is_small v.workers && list_all (list_all is_small
 abbrev pub vector_fits : Plan → Vector → Bool
 vector_fits plan v = has_shape plan v && has_small_numbers v
 
--- the total of a vector: the weight of all clients at position 0 and of the maximum of workers of each pool
+-- the total of a vector: the weight of all clients at position 0, plus the weight of all workers if each pool has its maximum of them
 abbrev pub total : Plan → Vector → ℕ
 total plan v =
     sum_by (λ entry. entry.1.count * client_weight v entry.0 0) (enumerate_from 0 plan.clients)

@@ -1,4 +1,4 @@
--- What a walk over rows does to its visitor.
+-- The change of a visitor by a walk over rows.
 use Rattle.std.specs.Prelude.{List, ◌++◌}
 use Rattle.weights.specs.declared.row.Row.{Row}
 

@@ -33,7 +33,7 @@ impl BodyOwner {
     }
 }
 
-/// A body, and the weights of its actor at each position of it.
+/// A body, and the weight of its actor at each position.
 #[derive(Clone, Copy)]
 pub(crate) struct Body<'a> {
     pub(crate) actor: BodyOwner,

@@ -11,7 +11,7 @@ use crate::lifetime::lifetime_limit;
 use crate::{RowVisitor, StandingFault, Vector};
 use job_bodies::Plan;
 
-/// The vector that shows that a pool never refuses a job.
+/// A vector that shows that a pool never refuses a job.
 #[derive(Debug, Drop)]
 pub enum Bound {
     /// A standing vector: the number of queued jobs never exceeds the capacity of the queue.

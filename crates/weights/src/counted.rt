@@ -2,10 +2,11 @@
 
 ghost use Rattle.std.specs.Prelude.{◌≡◌, ℕ, Bool};
 
-/// A rule that decides which gets are counted. The blocked vector of a pool gives its jobs weight
-/// at counted gets. A get that is not counted waits for a job that always makes progress.
+/// A rule that decides which gets are counted. The blocked vector of a pool gives the jobs of the
+/// pool weight at counted gets. A get that is not counted waits for a job that always makes
+/// progress.
 pub trait Counted {
-    // Whether the rule decides the get at this position of this class.
+    // Whether the rule has an answer for this position of this class.
     ghost Answers: { Self → ℕ → ℕ → Type 0 };
 
     // Whether the action at this position of this class is a counted get.

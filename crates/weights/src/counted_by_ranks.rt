@@ -28,7 +28,8 @@ fn is_counted_in(plan: &Plan, ranks: &Ranks, number: usize, class: &Class, posit
 
 impl Ranks {
     /// Returns whether the action at `position` of the class is a counted get. A get is counted
-    /// unless the reach of the class of its job is below the rank of the pool of this class.
+    /// unless the job that it gets is of a class whose reach is below the rank of this class's
+    /// pool.
     pub fn is_counted(&self, plan: &Plan, class: usize, position: usize) -> bool
         requires fits { IsTrue (spec.ranks_fit plan.now self.now) }
         requires class { class < length plan.now.classes }
@@ -39,7 +40,7 @@ impl Ranks {
     }
 }
 
-/// A plan with ranks that fit it, which decide which gets of the plan are counted.
+/// A plan with ranks that fit it. The ranks decide which gets of the plan are counted.
 #[derive(Clone, Copy)]
 pub struct RanksOf<'a> {
     pub plan: &'a Plan,

@@ -5,7 +5,7 @@ ghost use Rattle.weights.specs.GetReturn.{get_rule};
 
 use crate::Rule;
 
-/// The weight of a done job that a get gives its actor.
+/// The part of a done job's weight that a get gives its actor.
 #[derive(Clone, Copy, PartialEq, Eq)]
 pub enum GetReturn {
     /// The whole weight of the done job, as in standing and blocked vectors.

@@ -18,7 +18,7 @@ use job_bodies::{Action, Class, Plan};
 pub type RankFault = Row;
 
 /// Returns row K2 of the get at `position` of class `number`: the reach of the class is at least
-/// the reach of the class of the job.
+/// the reach of the class of the job that it gets.
 fn get_row(
     plan: &Plan,
     ranks: &Ranks,

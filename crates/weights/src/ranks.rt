@@ -16,7 +16,7 @@ pub struct Ranks {
     /// The reach of each class: at least the rank of its pool and the reach of each class whose
     /// jobs it gets.
     pub reach: Vec<u64>,
-    /// The level of each class: above that of each class that it submits.
+    /// The level of each class, which is above the level of each class that it submits.
     pub levels: Vec<u64>,
 }
 

@@ -27,22 +27,22 @@ pub enum Rule {
     V6,
     /// A client that repeats weighs at its end at least as much as at its start.
     V7,
-    /// The weight of a queued job of the pool in its standing vector is at least 1.
+    /// In the standing vector of a pool, a queued job of the pool weighs at least 1.
     S1,
-    /// The total of the standing vector is at most the capacity of the queue.
+    /// The total of the standing vector of a pool is at most the capacity of the pool's queue.
     S2,
-    /// The weight of each worker in a lifetime vector is 0.
+    /// In a lifetime vector, each worker weighs 0.
     L1,
-    /// The weight of a job of the pool in its lifetime vector is at least 1 at every point.
+    /// In the lifetime vector of a pool, a job of the pool weighs at least 1 at every point.
     L2,
-    /// The total of the lifetime vector is at most the number of jobs that the queue and the
-    /// threads of the pool have room for.
+    /// The total of the lifetime vector of a pool is at most the number of jobs that the queue and
+    /// the threads of the pool have room for.
     L3,
-    /// A get does not increase the weight of its actor in a lifetime vector.
+    /// In a lifetime vector, a get does not increase the weight of its actor.
     L5,
-    /// The weight of a job of the pool at a counted get in its blocked vector is at least 1.
+    /// In the blocked vector of a pool, a job of the pool weighs at least 1 at each counted get.
     B1,
-    /// The total of the blocked vector is less than core.
+    /// The total of the blocked vector of a pool is less than core.
     B2,
 }
 

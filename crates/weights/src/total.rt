@@ -1,5 +1,5 @@
-//! The total of a vector: the weight of all clients at their start and of the maximum of workers of
-//! each pool.
+//! The total of a vector: the weight of all clients at their start, plus the weight of all workers
+//! if each pool has its maximum of them.
 
 ghost use Rattle.std.specs.Prelude.{◌≡◌, ◌≤◌, ◌*◌, sum_by, IsTrue};
 ghost use Rattle.std.specs.List.{enumerate_from};
@@ -40,8 +40,8 @@ fn workers_total(plan: &Plan, vector: &Vector) -> u64
 }
 
 impl Vector {
-    /// Returns the total of the vector: the weight of all clients at their start and of the maximum
-    /// of workers of each pool. The sum never overflows.
+    /// Returns the total of the vector: the weight of all clients at their start, plus the weight
+    /// of all workers if each pool has its maximum of them. The sum never overflows.
     pub fn total(&self, plan: &Plan) -> u64
         requires { IsTrue (spec.vector_fits plan.now self.now) }
         ensures { result ≡ spec.total plan.now self.now }

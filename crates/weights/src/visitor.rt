@@ -10,7 +10,7 @@ use crate::{Row, RowFault};
 /// A visitor of a list of rows. One walk over the conditions of a certificate serves a visitor that
 /// finds the first failing row, and another that lists all rows.
 pub trait RowVisitor {
-    // The state of the visitor is that after exactly these rows.
+    // The visitor has seen exactly these rows, in this order.
     ghost HasSeen: { Self → List FirstFailing → Type 0 };
 
     /// Processes the next row.

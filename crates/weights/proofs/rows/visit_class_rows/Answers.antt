@@ -12,7 +12,7 @@ use Rattle.weights.proofs.Walks.{visits_then, visits_same}
 use Rattle.weights.proofs.Fitting.{class_fits, at_positions}
 use Rattle.weights.proofs.rows.visit_class_rows.Goals as goal
 
--- taking as many elements as there are after the first one takes all of these
+-- a list without its first element has one element less, so taking that many elements of it takes all
 behind_first : (xs : List ℕ) → take (length xs - 1) (drop 1 xs) ≡ drop 1 xs
 behind_first xs =
     let shorter = length-drop 1 xs in

@@ -1,4 +1,4 @@
--- The loop of `workers_total`: the sum computed until now plus the remaining terms is the total.
+-- The loop of `workers_total`: the sum so far plus the remaining terms is the total.
 use Rattle.std.proofs.Common.{◌≡◌, ◌≤◌, ◌+◌, ◌*◌, drop}
 use Rattle.std.specs.Prelude.{sum_by}
 use Rattle.std.specs.List.{enumerate_from}
