@@ -42,7 +42,7 @@ new_done count j there = grind arith
 new_settled : (count j : ℕ) (there : Option JobState) → (nat_lt j (count + 1) && settled_there (if count == j then Some new_job else there)) ≡ (nat_lt j count && settled_there there)
 new_settled count j there = grind arith
 
--- the stored property of job j after one more job was submitted, which has the next number
+-- a stored property of job j, after a job with the next number was submitted
 reported_after : (tell : Option JobState → Bool) (same : Bool) (last_submit : Option ℕ) (count job submitted j : ℕ) (there new : Option JobState)
     → ((x : Option JobState) → tell (if same then option_map (with_last_submit last_submit) x else x) ≡ tell x)
     → (nat_lt j (count + 1) && tell (if count == j then Some new_job else there)) ≡ (nat_lt j count && tell there)

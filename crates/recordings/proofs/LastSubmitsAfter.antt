@@ -65,7 +65,7 @@ start_offers true None = refl
 start_offers true (Some state) = refl
 start_offers false there = refl
 
--- a new job changes neither the last submit of job i nor that job i has an entry
+-- a new job changes neither the last submit of job i nor whether job i has an entry
 new_offers : (old : TraceValidator) (before : List RecordedLine) (i job : ℕ) → Represents old before → job ≡ old.jobs.submitted → last_submit_in (if job == i then Some new_job else job_at old.jobs i) ≡ last_submit_in (job_at old.jobs i)
 new_offers old before i job s next = grind (arith, s.unsubmitted i, next)
 

@@ -15,7 +15,7 @@ gets place (Gets got) = got == place
 gets place (Submits job) = false
 
 -- ---- the index of a submit
--- the index of the last submit in a path, from whether the first action is one and from the index in the rest of the path
+-- the index of the last submit of a job in a path, given whether the first action is one, and the index in the rest of the path
 abbrev pub place_on : Bool → Option ℕ → Option ℕ
 place_on here (Some place) = Some (place + 1)
 place_on true None = Some 0

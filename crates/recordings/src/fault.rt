@@ -15,7 +15,7 @@ pub enum FaultReason {
     LineRule(LineRule),
 }
 
-/// Formats the fault as a phrase, such as `it has none of the forms of a line`.
+/// Formats the reason as a phrase, such as `not one of the line forms in docs/RECORDING.md`.
 impl fmt::Display for FaultReason {
     ghost output = { λ reason. Some (reason_text reason) };
 

@@ -25,7 +25,8 @@ impl InvalidationEntry {
         !self.pending && is_same_type(self.invalidation.event, event)
     }
 
-    /// Returns true if this line discards the pending event, because it repeats the actor's get.
+    /// Returns true if the event is pending and this line discards it, because the line repeats the
+    /// actor's get.
     pub(crate) fn is_excused_by(self, line: &Line<'_>) -> bool
         ensures { result ≡ stored.is_excused_by (line_view line.now) self }
     {
