@@ -1,1 +1,2 @@
+mod EntryPlaces
 mod InOrder

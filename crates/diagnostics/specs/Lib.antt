@@ -1,2 +1,3 @@
 pub mod Diagnostic
 pub mod Lints
+pub mod PlanPlaces

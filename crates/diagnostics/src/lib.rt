@@ -10,6 +10,7 @@ mod bodies;
 mod collector;
 mod diagnostic;
 mod entry;
+mod entry_places;
 mod lint;
 mod lint_conditions;
 mod lints;
@@ -27,6 +28,7 @@ mod warning_words;
 mod warnings;
 
 pub use diagnostic::{Diagnostic, Faults, push_faults};
+pub use entry_places::{BodyPlaces, PlanPlaces, PoolPlaces, plan_places};
 pub use lint::Lint;
 pub use plan_faults::faults_of;
 pub use warning_lines::push_warnings;
