@@ -1,5 +1,6 @@
 //! The parsing of actions, and the messages for texts that are not actions.
 
+use crate::diagnostic::NumberRange;
 use crate::names::name_rule;
 use crate::suggestions::suggestion;
 use job_bodies::{MAX_WORK, is_valid_name};
@@ -62,6 +63,22 @@ fn is_length(text: &str) -> bool {
     match text.parse::<u32>() {
         Ok(units) => 1 <= units && u64::from(units) <= MAX_WORK,
         Err(_) => false,
+    }
+}
+
+/// Returns the range of the length of a `work`, if the text is a `work` with another length.
+pub(crate) fn range_of_work(text: &str) -> Option<NumberRange> {
+    let Words {
+        words: [verb, ..],
+        count,
+    } = words_of(text);
+    if verb == "work" && count > 1 && !is_spaced(text) {
+        Some(NumberRange {
+            low: 1,
+            high: MAX_WORK,
+        })
+    } else {
+        None
     }
 }
 

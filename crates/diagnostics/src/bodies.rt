@@ -1,8 +1,9 @@
 //! The checks of bodies: each action is well-formed, each submit names an existing class, and each
 //! get names a job that was submitted before and not got yet.
 
-use crate::actions::{ParsedAction, action_error, parse_action};
+use crate::actions::{ParsedAction, action_error, parse_action, range_of_work};
 use crate::collector::FaultCollector;
+use crate::diagnostic::NumberRange;
 use crate::entry::PlacedEntry;
 use crate::suggestions::{comma_list, suggestion};
 use std::alloc::{AllocError, Global};
@@ -36,8 +37,19 @@ impl CheckedAction<'_> {
         number: u8,
         words: &str,
     ) -> Result<(), AllocError> {
+        self.report_with_range(collector, number, words, None)
+    }
+
+    /// Reports a fault of the action, with the range of the number that is out of it.
+    fn report_with_range(
+        &self,
+        collector: &mut FaultCollector,
+        number: u8,
+        words: &str,
+        range: Option<NumberRange>,
+    ) -> Result<(), AllocError> {
         self.entry
-            .report_action(collector, self.action, number, self.text, words)
+            .report_action(collector, self.action, number, self.text, words, range)
     }
 }
 
@@ -77,7 +89,8 @@ fn check_action<'a>(
     match parse_action(checked.text) {
         None => {
             let words = action_error(collector.alloc, checked.text)?;
-            checked.report(collector, BAD_ACTION, &words)
+            let range = range_of_work(checked.text);
+            checked.report_with_range(collector, BAD_ACTION, &words, range)
         }
         Some(ParsedAction::Work) => Ok(()),
         Some(ParsedAction::Submit(class)) => check_submit(collector, checked, class, classes),

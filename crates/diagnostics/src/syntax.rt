@@ -23,6 +23,7 @@ pub(crate) fn not_text(
         fault: PlanFault::at_text(NOT_TOML),
         place: place_at(bytes, valid),
         what: String::from_str(alloc, what)?,
+        range: None,
     })
 }
 
@@ -44,6 +45,7 @@ pub(crate) fn not_toml(
         fault: PlanFault::at_text(NOT_TOML),
         place,
         what,
+        range: None,
     })
 }
 
