@@ -25,22 +25,21 @@ pub(crate) fn refusal(
 // Returns the text of the error.
 fn reason(alloc: Global, matches: &ArgMatches<'_>) -> Result<String, AllocError> {
     let Some((_, options)) = matches.subcommand() else {
-        return String::from_str(alloc, "no command");
+        return String::from_str(alloc, "a subcommand is required");
     };
-    let alias = is_set(options, "json") || is_set(options, "dot");
-    match text_of(options, "format") {
-        Some(name) if !alias && form_named(name).is_none() => format!(in alloc;
+    let format = text_of(options, "format");
+    let json = is_set(options, "json");
+    let dot = is_set(options, "dot");
+    if (json && dot) || (format.is_some() && (json || dot)) {
+        return String::from_str(
+            alloc,
+            "the arguments '--format <FORMAT>', '--json' and '--dot' exclude each other",
+        );
+    }
+    match format {
+        Some(name) if form_named(name).is_none() => format!(in alloc;
             "invalid value '{name}' for '--format <FORMAT>'\n  [possible values: text, json, dot, html, github, sarif]"
         ),
-        Some(_) if alias => exclusion(alloc),
-        None if is_set(options, "json") && is_set(options, "dot") => exclusion(alloc),
         _ => String::from_str(alloc, "'--certificate <FILE>' needs the name of a file"),
     }
-}
-
-fn exclusion(alloc: Global) -> Result<String, AllocError> {
-    String::from_str(
-        alloc,
-        "only one of the arguments '--format <FORMAT>', '--json' and '--dot' can be used",
-    )
 }
