@@ -1,6 +1,7 @@
 //! Help texts.
 
 use command_line::read_words;
+use std::alloc::Global;
 use std::test::*;
 
 /// Arguments, and texts that their help contains.
@@ -143,25 +144,27 @@ const REFUSED: &[(&[&str], &[&str])] = &[
 /// The help names the first steps, and that of each command its usage, its answers and its options.
 #[test]
 fn arguments_that_ask_for_help(rt: HostRuntime) -> Result<(), Fail> {
-    has_parts(rt, TABLE)
+    assert_eq!(rt; incomplete_error(rt.alloc(), TABLE)?, None);
+    Ok(())
 }
 
 /// The error for options of `ask` that `clap` accepts says what is wrong with them.
 #[test]
 fn arguments_that_ask_refuses(rt: HostRuntime) -> Result<(), Fail> {
-    has_parts(rt, REFUSED)
+    assert_eq!(rt; incomplete_error(rt.alloc(), REFUSED)?, None);
+    Ok(())
 }
 
-// Checks that each error has its parts.
-fn has_parts(rt: HostRuntime, table: &[(&[&str], &[&str])]) -> Result<(), Fail> {
+// Returns the first error that lacks one of its texts.
+fn incomplete_error(alloc: Global, table: &[(&[&str], &[&str])]) -> Result<Option<String>, Fail> {
     for (arguments, parts) in table.iter().copied() {
-        let Err(error) = read_words(rt.alloc(), arguments) else {
+        let Err(error) = read_words(alloc, arguments) else {
             return Err(Fail::from("the arguments are valid"));
         };
-        let text = format!(in rt.alloc(); "{error}")?;
-        for part in parts {
-            assert!(rt; text.as_str().contains(part), "{text}");
+        let text = format!(in alloc; "{error}")?;
+        if !parts.iter().all(|part| text.as_str().contains(*part)) {
+            return Ok(Some(text));
         }
     }
-    Ok(())
+    Ok(None)
 }
