@@ -9,3 +9,12 @@ pub mod Picture
 pub mod Waits
 pub mod Places
 pub mod Json
+pub mod EventRows
+pub mod EventSteps
+pub mod Performed
+pub mod EventRuns
+pub mod EventsShown
+pub mod JsonEvents
+pub mod JsonEnding
+pub mod WaitsSeen
+pub mod JsonWitness

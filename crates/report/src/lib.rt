@@ -2,11 +2,18 @@
 #![tactic(auto)]
 
 mod cause_lines;
+mod event_queues;
+mod event_steps;
 mod finding;
 mod json_answers;
+mod json_ending;
+mod json_event_parts;
+mod json_events;
 mod json_faults;
 mod json_pools;
+mod json_replay;
 mod json_sizes;
+mod json_values;
 mod json_warnings;
 mod json_witness;
 mod picture;
