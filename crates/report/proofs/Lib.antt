@@ -11,3 +11,4 @@ mod JobsFound
 mod ReplayLines
 mod WaitsShown
 mod Witnesses
+mod JsonLists

@@ -17,4 +17,10 @@ pub mod EventsShown
 pub mod JsonEvents
 pub mod JsonEnding
 pub mod WaitsSeen
+pub mod JsonPlaces
+pub mod JsonPlan
+pub mod JsonPools
+pub mod JsonSizes
+pub mod JsonFaults
+pub mod JsonWarnings
 pub mod JsonWitness
