@@ -4,7 +4,7 @@ use Rattle.std.proofs.Math.Seq.{drop-cons}
 use Rattle.std.proofs.lemmas.List.{take_more, take_all, drop_all}
 use Rattle.serde_json.specs.Data.{Data}
 use Rattle.job_bodies.specs.Plan.{Plan}
-use Rattle.diagnostics.specs.declared.plan_places.PlanPlaces.{PlanPlaces}
+use Rattle.diagnostics.specs.declared.entry_places.PlanPlaces.{PlanPlaces}
 use Rattle.report.specs.declared.event_steps.EventStep.{EventStep}
 use Rattle.report.specs.declared.json_events.OpenRun.{OpenRun}
 use Rattle.report.specs.EventRuns.{EventShown, Run, follows, runs_from, runs}

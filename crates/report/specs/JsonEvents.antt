@@ -4,8 +4,8 @@ use Rattle.serde_json.specs.Data.{Data, null, number, unsigned, string, array, o
 use Rattle.serde_json.specs.View.{items_of}
 use Rattle.job_bodies.specs.Plan.{Plan, pool_at, class_at, client_at}
 use Rattle.plan_text.specs.declared.place.TextPlace.{TextPlace}
-use Rattle.diagnostics.specs.declared.plan_places.PlanPlaces.{PlanPlaces}
-use Rattle.diagnostics.specs.declared.plan_places.BodyPlaces.{BodyPlaces}
+use Rattle.diagnostics.specs.declared.entry_places.PlanPlaces.{PlanPlaces}
+use Rattle.diagnostics.specs.declared.entry_places.BodyPlaces.{BodyPlaces}
 use Rattle.written_machine.specs.declared.event.Event.{Event}
 use Rattle.written_machine.specs.declared.event.Outcome.{Outcome}
 use Rattle.written_machine.specs.declared.event.Outcome.TheVariants.{Started, Queued, Refused, Worked, Got, Looped, Finished, Took, Retired}

@@ -2,7 +2,7 @@
 use Rattle.std.specs.Prelude.{map, codes}
 use Rattle.serde_json.specs.Data.{Data, string, object, member, no_members}
 use Rattle.job_bodies.specs.Plan.{Plan}
-use Rattle.diagnostics.specs.declared.plan_places.PlanPlaces.{PlanPlaces}
+use Rattle.diagnostics.specs.declared.entry_places.PlanPlaces.{PlanPlaces}
 use Rattle.event_lines.specs.EventLine.{Line}
 use Rattle.event_lines.specs.LineText.{line_text}
 use Rattle.counterexample.specs.declared.witness.Witness.{Witness}
