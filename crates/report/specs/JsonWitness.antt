@@ -24,6 +24,6 @@ witness_parts ending events replay =
     object (member (codes "ending") ending (member (codes "events") events (member (codes "replay") replay no_members)))
 
 -- how the witness ends, its events, and its lines
-abbrev pub witness_data : PlanPlaces → Plan → Witness → Data
+unfoldable pub witness_data : PlanPlaces → Plan → Witness → Data
 witness_data places plan witness =
     witness_parts (ending_data plan (state_at_end plan witness.events.items) witness.ending) (events_data places plan witness.events.items) (replay_data plan witness)

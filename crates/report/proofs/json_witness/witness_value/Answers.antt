@@ -10,11 +10,12 @@ use Rattle.report.specs.declared.event_steps.EventStep.{EventStep}
 use Rattle.report.specs.EventRuns.{runs}
 use Rattle.report.specs.EventsShown.{shown_from}
 use Rattle.report.specs.JsonEvents.{list_data, run_data, events_data}
-use Rattle.report.specs.JsonWitness.{witness_parts, replay_data}
+use Rattle.report.specs.JsonWitness.{witness_parts, replay_data, witness_data}
 use Rattle.report.proofs.Witnesses.{ending_whole, events_whole}
 use Rattle.report.proofs.json_witness.witness_value.Goals as goal
 
 pub returns : goal.returns
+unfolding witness_data
 returns c =
     let plan = c.args.plan.now in
     let places = c.args.places.now in
