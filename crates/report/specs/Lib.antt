@@ -24,3 +24,7 @@ pub mod JsonSizes
 pub mod JsonFaults
 pub mod JsonWarnings
 pub mod JsonWitness
+pub mod Annotations
+pub mod Remarks
+pub mod Github
+pub mod Sarif

@@ -1,10 +1,13 @@
 //! The report of `sizing ask`, as text and as JSON, and the lines of `sizing fit`.
 #![tactic(auto)]
 
+mod annotation;
+mod annotations;
 mod cause_lines;
 mod event_queues;
 mod event_steps;
 mod finding;
+mod github;
 mod json_answers;
 mod json_ending;
 mod json_event_parts;
@@ -24,7 +27,9 @@ mod json_warnings;
 mod json_witness;
 mod picture;
 mod safe;
+mod sarif;
 mod shares;
+mod size_annotations;
 mod size_laws;
 mod size_lines;
 mod text;
@@ -34,9 +39,11 @@ mod waits;
 
 pub use cause_lines::push_no_sizes;
 pub use finding::PlanFinding;
+pub use github::{fault_github, faults_github, finding_github};
 pub use json_answers::{fault_json, faults_json, finding_json};
 pub use picture::picture_of;
 pub use safe::{needed_places, total_of};
+pub use sarif::{fault_sarif, faults_sarif, finding_sarif};
 pub use shares::{Shares, shares_of};
 pub use size_laws::unchanged_sizes_are_the_declared_plan;
 pub use size_lines::push_sizes;
