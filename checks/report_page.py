@@ -4,9 +4,10 @@
     python3 checks/report_page.py               # checks the reports
     python3 checks/report_page.py --pictures    # also writes a picture of each to docs/pictures
 
-Each report is web/report.html with the answer of `sizing ask --json` to a plan. web/sample.py adds the outcomes of the events, which
-must be those that `sizing replay` prints. For each report:
+Each report is what `sizing ask --format html` writes for a plan. For each report:
 
+- its data are the answer of `sizing ask --format json`;
+- the outcomes of its events are those that `sizing replay` prints;
 - the console has no error, and the page makes no request to the network;
 - the expected texts are there, and nothing is wider than a window of 1,200 pixels, on screen and in print;
 - each text has a contrast of at least 4.5 to its background, in the light and in the dark colour scheme;
@@ -21,6 +22,7 @@ Exit status: 0 if all of this holds, 1 if not, 2 if there is no program.
 """
 
 import json
+import re
 import shutil
 import subprocess
 import sys
@@ -30,12 +32,10 @@ from typing import NamedTuple
 
 sys.dont_write_bytecode = True
 
-ROOT = Path(__file__).resolve().parent.parent
-sys.path.insert(0, str(ROOT / "web"))
-
 from asking import built_program
 from browser import Browser, installed
-from sample import page_of, whole_answer
+
+ROOT = Path(__file__).resolve().parent.parent
 
 
 class Sample(NamedTuple):
@@ -78,6 +78,8 @@ SAMPLES = [
         ["Pool ledger refuses a submit", "64 pools, 84 classes", "61 other pools", "84 kinds of submits"],
     ),
 ]
+# The data of a report.
+DATA = re.compile(r'<script id="answer" type="application/json">(.*?)</script>', re.S)
 WIDTH = 1200
 # The maximum height of a picture in pixels. The report below it is cut off.
 MOST_PIXELS = 1800
@@ -209,12 +211,17 @@ def picture(browser, sample, page):
         subprocess.run(["pngquant", "--force", "--strip", "--output", path, "64", path], check=True)
 
 
-def answer_of(program, sample):
-    """Returns the data of the report of a plan, and the lines of the events of its witness."""
-    plan = ROOT / sample.plan
-    ran = subprocess.run([program, "ask", "--json", plan], capture_output=True, text=True, timeout=SECONDS, check=False)
-    answer = json.loads(ran.stdout)
-    return whole_answer(plan.read_text(encoding="utf-8"), answer), answer["witness"]["events"] if answer["witness"] else []
+def asked(program, sample, form):
+    """Returns the answer to a plan in this format."""
+    words = [program, "ask", "--format", form, ROOT / sample.plan]
+    return subprocess.run(words, capture_output=True, text=True, encoding="utf-8", timeout=SECONDS, check=False).stdout
+
+
+def data_problems(sample, page, json_line):
+    """Yields a line if the data of the report are not the answer."""
+    found = DATA.search(page)
+    if not found or found[1] != json_line.rstrip("\n").replace("<", "\\u003c"):
+        yield f"{sample.name}: the data of the report are not the answer"
 
 
 def outcomes(answer):
@@ -233,10 +240,11 @@ def outcomes(answer):
                 yield outcome if event["job"] is None else f"{outcome} job {event['job'] + turn}"
 
 
-def replay_problems(program, sample, answer, events):
+def replay_problems(program, sample, answer):
     """Yields a line if the outcomes in the report differ from those of `sizing replay`."""
-    if not events:
+    if not answer["witness"]:
         return
+    events = answer["witness"]["replay"]
     text = (ROOT / sample.plan).read_text(encoding="utf-8") + "%%\n" + "".join(f"{event}\n" for event in events)
     ran = subprocess.run([program, "replay"], input=text, capture_output=True, text=True, timeout=SECONDS, check=False)
     found = [line.split(": ")[1] for line in ran.stdout.splitlines() if ": " in line and ": stuck" not in line]
@@ -254,9 +262,10 @@ def main(words):
     with tempfile.TemporaryDirectory(prefix="sizing-reports-") as folder, Browser(WIDTH, 900) as browser:
         for sample in SAMPLES:
             page = Path(folder) / f"{sample.name}.html"
-            answer, events = answer_of(program, sample)
-            page.write_text(page_of(answer), encoding="utf-8")
-            wrong += replay_problems(program, sample, answer, events)
+            html, json_line = asked(program, sample, "html"), asked(program, sample, "json")
+            page.write_text(html, encoding="utf-8")
+            wrong += data_problems(sample, html, json_line)
+            wrong += replay_problems(program, sample, json.loads(json_line))
             wrong += [f"{sample.name}: {each}" for each in problems(browser, sample, page)]
             if "--pictures" in words:
                 picture(browser, sample, page)
