@@ -28,3 +28,4 @@ pub mod Annotations
 pub mod Remarks
 pub mod Github
 pub mod Sarif
+pub mod Page
