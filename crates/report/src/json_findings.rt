@@ -97,7 +97,7 @@ fn witness_of(
     ensures { IfOk result (λ value. view value ≡ spec.witness_of places.now plan.now finding.now) }
 {
     match finding {
-        PlanFinding::NotSafe(witness, _) => witness_value(alloc, places, plan, witness),
+        PlanFinding::NotSafe(witness, _) => witness_value(alloc, plan, places, witness),
         PlanFinding::Safe(_) | PlanFinding::NotDecided(_) => Ok(Value::Null),
     }
 }
