@@ -1,6 +1,8 @@
--- The possible answers of `ask` to an input, and the certificate that it leaves. This is a relation: it does not fix which
--- certificate, witness or sizes are found, or that some are, nor the wording of faults and of a witness's story.
+-- The possible answers of `ask` to an input, and the certificate that it leaves. `file` is the name of the plan's file in
+-- messages. This is a relation: it does not fix which certificate, witness or sizes are found, or that some are, nor the wording
+-- of faults and of a witness's story.
 use Rattle.std.specs.Prelude.{◌≡◌, ℕ, nat_lt, Bool, true, false, not, ◌&&◌, ◌==◌, if◌then◌else◌, List, [], ◌∷◌, ◌++◌, length, codes, decimal, Option, Some, None, IfSome, Result, Ok, Err, option_map, IsTrue, MatchBool}
+use Rattle.clap.specs.Words.{Text}
 use Rattle.job_bodies.specs.Plan.{Plan}
 use Rattle.job_bodies.specs.declared.fault.PlanFault.{PlanFault}
 use Rattle.plan_text.specs.PlanOf.{plan_of}
@@ -37,9 +39,8 @@ use Rattle.sizing_cli.specs.SafeInput.{IsSafePlan}
 
 -- ---- faults
 
--- the text reports the faults of a plan's text, under some file name, and the first one is this
-pub record TellsFault (fault : PlanFault) (text : List ℕ) : Type 0 where
-  pub file : List ℕ
+-- the text reports the faults of a plan's text, under the file's name, and the first one is this
+pub record TellsFault (file : Text) (fault : PlanFault) (text : List ℕ) : Type 0 where
   pub faults : Faults
   pub is_first : faults.first.fault ≡ fault
   pub text_is : text ≡ faults_text file faults
@@ -54,18 +55,18 @@ pub record TellsCertFault (fault : CertFault) (text : List ℕ) : Type 0 where
   pub text_is : text ≡ words ++ fault_number fault.number
 
 -- a fault of the text is never reported as a picture
-abbrev pub TellsFaultIn : Form → PlanFault → List ℕ → Type 0
-TellsFaultIn Words fault text = TellsFault fault text
-TellsFaultIn Json fault text = json.TellsFault fault.number text
-TellsFaultIn Dot fault text = TellsFault fault text
+abbrev pub TellsFaultIn : Form → Text → PlanFault → List ℕ → Type 0
+TellsFaultIn Words file fault text = TellsFault file fault text
+TellsFaultIn Json file fault text = json.TellsFault fault.number text
+TellsFaultIn Dot file fault text = TellsFault file fault text
 
 abbrev pub TellsCertFaultIn : Form → CertFault → List ℕ → Type 0
 TellsCertFaultIn Words fault text = TellsCertFault fault text
 TellsCertFaultIn Json fault text = json.TellsFault fault.number text
 TellsCertFaultIn Dot fault text = TellsCertFault fault text
 
-pub record AnswersFault (form : Form) (fault : PlanFault) (answer : Answer) : Type 0 where
-  pub tells : TellsFaultIn form fault answer.text
+pub record AnswersFault (form : Form) (file : Text) (fault : PlanFault) (answer : Answer) : Type 0 where
+  pub tells : TellsFaultIn form file fault answer.text
   pub status : answer.status ≡ BadText
 
 pub record AnswersCertFault (form : Form) (fault : CertFault) (answer : Answer) : Type 0 where
@@ -107,24 +108,23 @@ pub record AreWarnings (plan : Plan) (finding : PlanFinding) (stale : Bool) (war
   pub are_lints : AreLints plan (needed_of plan finding) lints
   pub warned : lints_in warnings ≡ lints ++ stale_if stale
 
--- the text reports the warnings, under some file name, and then the finding
-pub record TellsFinding (plan : Plan) (warnings : List Warning) (finding : PlanFinding) (text : List ℕ) : Type 0 where
-  pub file : List ℕ
+-- the text reports the warnings, under the file's name, and then the finding
+pub record TellsFinding (file : Text) (plan : Plan) (warnings : List Warning) (finding : PlanFinding) (text : List ℕ) : Type 0 where
   pub words : List ℕ
   pub tells : Tells plan finding words
   pub text_is : text ≡ warnings_text file warnings ++ words
 
 -- the finding in lines, as a JSON object, or as a picture of the plan
-abbrev pub TellsFindingIn : Form → Plan → List Warning → PlanFinding → List ℕ → Type 0
-TellsFindingIn Words plan warnings finding text = TellsFinding plan warnings finding text
-TellsFindingIn Json plan warnings finding text = json.TellsFinding finding text
-TellsFindingIn Dot plan warnings finding text = IsPicture text
+abbrev pub TellsFindingIn : Form → Text → Plan → List Warning → PlanFinding → List ℕ → Type 0
+TellsFindingIn Words file plan warnings finding text = TellsFinding file plan warnings finding text
+TellsFindingIn Json file plan warnings finding text = json.TellsFinding finding text
+TellsFindingIn Dot file plan warnings finding text = IsPicture text
 
 -- the answer reports the finding and the warnings, and its status follows from both
-pub record AnswersFinding (options : AskOptions) (plan : Plan) (finding : PlanFinding) (stale : Bool) (answer : Answer) : Type 0 where
+pub record AnswersFinding (options : AskOptions) (file : Text) (plan : Plan) (finding : PlanFinding) (stale : Bool) (answer : Answer) : Type 0 where
   pub warnings : List Warning
   pub are_warnings : AreWarnings plan finding stale warnings
-  pub tells : TellsFindingIn options.form plan warnings finding answer.text
+  pub tells : TellsFindingIn options.form file plan warnings finding answer.text
   pub status : answer.status ≡ status_of options.strict warnings finding
 
 -- ---- the certificate that an answer leaves
@@ -148,37 +148,37 @@ certificate_of_output answer = option_map (λ text. text.items) answer.certifica
 
 -- the answer reports a finding that is true of the plan. It rests on the given certificate if that accepts the plan, and it
 -- leaves its certificate.
-pub record AnswersPlan (options : AskOptions) (plan : Plan) (given : Option Cert) (left : Option (List ℕ)) (answer : Answer) : Type 0 where
+pub record AnswersPlan (options : AskOptions) (file : Text) (plan : Plan) (given : Option Cert) (left : Option (List ℕ)) (answer : Answer) : Type 0 where
   pub finding : PlanFinding
   pub is_finding : IsFinding plan finding
   pub rests : RestsOnGiven plan given finding
-  pub answers : AnswersFinding options plan finding (is_stale plan given) answer
+  pub answers : AnswersFinding options file plan finding (is_stale plan given) answer
   pub leaves : IsFindingCertificate plan finding left
 
-abbrev pub AnswersCert : AskOptions → Plan → Result Cert CertFault → Option (List ℕ) → Answer → Type 0
-AnswersCert options plan (Err f) left answer = (left ≡ None) × AnswersCertFault options.form f answer
-AnswersCert options plan (Ok cert) left answer = AnswersPlan options plan (Some cert) left answer
+abbrev pub AnswersCert : AskOptions → Text → Plan → Result Cert CertFault → Option (List ℕ) → Answer → Type 0
+AnswersCert options file plan (Err f) left answer = (left ≡ None) × AnswersCertFault options.form f answer
+AnswersCert options file plan (Ok cert) left answer = AnswersPlan options file plan (Some cert) left answer
 
 -- answers for a plan and, if one is given, the text of a certificate
-abbrev pub AnswersGiven : AskOptions → Option (List ℕ) → Plan → Option (List ℕ) → Answer → Type 0
-AnswersGiven options None plan left answer = AnswersPlan options plan None left answer
-AnswersGiven options (Some cert) plan left answer = AnswersCert options plan (cert_of cert plan) left answer
+abbrev pub AnswersGiven : AskOptions → Text → Option (List ℕ) → Plan → Option (List ℕ) → Answer → Type 0
+AnswersGiven options file None plan left answer = AnswersPlan options file plan None left answer
+AnswersGiven options file (Some cert) plan left answer = AnswersCert options file plan (cert_of cert plan) left answer
 
-abbrev pub AnswersReading : AskOptions → Option (List ℕ) → Result Plan PlanFault → Option (List ℕ) → Answer → Type 0
-AnswersReading options cert (Err f) left answer = (left ≡ None) × AnswersFault options.form f answer
-AnswersReading options cert (Ok plan) left answer = AnswersGiven options cert plan left answer
+abbrev pub AnswersReading : AskOptions → Text → Option (List ℕ) → Result Plan PlanFault → Option (List ℕ) → Answer → Type 0
+AnswersReading options file cert (Err f) left answer = (left ≡ None) × AnswersFault options.form file f answer
+AnswersReading options file cert (Ok plan) left answer = AnswersGiven options file cert plan left answer
 
-abbrev pub AnswersBundle : AskOptions → Option Bundle → Option (List ℕ) → Answer → Type 0
-AnswersBundle options None left answer = (left ≡ None) × (answer ≡ no_separator)
-AnswersBundle options (Some bundle) left answer = AnswersReading options (Some bundle.second) (plan_of bundle.plan) left answer
+abbrev pub AnswersBundle : AskOptions → Text → Option Bundle → Option (List ℕ) → Answer → Type 0
+AnswersBundle options file None left answer = (left ≡ None) × (answer ≡ no_separator)
+AnswersBundle options file (Some bundle) left answer = AnswersReading options file (Some bundle.second) (plan_of bundle.plan) left answer
 
-abbrev pub AnswersInput : AskInput → AskOptions → List ℕ → Option (List ℕ) → Answer → Type 0
-AnswersInput PlanAlone options input left answer = AnswersReading options None (plan_of input) left answer
-AnswersInput WithCertificate options input left answer = AnswersBundle options (bundle_of input) left answer
+abbrev pub AnswersInput : AskInput → AskOptions → Text → List ℕ → Option (List ℕ) → Answer → Type 0
+AnswersInput PlanAlone options file input left answer = AnswersReading options file None (plan_of input) left answer
+AnswersInput WithCertificate options file input left answer = AnswersBundle options file (bundle_of input) left answer
 
-abbrev pub IsAskAnswer : AskInput → AskOptions → List ℕ → Option (List ℕ) → Answer → Type 0
-IsAskAnswer given options input left answer =
-    MatchBool (nat_lt MAX_INPUT_BYTES (length input)) ((left ≡ None) × (answer ≡ input_too_long)) (AnswersInput given options input left answer)
+abbrev pub IsAskAnswer : AskInput → AskOptions → Text → List ℕ → Option (List ℕ) → Answer → Type 0
+IsAskAnswer given options file input left answer =
+    MatchBool (nat_lt MAX_INPUT_BYTES (length input)) ((left ≡ None) × (answer ≡ input_too_long)) (AnswersInput given options file input left answer)
 
 -- ---- what status 0 means
 

@@ -24,7 +24,7 @@ pub(crate) fn faults_answer(
     text: &[u8],
     fault: PlanFault,
 ) -> Result<Output, AllocError>
-    ensures { IfOk result (spec.AnswersFault form fault) }
+    ensures { IfOk result (spec.AnswersFault form file.now fault) }
 {
     let faults = faults_of(alloc, text, fault)?;
     let text = faults_text(alloc, form, file, &faults)?;
@@ -34,7 +34,7 @@ pub(crate) fn faults_answer(
 /// Writes the faults in this form.
 fn faults_text(alloc: Global, form: Form, file: &str, faults: &Faults) -> Result<String, AllocError>
     ensures { IfOk result
-        (λ text. spec.TellsFaultIn form faults.now.first.fault (string_bytes text)) }
+        (λ text. spec.TellsFaultIn form file.now faults.now.first.fault (string_bytes text)) }
 {
     match form {
         Form::Json => faults_json(alloc, file, faults),
@@ -43,7 +43,7 @@ fn faults_text(alloc: Global, form: Form, file: &str, faults: &Faults) -> Result
 }
 
 fn faults_lines(alloc: Global, file: &str, faults: &Faults) -> Result<String, AllocError>
-    ensures { IfOk result (λ text. spec.TellsFault faults.now.first.fault (string_bytes text)) }
+    ensures { IfOk result (λ text. spec.TellsFault file.now faults.now.first.fault (string_bytes text)) }
 {
     let mut text = String::new(alloc);
     push_faults(&mut text, file, faults)?;
@@ -107,12 +107,11 @@ fn push_number(text: &mut String, number: u8) -> Result<(), AllocError>
 fn words_for(number: u8) -> &'static str {
     match number {
         NOT_JSON =>
-            "the certificate is no JSON: give the file that `sizing ask --certificate FILE PLAN` wrote",
-        VERSION =>
-            "the certificate is of a version that is not read here: its `version` is to be 1 or 2",
-        WEIGHT_TOO_LARGE => "a number of the certificate is above 1000000000",
-        CERT_TOO_LONG => "the certificate has more than 1048576 bytes",
+            "the certificate is not JSON: pass the file that `sizing ask --certificate FILE PLAN` wrote",
+        VERSION => "the certificate has an unknown version: `version` must be 1 or 2",
+        WEIGHT_TOO_LARGE => "a number in the certificate is too large: the maximum is 1000000000",
+        CERT_TOO_LONG => "the certificate is too long: the maximum is 1048576 bytes",
         _ =>
-            "the certificate is none for this plan: its keys are to be those of a certificate, its lists as long as the plan's, its numbers whole and not below 0; where pools, classes, clients or bodies changed, write a new one by `sizing ask --certificate FILE PLAN`",
+            "the certificate does not fit this plan: it has a missing or unknown key, a list of the wrong length, or a number that is negative or not whole; if pools, classes, clients or bodies changed, write a new one with `sizing ask --certificate FILE PLAN`",
     }
 }

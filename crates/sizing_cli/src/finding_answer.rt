@@ -32,7 +32,7 @@ pub(crate) fn answer_of(
 ) -> Result<AskOutput, AllocError>
     requires { IsFinding plan.now finding.now }
     ensures answer { IfOk result
-        (λ answer. spec.AnswersFinding options plan.now finding.now is_stale answer.output) }
+        (λ answer. spec.AnswersFinding options file.now plan.now finding.now is_stale answer.output) }
     ensures leaves { IfOk result
         (λ answer. spec.IsFindingCertificate plan.now finding.now (spec.certificate_of_output answer)) }
 {
@@ -102,7 +102,7 @@ fn answer_with(
     warnings: &[Warning],
 ) -> Result<Answer, AllocError>
     requires { spec.AreWarnings plan.now finding.now is_stale warnings.now }
-    ensures { IfOk result (spec.AnswersFinding options plan.now finding.now is_stale) }
+    ensures { IfOk result (spec.AnswersFinding options file.now plan.now finding.now is_stale) }
 {
     let text = text_of(alloc, options.form, file, plan, finding, warnings)?;
     let status = status_of(options.strict, warnings, finding);
@@ -118,7 +118,7 @@ fn text_of(
     warnings: &[Warning],
 ) -> Result<String, AllocError>
     ensures { IfOk result
-        (λ text. spec.TellsFindingIn form plan.now warnings.now finding.now (string_bytes text)) }
+        (λ text. spec.TellsFindingIn form file.now plan.now warnings.now finding.now (string_bytes text)) }
 {
     match form {
         Form::Words => words_of(alloc, file, plan, finding, warnings),
@@ -135,7 +135,7 @@ fn words_of(
     warnings: &[Warning],
 ) -> Result<String, AllocError>
     ensures { IfOk result
-        (λ text. spec.TellsFinding plan.now warnings.now finding.now (string_bytes text)) }
+        (λ text. spec.TellsFinding file.now plan.now warnings.now finding.now (string_bytes text)) }
 {
     let words = render(alloc, plan, finding)?;
     let mut text = String::new(alloc);
@@ -195,7 +195,7 @@ fn stale(alloc: Global) -> Result<Warning, AllocError>
     ensures { IfOk result (λ warning. warning.lint ≡ Lint.StaleCertificate) }
 {
     let what =
-        "the certificate that was given does not show that these sizes are safe: write a new one by --certificate";
+        "the certificate that was given does not show that these sizes are safe: write a new one with `sizing ask --certificate FILE PLAN`";
     Ok(Warning {
         lint: Lint::StaleCertificate,
         place: TextPlace { line: 1, column: 1 },
