@@ -152,7 +152,13 @@ fn ask_with<R: Threads + Wait + Sync>(
 {
     match cert_in(alloc, cert, plan)? {
         Ok(cert) => ask_found(rt, alloc, options, file, text, plan, Some(cert)),
-        Err(fault) => Ok(AskOutput::without(cert_fault_answer(alloc, options.form, file, text, fault)?)),
+        Err(fault) => Ok(AskOutput::without(cert_fault_answer(
+            alloc,
+            options.form,
+            file,
+            text,
+            fault,
+        )?)),
     }
 }
 

@@ -20,8 +20,8 @@ use diagnostics::{Lint, Warning, one_line, plan_places, push_warnings, warnings_
 use job_bodies::{MAX_CERT_BYTES, Plan};
 use plan_text::TextPlace;
 use report::{
-    PlanFinding, finding_github, finding_html, finding_json, finding_sarif, needed_places, picture_of,
-    render,
+    PlanFinding, finding_github, finding_html, finding_json, finding_sarif, needed_places,
+    picture_of, render,
 };
 use std::alloc::{AllocError, Global};
 
@@ -44,7 +44,9 @@ pub(crate) fn answer_of(
         (λ answer. spec.IsFindingCertificate plan.now finding.now (spec.certificate_of_output answer)) }
 {
     let warnings = warnings_for(alloc, text, plan, finding, is_stale)?;
-    let answer = answer_with(alloc, options, file, text, plan, finding, is_stale, &warnings)?;
+    let answer = answer_with(
+        alloc, options, file, text, plan, finding, is_stale, &warnings,
+    )?;
     let certificate = certificate_text(alloc, finding)?;
     Ok(AskOutput {
         output: Output::of(answer),
