@@ -158,7 +158,8 @@ fn json_of(
         (string_bytes answer)) }
 {
     let places = plan_places(alloc, text, plan)?;
-    finding_json(alloc, file, text, &places, plan, finding, warnings)
+    let answer = finding_json(alloc, file, text, &places, plan, finding, warnings)?;
+    Ok(answer)
 }
 
 fn page_of(
@@ -174,7 +175,8 @@ fn page_of(
         (string_bytes answer)) }
 {
     let places = plan_places(alloc, text, plan)?;
-    finding_html(alloc, file, text, &places, plan, finding, warnings)
+    let answer = finding_html(alloc, file, text, &places, plan, finding, warnings)?;
+    Ok(answer)
 }
 
 fn commands_of(
@@ -190,7 +192,8 @@ fn commands_of(
         (string_bytes answer)) }
 {
     let places = plan_places(alloc, text, plan)?;
-    finding_github(alloc, file, &places, plan, finding, warnings)
+    let answer = finding_github(alloc, file, &places, plan, finding, warnings)?;
+    Ok(answer)
 }
 
 fn log_of(
@@ -206,7 +209,8 @@ fn log_of(
         (string_bytes answer)) }
 {
     let places = plan_places(alloc, text, plan)?;
-    finding_sarif(alloc, file, &places, plan, finding, warnings)
+    let answer = finding_sarif(alloc, file, &places, plan, finding, warnings)?;
+    Ok(answer)
 }
 
 fn words_of(
