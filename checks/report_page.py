@@ -1,8 +1,8 @@
 #!/usr/bin/env python3
-"""Opens the reports of six plans in a headless Chromium, and checks them.
+"""Opens the reports of eight plans in a headless Chromium, and checks them.
 
     python3 checks/report_page.py               # checks the reports
-    python3 checks/report_page.py --pictures    # also writes a picture of each to docs/pictures
+    python3 checks/report_page.py --pictures    # also writes a picture of each without faults to docs/pictures
 
 Each report is what `sizing ask --format html` writes for a plan. For each report:
 
@@ -77,6 +77,17 @@ SAMPLES = [
         "web/samples/sixty-four-pools.toml",
         ["Pool ledger refuses a submit", "64 pools, 84 classes", "61 other pools", "84 kinds of submits"],
     ),
+    Sample(
+        "faults",
+        "checks/mistakes/two_slips.toml",
+        ["The text has 2 faults, so the sizes were not checked.", "count is 0", "did you mean rows?"],
+    ),
+    # its report shows no text, and so has no folded part
+    Sample(
+        "no-text",
+        "checks/mistakes/utf16.toml",
+        ["The text has 1 fault, so the sizes were not checked.", "the file is UTF-16: save it as UTF-8"],
+    ),
 ]
 # The data of a report.
 DATA = re.compile(r'<script id="answer" type="application/json">(.*?)</script>', re.S)
@@ -148,8 +159,10 @@ LINK = """(() => {
   const box = target && target.checkVisibility() && target.getBoundingClientRect();
   return !!box && box.top >= 0 && box.bottom <= innerHeight;
 })()"""
+# Whether the first folded part is open, which gets the focus; null if there is none.
 FIRST_SUMMARY = """(() => {
   const summary = document.querySelector("summary");
+  if (!summary) return null;
   summary.focus();
   return summary.parentElement.open;
 })()"""
@@ -194,6 +207,8 @@ def keyboard_problems(browser):
         if not is_marked:
             yield f"nothing marks the focus on {index} of {count}"
     before = browser.evaluate(FIRST_SUMMARY)
+    if before is None:
+        return
     browser.press("Enter", 13, "\r")
     if browser.evaluate(IS_OPEN) == before:
         yield "the Enter key does not unfold"
@@ -263,11 +278,12 @@ def main(words):
         for sample in SAMPLES:
             page = Path(folder) / f"{sample.name}.html"
             html, json_line = asked(program, sample, "html"), asked(program, sample, "json")
+            answer = json.loads(json_line)
             page.write_text(html, encoding="utf-8")
             wrong += data_problems(sample, html, json_line)
-            wrong += replay_problems(program, sample, json.loads(json_line))
+            wrong += replay_problems(program, sample, answer)
             wrong += [f"{sample.name}: {each}" for each in problems(browser, sample, page)]
-            if "--pictures" in words:
+            if "--pictures" in words and answer["answer"] != "FAULTS":
                 picture(browser, sample, page)
     print(*wrong, sep="\n", end="\n" if wrong else "")
     print(f"{len(SAMPLES)} reports: {len(wrong)} wrong")
