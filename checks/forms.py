@@ -43,7 +43,7 @@ ANSWERS = {"SAFE", "NOT SAFE", "NOT DECIDED"}
 TOOLS = HERE.parent / "tools"
 # A plan that is not safe, with a warning and with sizes to change.
 PLAN = HERE.parent / "examples" / "two-clients.toml"
-# A name of a file that has each character that a workflow command escapes, but for the ends of lines.
+# A name of a file that has each character that a workflow command escapes, except the ends of lines.
 NAME = "50%, a:b %0A.toml"
 # A workflow command: its name, its file, its place, its title and its message.
 COMMAND = re.compile(r"::(error|warning|notice) file=([^,]*)(?:,line=(\d+),col=(\d+))?,title=([^,:]*)::(.*)")
