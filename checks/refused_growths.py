@@ -29,7 +29,7 @@ SECOND_PARTS = {"replay": "events", "check": "json", "explain": "json", "run": "
 # The commands that write a bundle. No example stores it.
 BUNDLING = ("certify", "fit --bundle", "refute --bundle")
 # The other commands whose answers no example stores: `ask`, and the commands that read a recording.
-ASKING = ("ask", "ask --json", "ask --dot", "conform", "learn")
+ASKING = ("ask", "ask --json", "ask --dot", "ask --format html", "ask --format github", "ask --format sarif", "conform", "learn")
 # The arguments after the command, by command.
 OPTIONS = {"run": ["--rounds", "3"]}
 JUDGED = ["two-clients-queue-of-two", "nested-two-workers", "web-and-database-sized", "cross-pools-two-threads"]
@@ -48,6 +48,7 @@ CASES = [
     *[("ask", name) for name in ["two-clients", "two-clients-queue-of-two", "nested-one-worker"]],
     *[("ask --json", name) for name in ["two-clients", "nested-two-workers"]],
     ("ask --dot", "nested-two-workers"),
+    *[(f"ask --format {form}", "two-clients") for form in ("html", "github", "sarif")],
     ("conform", "recordings/web-and-database"),
     ("learn", "recordings/web-and-database"),
 ]

@@ -1,12 +1,13 @@
 #!/usr/bin/env python3
-"""Opens the reports of six plans in a headless Chromium, and checks them.
+"""Opens the reports of eight plans in a headless Chromium, and checks them.
 
     python3 checks/report_page.py               # checks the reports
-    python3 checks/report_page.py --pictures    # also writes a picture of each to docs/pictures
+    python3 checks/report_page.py --pictures    # also writes a picture of each without faults to docs/pictures
 
-Each report is web/report.html with the answer of `sizing ask --json` to a plan. web/sample.py adds the outcomes of the events, which
-must be those that `sizing replay` prints. For each report:
+Each report is what `sizing ask --format html` writes for a plan. For each report:
 
+- its data are the answer of `sizing ask --format json`;
+- the outcomes of its events are those that `sizing replay` prints;
 - the console has no error, and the page makes no request to the network;
 - the expected texts are there, and nothing is wider than a window of 1,200 pixels, on screen and in print;
 - each text has a contrast of at least 4.5 to its background, in the light and in the dark colour scheme;
@@ -21,6 +22,7 @@ Exit status: 0 if all of this holds, 1 if not, 2 if there is no program.
 """
 
 import json
+import re
 import shutil
 import subprocess
 import sys
@@ -30,12 +32,10 @@ from typing import NamedTuple
 
 sys.dont_write_bytecode = True
 
-ROOT = Path(__file__).resolve().parent.parent
-sys.path.insert(0, str(ROOT / "web"))
-
 from asking import built_program
 from browser import Browser, installed
-from sample import page_of, whole_answer
+
+ROOT = Path(__file__).resolve().parent.parent
 
 
 class Sample(NamedTuple):
@@ -77,7 +77,20 @@ SAMPLES = [
         "web/samples/sixty-four-pools.toml",
         ["Pool ledger refuses a submit", "64 pools, 84 classes", "61 other pools", "84 kinds of submits"],
     ),
+    Sample(
+        "faults",
+        "checks/mistakes/two_slips.toml",
+        ["The text has 2 faults, so the sizes were not checked.", "count is 0", "did you mean rows?"],
+    ),
+    # its report shows no text, and so has no folded part
+    Sample(
+        "no-text",
+        "checks/mistakes/utf16.toml",
+        ["The text has 1 fault, so the sizes were not checked.", "the file is UTF-16: save it as UTF-8"],
+    ),
 ]
+# The data of a report.
+DATA = re.compile(r'<script id="answer" type="application/json">(.*?)</script>', re.S)
 WIDTH = 1200
 # The maximum height of a picture in pixels. The report below it is cut off.
 MOST_PIXELS = 1800
@@ -146,8 +159,10 @@ LINK = """(() => {
   const box = target && target.checkVisibility() && target.getBoundingClientRect();
   return !!box && box.top >= 0 && box.bottom <= innerHeight;
 })()"""
+# Whether the first folded part is open, which gets the focus; null if there is none.
 FIRST_SUMMARY = """(() => {
   const summary = document.querySelector("summary");
+  if (!summary) return null;
   summary.focus();
   return summary.parentElement.open;
 })()"""
@@ -192,6 +207,8 @@ def keyboard_problems(browser):
         if not is_marked:
             yield f"nothing marks the focus on {index} of {count}"
     before = browser.evaluate(FIRST_SUMMARY)
+    if before is None:
+        return
     browser.press("Enter", 13, "\r")
     if browser.evaluate(IS_OPEN) == before:
         yield "the Enter key does not unfold"
@@ -209,12 +226,17 @@ def picture(browser, sample, page):
         subprocess.run(["pngquant", "--force", "--strip", "--output", path, "64", path], check=True)
 
 
-def answer_of(program, sample):
-    """Returns the data of the report of a plan, and the lines of the events of its witness."""
-    plan = ROOT / sample.plan
-    ran = subprocess.run([program, "ask", "--json", plan], capture_output=True, text=True, timeout=SECONDS, check=False)
-    answer = json.loads(ran.stdout)
-    return whole_answer(plan.read_text(encoding="utf-8"), answer), answer["witness"]["events"] if answer["witness"] else []
+def asked(program, sample, form):
+    """Returns the answer to a plan in this format."""
+    words = [program, "ask", "--format", form, ROOT / sample.plan]
+    return subprocess.run(words, capture_output=True, text=True, encoding="utf-8", timeout=SECONDS, check=False).stdout
+
+
+def data_problems(sample, page, json_line):
+    """Yields a line if the data of the report are not the answer."""
+    found = DATA.search(page)
+    if not found or found[1] != json_line.rstrip("\n").replace("<", "\\u003c"):
+        yield f"{sample.name}: the data of the report are not the answer"
 
 
 def outcomes(answer):
@@ -233,10 +255,11 @@ def outcomes(answer):
                 yield outcome if event["job"] is None else f"{outcome} job {event['job'] + turn}"
 
 
-def replay_problems(program, sample, answer, events):
+def replay_problems(program, sample, answer):
     """Yields a line if the outcomes in the report differ from those of `sizing replay`."""
-    if not events:
+    if not answer["witness"]:
         return
+    events = answer["witness"]["replay"]
     text = (ROOT / sample.plan).read_text(encoding="utf-8") + "%%\n" + "".join(f"{event}\n" for event in events)
     ran = subprocess.run([program, "replay"], input=text, capture_output=True, text=True, timeout=SECONDS, check=False)
     found = [line.split(": ")[1] for line in ran.stdout.splitlines() if ": " in line and ": stuck" not in line]
@@ -254,11 +277,13 @@ def main(words):
     with tempfile.TemporaryDirectory(prefix="sizing-reports-") as folder, Browser(WIDTH, 900) as browser:
         for sample in SAMPLES:
             page = Path(folder) / f"{sample.name}.html"
-            answer, events = answer_of(program, sample)
-            page.write_text(page_of(answer), encoding="utf-8")
-            wrong += replay_problems(program, sample, answer, events)
+            html, json_line = asked(program, sample, "html"), asked(program, sample, "json")
+            answer = json.loads(json_line)
+            page.write_text(html, encoding="utf-8")
+            wrong += data_problems(sample, html, json_line)
+            wrong += replay_problems(program, sample, answer)
             wrong += [f"{sample.name}: {each}" for each in problems(browser, sample, page)]
-            if "--pictures" in words:
+            if "--pictures" in words and answer["answer"] != "FAULTS":
                 picture(browser, sample, page)
     print(*wrong, sep="\n", end="\n" if wrong else "")
     print(f"{len(SAMPLES)} reports: {len(wrong)} wrong")

@@ -11,7 +11,7 @@ use Rattle.clap.specs.declared.error.Error.{Error}
 use Rattle.clap.specs.declared.error.kind.ErrorKind.{ErrorKind}
 use Rattle.clap.proofs.OnLiterals.{clap_on_literals}
 use Rattle.command_line.specs.Application.{sizing}
-use Rattle.command_line.specs.Command.{is_out_of_range, faults_of}
+use Rattle.command_line.specs.Command.{is_refused, faults_of}
 
 -- the application uses only features that the model of `clap` covers
 pub sizing_is_simple : is_simple_and_free sizing ≡ true
@@ -47,11 +47,11 @@ fails_by_clap made words error (Err e) is fails same =
 
 -- if `clap` finds no fault, and no number or option of the subcommand is invalid, then the arguments have no fault
 pub no_faults : {A : Type 0} (made : App) (words : List Text) (rows : Option (Text × List Row)) → made ≡ sizing → fault_of sizing words ≡ []
-    → (is_simple made ≡ true → A × (rows ≡ subcommand_of made words)) → is_out_of_range rows ≡ false → faults_of words ≡ []
+    → (is_simple made ≡ true → A × (rows ≡ subcommand_of made words)) → is_refused rows ≡ false → faults_of words ≡ []
 no_faults {A} made words rows is none same within =
     let P : App → Type 0 = λ a. is_simple a ≡ true → A × (rows ≡ subcommand_of a words) in
     let rows_are : rows ≡ subcommand_of sizing words = (subst P is same sizing_is_plain).1 in
-    let inside : is_out_of_range (subcommand_of sizing words) ≡ false = rw (← rows_are) within in
+    let inside : is_refused (subcommand_of sizing words) ≡ false = rw (← rows_are) within in
     rw (none, inside) refl
 
 -- the parsed arguments for an application that equals `sizing` are the parsed arguments for `sizing`
@@ -62,8 +62,8 @@ rows_of_parse {A} made words rows is same =
     (subst P is same sizing_is_plain).1
 
 -- if `clap` finds no fault and a number or an option of the subcommand is invalid, then the error has one of the kinds of `faults_of`
-pub fails_out_of_range : (words : List Text) (rows : Option (Text × List Row)) (error : Error) → fault_of sizing words ≡ [] → rows ≡ subcommand_of sizing words
-    → is_out_of_range rows ≡ true → kind_of error ≡ ValueValidation → HasKind (faults_of words) error
-fails_out_of_range words rows error none same beyond is =
-    let outside : is_out_of_range (subcommand_of sizing words) ≡ true = rw (← same) beyond in
+pub fails_refused : (words : List Text) (rows : Option (Text × List Row)) (error : Error) → fault_of sizing words ≡ [] → rows ≡ subcommand_of sizing words
+    → is_refused rows ≡ true → kind_of error ≡ ValueValidation → HasKind (faults_of words) error
+fails_refused words rows error none same beyond is =
+    let outside : is_refused (subcommand_of sizing words) ≡ true = rw (← same) beyond in
     rw (none, outside) (inr (inl is))

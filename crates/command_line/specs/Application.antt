@@ -74,17 +74,22 @@ strict_option = record (new_rule (codes "strict")) { long = Some (codes "strict"
 abbrev pub certificate_option : Rule
 certificate_option = record (new_rule (codes "certificate")) { long = Some (codes "certificate"); action = Some Set; value_names = 1 }
 
--- the option `--json`, with which the answer is a JSON object
+-- the option `--format FORMAT`, which names the format of the answer
+abbrev pub format_option : Rule
+format_option = record (new_rule (codes "format")) { long = Some (codes "format"); action = Some Set; value_names = 1 }
+
+-- the option `--json`, which means `--format json`
 abbrev pub json_option : Rule
 json_option = record (new_rule (codes "json")) { long = Some (codes "json"); action = Some SetTrue }
 
--- the option `--dot`, with which the answer is a picture of the plan for Graphviz
+-- the option `--dot`, which means `--format dot`
 abbrev pub dot_option : Rule
 dot_option = record (new_rule (codes "dot")) { long = Some (codes "dot"); action = Some SetTrue }
 
 abbrev pub ask_shape : Shape
 ask_shape =
-    (with_rule (with_rule (with_rule (with_rule (of_both (codes "ask")) strict_option) json_option) dot_option) certificate_option).top
+    (with_rule (with_rule (with_rule (with_rule (with_rule (of_both (codes "ask")) strict_option) format_option) json_option) dot_option)
+    certificate_option).top
 
 abbrev pub conform_shape : Shape
 conform_shape = (of_both (codes "conform")).top

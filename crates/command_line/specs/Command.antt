@@ -1,5 +1,5 @@
 -- The command that the arguments of a command line name.
-use Rattle.std.specs.Prelude.{ℕ, ◌≤◌, List, [], ◌∷◌, Bool, true, false, not, ◌&&◌, Option, Some, None, is_some, codes, if◌then◌else◌, option_and_then, option_map}
+use Rattle.std.specs.Prelude.{ℕ, ◌≤◌, List, [], ◌∷◌, Bool, true, false, not, ◌&&◌, ◌||◌, Option, Some, None, is_some, codes, if◌then◌else◌, option_and_then, option_map}
 use Rattle.std.specs.Option.{option_map_or}
 use Rattle.std.specs.Str.{bytes_eq}
 use Rattle.std.specs.Str.Parse.{digits_value, without_leading_plus}
@@ -23,7 +23,7 @@ use Rattle.command_line.specs.declared.command.RefuteFormat.TheVariants as refut
 use Rattle.command_line.specs.declared.command.AskInput.{AskInput}
 use Rattle.command_line.specs.declared.command.AskInput.TheVariants.{PlanAlone, WithCertificate}
 use Rattle.command_line.specs.declared.command.Form.{Form}
-use Rattle.command_line.specs.declared.command.Form.TheVariants.{Words, Json, Dot}
+use Rattle.command_line.specs.declared.command.Form.TheVariants.{Words, Json, Dot, Html, Github, Sarif}
 
 -- the number that the text spells; None if it is not a whole number from `low` to `high`
 abbrev pub number_in : ℕ → ℕ → Text → Option ℕ
@@ -54,20 +54,42 @@ abbrev pub ask_input_of : Option Text → AskInput
 ask_input_of None = PlanAlone
 ask_input_of (Some name) = WithCertificate
 
--- the output format that the options `--json` and `--dot` request; None if both are given
-abbrev pub form_of : Bool → Bool → Option Form
-form_of false false = Some Words
-form_of true false = Some Json
-form_of false true = Some Dot
-form_of true true = None
+-- the output format with this name
+abbrev pub form_named : Text → Option Form
+form_named name =
+    if bytes_eq name (codes "text") then Some Words
+    else (if bytes_eq name (codes "json") then Some Json
+    else (if bytes_eq name (codes "dot") then Some Dot
+    else (if bytes_eq name (codes "html") then Some Html
+    else (if bytes_eq name (codes "github") then Some Github
+    else (if bytes_eq name (codes "sarif") then Some Sarif else None)))))
+
+-- the output format that `--format` with this value, `--json` and `--dot` request; None if two of them are given, or if no format has the name
+abbrev pub form_of : Option Text → Bool → Bool → Option Form
+form_of None false false = Some Words
+form_of None true false = Some Json
+form_of None false true = Some Dot
+form_of None true true = None
+form_of (Some name) false false = form_named name
+form_of (Some name) true dot = None
+form_of (Some name) false true = None
+
+-- the output format that these parsed arguments request
+abbrev pub form_in : List Row → Option Form
+form_in rows = form_of (first_of (codes "format") rows) (is_set (codes "json") rows) (is_set (codes "dot") rows)
+
+-- whether an option that names a file was not given, or its value is the name of a file; the empty text and `-` are not
+abbrev pub names_file : Option Text → Bool
+names_file None = true
+names_file (Some name) = not (bytes_eq name (codes "") || bytes_eq name (codes "-"))
 
 -- the task `ask` with these parsed arguments and this output format
 abbrev pub ask_in : List Row → Form → Task
 ask_in rows form = Ask (ask_input_of (first_of (codes "SECOND") rows)) (record { strict = is_set (codes "strict") rows; form = form })
 
--- the task `ask` with these parsed arguments; None if both `--json` and `--dot` are given
+-- the task `ask` with these parsed arguments; None if they request no output format or two, or if `--certificate` names no file
 abbrev pub ask_named : List Row → Option Task
-ask_named rows = option_map (ask_in rows) (form_of (is_set (codes "json") rows) (is_set (codes "dot") rows))
+ask_named rows = if names_file (first_of (codes "certificate") rows) then option_map (ask_in rows) (form_in rows) else None
 
 -- the task of the subcommand with this name and these parsed arguments; None if their values are invalid, or if no task has this name
 abbrev pub task_of : Text → List Row → Option Task
@@ -133,14 +155,15 @@ certificate_of words = certificate_among (subcommand_of sizing words)
 abbrev pub certificate_of_cli : Cli → Option Text
 certificate_of_cli cli = option_map (λ name. name.now) cli.certificate
 
--- whether a subcommand was entered with a number out of its range, or with two options that exclude each other
-abbrev pub is_out_of_range : Option (Text × List Row) → Bool
-is_out_of_range entered = is_some entered && not (is_some (command_among entered))
+-- whether a subcommand was entered with options that name no command: a number out of its range, two options that exclude each other, no
+-- output format, or no file for a certificate
+abbrev pub is_refused : Option (Text × List Row) → Bool
+is_refused entered = is_some entered && not (is_some (command_among entered))
 
 -- the kinds of error that the arguments of a command line can have: the kinds of the first fault that `clap` finds; if it finds none, the
--- kind for a number out of its range and for options that exclude each other
+-- kind for options that name no command
 abbrev pub faults_of : List Text → Kinds
-faults_of words = or_else (fault_of sizing words) (if is_out_of_range (subcommand_of sizing words) then ValueValidation ∷ [] else [])
+faults_of words = or_else (fault_of sizing words) (if is_refused (subcommand_of sizing words) then ValueValidation ∷ [] else [])
 
 -- each number of the task is in its range
 abbrev pub IsTaskInRange : Task → Type 0

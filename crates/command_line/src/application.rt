@@ -2,7 +2,7 @@
 ghost use Rattle.std.specs.Prelude.{◌≡◌, IfOk, IsOkAnd, false, codes};
 ghost use Rattle.clap.specs.Words.{app_of, new_app, rule_of, shape_of, with_subcommand};
 ghost use Rattle.clap.specs.declared.builder.command.Command.TheViews.{out-Command as fields_of};
-ghost use Rattle.command_line.specs.Application.{ask_shape, bundle_option, certificate_option, certify_shape, check_shape, conform_shape, dot_option, explain_shape, file_argument, fit_shape, json_option, learn_shape, number_option, of_both, of_plan, program, refute_shape, replay_shape, rounds_option, run_shape, sizing, states_option, strict_option, with_recording_commands, with_review_commands, with_tasks, workers_option};
+ghost use Rattle.command_line.specs.Application.{ask_shape, bundle_option, certificate_option, certify_shape, check_shape, conform_shape, dot_option, explain_shape, file_argument, fit_shape, format_option, json_option, learn_shape, number_option, of_both, of_plan, program, refute_shape, replay_shape, rounds_option, run_shape, sizing, states_option, strict_option, with_recording_commands, with_review_commands, with_tasks, workers_option};
 
 use crate::help;
 use crate::help::Help;
@@ -197,6 +197,7 @@ fn ask<'a>(alloc: Global) -> Result<Command<'a>, AllocError>
 {
     of_both(alloc, "ask", help::ASK)?
         .arg(strict(alloc, "Exit with status 1 if there is a warning"))?
+        .arg(format(alloc))?
         .arg(json(alloc))?
         .arg(dot(alloc))?
         .arg(certificate(alloc))
@@ -244,7 +245,20 @@ fn strict<'a>(alloc: Global, help: &'a str) -> Arg<'a>
         .help(help)
 }
 
-// Creates the option `--json`, with which the answer is a JSON object.
+// Creates the option `--format FORMAT`, which names the format of the answer. The help lists the
+// formats, and `form_named` checks the value.
+fn format<'a>(alloc: Global) -> Arg<'a>
+    ensures rule { rule_of result ≡ format_option }
+    ensures local { result.global ≡ false }
+{
+    Arg::new(alloc, "format")
+        .long("format")
+        .value_name("FORMAT")
+        .action(ArgAction::Set)
+        .help("The format of the answer{n}[possible values: text, json, dot, html, github, sarif]")
+}
+
+// Creates the option `--json`, which means `--format json`.
 fn json<'a>(alloc: Global) -> Arg<'a>
     ensures rule { rule_of result ≡ json_option }
     ensures local { result.global ≡ false }
@@ -252,9 +266,10 @@ fn json<'a>(alloc: Global) -> Arg<'a>
     Arg::new(alloc, "json")
         .long("json")
         .action(ArgAction::SetTrue)
-        .help("Write the answer as a JSON object")
+        .help("The same as --format json")
 }
 
+// Creates the option `--dot`, which means `--format dot`.
 fn dot<'a>(alloc: Global) -> Arg<'a>
     ensures rule { rule_of result ≡ dot_option }
     ensures local { result.global ≡ false }
@@ -262,7 +277,7 @@ fn dot<'a>(alloc: Global) -> Arg<'a>
     Arg::new(alloc, "dot")
         .long("dot")
         .action(ArgAction::SetTrue)
-        .help("Write the plan as a picture for Graphviz")
+        .help("The same as --format dot")
 }
 
 // Creates the option `--certificate FILE`, which names the file to which a certificate is written.

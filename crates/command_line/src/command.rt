@@ -5,8 +5,10 @@ ghost use Rattle.command_line.specs.Command as spec;
 
 use crate::application::application;
 use crate::flag::is_set;
+use crate::form::form_in;
 use crate::number::number_of;
-use clap::error::ErrorKind;
+use crate::refusal::refusal;
+use crate::text::{names_file, text_of};
 use clap::{ArgMatches, Error};
 use job_bodies::{MAX_ROUNDS, MAX_STATES, MAX_WORKERS};
 use std::alloc::Global;
@@ -139,6 +141,12 @@ pub enum Form {
     Json,
     /// A picture of the plan, for Graphviz.
     Dot,
+    /// A page for a browser.
+    Html,
+    /// Annotations of a workflow, for GitHub Actions.
+    Github,
+    /// A SARIF log, for tools that show the results of analyses.
+    Sarif,
 }
 
 /// Parses the arguments of a command line, of which the first is the program's name.
@@ -148,9 +156,10 @@ pub enum Form {
 ///
 /// # Errors
 ///
-/// Fails if `clap` rejects the arguments, if a number is out of its range, if `--json` and `--dot`
-/// are both given, and on a request for help. The `Display` of the error is a text for the user. If
-/// memory runs out, the error's `kind` is `ErrorKind::OutOfMemory`.
+/// Fails if `clap` rejects the arguments, if a number is out of its range, if `--format` names no
+/// format, if two of `--format`, `--json` and `--dot` are given, if `--certificate` names no file,
+/// and on a request for help. The `Display` of the error is a text for the user. If memory runs
+/// out, the error's `kind` is `ErrorKind::OutOfMemory`.
 pub fn read_words<'a>(alloc: Global, words: &'a [&'a str]) -> Result<Option<Cli<'a>>, Error>
     ensures command { IfOk result (λ found.
         option_map (λ cli. cli.command) found
@@ -166,11 +175,8 @@ pub fn read_words<'a>(alloc: Global, words: &'a [&'a str]) -> Result<Option<Cli<
 {
     let mut sizing = application(alloc)?;
     let matches = sizing.try_get_matches_from_mut(words)?;
-    if is_out_of_range(&matches) {
-        return Err(sizing.error(
-            ErrorKind::ValueValidation,
-            "the arguments '--json' and '--dot' cannot be used together",
-        )?);
+    if is_refused(&matches) {
+        return Err(refusal(alloc, &mut sizing, &matches)?);
     }
     Ok(parsed_args(&matches))
 }
@@ -189,24 +195,15 @@ fn parsed_args<'a>(matches: &ArgMatches<'a>) -> Option<Cli<'a>>
     let (_, options) = matches.subcommand()?;
     Some(Cli {
         command,
-        first: file_named(options, "PLAN"),
-        second: file_named(options, "SECOND"),
-        certificate: file_named(options, "certificate"),
+        first: text_of(options, "PLAN"),
+        second: text_of(options, "SECOND"),
+        certificate: text_of(options, "certificate"),
     })
 }
 
-// Returns the file that the argument with this id names, or `None` if the argument was not given.
-fn file_named<'a>(options: &ArgMatches<'a>, id: &str) -> Option<&'a str>
-    ensures { option_map (λ name. name.now) result
-        ≡ first_of id.now (rows_of (found_of options.now)) }
-{
-    options.get_str(id)
-}
-
-// Returns whether a subcommand was entered with a number out of its range, or with two options that
-// exclude each other.
-fn is_out_of_range(matches: &ArgMatches<'_>) -> bool
-    ensures { result ≡ spec.is_out_of_range (subcommand_rows_of matches.now) }
+// Returns whether a subcommand was entered with invalid options, which `clap` does not reject.
+fn is_refused(matches: &ArgMatches<'_>) -> bool
+    ensures { result ≡ spec.is_refused (subcommand_rows_of matches.now) }
 {
     matches.subcommand().is_some() && command_among(matches).is_none()
 }
@@ -308,7 +305,10 @@ fn ask(options: &ArgMatches<'_>) -> Option<Task>
     ensures task { result ≡ spec.ask_named (rows_of (found_of options.now)) }
     ensures in_range { IfSome result spec.IsTaskInRange }
 {
-    let form = form_of(is_set(options, "json"), is_set(options, "dot"))?;
+    if !names_file(text_of(options, "certificate")) {
+        return None;
+    }
+    let form = form_in(options)?;
     let strict = is_set(options, "strict");
     Some(Task::Ask {
         given: ask_input(options),
@@ -316,23 +316,11 @@ fn ask(options: &ArgMatches<'_>) -> Option<Task>
     })
 }
 
-// Returns the requested output format, or `None` if both `--json` and `--dot` were given.
-fn form_of(json: bool, dot: bool) -> Option<Form>
-    ensures { result ≡ spec.form_of json dot }
-{
-    match (json, dot) {
-        (false, false) => Some(Form::Words),
-        (true, false) => Some(Form::Json),
-        (false, true) => Some(Form::Dot),
-        (true, true) => None,
-    }
-}
-
 fn ask_input(options: &ArgMatches<'_>) -> AskInput
     ensures { result
         ≡ spec.ask_input_of (first_of (codes "SECOND") (rows_of (found_of options.now))) }
 {
-    match file_named(options, "SECOND") {
+    match text_of(options, "SECOND") {
         Some(_) => AskInput::WithCertificate,
         None => AskInput::PlanAlone,
     }

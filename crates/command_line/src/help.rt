@@ -206,8 +206,8 @@ pub(crate) const ASK: Help = Help {
     position: 1,
     about: "Decide whether a plan is safe, and print the reason or the sizes to change",
     usage: "\
-sizing ask [--strict] [--json | --dot] [--certificate FILE] PLAN [CERTIFICATE]
-       sizing ask [--strict] [--json | --dot] [--certificate FILE] < PLAN",
+sizing ask [--strict] [--format FORMAT] [--certificate FILE] PLAN [CERTIFICATE]
+       sizing ask [--strict] [--format FORMAT] [--certificate FILE] < PLAN",
     notes: "\
 CERTIFICATE is one of an earlier run: if it still holds, nothing is searched.
 
@@ -220,8 +220,13 @@ Otherwise it lists the warnings, and then says
                sizes that prevent it, or why there are none
   NOT DECIDED  neither was found; sizes that are certainly safe
 
-With --json the answer is one JSON object on one line (docs/GUIDE.md lists its keys). With --dot it
-is a picture of the plan for `dot -Tsvg`.
+The values of --format, which excludes --json and --dot:
+  text    lines for a person, as above; also without --format
+  json    one JSON object on one line, for a program (docs/GUIDE.md lists its keys)
+  dot     a picture of the plan, for `dot -Tsvg`
+  html    a report for a browser: one page that needs no other file
+  github  annotations for a workflow of GitHub Actions
+  sarif   a SARIF log, for tools that show the results of analyses
 
 Exit status:
   0  SAFE (with --strict: and no warning)
@@ -229,7 +234,8 @@ Exit status:
   4  NOT DECIDED
   2 or 3 after an error (see `sizing --help`)
 
-In a build: sizing ask --strict shop.toml
+In a build: sizing ask --strict shop.toml (docs/GUIDE.md has the lines for GitHub, GitLab, Jenkins,
+Maven and Gradle)
 
 Example, to paste into a shell:
 

@@ -8,8 +8,11 @@
 mod application;
 mod command;
 mod flag;
+mod form;
 mod help;
 mod number;
+mod refusal;
+mod text;
 
 pub use command::{
     AskInput, AskOptions, Cli, Command, Form, RecordingCommand, RefuteFormat, ReviewCommand,

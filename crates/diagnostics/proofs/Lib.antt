@@ -1,1 +1,5 @@
+mod EntryPlaces
 mod InOrder
+mod Lines
+mod PrintedLines
+mod Single

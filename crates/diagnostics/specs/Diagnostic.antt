@@ -1,10 +1,11 @@
 -- The lines that report the faults and the warnings of a plan's text.
-use Rattle.std.specs.Prelude.{ℕ, List, [], ◌∷◌, ◌++◌, codes, decimal, string_bytes}
-use Rattle.std.specs.List.{flat_map}
+use Rattle.std.specs.Prelude.{ℕ, ◌==◌, if◌then◌else◌, List, [], ◌∷◌, ◌++◌, codes, decimal, string_bytes}
+use Rattle.std.specs.List.{All, flat_map}
 use Rattle.plan_text.specs.declared.place.TextPlace.{TextPlace}
 use Rattle.diagnostics.specs.declared.diagnostic.Diagnostic.{Diagnostic}
 use Rattle.diagnostics.specs.declared.diagnostic.Faults.{Faults}
 use Rattle.diagnostics.specs.declared.warnings.Warning.{Warning}
+use Rattle.diagnostics.specs.Lines.{HasNoNewline}
 
 -- a place in the file of this name, as `FILE:LINE:COLUMN: `
 abbrev pub place_head : List ℕ → TextPlace → List ℕ
@@ -26,9 +27,26 @@ diagnostic_line file diagnostic = fault_line file diagnostic.place (string_bytes
 abbrev pub diagnostic_lines : List ℕ → List Diagnostic → List ℕ
 diagnostic_lines file diagnostic = flat_map (diagnostic_line file) diagnostic
 
--- the text of all faults: the line of the first fault, and then a line for each other fault
+-- the line of a number of faults that are left out
+abbrev pub count_line : ℕ → List ℕ → List ℕ
+count_line omitted noun = codes "... and " ++ (decimal omitted ++ (codes " more " ++ (noun ++ 10 ∷ [])))
+
+-- the line of the faults that are left out, if there are any
+abbrev pub omitted_line : ℕ → List ℕ
+omitted_line omitted = if omitted == 0 then [] else (if omitted == 1 then count_line omitted (codes "fault") else count_line omitted (codes "faults"))
+
+-- the text of all faults: the line of the first fault, a line for each other fault, and the line of those that are left out
 abbrev pub faults_text : List ℕ → Faults → List ℕ
-faults_text file faults = diagnostic_line file faults.first ++ diagnostic_lines file faults.others.items
+faults_text file faults = diagnostic_line file faults.first ++ (diagnostic_lines file faults.others.items ++ omitted_line faults.omitted)
+
+-- the message has no newline
+abbrev pub HasSingleLine : Diagnostic → Type 0
+HasSingleLine diagnostic = HasNoNewline (string_bytes diagnostic.what)
+
+-- no message has a newline
+pub record HaveSingleLines (faults : Faults) : Type 0 where
+  pub first : HasSingleLine faults.first
+  pub others : All HasSingleLine faults.others.items
 
 -- the line of a warning: its place and its message
 abbrev pub warning_at : List ℕ → TextPlace → List ℕ → List ℕ
@@ -40,3 +58,7 @@ warning_line file warning = warning_at file warning.place (string_bytes warning.
 -- a line for each warning
 abbrev pub warnings_text : List ℕ → List Warning → List ℕ
 warnings_text file warnings = flat_map (warning_line file) warnings
+
+-- no message has a newline
+abbrev pub WarnInSingleLines : List Warning → Type 0
+WarnInSingleLines warnings = All (λ warning. HasNoNewline (string_bytes warning.what)) warnings

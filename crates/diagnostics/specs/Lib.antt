@@ -1,2 +1,5 @@
 pub mod Diagnostic
+pub mod Lines
 pub mod Lints
+pub mod PlanPlaces
+pub mod PrintedLines

@@ -1,5 +1,6 @@
 //! The parsing of actions, and the messages for texts that are not actions.
 
+use crate::diagnostic::NumberRange;
 use crate::names::name_rule;
 use crate::suggestions::suggestion;
 use job_bodies::{MAX_WORK, is_valid_name};
@@ -65,6 +66,22 @@ fn is_length(text: &str) -> bool {
     }
 }
 
+/// Returns the range of the length of a `work`, if the text is a `work` with another length.
+pub(crate) fn range_of_work(text: &str) -> Option<NumberRange> {
+    let Words {
+        words: [verb, ..],
+        count,
+    } = words_of(text);
+    if verb == "work" && count > 1 && !is_spaced(text) {
+        Some(NumberRange {
+            low: 1,
+            high: MAX_WORK,
+        })
+    } else {
+        None
+    }
+}
+
 /// Returns the message for a text that is not an action.
 pub(crate) fn action_error(alloc: Global, text: &str) -> Result<String, AllocError> {
     if is_spaced(text) {
@@ -74,7 +91,7 @@ pub(crate) fn action_error(alloc: Global, text: &str) -> Result<String, AllocErr
     let Words { words, count } = words_of(text);
     let [verb, first, word, slot] = words;
     match verb {
-        "work" => work_error(alloc, first, count),
+        "work" => work_error(alloc, text),
         "get" => get_error(alloc, first, count),
         "submit" => submit_error(alloc, first, word, slot, count),
         _ => verb_error(alloc, verb, first),
@@ -94,14 +111,16 @@ fn is_spaced(text: &str) -> bool {
     !bytes.is_empty() && last == b' '
 }
 
-fn work_error(alloc: Global, units: &str, count: usize) -> Result<String, AllocError> {
-    if count < 2 {
-        return String::from_str(
+fn work_error(alloc: Global, text: &str) -> Result<String, AllocError> {
+    match text.split_once(' ') {
+        None => String::from_str(
             alloc,
             "work needs a number: write work 5; the number has no effect on the answer",
-        );
+        ),
+        Some((_, units)) => format!(in alloc;
+            "work takes a whole number from 1 to {MAX_WORK}, not {units}"
+        ),
     }
-    format!(in alloc; "work takes a whole number from 1 to {MAX_WORK}, not {units}")
 }
 
 fn get_error(alloc: Global, slot: &str, count: usize) -> Result<String, AllocError> {

@@ -1,9 +1,11 @@
 //! The checks of bodies: each action is well-formed, each submit names an existing class, and each
 //! get names a job that was submitted before and not got yet.
 
-use crate::actions::{ParsedAction, action_error, parse_action};
+use crate::actions::{ParsedAction, action_error, parse_action, range_of_work};
 use crate::collector::FaultCollector;
+use crate::diagnostic::NumberRange;
 use crate::entry::PlacedEntry;
+use crate::missing_submits::missing_submit;
 use crate::suggestions::{comma_list, suggestion};
 use std::alloc::{AllocError, Global};
 use support::number::{BAD_ACTION, NO_SUCH_CLASS, SLOT_EMPTY, SLOT_OPEN};
@@ -36,8 +38,19 @@ impl CheckedAction<'_> {
         number: u8,
         words: &str,
     ) -> Result<(), AllocError> {
+        self.report_with_range(collector, number, words, None)
+    }
+
+    /// Reports a fault of the action, with the range of the number that is out of it.
+    fn report_with_range(
+        &self,
+        collector: &mut FaultCollector,
+        number: u8,
+        words: &str,
+        range: Option<NumberRange>,
+    ) -> Result<(), AllocError> {
         self.entry
-            .report_action(collector, self.action, number, self.text, words)
+            .report_action(collector, self.action, number, self.text, words, range)
     }
 }
 
@@ -77,7 +90,8 @@ fn check_action<'a>(
     match parse_action(checked.text) {
         None => {
             let words = action_error(collector.alloc, checked.text)?;
-            checked.report(collector, BAD_ACTION, &words)
+            let range = range_of_work(checked.text);
+            checked.report_with_range(collector, BAD_ACTION, &words, range)
         }
         Some(ParsedAction::Work) => Ok(()),
         Some(ParsedAction::Submit(class)) => check_submit(collector, checked, class, classes),
@@ -176,47 +190,9 @@ fn no_such_slot(
     name: &str,
     slots: &[Slot<'_>],
 ) -> Result<String, AllocError> {
-    if let Some(words) = misplaced_submit(alloc, checked, name)? {
-        return Ok(words);
-    }
     let mut names = Vec::new(alloc);
     for slot in slots {
         names.push(slot.name)?;
     }
-    let otherwise = if names.is_empty() {
-        format!(in alloc; ": write submit CLASS as {name} before it")?
-    } else {
-        let all = comma_list(alloc, &names)?;
-        format!(in alloc; "; there are {all}")?
-    };
-    let right = suggestion(alloc, name, &names, &otherwise)?;
-    format!(in alloc; "nothing was submitted as {name}{right}")
-}
-
-/// Returns a message that points out a submit under this name after the get, or an unnamed submit
-/// of a class of this name before the get. Returns `None` if the body has neither.
-fn misplaced_submit(
-    alloc: Global,
-    checked: CheckedAction<'_>,
-    name: &str,
-) -> Result<Option<String>, AllocError> {
-    for (action, value) in checked.actions.iter().enumerate() {
-        let Some(text) = value.as_str() else {
-            continue;
-        };
-        match parse_action(text) {
-            Some(ParsedAction::SubmitAs(_, slot)) if slot == name && action > checked.action => {
-                return Ok(Some(format!(in alloc;
-                    "{name} is submitted only after this get, by action {action} \"{text}\""
-                )?));
-            }
-            Some(ParsedAction::Submit(class)) if class == name && action < checked.action => {
-                return Ok(Some(format!(in alloc;
-                    "nothing was submitted as {name}: write submit {class} as {name} in action {action}"
-                )?));
-            }
-            _ => {}
-        }
-    }
-    Ok(None)
+    missing_submit(alloc, checked.actions, checked.action, name, &names)
 }

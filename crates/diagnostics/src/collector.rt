@@ -1,37 +1,48 @@
 //! The faults found so far.
 
+ghost use Rattle.std.specs.Prelude.{◌≡◌, ◌<◌, ◌≤◌, length};
+
 use crate::diagnostic::Diagnostic;
 use job_bodies::PlanFault;
-use plan_text::TextPlace;
 use std::alloc::{AllocError, Global};
 
-/// The maximum number of faults in the list.
-const MAX_FOUND: usize = 100;
+/// The maximum number of faults besides the one that the plan parser reports.
+const MAX_OTHERS: usize = 99;
 
-/// A list of the faults found so far. Further faults are dropped when it is full.
+/// The faults found so far: the fault that the plan parser reports, the first 99 others, and the
+/// number of further faults.
 #[derive(Drop)]
 pub(crate) struct FaultCollector {
     pub(crate) alloc: Global,
-    pub(crate) found: Vec<Diagnostic>,
+    /// The fault that the plan parser reports.
+    pub(crate) wanted: PlanFault,
+    /// The first diagnostic for that fault.
+    pub(crate) first: Option<Diagnostic>,
+    pub(crate) others: Vec<Diagnostic>,
+    pub(crate) omitted: usize,
+    ghost within: { length others.items ≤ 99 },
+    ghost full: { 0 < omitted → length others.items ≡ 99 },
 }
 
 impl FaultCollector {
-    pub(crate) fn new(alloc: Global) -> FaultCollector {
+    pub(crate) fn new(alloc: Global, wanted: PlanFault) -> FaultCollector {
         FaultCollector {
             alloc,
-            found: Vec::new(alloc),
+            wanted,
+            first: None,
+            others: Vec::new(alloc),
+            omitted: 0,
         }
     }
 
-    /// Appends a fault, unless the list is full.
-    pub(crate) fn push(
-        &mut self,
-        fault: PlanFault,
-        place: TextPlace,
-        what: String,
-    ) -> Result<(), AllocError> {
-        if self.found.len() < MAX_FOUND {
-            self.found.push(Diagnostic { fault, place, what })?;
+    /// Adds a fault, or counts it if there are 99 others.
+    pub(crate) fn push(&mut self, found: Diagnostic) -> Result<(), AllocError> {
+        if self.first.is_none() && found.fault == self.wanted {
+            self.first = Some(found);
+        } else if self.others.len() < MAX_OTHERS {
+            self.others.push(found)?;
+        } else {
+            self.omitted = self.omitted.saturating_add(1);
         }
         Ok(())
     }

@@ -7,6 +7,13 @@ use job_bodies::PlanFault;
 use plan_text::TextPlace;
 use std::alloc::AllocError;
 
+/// A range of numbers, with both ends.
+#[derive(Clone, Copy)]
+pub struct NumberRange {
+    pub low: u64,
+    pub high: u64,
+}
+
 /// A diagnostic for one fault.
 #[derive(Drop)]
 pub struct Diagnostic {
@@ -16,6 +23,8 @@ pub struct Diagnostic {
     pub place: TextPlace,
     /// A message that says what is wrong and how to fix it.
     pub what: String,
+    /// The range that a number must be in, if the fault is a number out of its range.
+    pub range: Option<NumberRange>,
 }
 
 /// The faults of a plan's text.
@@ -23,12 +32,15 @@ pub struct Diagnostic {
 pub struct Faults {
     /// The fault that the plan parser reports.
     pub first: Diagnostic,
-    /// The other faults that were found, at most 100.
+    /// The other faults that were found, at most 99.
     pub others: Vec<Diagnostic>,
+    /// The number of faults that were found and are left out, since at most 100 are reported.
+    pub omitted: usize,
 }
 
 /// Appends a line for each fault, such as `shop.toml:17:21: class page, action 2 "get row": nothing
-/// was submitted as row; did you mean rows? (fault 13)`, with `file` as the file's name.
+/// was submitted as row; did you mean rows? (fault 13)`, with `file` as the file's name. A last line
+/// says how many faults are left out, if there are any, such as `... and 12 more faults`.
 ///
 /// # Errors
 ///
@@ -37,7 +49,8 @@ pub fn push_faults(text: &mut String, file: &str, faults: &Faults) -> Result<(),
     ensures { Pushes result text.old text.new (spec.faults_text file.now faults.now) }
 {
     push_diagnostic(text, file, &faults.first)?;
-    push_each(text, file, &faults.others)
+    push_each(text, file, &faults.others)?;
+    push_omitted(text, faults.omitted)
 }
 
 fn push_each(text: &mut String, file: &str, mut diagnostic: &[Diagnostic]) -> Result<(), AllocError>
@@ -89,4 +102,20 @@ fn push_number(text: &mut String, number: u8) -> Result<(), AllocError>
     ensures { Pushes result text.old text.new (spec.number_end number) }
 {
     writeln!(text, " (fault {number})")
+}
+
+fn push_omitted(text: &mut String, omitted: usize) -> Result<(), AllocError>
+    ensures { Pushes result text.old text.new (spec.omitted_line omitted) }
+{
+    match omitted {
+        0 => Ok(()),
+        1 => push_count(text, omitted, "fault"),
+        _ => push_count(text, omitted, "faults"),
+    }
+}
+
+fn push_count(text: &mut String, omitted: usize, noun: &str) -> Result<(), AllocError>
+    ensures { Pushes result text.old text.new (spec.count_line omitted noun.now) }
+{
+    writeln!(text, "... and {omitted} more {noun}")
 }

@@ -1,6 +1,7 @@
 //! The entries of a plan: its pools, its classes and its client kinds.
 
 use crate::collector::FaultCollector;
+use crate::diagnostic::{Diagnostic, NumberRange};
 use job_bodies::{Part, PlanFault};
 use plan_text::{Places, TextPlace};
 use std::alloc::{AllocError, Global};
@@ -98,16 +99,31 @@ impl<'a> PlacedEntry<'a> {
         place: TextPlace,
         words: &str,
     ) -> Result<(), AllocError> {
+        self.report_with_range(collector, number, place, words, None)
+    }
+
+    /// Reports a fault of the entry, with the range of the number that is out of it.
+    pub(crate) fn report_with_range(
+        &self,
+        collector: &mut FaultCollector,
+        number: u8,
+        place: TextPlace,
+        words: &str,
+        range: Option<NumberRange>,
+    ) -> Result<(), AllocError> {
         let who = self.who(collector.alloc)?;
         let what = format!(in collector.alloc; "{who}: {words}")?;
-        collector.push(
-            PlanFault::at_entry(self.part, self.index, number),
+        let fault = PlanFault::at_entry(self.part, self.index, number);
+        collector.push(Diagnostic {
+            fault,
             place,
             what,
-        )
+            range,
+        })
     }
 
     /// Reports a fault of an action, with the message `class page, action 1 "get row": WORDS`.
+    /// `range` is that of a number out of its range.
     pub(crate) fn report_action(
         &self,
         collector: &mut FaultCollector,
@@ -115,10 +131,16 @@ impl<'a> PlacedEntry<'a> {
         number: u8,
         text: &str,
         words: &str,
+        range: Option<NumberRange>,
     ) -> Result<(), AllocError> {
         let who = self.who(collector.alloc)?;
         let what = format!(in collector.alloc; "{who}, action {action} \"{text}\": {words}")?;
         let fault = PlanFault::at_action(self.part, self.index, action, number);
-        collector.push(fault, self.action_place(action), what)
+        collector.push(Diagnostic {
+            fault,
+            place: self.action_place(action),
+            what,
+            range,
+        })
     }
 }

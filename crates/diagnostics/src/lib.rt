@@ -2,17 +2,22 @@
 //! and lints, which warn of parts of a valid plan that are probably mistakes.
 //!
 //! The first diagnostic is for the fault that the plan parser reports, and the warnings are exactly
-//! the lints of the plan. The contracts promise nothing about messages and places.
+//! the lints of the plan. Each is printed in a line of its own. The contracts promise nothing else
+//! about messages and places.
 #![tactic(auto)]
 
 mod actions;
 mod bodies;
 mod collector;
+mod control_characters;
 mod diagnostic;
 mod entry;
+mod entry_places;
+mod line_laws;
 mod lint;
 mod lint_conditions;
 mod lints;
+mod missing_submits;
 mod names;
 mod numbers;
 mod plan_faults;
@@ -21,12 +26,16 @@ mod shapes;
 mod suggestions;
 mod syntax;
 mod tables;
+mod unclosed_lists;
 mod warning_lines;
 mod warning_places;
 mod warning_words;
 mod warnings;
 
-pub use diagnostic::{Diagnostic, Faults, push_faults};
+pub use control_characters::one_line;
+pub use diagnostic::{Diagnostic, Faults, NumberRange, push_faults};
+pub use entry_places::{BodyPlaces, PlanPlaces, PoolPlaces, plan_places};
+pub use line_laws::each_message_is_a_line;
 pub use lint::Lint;
 pub use plan_faults::faults_of;
 pub use warning_lines::push_warnings;

@@ -1,6 +1,7 @@
 //! The checks of sizes and counts.
 
 use crate::collector::FaultCollector;
+use crate::diagnostic::NumberRange;
 use crate::entry::PlacedEntry;
 use job_bodies::MAX_SIZE;
 use std::alloc::AllocError;
@@ -28,7 +29,17 @@ fn out_of_range(
             let words = format!(in collector.alloc;
                 "{key} is {number}, but must be from 1 to {MOST}"
             )?;
-            entry.report(collector, BAD_NUMBER, entry.value_place(key), &words)?;
+            let range = NumberRange {
+                low: 1,
+                high: MAX_SIZE,
+            };
+            entry.report_with_range(
+                collector,
+                BAD_NUMBER,
+                entry.value_place(key),
+                &words,
+                Some(range),
+            )?;
         }
     }
     Ok(any)
@@ -47,10 +58,31 @@ pub(crate) fn sizes(
         return Ok(());
     };
     if max < core {
-        let words = format!(in collector.alloc; "max {max} is less than core {core}")?;
-        return pool.report(collector, BAD_NUMBER, pool.value_place("max"), &words);
+        return max_below_core(collector, pool, core, max);
     }
     Ok(())
+}
+
+fn max_below_core(
+    collector: &mut FaultCollector,
+    pool: &PlacedEntry<'_>,
+    core: i64,
+    max: i64,
+) -> Result<(), AllocError> {
+    let words = format!(in collector.alloc;
+        "max {max} is less than core {core}, but must be from {core} to {MOST}"
+    )?;
+    let range = NumberRange {
+        low: core.unsigned_abs(),
+        high: MAX_SIZE,
+    };
+    pool.report_with_range(
+        collector,
+        BAD_NUMBER,
+        pool.value_place("max"),
+        &words,
+        Some(range),
+    )
 }
 
 /// Reports the count of a client kind if it is out of range.

@@ -1,68 +1,108 @@
 //! All faults of a plan's text that can be found.
 
-ghost use Rattle.std.specs.Prelude.{◌≡◌, IfOk};
+ghost use Rattle.std.specs.Prelude.{◌≡◌, ◌<◌, ◌≤◌, IfOk, length, string_bytes};
+ghost use Rattle.std.specs.List.{All};
+ghost use Rattle.diagnostics.specs.Diagnostic.{HasSingleLine, HaveSingleLines};
 
 use crate::collector::FaultCollector;
-use crate::diagnostic::{Diagnostic, Faults};
+use crate::control_characters::one_line;
+use crate::diagnostic::{Diagnostic, Faults, NumberRange};
 use crate::entry::BEGINNING;
 use crate::rules::rule_of;
 use crate::syntax::{not_text, not_toml};
 use crate::tables::document;
 use job_bodies::PlanFault;
-use plan_text::Places;
+use plan_text::{Places, TextPlace};
 use std::alloc::{AllocError, Global};
 
 /// Returns the faults of a plan's text that the parser rejects with `fault`: first `fault`, and
-/// then the other faults that can be found.
+/// then the other faults that can be found. There are at most 100, `fault` included, and each
+/// message is a single line.
 ///
 /// # Errors
 ///
 /// [`AllocError`] if memory runs out.
 pub fn faults_of(alloc: Global, text: &[u8], fault: PlanFault) -> Result<Faults, AllocError>
-    ensures { IfOk result (λ faults. faults.first.fault ≡ fault) }
+    ensures first { IfOk result (λ faults. faults.first.fault ≡ fault) }
+    ensures single_lines { IfOk result (λ faults. HaveSingleLines faults) }
+    ensures within { IfOk result (λ faults. length faults.others.items ≤ 99) }
+    ensures full { IfOk result
+        (λ faults. 0 < faults.omitted → length faults.others.items ≡ 99) }
 {
-    let mut found = all_diagnostics(alloc, text)?;
-    let first = match found.iter().position(|one| one.fault == fault) {
-        Some(index) => take_at(&mut found, index),
-        None => None,
-    };
-    match first {
-        Some(Diagnostic { place, what, .. }) => Ok(Faults {
-            first: Diagnostic { fault, place, what },
-            others: found,
-        }),
-        None => Ok(Faults {
-            first: Diagnostic {
-                fault,
-                place: BEGINNING,
-                what: String::from_str(alloc, rule_of(fault.number))?,
-            },
-            others: found,
-        }),
+    let found = all_faults(alloc, text, fault)?;
+    let first = first_of(alloc, fault, &found.first)?;
+    let others = in_single_lines(alloc, &found.others)?;
+    Ok(Faults {
+        first,
+        others,
+        omitted: found.omitted,
+    })
+}
+
+/// Returns the diagnostic for the fault that the parser reports. It has the rule that the fault
+/// violates if the checks did not find the fault.
+fn first_of(
+    alloc: Global,
+    fault: PlanFault,
+    found: &Option<Diagnostic>,
+) -> Result<Diagnostic, AllocError>
+    ensures same_fault { IfOk result (λ first. first.fault ≡ fault) }
+    ensures single_line { IfOk result (λ first. HasSingleLine first) }
+{
+    match found {
+        Some(one) => in_single_line(alloc, fault, one.place, &one.what, one.range),
+        None => in_single_line(alloc, fault, BEGINNING, rule_of(fault.number), None),
     }
 }
 
-/// Removes and returns the diagnostic at the index.
-fn take_at(found: &mut Vec<Diagnostic>, index: usize) -> Option<Diagnostic> {
-    if index < found.len() {
-        Some(found.remove(index))
-    } else {
-        None
+/// Returns these diagnostics, each with its message in a single line.
+fn in_single_lines(alloc: Global, found: &[Diagnostic]) -> Result<Vec<Diagnostic>, AllocError>
+    ensures single_lines { IfOk result (λ others. All HasSingleLine others.items) }
+    ensures each { IfOk result (λ others. length others.items ≡ length found.now) }
+{
+    let mut others = Vec::with_capacity(alloc, found.len())?;
+    for one in found {
+        let line = in_single_line(alloc, one.fault, one.place, &one.what, one.range)?;
+        others.push(line)?;
     }
+    Ok(others)
 }
 
-/// Returns the faults that can be found, at most 100: those of the plan, or a single syntax error
-/// if the text is not TOML.
-fn all_diagnostics(alloc: Global, bytes: &[u8]) -> Result<Vec<Diagnostic>, AllocError> {
-    let mut collector = FaultCollector::new(alloc);
+fn in_single_line(
+    alloc: Global,
+    fault: PlanFault,
+    place: TextPlace,
+    what: &str,
+    range: Option<NumberRange>,
+) -> Result<Diagnostic, AllocError>
+    ensures same_fault { IfOk result (λ one. one.fault ≡ fault) }
+    ensures single_line { IfOk result (λ one. HasSingleLine one) }
+{
+    let what = one_line(alloc, what)?;
+    Ok(Diagnostic {
+        fault,
+        place,
+        what,
+        range,
+    })
+}
+
+/// Returns the faults that can be found: those of the plan, or a single syntax error if the text is
+/// not TOML.
+fn all_faults(
+    alloc: Global,
+    bytes: &[u8],
+    wanted: PlanFault,
+) -> Result<FaultCollector, AllocError> {
+    let mut collector = FaultCollector::new(alloc, wanted);
     match std::str::from_utf8(bytes) {
         Ok(text) => check_text(&mut collector, text)?,
         Err(error) => {
             let diagnostic = not_text(alloc, bytes, error.valid_up_to())?;
-            collector.found.push(diagnostic)?;
+            collector.push(diagnostic)?;
         }
     }
-    Ok(collector.found)
+    Ok(collector)
 }
 
 fn check_text(collector: &mut FaultCollector, text: &str) -> Result<(), AllocError> {
@@ -75,8 +115,7 @@ fn check_text(collector: &mut FaultCollector, text: &str) -> Result<(), AllocErr
             None => Err(AllocError),
             Some(span) => {
                 let diagnostic = not_toml(collector.alloc, text, span.start, error.message())?;
-                collector.found.push(diagnostic)?;
-                Ok(())
+                collector.push(diagnostic)
             }
         },
     }

@@ -216,7 +216,7 @@ fn body(
         if !action.is_str() {
             let found = action.type_str();
             let words = format!(in collector.alloc; "it is a {found}, but must be a string")?;
-            entry.report_action(collector, number, WRONG_TYPE, "..", &words)?;
+            entry.report_action(collector, number, WRONG_TYPE, "..", &words, None)?;
         }
     }
     Ok(())

@@ -2,6 +2,7 @@
 //! mistake.
 
 use crate::diagnostic::Diagnostic;
+use crate::unclosed_lists::unclosed_list;
 use job_bodies::PlanFault;
 use plan_text::{TextPlace, place_at};
 use std::alloc::{AllocError, Global};
@@ -23,6 +24,7 @@ pub(crate) fn not_text(
         fault: PlanFault::at_text(NOT_TOML),
         place: place_at(bytes, valid),
         what: String::from_str(alloc, what)?,
+        range: None,
     })
 }
 
@@ -35,16 +37,34 @@ pub(crate) fn not_toml(
     words: &str,
 ) -> Result<Diagnostic, AllocError> {
     let place = place_at(text.as_bytes(), offset);
-    let line = line_of(text, place);
-    let what = match hint_of(line) {
-        Some(hint) => format!(in alloc; "{hint} ({words})")?,
-        None => String::from_str(alloc, words)?,
-    };
+    let what = message_at(alloc, text, place, words)?;
     Ok(Diagnostic {
         fault: PlanFault::at_text(NOT_TOML),
         place,
         what,
+        range: None,
     })
+}
+
+/// Returns the message for an error at this place: a hint, if the mistake is a common one, and the
+/// parser's message.
+fn message_at(
+    alloc: Global,
+    text: &str,
+    place: TextPlace,
+    words: &str,
+) -> Result<String, AllocError> {
+    let line = line_of(text, place);
+    if let Some(hint) = character_hint(line) {
+        return format!(in alloc; "{hint} ({words})");
+    }
+    if let Some(start) = unclosed_list(text, place.line) {
+        return format!(in alloc; "the list that begins at line {start} has no ] ({words})");
+    }
+    match entry_hint(line) {
+        Some(hint) => format!(in alloc; "{hint} ({words})"),
+        None => String::from_str(alloc, words),
+    }
 }
 
 fn line_of(text: &str, place: TextPlace) -> &str {
@@ -58,8 +78,8 @@ fn line_of(text: &str, place: TextPlace) -> &str {
     ""
 }
 
-/// Returns a hint for a line that is not TOML, if its mistake is a common one.
-fn hint_of(line: &str) -> Option<&'static str> {
+/// Returns a hint for a line that has characters of another format, or a quote that is not closed.
+fn character_hint(line: &str) -> Option<&'static str> {
     let line = line.trim();
     if line.starts_with("//") {
         return Some("comments start with #");
@@ -72,10 +92,19 @@ fn hint_of(line: &str) -> Option<&'static str> {
     if line.contains('\u{201c}') || line.contains('\u{201d}') || line.contains('\u{201e}') {
         return Some("use plain quotes, \"");
     }
-    if let Some(hint) = bracket_hint(line) {
-        return Some(hint);
+    let quotes = line.bytes().filter(|byte| *byte == b'"').count();
+    if quotes % 2 == 1 {
+        return Some("a quote is not closed");
     }
-    value_hint(line)
+    None
+}
+
+/// Returns a hint for the header of an entry, or for a value that is not TOML.
+fn entry_hint(line: &str) -> Option<&'static str> {
+    match bracket_hint(line) {
+        Some(hint) => Some(hint),
+        None => value_hint(line),
+    }
 }
 
 /// Returns a hint if the line is the header of an entry. Such a line is a fault if it has one pair of
@@ -93,10 +122,6 @@ fn bracket_hint(line: &str) -> Option<&'static str> {
 }
 
 fn value_hint(line: &str) -> Option<&'static str> {
-    let quotes = line.bytes().filter(|byte| *byte == b'"').count();
-    if quotes % 2 == 1 {
-        return Some("a quote is not closed");
-    }
     let (_, value) = line.split_once('=')?;
     match value.trim() {
         "yes" | "no" | "on" | "off" | "True" | "False" | "TRUE" | "FALSE" | "Yes" | "No" => {

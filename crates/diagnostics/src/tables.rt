@@ -1,6 +1,7 @@
 //! The checks of a plan's document: its keys, its lists, and their entries.
 
 use crate::collector::FaultCollector;
+use crate::diagnostic::Diagnostic;
 use crate::entry::{BEGINNING, PlacedEntry, list_of};
 use crate::shapes::{has_key, keys_of};
 use crate::suggestions::{comma_list, suggestion};
@@ -95,7 +96,12 @@ fn unknown_list(
     };
     let what = format!(in alloc; "unknown key {key}{right}")?;
     let place = places.top(key).unwrap_or(BEGINNING);
-    collector.push(PlanFault::at_text(UNKNOWN_KEY), place, what)
+    collector.push(Diagnostic {
+        fault: PlanFault::at_text(UNKNOWN_KEY),
+        place,
+        what,
+        range: None,
+    })
 }
 
 /// Returns the entries of a list, and reports the faults of their keys and names.
@@ -133,7 +139,12 @@ fn no_list(
         "write [[{list}]] with two brackets: {list} is an array of tables"
     )?;
     let place = places.top(list).unwrap_or(BEGINNING);
-    collector.push(PlanFault::at_text(WRONG_TYPE), place, what)
+    collector.push(Diagnostic {
+        fault: PlanFault::at_text(WRONG_TYPE),
+        place,
+        what,
+        range: None,
+    })
 }
 
 /// Reports the faults of an entry's keys and name. `before` has the earlier entries of the list.
@@ -169,7 +180,12 @@ fn entry_of<'a>(
                 "{list} must be a table, not a {found}: write [[{list}]]"
             )?;
             let place = places.top(list).unwrap_or(BEGINNING);
-            collector.push(PlanFault::at_entry(part, index, WRONG_TYPE), place, what)?;
+            collector.push(Diagnostic {
+                fault: PlanFault::at_entry(part, index, WRONG_TYPE),
+                place,
+                what,
+                range: None,
+            })?;
             Ok(None)
         }
     }

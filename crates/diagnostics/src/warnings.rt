@@ -1,8 +1,11 @@
 //! Warnings: lints with their places and messages.
 
-ghost use Rattle.std.specs.Prelude.{◌≡◌, IfOk};
+ghost use Rattle.std.specs.Prelude.{◌≡◌, IfOk, string_bytes};
+ghost use Rattle.diagnostics.specs.Diagnostic.{WarnInSingleLines};
+ghost use Rattle.diagnostics.specs.Lines.{HasNoNewline};
 ghost use Rattle.diagnostics.specs.Lints as spec;
 
+use crate::control_characters::one_line;
 use crate::lint::Lint;
 use crate::lints::lints_of;
 use crate::warning_places::place_of;
@@ -24,7 +27,8 @@ pub struct Warning {
 
 /// Returns a warning for each lint of the plan, in order. `text` is the plan's text. `needed` has,
 /// for each pool, the maximum number of jobs in its queue at once, or `None` if no standing vector
-/// bounds this number. The contract promises nothing about places and messages.
+/// bounds this number. Each message is a single line. The contract promises nothing else about
+/// places and messages.
 ///
 /// # Errors
 ///
@@ -35,8 +39,9 @@ pub fn warnings_of(
     plan: &Plan,
     needed: &[Option<u64>],
 ) -> Result<Vec<Warning>, AllocError>
-    ensures { IfOk result
+    ensures lints { IfOk result
         (λ warnings. spec.AreLints plan.now needed.now (spec.lints_in warnings.items)) }
+    ensures single_lines { IfOk result (λ warnings. WarnInSingleLines warnings.items) }
 {
     let lints = lints_of(alloc, plan, needed)?;
     let places = Places::of(alloc, text)?;
@@ -50,7 +55,8 @@ fn warnings_about(
     plan: &Plan,
     lints: &[Lint],
 ) -> Result<Vec<Warning>, AllocError>
-    ensures { IfOk result (λ warnings. spec.lints_in warnings.items ≡ lints.now) }
+    ensures lints { IfOk result (λ warnings. spec.lints_in warnings.items ≡ lints.now) }
+    ensures single_lines { IfOk result (λ warnings. WarnInSingleLines warnings.items) }
 {
     let mut warnings = Vec::new(alloc);
     for lint in lints {
@@ -66,9 +72,11 @@ fn warning_about(
     plan: &Plan,
     lint: Lint,
 ) -> Result<Warning, AllocError>
-    ensures { IfOk result (λ warning. warning.lint ≡ lint) }
+    ensures same_lint { IfOk result (λ warning. warning.lint ≡ lint) }
+    ensures single_line { IfOk result (λ warning. HasNoNewline (string_bytes warning.what)) }
 {
-    let what = words_of(alloc, plan, lint)?;
+    let words = words_of(alloc, plan, lint)?;
+    let what = one_line(alloc, &words)?;
     let place = place_of(places, lint);
     Ok(Warning { lint, place, what })
 }

@@ -1,4 +1,4 @@
--- The lines that say why no sizes were found.
+-- Why no sizes were found: the words, and the lines with them.
 use Rattle.std.specs.Prelude.{List, ℕ, [], ◌∷◌, ◌++◌, codes, decimal}
 use Rattle.job_bodies.specs.declared.limits.TheConstants.{MAX_SIZE}
 use Rattle.job_bodies.specs.Plan.{Plan, pool_at, class_at, client_at}
@@ -6,24 +6,28 @@ use Rattle.size_search.specs.declared.found.NoSizes.{NoSizes}
 use Rattle.size_search.specs.declared.cause.Cause.TheVariants.{Circle, ClientNeverGets, ClassNeverGets}
 use Rattle.size_search.specs.declared.found.NoSizes.TheVariants.{Cause, TooLarge}
 
--- the line for a class whose jobs submit jobs of the same class, directly or through other jobs
-abbrev pub circle_text : List ℕ → List ℕ
-circle_text name = codes "class " ++ name ++ codes " submits itself" ++ 10 ∷ []
+-- the words for a class whose jobs submit jobs of the same class, directly or through other jobs
+abbrev pub circle_words : List ℕ → List ℕ
+circle_words name = codes "class " ++ name ++ codes " submits itself"
 
--- the line for a submit that is made without limit, and whose jobs are never got
-abbrev pub never_got_text : List ℕ → List ℕ → ℕ → List ℕ
-never_got_text kind name action = kind ++ (codes " " ++ (name ++ (codes " action " ++ (decimal action ++ (codes ": submits for ever, never got" ++ 10 ∷ [])))))
+-- the words for a submit that is made without limit, and whose jobs are never got
+abbrev pub never_got_words : List ℕ → List ℕ → ℕ → List ℕ
+never_got_words kind name action = kind ++ (codes " " ++ (name ++ (codes " action " ++ (decimal action ++ codes ": submits for ever, never got"))))
 
--- the line for sizes above the limit, which names this pool
-abbrev pub above_text : List ℕ → List ℕ
-above_text name = codes "pool " ++ name ++ codes ": sizes above " ++ decimal MAX_SIZE ++ 10 ∷ []
+-- the words for sizes above the limit, which name this pool
+abbrev pub above_words : List ℕ → List ℕ
+above_words name = codes "pool " ++ name ++ codes ": sizes above " ++ decimal MAX_SIZE
+
+-- the words for the cause
+abbrev pub cause_words : Plan → NoSizes → List ℕ
+cause_words plan (Cause (Circle k)) = circle_words (class_at plan k).name
+cause_words plan (Cause (ClientNeverGets c i)) = never_got_words (codes "client") (client_at plan c).name i
+cause_words plan (Cause (ClassNeverGets k i)) = never_got_words (codes "class") (class_at plan k).name i
+cause_words plan (TooLarge p) = above_words (pool_at plan p).name
 
 -- the line of the cause
 abbrev pub cause_text : Plan → NoSizes → List ℕ
-cause_text plan (Cause (Circle k)) = circle_text (class_at plan k).name
-cause_text plan (Cause (ClientNeverGets c i)) = never_got_text (codes "client") (client_at plan c).name i
-cause_text plan (Cause (ClassNeverGets k i)) = never_got_text (codes "class") (class_at plan k).name i
-cause_text plan (TooLarge p) = above_text (pool_at plan p).name
+cause_text plan cause = cause_words plan cause ++ 10 ∷ []
 
 -- a line that no sizes were found, and the line of the cause
 abbrev pub no_sizes_text : Plan → NoSizes → List ℕ

@@ -1,34 +1,52 @@
--- The answer of `ask` as a JSON object on one line.
+-- The answer of `ask` as a JSON object on one line, in format 1.
 use Rattle.std.specs.Prelude.{◌≡◌, ℕ, List, [], ◌∷◌, ◌++◌, codes}
-use Rattle.serde_json.specs.Data.{Data, number, unsigned, string, array, object, Items, item, member, no_members}
+use Rattle.serde_json.specs.Data.{Data, null, number, unsigned, string, array, object, item, no_items, member, no_members}
 use Rattle.serde_json.specs.Written.{IsInOrder}
-use Rattle.serde_json.specs.View.{view}
+use Rattle.serde_json.specs.View.{view, items_of}
+use Rattle.job_bodies.specs.Plan.{Plan}
+use Rattle.diagnostics.specs.declared.diagnostic.Faults.{Faults}
+use Rattle.diagnostics.specs.declared.entry_places.PlanPlaces.{PlanPlaces}
+use Rattle.diagnostics.specs.declared.warnings.Warning.{Warning}
 use Rattle.report.specs.declared.json_answers.AnswerParts.{AnswerParts}
 use Rattle.report.specs.declared.finding.PlanFinding.{PlanFinding}
 use Rattle.report.specs.declared.finding.PlanFinding.TheVariants.{Safe, NotSafe, NotDecided}
+use Rattle.report.specs.declared.version.TheConstants.{VERSION}
+use Rattle.report.specs.JsonFaults.{faults_data, single_fault_data}
+use Rattle.report.specs.JsonPlan.{plan_data, text_only_data}
+use Rattle.report.specs.JsonPools.{pools_data}
+use Rattle.report.specs.JsonSizes.{sizes_data}
+use Rattle.report.specs.JsonWarnings.{warnings_data}
+use Rattle.report.specs.JsonWitness.{witness_data}
 
--- the members of an answer besides its name
-pub record Rest : Type 0 where
+-- ---- the object
+
+-- the members of an answer that depend on more than its name and its file
+pub record Parts : Type 0 where
+  pub assumptions : Data
   pub faults : Data
-  pub file : Data
+  pub plan : Data
   pub pools : Data
   pub sizes : Data
   pub warnings : Data
   pub witness : Data
 
-abbrev pub rest_of : AnswerParts → Rest
-rest_of m = record { faults = view m.faults; file = view m.file; pools = view m.pools; sizes = view m.sizes; warnings = view m.warnings; witness = view m.witness }
+abbrev pub parts_of : AnswerParts → Parts
+parts_of m = record { assumptions = view m.assumptions; faults = view m.faults; plan = view m.plan; pools = view m.pools; sizes = view m.sizes; warnings = view m.warnings; witness = view m.witness }
 
 -- the object of an answer with this name, its keys in ascending order
-unfoldable pub answer_data : List ℕ → Rest → Data
-answer_data word rest =
+unfoldable pub answer_data : List ℕ → List ℕ → Parts → Data
+answer_data word file parts =
     object (member (codes "answer") (string word)
-    (member (codes "faults") rest.faults
-    (member (codes "file") rest.file
-    (member (codes "pools") rest.pools
-    (member (codes "sizes") rest.sizes
-    (member (codes "warnings") rest.warnings
-    (member (codes "witness") rest.witness no_members)))))))
+    (member (codes "assumptions") parts.assumptions
+    (member (codes "faults") parts.faults
+    (member (codes "file") (string file)
+    (member (codes "format") (number (unsigned 1))
+    (member (codes "plan") parts.plan
+    (member (codes "pools") parts.pools
+    (member (codes "sizes") parts.sizes
+    (member (codes "version") (string VERSION.now)
+    (member (codes "warnings") parts.warnings
+    (member (codes "witness") parts.witness no_members)))))))))))
 
 -- the text is the value, with each item and member once and in order, followed by a newline
 pub record IsLineOf (value : Data) (text : List ℕ) : Type 0 where
@@ -36,42 +54,67 @@ pub record IsLineOf (value : Data) (text : List ℕ) : Type 0 where
   pub in_order : IsInOrder json value
   pub is : text ≡ json ++ 10 ∷ []
 
+-- ---- a finding
+
 abbrev pub word_of : PlanFinding → List ℕ
 word_of (Safe cert) = codes "SAFE"
 word_of (NotSafe witness sizes) = codes "NOT SAFE"
 word_of (NotDecided sizes) = codes "NOT DECIDED"
 
--- the answer reports the finding
-pub record TellsFinding (finding : PlanFinding) (text : List ℕ) : Type 0 where
-  pub rest : Rest
-  pub is_line : IsLineOf (answer_data (word_of finding) rest) text
+-- what SAFE rests on
+unfoldable pub safe_assumptions : Data
+safe_assumptions =
+    array (item (string (codes "The service does what the plan says: these pools, these submitters, these bodies. A job may skip any submit together with its get. `sizing conform` compares a recorded test run with the plan."))
+    (item (string (codes "The executors have the sizes of the plan. `PlanCheck` compares them when the service starts."))
+    (item (string (codes "Each `work` of a job returns, whatever other jobs and clients do."))
+    (item (string (codes "No timed get expires, no future is cancelled, and no exception leaves a body with an open future, except with permits.")) no_items))))
+
+abbrev pub assumptions_data : PlanFinding → Data
+assumptions_data (Safe cert) = safe_assumptions
+assumptions_data (NotSafe witness sizes) = array (items_of [])
+assumptions_data (NotDecided sizes) = array (items_of [])
+
+-- the pools, with the bounds of the certificate that accepts the plan
+abbrev pub pools_of : Plan → PlanFinding → Data
+pools_of plan (Safe cert) = pools_data plan cert.pools
+pools_of plan (NotSafe witness sizes) = pools_data plan []
+pools_of plan (NotDecided sizes) = pools_data plan []
+
+-- the result of the search for other sizes
+abbrev pub sizes_of : PlanPlaces → Plan → PlanFinding → Data
+sizes_of places plan (Safe cert) = null
+sizes_of places plan (NotSafe witness sizes) = sizes_data places plan sizes
+sizes_of places plan (NotDecided sizes) = sizes_data places plan sizes
+
+abbrev pub witness_of : PlanPlaces → Plan → PlanFinding → Data
+witness_of places plan (Safe cert) = null
+witness_of places plan (NotSafe witness sizes) = witness_data places plan witness
+witness_of places plan (NotDecided sizes) = null
+
+abbrev pub finding_parts : List ℕ → PlanPlaces → Plan → PlanFinding → List Warning → Parts
+finding_parts text places plan finding warnings = record { assumptions = assumptions_data finding; faults = array (items_of []); plan = plan_data text places plan; pools = pools_of plan finding; sizes = sizes_of places plan finding; warnings = warnings_data warnings; witness = witness_of places plan finding }
+
+-- the answer about a plan that was read from this text
+abbrev pub finding_data : List ℕ → List ℕ → PlanPlaces → Plan → PlanFinding → List Warning → Data
+finding_data file text places plan finding warnings = answer_data (word_of finding) file (finding_parts text places plan finding warnings)
+
+-- the line reports the finding
+pub record TellsFinding (file text : List ℕ) (places : PlanPlaces) (plan : Plan) (finding : PlanFinding) (warnings : List Warning) (line : List ℕ) : Type 0 where
+  pub is_line : IsLineOf (finding_data file text places plan finding warnings) line
 
 -- ---- faults
 
-unfoldable pub fault_data : Data → ℕ → Data → List ℕ → Data
-fault_data column fault line words =
-    object (member (codes "column") column (member (codes "fault") (number (unsigned fault)) (member (codes "line") line (member (codes "text") (string words) no_members))))
+abbrev pub fault_parts : List ℕ → Data → Parts
+fault_parts text faults = record { assumptions = array (items_of []); faults = faults; plan = text_only_data text; pools = array (items_of []); sizes = null; warnings = array (items_of []); witness = null }
 
--- a fault with this number
-pub record IsFault (fault : ℕ) (value : Data) : Type 0 where
-  pub column : Data
-  pub line : Data
-  pub words : List ℕ
-  pub is : value ≡ fault_data column fault line words
+-- the answer about a text with these faults
+abbrev pub faulty_data : List ℕ → List ℕ → Data → Data
+faulty_data file text faults = answer_data (codes "FAULTS") file (fault_parts text faults)
 
--- a list with this first element
-pub record BeginsWith (first value : Data) : Type 0 where
-  pub others : Items
-  pub is : value ≡ array (item first others)
+-- the line reports the faults of a plan's text
+pub record TellsFaults (file text : List ℕ) (faults : Faults) (line : List ℕ) : Type 0 where
+  pub is_line : IsLineOf (faulty_data file text (faults_data faults)) line
 
--- a list of faults, of which the first has this number
-pub record IsFaultsArray (fault : ℕ) (value : Data) : Type 0 where
-  pub first : Data
-  pub is_fault : IsFault fault first
-  pub begins : BeginsWith first value
-
--- the answer reports faults, of which the first has this number
-pub record TellsFault (fault : ℕ) (text : List ℕ) : Type 0 where
-  pub rest : Rest
-  pub is_array : IsFaultsArray fault rest.faults
-  pub is_line : IsLineOf (answer_data (codes "FAULTS") rest) text
+-- the line reports one fault without a place, in these words
+pub record TellsFault (file text : List ℕ) (number : ℕ) (words line : List ℕ) : Type 0 where
+  pub is_line : IsLineOf (faulty_data file text (single_fault_data number words)) line

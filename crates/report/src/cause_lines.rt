@@ -23,6 +23,18 @@ pub fn push_no_sizes(text: &mut String, plan: &Plan, cause: NoSizes) -> Result<(
 fn push_cause(text: &mut String, plan: &Plan, cause: NoSizes) -> Result<(), AllocError>
     ensures { Pushes result text.old text.new (spec.cause_text plan.now cause) }
 {
+    push_cause_words(text, plan, cause)?;
+    text.push('\n')
+}
+
+/// Appends the reason, without a newline.
+pub(crate) fn push_cause_words(
+    text: &mut String,
+    plan: &Plan,
+    cause: NoSizes,
+) -> Result<(), AllocError>
+    ensures { Pushes result text.old text.new (spec.cause_words plan.now cause) }
+{
     match cause {
         NoSizes::Cause(Cause::Circle(class)) => push_circle(text, plan.class_name(class)),
         NoSizes::Cause(Cause::ClientNeverGets(client, action)) => {
@@ -36,9 +48,9 @@ fn push_cause(text: &mut String, plan: &Plan, cause: NoSizes) -> Result<(), Allo
 }
 
 fn push_circle(text: &mut String, name: &str) -> Result<(), AllocError>
-    ensures { Pushes result text.old text.new (spec.circle_text name.now) }
+    ensures { Pushes result text.old text.new (spec.circle_words name.now) }
 {
-    writeln!(text, "class {name} submits itself")
+    write!(text, "class {name} submits itself")
 }
 
 fn push_never_got(
@@ -47,16 +59,16 @@ fn push_never_got(
     name: &str,
     action: usize,
 ) -> Result<(), AllocError>
-    ensures { Pushes result text.old text.new (spec.never_got_text kind.now name.now action) }
+    ensures { Pushes result text.old text.new (spec.never_got_words kind.now name.now action) }
 {
-    writeln!(
+    write!(
         text,
         "{kind} {name} action {action}: submits for ever, never got"
     )
 }
 
 fn push_above(text: &mut String, name: &str) -> Result<(), AllocError>
-    ensures { Pushes result text.old text.new (spec.above_text name.now) }
+    ensures { Pushes result text.old text.new (spec.above_words name.now) }
 {
-    writeln!(text, "pool {name}: sizes above {MAX_SIZE}")
+    write!(text, "pool {name}: sizes above {MAX_SIZE}")
 }

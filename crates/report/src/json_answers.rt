@@ -8,28 +8,31 @@ ghost use Rattle.report.specs.Json as spec;
 
 use crate::PlanFinding;
 use crate::json_faults::{faults_value, single_fault};
-use crate::json_pools::{bounded_pools, no_pools};
-use crate::json_sizes::sizes_value;
-use crate::json_warnings::warnings_value;
-use crate::json_witness::witness_value;
-use diagnostics::{Faults, Warning};
+use crate::json_findings::finding_parts;
+use crate::json_plan::text_only_value;
+use crate::version::VERSION;
+use diagnostics::{Faults, PlanPlaces, Warning};
 use job_bodies::Plan;
 use serde_json::{Value, json};
 use std::alloc::{AllocError, Global};
 
-/// The members of an answer besides `answer`.
+/// The version of the object's members.
+const FORMAT: u8 = 1;
+
+/// The members of an answer that depend on more than its name and its file.
 #[derive(Drop)]
-struct AnswerParts {
-    faults: Value,
-    file: Value,
-    pools: Value,
-    sizes: Value,
-    warnings: Value,
-    witness: Value,
+pub(crate) struct AnswerParts {
+    pub(crate) assumptions: Value,
+    pub(crate) faults: Value,
+    pub(crate) plan: Value,
+    pub(crate) pools: Value,
+    pub(crate) sizes: Value,
+    pub(crate) warnings: Value,
+    pub(crate) witness: Value,
 }
 
 /// Returns the JSON text of the finding about a plan, with these warnings. `file` is the name of
-/// the plan's file.
+/// the plan's file, `text` its content, and `places` has the places of the plan's entries in it.
 ///
 /// # Errors
 ///
@@ -37,43 +40,58 @@ struct AnswerParts {
 pub fn finding_json(
     alloc: Global,
     file: &str,
+    text: &[u8],
+    places: &PlanPlaces,
     plan: &Plan,
     finding: &PlanFinding,
     warnings: &[Warning],
 ) -> Result<String, AllocError>
-    ensures { IfOk result (λ text. spec.TellsFinding finding.now (string_bytes text)) }
+    ensures { IfOk result (λ line. spec.TellsFinding
+        file.now text.now places.now plan.now finding.now warnings.now (string_bytes line)) }
 {
-    let rest = rest_of(alloc, file, plan, finding, warnings)?;
-    let value = answer_value(alloc, word_of(finding), rest)?;
+    let parts = finding_parts(alloc, text, places, plan, finding, warnings)?;
+    let value = answer_value(alloc, word_of(finding), file, parts)?;
     line_of(alloc, &value)
 }
 
-/// Returns the JSON text of the faults of a plan's text. `file` is the name of the plan's file.
+/// Returns the JSON text of the faults of a plan's text. `file` is the name of the plan's file, and
+/// `text` its content.
 ///
 /// # Errors
 ///
 /// [`AllocError`] if memory runs out.
-pub fn faults_json(alloc: Global, file: &str, faults: &Faults) -> Result<String, AllocError>
+pub fn faults_json(
+    alloc: Global,
+    file: &str,
+    text: &[u8],
+    faults: &Faults,
+) -> Result<String, AllocError>
     ensures { IfOk result
-        (λ text. spec.TellsFault faults.now.first.fault.number (string_bytes text)) }
+        (λ line. spec.TellsFaults file.now text.now faults.now (string_bytes line)) }
 {
     let fault_list = faults_value(alloc, faults)?;
-    let rest = only_faults(alloc, file, fault_list)?;
-    let value = answer_value(alloc, "FAULTS", rest)?;
+    let value = faulty_value(alloc, file, text, fault_list)?;
     line_of(alloc, &value)
 }
 
 /// Returns the JSON text of one fault with this message, which has no place in the plan's text.
+/// `file` is the name of the plan's file, and `text` its content.
 ///
 /// # Errors
 ///
 /// [`AllocError`] if memory runs out.
-pub fn fault_json(alloc: Global, file: &str, number: u8, words: &str) -> Result<String, AllocError>
-    ensures { IfOk result (λ text. spec.TellsFault number (string_bytes text)) }
+pub fn fault_json(
+    alloc: Global,
+    file: &str,
+    text: &[u8],
+    number: u8,
+    words: &str,
+) -> Result<String, AllocError>
+    ensures { IfOk result
+        (λ line. spec.TellsFault file.now text.now number words.now (string_bytes line)) }
 {
     let fault_list = single_fault(alloc, number, words)?;
-    let rest = only_faults(alloc, file, fault_list)?;
-    let value = answer_value(alloc, "FAULTS", rest)?;
+    let value = faulty_value(alloc, file, text, fault_list)?;
     line_of(alloc, &value)
 }
 
@@ -88,25 +106,61 @@ fn word_of(finding: &PlanFinding) -> &'static str
     }
 }
 
+/// Creates the object of an answer that has only these faults.
+fn faulty_value(alloc: Global, file: &str, text: &[u8], faults: Value) -> Result<Value, AllocError>
+    ensures { IfOk result
+        (λ value. data_of value ≡ spec.faulty_data file.now text.now (data_of faults)) }
+{
+    let parts = fault_parts(alloc, text, faults)?;
+    answer_value(alloc, "FAULTS", file, parts)
+}
+
+/// Creates the members of an answer that has only these faults.
+fn fault_parts(alloc: Global, text: &[u8], faults: Value) -> Result<AnswerParts, AllocError>
+    ensures { IfOk result
+        (λ parts. spec.parts_of parts ≡ spec.fault_parts text.now (data_of faults)) }
+{
+    Ok(AnswerParts {
+        assumptions: Value::Array(Vec::new(alloc)),
+        faults,
+        plan: text_only_value(alloc, text)?,
+        pools: Value::Array(Vec::new(alloc)),
+        sizes: Value::Null,
+        warnings: Value::Array(Vec::new(alloc)),
+        witness: Value::Null,
+    })
+}
+
 /// Creates the object of an answer with this name.
 #[tactic(auto, unfolding(crate::specs::Json::answer_data))]
-fn answer_value(alloc: Global, word: &str, rest: AnswerParts) -> Result<Value, AllocError>
-    ensures { IfOk result (λ value. data_of value ≡ spec.answer_data word.now (spec.rest_of rest)) }
+fn answer_value(
+    alloc: Global,
+    word: &str,
+    file: &str,
+    parts: AnswerParts,
+) -> Result<Value, AllocError>
+    ensures { IfOk result
+        (λ value. data_of value ≡ spec.answer_data word.now file.now (spec.parts_of parts)) }
 {
     let AnswerParts {
+        assumptions,
         faults,
-        file,
+        plan,
         pools,
         sizes,
         warnings,
         witness,
-    } = rest;
+    } = parts;
     json!(in alloc; {
         "answer": word,
+        "assumptions": assumptions,
         "faults": faults,
         "file": file,
+        "format": FORMAT,
+        "plan": plan,
         "pools": pools,
         "sizes": sizes,
+        "version": VERSION,
         "warnings": warnings,
         "witness": witness
     })
@@ -119,49 +173,4 @@ fn line_of(alloc: Global, value: &Value) -> Result<String, AllocError>
     let mut text = value.to_string(alloc)?;
     text.push('\n')?;
     Ok(text)
-}
-
-/// Creates the members of an answer for a finding.
-fn rest_of(
-    alloc: Global,
-    file: &str,
-    plan: &Plan,
-    finding: &PlanFinding,
-    warnings: &[Warning],
-) -> Result<AnswerParts, AllocError> {
-    let (pools, sizes, witness) = match finding {
-        PlanFinding::Safe(cert) => (bounded_pools(alloc, plan, cert)?, Value::Null, Value::Null),
-        PlanFinding::NotSafe(witness, sizes) => (
-            no_pools(alloc, plan)?,
-            sizes_value(alloc, plan, sizes)?,
-            witness_value(alloc, plan, witness)?,
-        ),
-        PlanFinding::NotDecided(sizes) => (
-            no_pools(alloc, plan)?,
-            sizes_value(alloc, plan, sizes)?,
-            Value::Null,
-        ),
-    };
-    Ok(AnswerParts {
-        faults: Value::Array(Vec::new(alloc)),
-        file: Value::try_from_str(alloc, file)?,
-        pools,
-        sizes,
-        warnings: warnings_value(alloc, warnings)?,
-        witness,
-    })
-}
-
-/// Creates the members of an answer that has only these faults.
-fn only_faults(alloc: Global, file: &str, faults: Value) -> Result<AnswerParts, AllocError>
-    ensures { IfOk result (λ rest. data_of rest.faults ≡ data_of faults) }
-{
-    Ok(AnswerParts {
-        faults,
-        file: Value::try_from_str(alloc, file)?,
-        pools: Value::Array(Vec::new(alloc)),
-        sizes: Value::Null,
-        warnings: Value::Array(Vec::new(alloc)),
-        witness: Value::Null,
-    })
 }

@@ -1,70 +1,99 @@
-//! Faults as JSON: the number, the place and the message of each.
+//! Faults as JSON: the number, the place, the range and the message of each.
 
-ghost use Rattle.std.specs.Prelude.{◌≡◌, IfOk};
-ghost use Rattle.serde_json.specs.View.{view};
-ghost use Rattle.report.specs.Json as spec;
+ghost use Rattle.std.specs.Prelude.{◌≡◌, ◌∷◌, ◌++◌, IfOk, OnOk, map};
+ghost use Rattle.serde_json.specs.Data.{array};
+ghost use Rattle.serde_json.specs.View.{view, items_of};
+ghost use Rattle.report.specs.JsonFaults as spec;
 
-use diagnostics::{Diagnostic, Faults};
+use crate::json_places::{column_value, line_value};
+use diagnostics::{Diagnostic, Faults, NumberRange};
+use plan_text::TextPlace;
 use serde_json::{Value, json};
 use std::alloc::{AllocError, Global};
 
 /// Converts the faults of a plan's text.
 pub(crate) fn faults_value(alloc: Global, faults: &Faults) -> Result<Value, AllocError>
-    ensures { IfOk result (λ value. spec.IsFaultsArray faults.now.first.fault.number (view value)) }
+    ensures { IfOk result (λ value. view value ≡ spec.faults_data faults.now) }
 {
-    let others = others_of(alloc, &faults.others)?;
     let first = diagnostic_value(alloc, &faults.first)?;
-    faults_array(first, others)
+    faults_from(alloc, first, &faults.others)
 }
 
 /// Creates a list with one fault without a place.
 pub(crate) fn single_fault(alloc: Global, number: u8, words: &str) -> Result<Value, AllocError>
-    ensures { IfOk result (λ value. spec.IsFaultsArray number (view value)) }
+    ensures { IfOk result (λ value. view value ≡ spec.single_fault_data number words.now) }
 {
-    let fault = fault_value(alloc, Value::Null, number, Value::Null, words)?;
-    faults_array(fault, Vec::new(alloc))
+    let fault = fault_value(alloc, None, number, Value::Null, words)?;
+    faults_from(alloc, fault, &[])
 }
 
-/// Creates a list of faults that begins with this one.
-fn faults_array(first: Value, mut others: Vec<Value>) -> Result<Value, AllocError>
-    ensures { IfOk result (λ value. spec.BeginsWith (view first) (view value)) }
+/// Converts a list of faults, of which the first is converted already.
+fn faults_from(alloc: Global, first: Value, others: &[Diagnostic]) -> Result<Value, AllocError>
+    ensures { IfOk result (λ value. view value
+        ≡ array (items_of (view first ∷ map spec.diagnostic_data others.now))) }
 {
-    others.insert(0, first)?;
-    Ok(Value::Array(others))
+    let mut values = Vec::new(alloc);
+    values.push(first)?;
+    push_others(alloc, &mut values, others)?;
+    Ok(Value::from(values))
 }
 
-fn others_of(alloc: Global, others: &[Diagnostic]) -> Result<Vec<Value>, AllocError> {
-    let mut values = Vec::with_capacity(alloc, others.len())?;
+fn push_others(
+    alloc: Global,
+    values: &mut Vec<Value>,
+    others: &[Diagnostic],
+) -> Result<(), AllocError>
+    ensures { OnOk result (map view values.new.items
+        ≡ map view values.old.items ++ map spec.diagnostic_data others.now) }
+{
     for diagnostic in others {
-        values.push(diagnostic_value(alloc, diagnostic)?)?;
+        let value = diagnostic_value(alloc, diagnostic)?;
+        values.push(value)?;
     }
-    Ok(values)
+    Ok(())
 }
 
 fn diagnostic_value(alloc: Global, diagnostic: &Diagnostic) -> Result<Value, AllocError>
-    ensures { IfOk result (λ value. spec.IsFault diagnostic.now.fault.number (view value)) }
+    ensures { IfOk result (λ value. view value ≡ spec.diagnostic_data diagnostic.now) }
 {
-    let line = Value::from(diagnostic.place.line);
-    let column = Value::from(diagnostic.place.column);
+    let range = range_value(alloc, diagnostic.range)?;
+    let place = Some(diagnostic.place);
     fault_value(
         alloc,
-        column,
+        place,
         diagnostic.fault.number,
-        line,
+        range,
         &diagnostic.what,
     )
 }
 
-#[tactic(auto, unfolding(crate::specs::Json::fault_data))]
+/// Converts a range to a list of its lowest and its highest number. The value is null if there is
+/// no range.
+fn range_value(alloc: Global, range: Option<NumberRange>) -> Result<Value, AllocError>
+    ensures { IfOk result (λ value. view value ≡ spec.range_data range) }
+{
+    match range {
+        Some(range) => json!(in alloc; [range.low, range.high]),
+        None => Ok(Value::Null),
+    }
+}
+
+#[tactic(auto, unfolding(crate::specs::JsonFaults::fault_data))]
 fn fault_value(
     alloc: Global,
-    column: Value,
+    place: Option<TextPlace>,
     number: u8,
-    line: Value,
+    range: Value,
     words: &str,
 ) -> Result<Value, AllocError>
     ensures { IfOk result
-        (λ value. view value ≡ spec.fault_data (view column) number (view line) words.now) }
+        (λ value. view value ≡ spec.fault_data place number (view range) words.now) }
 {
-    json!(in alloc; {"column": column, "fault": number, "line": line, "text": words})
+    json!(in alloc; {
+        "column": column_value(place),
+        "fault": number,
+        "line": line_value(place),
+        "range": range,
+        "text": words
+    })
 }

@@ -1,47 +1,166 @@
 //! Other sizes as JSON, or why there are none.
 
-use crate::push_no_sizes;
+ghost use Rattle.std.specs.Prelude.{◌≡◌, ◌++◌, IfOk, OnOk, map, option_map};
+ghost use Rattle.serde_json.specs.View.{view};
+ghost use Rattle.report.specs.JsonSizes as spec;
+
+use crate::json_cause::cause_value;
+use crate::json_places::{column_value, line_value, pool_places_at};
+use diagnostics::{PlanPlaces, PoolPlaces};
 use job_bodies::{Plan, Pool};
+use plan_text::TextPlace;
 use serde_json::{Value, json};
-use size_search::{NoSizes, SizesFound};
+use size_search::SizesFound;
 use std::alloc::{AllocError, Global};
 
 /// Converts the sizes that were found, or the cause why there are none.
 pub(crate) fn sizes_value(
     alloc: Global,
+    places: &PlanPlaces,
     plan: &Plan,
     sizes: &SizesFound,
-) -> Result<Value, AllocError> {
+) -> Result<Value, AllocError>
+    ensures { IfOk result (λ value. view value ≡ spec.sizes_data places.now plan.now sizes.now) }
+{
     match sizes {
         SizesFound::Found { plan: fit, .. } => {
-            let pools = pools_value(alloc, fit)?;
-            json!(in alloc; {"cause": null, "pools": pools})
+            let pools = pools_value(alloc, &places.pools, plan, fit.pools())?;
+            sizes_object(alloc, Value::Null, pools)
         }
         SizesFound::NotFound(cause) => {
-            let cause = cause_value(alloc, plan, *cause)?;
-            json!(in alloc; {"cause": cause, "pools": []})
+            let cause = cause_value(alloc, places, plan, *cause)?;
+            sizes_object(alloc, cause, Value::Array(Vec::new(alloc)))
         }
     }
 }
 
-fn pools_value(alloc: Global, fit: &Plan) -> Result<Value, AllocError> {
-    let mut values = Vec::with_capacity(alloc, fit.pools().len())?;
-    for pool in fit.pools() {
-        values.push(pool_value(alloc, pool)?)?;
+#[tactic(auto, unfolding(crate::specs::JsonSizes::sizes_object))]
+fn sizes_object(alloc: Global, cause: Value, pools: Value) -> Result<Value, AllocError>
+    ensures { IfOk result (λ value. view value ≡ spec.sizes_object (view cause) (view pools)) }
+{
+    json!(in alloc; {"cause": cause, "pools": pools})
+}
+
+fn pools_value(
+    alloc: Global,
+    places: &[PoolPlaces],
+    plan: &Plan,
+    fitted: &[Pool],
+) -> Result<Value, AllocError>
+    ensures { IfOk result (λ value. view value ≡ spec.pools_data places.now plan.now fitted.now) }
+{
+    let mut values = Vec::with_capacity(alloc, fitted.len())?;
+    for (number, fit) in fitted.iter().enumerate() {
+        let value = size_entry(alloc, places, plan, number, fit)?;
+        values.push(value)?;
     }
-    Ok(Value::Array(values))
+    Ok(Value::from(values))
 }
 
-fn pool_value(alloc: Global, pool: &Pool) -> Result<Value, AllocError> {
-    let name = pool.name.as_str();
-    json!(in alloc; {"core": pool.core, "max": pool.max, "name": name, "queue": pool.queue})
+fn size_entry(
+    alloc: Global,
+    places: &[PoolPlaces],
+    plan: &Plan,
+    number: usize,
+    fit: &Pool,
+) -> Result<Value, AllocError>
+    ensures { IfOk result
+        (λ value. view value ≡ spec.size_entry places.now plan.now (number, fit.now)) }
+{
+    let places = pool_places_at(places, number);
+    let changes = changes_of(alloc, places, plan.pools().get(number), fit)?;
+    size_value(alloc, changes, fit)
 }
 
-/// Returns the cause as text: the second line that [`push_no_sizes`] writes.
-fn cause_value(alloc: Global, plan: &Plan, cause: NoSizes) -> Result<Value, AllocError> {
-    let mut text = String::new(alloc);
-    push_no_sizes(&mut text, plan, cause)?;
-    let mut lines = text.lines();
-    lines.next();
-    Value::try_from_str(alloc, lines.next().unwrap_or(""))
+#[tactic(auto, unfolding(crate::specs::JsonSizes::size_data))]
+fn size_value(alloc: Global, changes: Vec<Value>, fit: &Pool) -> Result<Value, AllocError>
+    ensures { IfOk result
+        (λ value. view value ≡ spec.size_data (map view changes.items) fit.now) }
+{
+    let name = fit.name.as_str();
+    json!(in alloc; {
+        "changes": changes,
+        "core": fit.core,
+        "max": fit.max,
+        "name": name,
+        "queue": fit.queue
+    })
+}
+
+/// Converts the changes of a pool's sizes. There are none if no pool is declared.
+fn changes_of(
+    alloc: Global,
+    places: PoolPlaces,
+    declared: Option<&Pool>,
+    fit: &Pool,
+) -> Result<Vec<Value>, AllocError>
+    ensures { IfOk result (λ values. map view values.items
+        ≡ spec.changes_of places (option_map (λ pool. pool.now) declared.entry) fit.now) }
+{
+    let mut values = Vec::new(alloc);
+    if let Some(declared) = declared {
+        push_changes(alloc, &mut values, places, declared, fit)?;
+    }
+    Ok(values)
+}
+
+fn push_changes(
+    alloc: Global,
+    values: &mut Vec<Value>,
+    places: PoolPlaces,
+    declared: &Pool,
+    fit: &Pool,
+) -> Result<(), AllocError>
+    ensures { OnOk result (map view values.new.items
+        ≡ map view values.old.items ++ spec.declared_changes places declared.now fit.now) }
+{
+    push_change(alloc, values, "core", places.core, declared.core, fit.core)?;
+    push_change(alloc, values, "max", places.max, declared.max, fit.max)?;
+    push_change(
+        alloc,
+        values,
+        "queue",
+        places.queue,
+        declared.queue,
+        fit.queue,
+    )
+}
+
+/// Appends the change of one size, unless it keeps its value.
+#[tactic(auto, using(std::proofs::lemmas::List::map_push))]
+fn push_change(
+    alloc: Global,
+    values: &mut Vec<Value>,
+    key: &str,
+    place: Option<TextPlace>,
+    now: u64,
+    value: u64,
+) -> Result<(), AllocError>
+    ensures { OnOk result (map view values.new.items
+        ≡ map view values.old.items ++ spec.change_of key.now place now value) }
+{
+    if now == value {
+        return Ok(());
+    }
+    values.push(change_value(alloc, key, place, now, value)?)?;
+    Ok(())
+}
+
+#[tactic(auto, unfolding(crate::specs::JsonSizes::change_data))]
+fn change_value(
+    alloc: Global,
+    key: &str,
+    place: Option<TextPlace>,
+    now: u64,
+    value: u64,
+) -> Result<Value, AllocError>
+    ensures { IfOk result (λ change. view change ≡ spec.change_data key.now place now value) }
+{
+    json!(in alloc; {
+        "column": column_value(place),
+        "key": key,
+        "line": line_value(place),
+        "now": now,
+        "value": value
+    })
 }

@@ -1,26 +1,54 @@
 //! Warnings as JSON.
 
+ghost use Rattle.std.specs.Prelude.{◌≡◌, IfOk};
+ghost use Rattle.serde_json.specs.View.{view};
+ghost use Rattle.report.specs.JsonWarnings as spec;
+
+use crate::json_places::{column_value, line_value};
 use diagnostics::{Lint, Warning};
+use plan_text::TextPlace;
 use serde_json::{Value, json};
 use std::alloc::{AllocError, Global};
 
 /// Converts each warning: its kind, its place and its message.
-pub(crate) fn warnings_value(alloc: Global, warnings: &[Warning]) -> Result<Value, AllocError> {
+pub(crate) fn warnings_value(alloc: Global, warnings: &[Warning]) -> Result<Value, AllocError>
+    ensures { IfOk result (λ value. view value ≡ spec.warnings_data warnings.now) }
+{
     let mut values = Vec::with_capacity(alloc, warnings.len())?;
     for warning in warnings {
-        values.push(warning_value(alloc, warning)?)?;
+        let value = warning_value(alloc, warning)?;
+        values.push(value)?;
     }
-    Ok(Value::Array(values))
+    Ok(Value::from(values))
 }
 
-fn warning_value(alloc: Global, warning: &Warning) -> Result<Value, AllocError> {
-    let line = warning.place.line;
-    let column = warning.place.column;
-    let kind = kind_of(warning.lint);
-    json!(in alloc; {"column": column, "kind": kind, "line": line, "text": &warning.what})
+fn warning_value(alloc: Global, warning: &Warning) -> Result<Value, AllocError>
+    ensures { IfOk result (λ value. view value ≡ spec.warning_data warning.now) }
+{
+    told_warning(alloc, warning.place, kind_of(warning.lint), &warning.what)
 }
 
-fn kind_of(lint: Lint) -> &'static str {
+#[tactic(auto, unfolding(crate::specs::JsonWarnings::told_warning))]
+fn told_warning(
+    alloc: Global,
+    place: TextPlace,
+    kind: &str,
+    words: &str,
+) -> Result<Value, AllocError>
+    ensures { IfOk result (λ value. view value ≡ spec.told_warning place kind.now words.now) }
+{
+    json!(in alloc; {
+        "column": column_value(Some(place)),
+        "kind": kind,
+        "line": line_value(Some(place)),
+        "text": words
+    })
+}
+
+/// Returns the name of a lint's kind.
+fn kind_of(lint: Lint) -> &'static str
+    ensures { result.now ≡ spec.kind_of lint }
+{
     match lint {
         Lint::NothingToAsk => "nothing to ask",
         Lint::NoClients => "no clients",

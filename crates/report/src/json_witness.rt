@@ -1,34 +1,49 @@
-//! A witness as JSON.
+//! A witness as JSON: how it ends, its events, and its lines as `replay` reads them.
 
-use counterexample::{Ending, Witness, push_event_lines};
+ghost use Rattle.std.specs.Prelude.{◌≡◌, IfOk};
+ghost use Rattle.serde_json.specs.View.{view};
+ghost use Rattle.report.specs.JsonWitness as spec;
+
+use crate::event_steps::perform_all;
+use crate::json_ending::ending_value;
+use crate::json_events::events_value;
+use crate::json_replay::replay_value;
+use counterexample::Witness;
+use diagnostics::PlanPlaces;
+use interleaving::World;
 use job_bodies::Plan;
 use serde_json::{Value, json};
 use std::alloc::{AllocError, Global};
 
-/// Converts a witness: how it ends, the lines of its story, and the lines of its events as `replay`
-/// reads them.
+/// Converts a witness of the plan.
+///
+/// # Errors
+///
+/// [`AllocError`] if memory runs out.
 pub(crate) fn witness_value(
     alloc: Global,
     plan: &Plan,
+    places: &PlanPlaces,
     witness: &Witness,
-) -> Result<Value, AllocError> {
-    let mut events = String::new(alloc);
-    push_event_lines(&mut events, plan, witness)?;
-    let events = lines_value(alloc, &events)?;
-    let story = counterexample::describe(alloc, plan, witness)?;
-    let story = lines_value(alloc, &story)?;
-    let ending = match &witness.ending {
-        Ending::Refused(_) => "refused",
-        Ending::StuckForever(_, _) => "stuck forever",
-        Ending::StuckNow(_) => "stuck now",
-    };
-    json!(in alloc; {"ending": ending, "events": events, "story": story})
+) -> Result<Value, AllocError>
+    ensures { IfOk result (λ value. view value ≡ spec.witness_data places.now plan.now witness.now) }
+{
+    let mut world = World::start(alloc, plan)?;
+    let steps = perform_all(alloc, plan, &mut world, &witness.events)?;
+    let ending = ending_value(alloc, plan, &world, &witness.ending)?;
+    let events = events_value(alloc, plan, places, &steps)?;
+    let replay = replay_value(alloc, plan, witness)?;
+    parts_value(alloc, ending, events, replay)
 }
 
-fn lines_value(alloc: Global, text: &str) -> Result<Value, AllocError> {
-    let mut values = Vec::new(alloc);
-    for line in text.lines() {
-        values.push(Value::try_from_str(alloc, line)?)?;
-    }
-    Ok(Value::Array(values))
+#[tactic(auto, unfolding(crate::specs::JsonWitness::witness_parts))]
+fn parts_value(
+    alloc: Global,
+    ending: Value,
+    events: Value,
+    replay: Value,
+) -> Result<Value, AllocError>
+    ensures { IfOk result (λ value. view value ≡ spec.witness_parts (view ending) (view events) (view replay)) }
+{
+    json!(in alloc; {"ending": ending, "events": events, "replay": replay})
 }

@@ -1,30 +1,55 @@
-//! The report of `sizing ask`, as text and as JSON, and the lines of `sizing fit`.
+//! The report of `sizing ask` as text, JSON, page, picture, workflow commands and SARIF log; and the
+//! lines of `sizing fit`.
 #![tactic(auto)]
 
+mod annotation;
+mod annotations;
 mod cause_lines;
+mod event_queues;
+mod event_steps;
 mod finding;
+mod github;
 mod json_answers;
+mod json_bodies;
+mod json_bounds;
+mod json_cause;
+mod json_ending;
+mod json_event_parts;
+mod json_events;
 mod json_faults;
+mod json_findings;
+mod json_places;
+mod json_plan;
 mod json_pools;
+mod json_replay;
 mod json_sizes;
+mod json_values;
 mod json_warnings;
 mod json_witness;
+mod page;
 mod picture;
 mod safe;
+mod sarif;
 mod shares;
+mod size_annotations;
 mod size_laws;
 mod size_lines;
 mod text;
 mod unsafe_sizes;
+mod version;
 mod waits;
 
 pub use cause_lines::push_no_sizes;
 pub use finding::PlanFinding;
+pub use github::{fault_github, faults_github, finding_github};
 pub use json_answers::{fault_json, faults_json, finding_json};
+pub use page::{fault_html, faults_html, finding_html};
 pub use picture::picture_of;
 pub use safe::{needed_places, total_of};
+pub use sarif::{fault_sarif, faults_sarif, finding_sarif};
 pub use shares::{Shares, shares_of};
 pub use size_laws::unchanged_sizes_are_the_declared_plan;
 pub use size_lines::push_sizes;
 pub use text::render;
+pub use version::VERSION;
 pub use waits::waits_for;

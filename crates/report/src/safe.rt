@@ -330,7 +330,11 @@ fn push_waited(
     push_separated(alloc, text, &names)
 }
 
-fn waited_names(alloc: Global, plan: &Plan, number: usize) -> Result<Vec<String>, AllocError>
+pub(crate) fn waited_names(
+    alloc: Global,
+    plan: &Plan,
+    number: usize,
+) -> Result<Vec<String>, AllocError>
     ensures { IfOk result
         (λ names. map string_bytes names.items ≡ spec.waited_names plan.now number) }
 {

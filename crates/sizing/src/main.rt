@@ -95,6 +95,17 @@ fn tell(rt: &impl Eprint, fault: &CliError<'_>) -> io::Result<()> {
                 "standard input has one of the two texts, not both: name a file for the other"
             )
         }
+        CliError::Bundle(name) => {
+            eprintln!(rt;
+                "{name} is a bundle: a line `%%` separates its two texts; pass each text as a file of its own"
+            )
+        }
+        CliError::CertificateNeedsFile => {
+            eprintln!(rt; "--certificate needs the name of a file, not -")
+        }
+        CliError::Directory(name) => {
+            eprintln!(rt; "{name} is a directory: --certificate needs the name of a file")
+        }
         CliError::Occupied(name) => {
             eprintln!(rt;
                 "{name} is there and no certificate, so it stays as it is: name another file for --certificate"

@@ -1,5 +1,5 @@
 -- The meaning of status 0 of `conform`.
-use Rattle.std.proofs.Common.{◌≡◌, ℕ, inl, inr, Bool, true, false, cond, List, [], ◌∷◌, length, Option, Some, None, Result, Ok, Err, refl, sym, ap, ◌∙◌}
+use Rattle.std.proofs.Common.{◌≡◌, ℕ, Bool, true, false, cond, List, [], length, Option, Some, None, Result, Ok, Err, refl, sym, ap, ◌∙◌}
 use Rattle.std.specs.Prelude.{MatchBool, nat_lt, ◌==◌}
 use Rattle.std.proofs.lemmas.Bool.{eqb-true}
 use Rattle.std.proofs.lemmas.List.{nil_from_length}
@@ -14,7 +14,7 @@ use Rattle.job_bodies.specs.declared.limits.TheConstants.{MAX_RECORDED_BYTES}
 use Rattle.sizing_cli.specs.declared.status.Status.TheVariants.{Done, Refused, BadText, Undecided}
 use Rattle.sizing_cli.specs.Answer.{Answer, input_too_long}
 use Rattle.sizing_cli.specs.Bundle.{Bundle, bundle_of}
-use Rattle.sizing_cli.specs.Conform.{AnswersBundle, AnswersReading, AnswersRecording, IsConformAnswer, IsConformingInput, IsConformance, answer_of, is_undecided, status_of}
+use Rattle.sizing_cli.specs.Conform.{AnswersBundle, AnswersReading, IsConformAnswer, IsConformingInput, IsConformance, answer_of, is_undecided, status_of}
 
 -- status 0 means that there are no findings
 done_of_no_findings : (findings : List Finding) → status_of findings ≡ Done → findings ≡ []

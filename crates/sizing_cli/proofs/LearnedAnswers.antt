@@ -1,7 +1,6 @@
 -- The meaning of status 0 of `learn`.
 use Rattle.std.proofs.Common.{◌≡◌, ℕ, inl, inr, Bool, true, false, List, [], ◌∷◌, length, refl, subst, sym, ap, ◌∙◌}
 use Rattle.std.specs.Prelude.{MatchBool, nat_lt}
-use Rattle.job_bodies.specs.Plan.{Plan}
 use Rattle.job_bodies.specs.declared.limits.TheConstants.{MAX_RECORDED_BYTES}
 use Rattle.conformance.specs.declared.finding.Finding.{Finding}
 use Rattle.sizing_cli.specs.declared.status.Status.TheVariants.{Done, Refused, BadText}

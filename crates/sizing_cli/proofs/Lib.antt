@@ -17,6 +17,7 @@ mod AskedAnswers
 pub mod OtherSizes
 pub mod LinesInOrder
 mod JoinedTexts
-mod KnownTexts
+mod Failed
+pub mod ReadParts
 mod WrittenBefore
 pub mod SavedTexts

@@ -14,7 +14,7 @@ use Rattle.sizing_cli.specs.declared.status.Status.TheVariants.{Done, Refused, U
 use Rattle.sizing_cli.specs.Answer.{Answer, input_too_long}
 use Rattle.sizing_cli.specs.SafeInput.{IsSafePlan}
 use Rattle.sizing_cli.specs.Certify.{IsUncertified, whole_lines}
-use Rattle.sizing_cli.specs.Refute.{not_decided, event_lines_of, AnswersPlan, AnswersReading, BundlesWitness, IsRefuteAnswer, IsWitnessBundle, IsWitnessOf, Refutes, ShowsWitness}
+use Rattle.sizing_cli.specs.Refute.{not_decided, AnswersPlan, AnswersReading, BundlesWitness, IsRefuteAnswer, IsWitnessBundle, IsWitnessOf, Refutes, ShowsWitness}
 use Rattle.sizing_cli.proofs.FittedAnswers.{bad_text_is_not_done}
 
 -- the answer for a plan without a certificate follows from the witness that was found

@@ -9,12 +9,11 @@ use Rattle.cert_text.specs.CertOf.{cert_of}
 use Rattle.soundness.specs.Accepted.{accepted}
 use Rattle.cert_check.specs.Check.{IsSafeWith, IsSafeToRun}
 use Rattle.cert_check.proofs.Yes.{plans_read_are_well_formed, safe_with}
-use Rattle.command_line.specs.declared.command.ReviewCommand.TheVariants.{Check}
 use Rattle.job_bodies.specs.declared.limits.TheConstants.{MAX_INPUT_BYTES}
 use Rattle.sizing_cli.specs.declared.status.Status.TheVariants.{Done}
-use Rattle.sizing_cli.specs.Answer.{Answer, yes_or_no, input_too_long}
+use Rattle.sizing_cli.specs.Answer.{yes_or_no, input_too_long}
 use Rattle.sizing_cli.specs.Bundle.{Bundle, bundle_of}
-use Rattle.sizing_cli.specs.Report.{check, check_of_cert, run, run_of_cert, run_of_accepted, run_report, not_run, answer_of_plan, answer_of_bundle, report}
+use Rattle.sizing_cli.specs.Report.{check, check_of_cert, run, run_of_cert, run_of_accepted, run_report, not_run, answer_of_plan, answer_of_bundle}
 use Rattle.sizing_cli.specs.SafeInput.{IsSafeInput, YesMeansSafe}
 
 -- a yes-or-no answer with status Done is yes

@@ -1,11 +1,11 @@
 -- Two lists of the same numbers, in any order, are the same set of jobs.
-use Rattle.std.proofs.Common.{◌≡◌, ℕ, suc, ◌<◌, ◌↔◌, Bool, true, false, ◌==◌, ◌||◌, List, [], ◌∷◌, length, get_or, IsTrue, IsPermutation, Contains, refl, sym, arith, eq-eqb}
+use Rattle.std.proofs.Common.{◌≡◌, ℕ, suc, Bool, true, false, ◌==◌, ◌||◌, List, [], ◌∷◌, get_or, IsTrue, IsPermutation, Contains, refl, sym, arith, eq-eqb}
 use Rattle.std.proofs.lemmas.Bool.{eqb-true}
 use Rattle.std.proofs.lemmas.List.Folds.{list_any_at}
 use Rattle.std.proofs.lemmas.List.Sorted.{Contains-permutation, IsPermutation-sym}
 use Rattle.job_bodies.specs.Plan.{Plan}
 use Rattle.written_machine.specs.State.{Stage, State, job_at}
-use Rattle.written_machine.specs.State.Stage.{Queued, At, Done}
+use Rattle.written_machine.specs.State.Stage.{Queued, At}
 use Rattle.written_machine.specs.Waiting.{is_member, IsMember, WaitsAtStage, IsWaitingSet, is_waiting_set}
 use Rattle.written_machine.proofs.ReachedLaws.{sets_tested}
 

@@ -1,9 +1,10 @@
 -- A command writes a possible answer to what it read, and what status 0 then means.
-use Rattle.std.proofs.Common.{◌≡◌, ℕ, ◌+◌, ◌≤◌, inl, inr, Bool, true, false, List, length, take, Option, Some, None, Result, Ok, Err, IfSome, refl, sym, ap, subst, ◌∙◌, arith}
+use Rattle.std.proofs.Common.{◌≡◌, ℕ, ◌+◌, inl, inr, Bool, true, false, List, length, take, Option, Some, None, Result, Ok, Err, IfSome, refl, sym, ap, subst, ◌∙◌, arith}
 use Rattle.std.specs.Prelude.{MatchBool, nat_lt}
 use Rattle.std.specs.Io.KnownBytes.{Appends}
 use Rattle.std.proofs.lemmas.Bool.{cases_lt, lt-ltb}
 use Rattle.std.proofs.lemmas.List.{take_all, length-take-le}
+use Rattle.clap.specs.Words.{Text}
 use Rattle.byte_streams.specs.Writing.{AppendsFront}
 use Rattle.job_bodies.specs.Plan.{Plan}
 use Rattle.job_bodies.specs.declared.fault.PlanFault.{PlanFault}
@@ -28,8 +29,8 @@ use Rattle.sizing_cli.specs.Certify.{IsCertifyAnswer, IsCertifiedBundle, Answers
 use Rattle.sizing_cli.specs.Fit as fit
 use Rattle.sizing_cli.specs.Refute as refute
 use Rattle.sizing_cli.specs.Bundle.{bundle_of}
-use Rattle.sizing_cli.specs.Conform.{AnswersBundle, IsConformAnswer}
-use Rattle.sizing_cli.specs.Learn.{AnswersLines, IsLearnAnswer}
+use Rattle.sizing_cli.specs.Conform.{AnswersBundle}
+use Rattle.sizing_cli.specs.Learn.{AnswersLines}
 use Rattle.sizing_cli.specs.CommandResult.{IsAnswer, IsTaskAnswerWith, IsRecordingAnswer, IsTaskAnswer, WritesAnswer, WritesPrefix, TaskWritesWithCertificate, MeansSafe}
 use Rattle.sizing_cli.proofs.PastTheLimit.{answered_whole}
 use Rattle.sizing_cli.proofs.SafeInputs.{yes_means_safe, run_means_safe}
@@ -69,66 +70,58 @@ answered_by_length : (TooLong : Type 0) (Answers : List ℕ → Type 0) (remaini
 answered_by_length = answered_within MAX_INPUT_BYTES
 
 -- for commands on recordings
-pub recorded_by_front : (remaining : Option (List ℕ)) (items slice : List ℕ) (reading : RecordingCommand) (answer : Answer) → IfSome remaining (λ input. items ≡ take (MAX_RECORDED_BYTES + 1) input) → slice ≡ items
-    → IsRecordingAnswer reading slice answer → IfSome remaining (λ input. IsRecordingAnswer reading input answer)
-recorded_by_front remaining items slice Conform answer front same is =
-    answered_within MAX_RECORDED_BYTES (answer ≡ input_too_long) (λ bytes. AnswersBundle (bundle_of bytes) answer) remaining items front (subst (λ (bytes : List ℕ). IsConformAnswer bytes answer) same is)
-recorded_by_front remaining items slice (Learn strict) answer front same is =
-    answered_within MAX_RECORDED_BYTES (answer ≡ input_too_long) (λ bytes. AnswersLines strict bytes answer) remaining items front (subst (λ (bytes : List ℕ). IsLearnAnswer strict bytes answer) same is)
+pub recorded_by_front : (remaining : Option (List ℕ)) (items : List ℕ) (reading : RecordingCommand) (answer : Answer) → IfSome remaining (λ input. items ≡ take (MAX_RECORDED_BYTES + 1) input)
+    → IsRecordingAnswer reading items answer → IfSome remaining (λ input. IsRecordingAnswer reading input answer)
+recorded_by_front remaining items Conform answer front is = answered_within MAX_RECORDED_BYTES (answer ≡ input_too_long) (λ bytes. AnswersBundle (bundle_of bytes) answer) remaining items front is
+recorded_by_front remaining items (Learn strict) answer front is = answered_within MAX_RECORDED_BYTES (answer ≡ input_too_long) (λ bytes. AnswersLines strict bytes answer) remaining items front is
 
-asked_by_front : (remaining : Option (List ℕ)) (items : List ℕ) (given : AskInput) (options : AskOptions) (left : Option (List ℕ)) (answer : Answer)
-    → IfSome remaining (λ input. items ≡ take (MAX_INPUT_BYTES + 1) input) → IsAskAnswer given options items left answer → IfSome remaining (λ input. IsAskAnswer given options input left answer)
-asked_by_front remaining items given options left answer front is =
-    answered_by_length ((left ≡ None) × (answer ≡ input_too_long)) (λ bytes. AnswersInput given options bytes left answer) remaining items front is
+asked_by_front : (remaining : Option (List ℕ)) (items : List ℕ) (given : AskInput) (options : AskOptions) (file : Text) (left : Option (List ℕ)) (answer : Answer)
+    → IfSome remaining (λ input. items ≡ take (MAX_INPUT_BYTES + 1) input) → IsAskAnswer given options file items left answer → IfSome remaining (λ input. IsAskAnswer given options file input left answer)
+asked_by_front remaining items given options file left answer front is =
+    answered_by_length ((left ≡ None) × (answer ≡ input_too_long)) (λ bytes. AnswersInput given options file bytes left answer) remaining items front is
 
 -- for every task
-pub answered_by_front : (remaining : Option (List ℕ)) (items : List ℕ) (task : Task) (answer : Answer) → IfSome remaining (λ input. items ≡ take (MAX_INPUT_BYTES + 1) input)
-    → IsTaskAnswer task items answer → IfSome remaining (λ input. IsTaskAnswer task input answer)
-answered_by_front remaining items (Certify workers) answer front is =
+pub answered_by_front : (remaining : Option (List ℕ)) (items : List ℕ) (task : Task) (file : Text) (answer : Answer) → IfSome remaining (λ input. items ≡ take (MAX_INPUT_BYTES + 1) input)
+    → IsTaskAnswer task file items answer → IfSome remaining (λ input. IsTaskAnswer task file input answer)
+answered_by_front remaining items (Certify workers) file answer front is =
     answered_by_length (answer ≡ input_too_long) (λ bytes. AnswersReading (whole_lines bytes) (plan_of (whole_lines bytes)) answer) remaining items front is
-answered_by_front remaining items (Fit sizes_form) answer front is = answered_by_length (answer ≡ input_too_long) (λ bytes. fit.AnswersReading sizes_form (plan_of bytes) answer) remaining items front is
-answered_by_front remaining items (Run rounds) answer front is = answered_whole remaining items items (run rounds) answer front refl is
-answered_by_front remaining items (Refute states refute_format) answer front is =
+answered_by_front remaining items (Fit sizes_form) file answer front is = answered_by_length (answer ≡ input_too_long) (λ bytes. fit.AnswersReading sizes_form (plan_of bytes) answer) remaining items front is
+answered_by_front remaining items (Run rounds) file answer front is = answered_whole remaining items items (run rounds) answer front refl is
+answered_by_front remaining items (Refute states refute_format) file answer front is =
     answered_by_length (answer ≡ input_too_long) (λ bytes. refute.AnswersReading states refute_format (whole_lines bytes) (plan_of (whole_lines bytes)) answer) remaining items front is
-answered_by_front remaining items (Ask given options) answer front is = left_somehow remaining (asked_by_front remaining items given options is.0 answer front is.1)
+answered_by_front remaining items (Ask given options) file answer front is = left_somehow remaining (asked_by_front remaining items given options file is.0 answer front is.1)
   where
-    left_somehow : (known : Option (List ℕ)) → IfSome known (λ input. IsAskAnswer given options input is.0 answer) → IfSome known (λ input. IsTaskAnswer (Ask given options) input answer)
+    left_somehow : (known : Option (List ℕ)) → IfSome known (λ input. IsAskAnswer given options file input is.0 answer) → IfSome known (λ input. IsTaskAnswer (Ask given options) file input answer)
     left_somehow None asked = tt
     left_somehow (Some input) asked = (is.0, asked)
 
 -- for the certificate that is left
-pub left_by_front : (remaining : Option (List ℕ)) (items : List ℕ) (task : Task) (answer : Answer) (left : Option (List ℕ)) → IfSome remaining (λ input. items ≡ take (MAX_INPUT_BYTES + 1) input)
-    → IsTaskAnswerWith task items answer left → IfSome remaining (λ input. IsTaskAnswerWith task input answer left)
-left_by_front None items task answer left front is = tt
-left_by_front (Some input) items (Certify workers) answer left front is = is
-left_by_front (Some input) items (Fit sizes_form) answer left front is = is
-left_by_front (Some input) items (Run rounds) answer left front is = is
-left_by_front (Some input) items (Refute states refute_format) answer left front is = is
-left_by_front (Some input) items (Ask given options) answer left front is = asked_by_front (Some input) items given options left answer front is
+pub left_by_front : (remaining : Option (List ℕ)) (items : List ℕ) (task : Task) (file : Text) (answer : Answer) (left : Option (List ℕ)) → IfSome remaining (λ input. items ≡ take (MAX_INPUT_BYTES + 1) input)
+    → IsTaskAnswerWith task file items answer left → IfSome remaining (λ input. IsTaskAnswerWith task file input answer left)
+left_by_front None items task file answer left front is = tt
+left_by_front (Some input) items (Certify workers) file answer left front is = is
+left_by_front (Some input) items (Fit sizes_form) file answer left front is = is
+left_by_front (Some input) items (Run rounds) file answer left front is = is
+left_by_front (Some input) items (Refute states refute_format) file answer left front is = is
+left_by_front (Some input) items (Ask given options) file answer left front is = asked_by_front (Some input) items given options file left answer front is
 
 -- ---- the written answer
 
-pub wrote_answer : (remaining old new : Option (List ℕ)) (command : Command) (answer : Answer) (bytes : List ℕ) (status : Status)
-    → IfSome remaining (λ input. IsAnswer command input answer) → bytes ≡ answer.text → status ≡ answer.status → Appends old new bytes
-    → IfSome remaining (λ input. WritesAnswer command input status old new)
-wrote_answer None old new command answer bytes status is text same written = tt
-wrote_answer (Some input) old new command answer bytes status is text same written =
+pub wrote_answer : (input : List ℕ) (old new : Option (List ℕ)) (command : Command) (file : Text) (answer : Answer) (bytes : List ℕ) (status : Status)
+    → IsAnswer command file input answer → bytes ≡ answer.text → status ≡ answer.status → Appends old new bytes → WritesAnswer command file input status old new
+wrote_answer input old new command file answer bytes status is text same written =
     let Written : List ℕ → Type 0 = λ t. Appends old new t in
     record { answer = answer; is_answer = is; written = subst Written text written; status_is = same }
 
-pub wrote_answer_front : (remaining old new : Option (List ℕ)) (command : Command) (answer : Answer) (bytes : List ℕ)
-    → IfSome remaining (λ input. IsAnswer command input answer) → bytes ≡ answer.text → AppendsFront old new bytes
-    → IfSome remaining (λ input. WritesPrefix command input old new)
-wrote_answer_front None old new command answer bytes is text written = tt
-wrote_answer_front (Some input) old new command answer bytes is text written =
+pub wrote_answer_front : (input : List ℕ) (old new : Option (List ℕ)) (command : Command) (file : Text) (answer : Answer) (bytes : List ℕ)
+    → IsAnswer command file input answer → bytes ≡ answer.text → AppendsFront old new bytes → WritesPrefix command file input old new
+wrote_answer_front input old new command file answer bytes is text written =
     let Written : List ℕ → Type 0 = λ t. AppendsFront old new t in
     record { answer = answer; is_answer = is; written = subst Written text written }
 
-pub wrote_leaving : (remaining old new left : Option (List ℕ)) (task : Task) (answer : Answer) (bytes : List ℕ) (status : Status)
-    → IfSome remaining (λ input. IsTaskAnswerWith task input answer left) → bytes ≡ answer.text → status ≡ answer.status → Appends old new bytes
-    → IfSome remaining (λ input. TaskWritesWithCertificate task input status left old new)
-wrote_leaving None old new left task answer bytes status is text same written = tt
-wrote_leaving (Some input) old new left task answer bytes status is text same written =
+pub wrote_leaving : (input : List ℕ) (old new left : Option (List ℕ)) (task : Task) (file : Text) (answer : Answer) (bytes : List ℕ) (status : Status)
+    → IsTaskAnswerWith task file input answer left → bytes ≡ answer.text → status ≡ answer.status → Appends old new bytes → TaskWritesWithCertificate task file input status left old new
+wrote_leaving input old new left task file answer bytes status is text same written =
     let Written : List ℕ → Type 0 = λ t. Appends old new t in
     record { answer = answer; is_left = is; written = subst Written text written; status_is = same }
 
@@ -158,27 +151,21 @@ certified_answer input answer is done = by_length (nat_lt MAX_INPUT_BYTES (lengt
         absurd cc
     by_length false answers = by_plan (plan_of (whole_lines input)) answers
 
-means_safe : (command : Command) (input : List ℕ) (status : Status) (old new : Option (List ℕ)) → WritesAnswer command input status old new → status ≡ Done → MeansSafe command input old new
-means_safe (Sequential Replay) input status old new writes done = tt
-means_safe (Sequential Check) input status old new writes done = yes_means_safe input (sym (ap (λ (a : Answer). a.status) writes.is_answer) ∙ (sym writes.status_is ∙ done))
-means_safe (Sequential Explain) input status old new writes done = tt
-means_safe (OnRecording Conform) input status old new writes done = conformed input writes.answer writes.is_answer (sym writes.status_is ∙ done)
-means_safe (OnRecording (Learn strict)) input status old new writes done =
+pub means_safe : (command : Command) (file : Text) (input : List ℕ) (status : Status) (old new : Option (List ℕ)) → WritesAnswer command file input status old new → status ≡ Done → MeansSafe command input old new
+means_safe (Sequential Replay) file input status old new writes done = tt
+means_safe (Sequential Check) file input status old new writes done = yes_means_safe input (sym (ap (λ (a : Answer). a.status) writes.is_answer) ∙ (sym writes.status_is ∙ done))
+means_safe (Sequential Explain) file input status old new writes done = tt
+means_safe (OnRecording Conform) file input status old new writes done = conformed input writes.answer writes.is_answer (sym writes.status_is ∙ done)
+means_safe (OnRecording (Learn strict)) file input status old new writes done =
     record { text = writes.answer.text; learned = learned strict input writes.answer writes.is_answer (sym writes.status_is ∙ done); written = writes.written }
-means_safe (OnThreads (Fit Sizes)) input status old new writes done = sizes_mean_safe input writes.answer writes.is_answer (sym writes.status_is ∙ done)
-means_safe (OnThreads (Fit Bundle)) input status old new writes done =
+means_safe (OnThreads (Fit Sizes)) file input status old new writes done = sizes_mean_safe input writes.answer writes.is_answer (sym writes.status_is ∙ done)
+means_safe (OnThreads (Fit Bundle)) file input status old new writes done =
     let fitted = bundle_means_fitted input writes.answer writes.is_answer (sym writes.status_is ∙ done) in
     record { plan = fitted.plan; is_plan = fitted.is_plan; text = writes.answer.text; fitted = fitted.bundle; written = writes.written }
-means_safe (OnThreads (Run rounds)) input status old new writes done = run_means_safe rounds input (sym (ap (λ (a : Answer). a.status) writes.is_answer) ∙ (sym writes.status_is ∙ done))
-means_safe (OnThreads (Refute states refute_format.Story)) input status old new writes done = refuted_means_safe states input writes.answer writes.is_answer (sym writes.status_is ∙ done)
-means_safe (OnThreads (Refute states refute_format.Bundle)) input status old new writes done =
+means_safe (OnThreads (Run rounds)) file input status old new writes done = run_means_safe rounds input (sym (ap (λ (a : Answer). a.status) writes.is_answer) ∙ (sym writes.status_is ∙ done))
+means_safe (OnThreads (Refute states refute_format.Story)) file input status old new writes done = refuted_means_safe states input writes.answer writes.is_answer (sym writes.status_is ∙ done)
+means_safe (OnThreads (Refute states refute_format.Bundle)) file input status old new writes done =
     record { text = writes.answer.text; shows = bundle_means_witness states input writes.answer writes.is_answer (sym writes.status_is ∙ done); written = writes.written }
-means_safe (OnThreads (Ask given options)) input status old new writes done = asked_means_safe given options input writes.is_answer.0 writes.answer writes.is_answer.1 (sym writes.status_is ∙ done)
-means_safe (OnThreads (Certify workers)) input status old new writes done =
+means_safe (OnThreads (Ask given options)) file input status old new writes done = asked_means_safe given options file input writes.is_answer.0 writes.answer writes.is_answer.1 (sym writes.status_is ∙ done)
+means_safe (OnThreads (Certify workers)) file input status old new writes done =
     record { text = writes.answer.text; certified = certified_answer input writes.answer writes.is_answer (sym writes.status_is ∙ done); written = writes.written }
-
--- the meaning of status 0, if the bytes that were read are known
-pub safely : (remaining old new : Option (List ℕ)) (command : Command) (status : Status) → IfSome remaining (λ input. WritesAnswer command input status old new) → status ≡ Done
-    → IfSome remaining (λ input. MeansSafe command input old new)
-safely None old new command status answered done = tt
-safely (Some input) old new command status answered done = means_safe command input status old new answered done

@@ -1,6 +1,8 @@
--- The possible answers of `ask` to an input, and the certificate that it leaves. This is a relation: it does not fix which
--- certificate, witness or sizes are found, or that some are, nor the wording of faults and of a witness's story.
-use Rattle.std.specs.Prelude.{◌≡◌, ℕ, nat_lt, Bool, true, false, not, ◌&&◌, ◌==◌, if◌then◌else◌, List, [], ◌∷◌, ◌++◌, length, codes, decimal, Option, Some, None, IfSome, Result, Ok, Err, option_map, IsTrue, MatchBool}
+-- The possible answers of `ask` to an input, and the certificate that it leaves. `file` is the name of the plan's file in
+-- messages. This is a relation: it does not fix which certificate, witness or sizes are found, or that some are, nor the wording
+-- of faults and of a witness's story, nor the places of a plan's entries.
+use Rattle.std.specs.Prelude.{◌≡◌, ◌≤◌, ℕ, nat_lt, Bool, true, false, not, ◌&&◌, ◌==◌, if◌then◌else◌, List, [], ◌∷◌, ◌++◌, length, codes, decimal, Option, Some, None, IfSome, Result, Ok, Err, option_map, IsTrue, MatchBool}
+use Rattle.clap.specs.Words.{Text}
 use Rattle.job_bodies.specs.Plan.{Plan}
 use Rattle.job_bodies.specs.declared.fault.PlanFault.{PlanFault}
 use Rattle.plan_text.specs.PlanOf.{plan_of}
@@ -13,18 +15,24 @@ use Rattle.diagnostics.specs.declared.lint.Lint.{Lint}
 use Rattle.diagnostics.specs.declared.lint.Lint.TheVariants.{StaleCertificate}
 use Rattle.diagnostics.specs.declared.warnings.Warning.{Warning}
 use Rattle.diagnostics.specs.Lints.{AreLints, lints_in}
-use Rattle.diagnostics.specs.Diagnostic.{faults_text, warnings_text}
+use Rattle.diagnostics.specs.Diagnostic.{HaveSingleLines, WarnInSingleLines, faults_text, warnings_text}
+use Rattle.diagnostics.specs.PlanPlaces.{FitPlan}
+use Rattle.diagnostics.specs.declared.entry_places.PlanPlaces.{PlanPlaces}
 use Rattle.report.specs.declared.finding.PlanFinding.{PlanFinding}
 use Rattle.report.specs.declared.finding.PlanFinding.TheVariants.{Safe, NotSafe, NotDecided}
 use Rattle.report.specs.Finding.{IsFinding}
 use Rattle.report.specs.Places.{needed_places}
 use Rattle.report.specs.AnswerText.{Tells}
 use Rattle.report.specs.Json as json
+use Rattle.report.specs.Page as page
+use Rattle.report.specs.Github as github
+use Rattle.report.specs.Sarif as sarif
+use Rattle.report.specs.Remarks.{fault_remarks, single_fault}
 use Rattle.report.specs.Picture.{IsPicture}
 use Rattle.command_line.specs.declared.command.AskInput.{AskInput}
 use Rattle.command_line.specs.declared.command.AskInput.TheVariants.{PlanAlone, WithCertificate}
 use Rattle.command_line.specs.declared.command.Form.{Form}
-use Rattle.command_line.specs.declared.command.Form.TheVariants.{Words, Json, Dot}
+use Rattle.command_line.specs.declared.command.Form.TheVariants.{Words, Json, Dot, Html, Github, Sarif}
 use Rattle.command_line.specs.declared.command.AskOptions.{AskOptions}
 use Rattle.job_bodies.specs.declared.limits.TheConstants.{MAX_INPUT_BYTES}
 use Rattle.sizing_cli.specs.declared.status.Status.{Status}
@@ -35,41 +43,51 @@ use Rattle.sizing_cli.specs.Certify.{HasLongText}
 use Rattle.sizing_cli.specs.declared.ask_answer.AskOutput.{AskOutput}
 use Rattle.sizing_cli.specs.SafeInput.{IsSafePlan}
 
+-- the text of a plan, and the name of its file in messages
+pub record PlanSource : Type 0 where
+  pub file : Text
+  pub text : List ℕ
+
+abbrev pub source_of : Text → List ℕ → PlanSource
+source_of file text = record { file = file; text = text }
+
 -- ---- faults
 
--- the text reports the faults of a plan's text, under some file name, and the first one is this
-pub record TellsFault (fault : PlanFault) (text : List ℕ) : Type 0 where
-  pub file : List ℕ
+-- the text reports the faults of a plan's text in this form; no picture shows a fault
+abbrev pub TellsFaultsIn : Form → PlanSource → Faults → List ℕ → Type 0
+TellsFaultsIn Words source faults text = text ≡ faults_text source.file faults
+TellsFaultsIn Json source faults text = json.TellsFaults source.file source.text faults text
+TellsFaultsIn Dot source faults text = text ≡ faults_text source.file faults
+TellsFaultsIn Html source faults text = page.TellsFaults source.file source.text faults text
+TellsFaultsIn Github source faults text = text ≡ github.github_text source.file (fault_remarks faults)
+TellsFaultsIn Sarif source faults text = json.IsLineOf (sarif.sarif_data source.file (fault_remarks faults)) text
+
+-- the answer reports at most 100 faults of a plan's text, each in one line, and the first one is this
+pub record AnswersFault (form : Form) (source : PlanSource) (fault : PlanFault) (answer : Answer) : Type 0 where
   pub faults : Faults
   pub is_first : faults.first.fault ≡ fault
-  pub text_is : text ≡ faults_text file faults
+  pub single_lines : HaveSingleLines faults
+  pub within : length faults.others.items ≤ 99
+  pub tells : TellsFaultsIn form source faults answer.text
+  pub status : answer.status ≡ BadText
 
 -- the fault number at the end of the message
 abbrev pub fault_number : ℕ → List ℕ
 fault_number number = codes " (fault " ++ (decimal number ++ (codes ")" ++ 10 ∷ []))
 
--- the text reports a fault of a certificate after some message
-pub record TellsCertFault (fault : CertFault) (text : List ℕ) : Type 0 where
+-- the text reports a fault of a certificate in this form and in these words
+abbrev pub TellsCertFaultIn : Form → PlanSource → ℕ → List ℕ → List ℕ → Type 0
+TellsCertFaultIn Words source number words text = text ≡ words ++ fault_number number
+TellsCertFaultIn Json source number words text = json.TellsFault source.file source.text number words text
+TellsCertFaultIn Dot source number words text = text ≡ words ++ fault_number number
+TellsCertFaultIn Html source number words text = page.TellsFault source.file source.text number words text
+TellsCertFaultIn Github source number words text = text ≡ github.github_text source.file (single_fault number words)
+TellsCertFaultIn Sarif source number words text = json.IsLineOf (sarif.sarif_data source.file (single_fault number words)) text
+
+-- the answer reports a fault of a certificate
+pub record AnswersCertFault (form : Form) (source : PlanSource) (fault : CertFault) (answer : Answer) : Type 0 where
   pub words : List ℕ
-  pub text_is : text ≡ words ++ fault_number fault.number
-
--- a fault of the text is never reported as a picture
-abbrev pub TellsFaultIn : Form → PlanFault → List ℕ → Type 0
-TellsFaultIn Words fault text = TellsFault fault text
-TellsFaultIn Json fault text = json.TellsFault fault.number text
-TellsFaultIn Dot fault text = TellsFault fault text
-
-abbrev pub TellsCertFaultIn : Form → CertFault → List ℕ → Type 0
-TellsCertFaultIn Words fault text = TellsCertFault fault text
-TellsCertFaultIn Json fault text = json.TellsFault fault.number text
-TellsCertFaultIn Dot fault text = TellsCertFault fault text
-
-pub record AnswersFault (form : Form) (fault : PlanFault) (answer : Answer) : Type 0 where
-  pub tells : TellsFaultIn form fault answer.text
-  pub status : answer.status ≡ BadText
-
-pub record AnswersCertFault (form : Form) (fault : CertFault) (answer : Answer) : Type 0 where
-  pub tells : TellsCertFaultIn form fault answer.text
+  pub tells : TellsCertFaultIn form source fault.number words answer.text
   pub status : answer.status ≡ BadText
 
 -- ---- answers
@@ -106,25 +124,34 @@ pub record AreWarnings (plan : Plan) (finding : PlanFinding) (stale : Bool) (war
   pub lints : List Lint
   pub are_lints : AreLints plan (needed_of plan finding) lints
   pub warned : lints_in warnings ≡ lints ++ stale_if stale
+  pub single_lines : WarnInSingleLines warnings
 
--- the text reports the warnings, under some file name, and then the finding
-pub record TellsFinding (plan : Plan) (warnings : List Warning) (finding : PlanFinding) (text : List ℕ) : Type 0 where
-  pub file : List ℕ
+-- the text reports the warnings, under the file's name, and then the finding
+pub record TellsFinding (file : Text) (plan : Plan) (warnings : List Warning) (finding : PlanFinding) (text : List ℕ) : Type 0 where
   pub words : List ℕ
   pub tells : Tells plan finding words
   pub text_is : text ≡ warnings_text file warnings ++ words
 
--- the finding in lines, as a JSON object, or as a picture of the plan
-abbrev pub TellsFindingIn : Form → Plan → List Warning → PlanFinding → List ℕ → Type 0
-TellsFindingIn Words plan warnings finding text = TellsFinding plan warnings finding text
-TellsFindingIn Json plan warnings finding text = json.TellsFinding finding text
-TellsFindingIn Dot plan warnings finding text = IsPicture text
+-- the property holds with some places of the plan's entries in its text
+pub record WithPlaces (plan : Plan) (Holds : PlanPlaces → Type 0) : Type 0 where
+  pub places : PlanPlaces
+  pub fit : FitPlan plan places
+  pub holds : Holds places
 
--- the answer reports the finding and the warnings, and its status follows from both
-pub record AnswersFinding (options : AskOptions) (plan : Plan) (finding : PlanFinding) (stale : Bool) (answer : Answer) : Type 0 where
+-- the text reports the finding in this form
+abbrev pub TellsFindingIn : Form → PlanSource → Plan → List Warning → PlanFinding → List ℕ → Type 0
+TellsFindingIn Words source plan warnings finding text = TellsFinding source.file plan warnings finding text
+TellsFindingIn Json source plan warnings finding text = WithPlaces plan (λ places. json.TellsFinding source.file source.text places plan finding warnings text)
+TellsFindingIn Dot source plan warnings finding text = IsPicture text
+TellsFindingIn Html source plan warnings finding text = WithPlaces plan (λ places. page.TellsFinding source.file source.text places plan finding warnings text)
+TellsFindingIn Github source plan warnings finding text = WithPlaces plan (λ places. github.TellsFinding source.file places plan finding warnings text)
+TellsFindingIn Sarif source plan warnings finding text = WithPlaces plan (λ places. sarif.TellsFinding source.file places plan finding warnings text)
+
+-- the answer reports the finding and the warnings, each of which is one line, and its status follows from both
+pub record AnswersFinding (options : AskOptions) (source : PlanSource) (plan : Plan) (finding : PlanFinding) (stale : Bool) (answer : Answer) : Type 0 where
   pub warnings : List Warning
   pub are_warnings : AreWarnings plan finding stale warnings
-  pub tells : TellsFindingIn options.form plan warnings finding answer.text
+  pub tells : TellsFindingIn options.form source plan warnings finding answer.text
   pub status : answer.status ≡ status_of options.strict warnings finding
 
 -- ---- the certificate that an answer leaves
@@ -148,37 +175,38 @@ certificate_of_output answer = option_map (λ text. text.items) answer.certifica
 
 -- the answer reports a finding that is true of the plan. It rests on the given certificate if that accepts the plan, and it
 -- leaves its certificate.
-pub record AnswersPlan (options : AskOptions) (plan : Plan) (given : Option Cert) (left : Option (List ℕ)) (answer : Answer) : Type 0 where
+pub record AnswersPlan (options : AskOptions) (source : PlanSource) (plan : Plan) (given : Option Cert) (left : Option (List ℕ)) (answer : Answer) : Type 0 where
   pub finding : PlanFinding
   pub is_finding : IsFinding plan finding
   pub rests : RestsOnGiven plan given finding
-  pub answers : AnswersFinding options plan finding (is_stale plan given) answer
+  pub answers : AnswersFinding options source plan finding (is_stale plan given) answer
   pub leaves : IsFindingCertificate plan finding left
 
-abbrev pub AnswersCert : AskOptions → Plan → Result Cert CertFault → Option (List ℕ) → Answer → Type 0
-AnswersCert options plan (Err f) left answer = (left ≡ None) × AnswersCertFault options.form f answer
-AnswersCert options plan (Ok cert) left answer = AnswersPlan options plan (Some cert) left answer
+abbrev pub AnswersCert : AskOptions → PlanSource → Plan → Result Cert CertFault → Option (List ℕ) → Answer → Type 0
+AnswersCert options source plan (Err f) left answer = (left ≡ None) × AnswersCertFault options.form source f answer
+AnswersCert options source plan (Ok cert) left answer = AnswersPlan options source plan (Some cert) left answer
 
 -- answers for a plan and, if one is given, the text of a certificate
-abbrev pub AnswersGiven : AskOptions → Option (List ℕ) → Plan → Option (List ℕ) → Answer → Type 0
-AnswersGiven options None plan left answer = AnswersPlan options plan None left answer
-AnswersGiven options (Some cert) plan left answer = AnswersCert options plan (cert_of cert plan) left answer
+abbrev pub AnswersGiven : AskOptions → PlanSource → Option (List ℕ) → Plan → Option (List ℕ) → Answer → Type 0
+AnswersGiven options source None plan left answer = AnswersPlan options source plan None left answer
+AnswersGiven options source (Some cert) plan left answer = AnswersCert options source plan (cert_of cert plan) left answer
 
-abbrev pub AnswersReading : AskOptions → Option (List ℕ) → Result Plan PlanFault → Option (List ℕ) → Answer → Type 0
-AnswersReading options cert (Err f) left answer = (left ≡ None) × AnswersFault options.form f answer
-AnswersReading options cert (Ok plan) left answer = AnswersGiven options cert plan left answer
+-- answers for the result of reading the plan
+abbrev pub AnswersReading : AskOptions → PlanSource → Option (List ℕ) → Result Plan PlanFault → Option (List ℕ) → Answer → Type 0
+AnswersReading options source cert (Err f) left answer = (left ≡ None) × AnswersFault options.form source f answer
+AnswersReading options source cert (Ok plan) left answer = AnswersGiven options source cert plan left answer
 
-abbrev pub AnswersBundle : AskOptions → Option Bundle → Option (List ℕ) → Answer → Type 0
-AnswersBundle options None left answer = (left ≡ None) × (answer ≡ no_separator)
-AnswersBundle options (Some bundle) left answer = AnswersReading options (Some bundle.second) (plan_of bundle.plan) left answer
+abbrev pub AnswersBundle : AskOptions → Text → Option Bundle → Option (List ℕ) → Answer → Type 0
+AnswersBundle options file None left answer = (left ≡ None) × (answer ≡ no_separator)
+AnswersBundle options file (Some bundle) left answer = AnswersReading options (source_of file bundle.plan) (Some bundle.second) (plan_of bundle.plan) left answer
 
-abbrev pub AnswersInput : AskInput → AskOptions → List ℕ → Option (List ℕ) → Answer → Type 0
-AnswersInput PlanAlone options input left answer = AnswersReading options None (plan_of input) left answer
-AnswersInput WithCertificate options input left answer = AnswersBundle options (bundle_of input) left answer
+abbrev pub AnswersInput : AskInput → AskOptions → Text → List ℕ → Option (List ℕ) → Answer → Type 0
+AnswersInput PlanAlone options file input left answer = AnswersReading options (source_of file input) None (plan_of input) left answer
+AnswersInput WithCertificate options file input left answer = AnswersBundle options file (bundle_of input) left answer
 
-abbrev pub IsAskAnswer : AskInput → AskOptions → List ℕ → Option (List ℕ) → Answer → Type 0
-IsAskAnswer given options input left answer =
-    MatchBool (nat_lt MAX_INPUT_BYTES (length input)) ((left ≡ None) × (answer ≡ input_too_long)) (AnswersInput given options input left answer)
+abbrev pub IsAskAnswer : AskInput → AskOptions → Text → List ℕ → Option (List ℕ) → Answer → Type 0
+IsAskAnswer given options file input left answer =
+    MatchBool (nat_lt MAX_INPUT_BYTES (length input)) ((left ≡ None) × (answer ≡ input_too_long)) (AnswersInput given options file input left answer)
 
 -- ---- what status 0 means
 

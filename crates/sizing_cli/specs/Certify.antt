@@ -1,5 +1,5 @@
 -- The possible answers of `certify` to an input: a relation, since it does not fix which certificate is found.
-use Rattle.std.specs.Prelude.{◌≡◌, ◌⊎◌, ◌<◌, ℕ, false, nat_eq, nat_lt, ◌==◌, ◌||◌, List, [], ◌∷◌, ◌++◌, length, codes, if◌then◌else◌, Some, Result, Ok, Err, IsTrue, MatchBool, ⊤}
+use Rattle.std.specs.Prelude.{◌≡◌, ◌⊎◌, ◌<◌, ℕ, nat_eq, nat_lt, ◌==◌, ◌||◌, List, [], ◌∷◌, ◌++◌, length, codes, if◌then◌else◌, Some, Result, Ok, Err, IsTrue, MatchBool}
 use Rattle.std.specs.List.{ends_with}
 use Rattle.job_bodies.specs.Plan.{Plan}
 use Rattle.job_bodies.specs.FaultText.{fault_line}

@@ -1,24 +1,28 @@
 -- The errors of a call with the arguments of a command line.
-use Rattle.std.specs.Prelude.{◌≡◌, ◌≢◌, ◌⊎◌, ℕ, Bool, true, false, ◌==◌, ◌||◌, List, Option, Some, None, IfSome, IsTrue, is_some}
+use Rattle.std.specs.Prelude.{◌≡◌, ◌≢◌, ◌⊎◌, ℕ, Bool, true, false, ◌==◌, ◌||◌, List, Option, Some, None, Result, Ok, Err, IfSome, IsTrue, codes, if◌then◌else◌, is_some}
 use Rattle.clap.specs.Words.{HasKind, Text, kind_of}
 use Rattle.clap.specs.declared.error.kind.ErrorKind.TheVariants.{OutOfMemory}
 use Rattle.command_line.specs.Command.{certificate_of, command_of, faults_of, files_of}
 use Rattle.command_line.specs.declared.command.Command.{Command}
 use Rattle.support.specs.declared.number.TheConstants.{MEMORY, READ_FAILED, WRITE_FAILED}
+use Rattle.sizing_cli.specs.Bundle.{bundle_of}
 use Rattle.sizing_cli.specs.ServeFault.{is_known_of}
 use Rattle.sizing_cli.specs.CommandResult.{WritesAnswer, WritesPrefix}
 use Rattle.sizing_cli.specs.declared.status.Status.{Status}
 use Rattle.sizing_cli.specs.SavedCertificate.{may_be_certificate}
-use Rattle.sizing_cli.specs.Texts.{file_named}
+use Rattle.sizing_cli.specs.Texts.{IsBundleNamed, file_named, name_or_none}
 use Rattle.sizing_cli.specs.declared.fault.CliError.{CliError}
-use Rattle.sizing_cli.specs.declared.fault.CliError.TheVariants.{Words, NoCommand, InputTwice, Unread, Occupied, Unwritten, Serve}
+use Rattle.sizing_cli.specs.declared.fault.CliError.TheVariants.{Words, NoCommand, InputTwice, Bundle, Unread, CertificateNeedsFile, Directory, Occupied, Unwritten, Serve}
 
 -- the sink failed, or the certificate's file did, so an answer may have been written
 abbrev pub is_of_sink : CliError → Bool
 is_of_sink (Words error) = false
 is_of_sink NoCommand = false
 is_of_sink InputTwice = false
+is_of_sink (Bundle name) = false
 is_of_sink (Unread name) = false
+is_of_sink CertificateNeedsFile = false
+is_of_sink (Directory name) = false
 is_of_sink (Occupied name) = false
 is_of_sink (Unwritten name) = true
 is_of_sink (Serve fault) = fault.number == WRITE_FAILED
@@ -28,17 +32,41 @@ abbrev pub is_unwritten : CliError → Bool
 is_unwritten (Words error) = false
 is_unwritten NoCommand = false
 is_unwritten InputTwice = false
+is_unwritten (Bundle name) = false
 is_unwritten (Unread name) = false
+is_unwritten CertificateNeedsFile = false
+is_unwritten (Directory name) = false
 is_unwritten (Occupied name) = false
 is_unwritten (Unwritten name) = true
 is_unwritten (Serve fault) = false
+
+-- the error is the fault of this number; a file that could not be read or written is another error
+abbrev pub is_fault : ℕ → CliError → Bool
+is_fault number (Words error) = false
+is_fault number NoCommand = false
+is_fault number InputTwice = false
+is_fault number (Bundle name) = false
+is_fault number (Unread name) = false
+is_fault number CertificateNeedsFile = false
+is_fault number (Directory name) = false
+is_fault number (Occupied name) = false
+is_fault number (Unwritten name) = false
+is_fault number (Serve fault) = fault.number == number
+
+-- 1 if the call ended with the fault of this number, otherwise 0
+abbrev pub count_in : {T : Type 0} → ℕ → Result T CliError → ℕ
+count_in number (Ok value) = 0
+count_in number (Err error) = if is_fault number error then 1 else 0
 
 -- the exit status: 2 for bad arguments and for help, 3 if there is no answer
 abbrev pub IsCode : CliError → ℕ → Type 0
 IsCode (Words error) status = ((kind_of error ≡ OutOfMemory) × (status ≡ 3)) ⊎ ((kind_of error ≢ OutOfMemory) × (status ≡ 2))
 IsCode NoCommand status = status ≡ 2
 IsCode InputTwice status = status ≡ 2
+IsCode (Bundle name) status = status ≡ 2
 IsCode (Unread name) status = status ≡ 3
+IsCode CertificateNeedsFile status = status ≡ 2
+IsCode (Directory name) status = status ≡ 2
 IsCode (Occupied name) status = status ≡ 2
 IsCode (Unwritten name) status = status ≡ 3
 IsCode (Serve fault) status = status ≡ 3
@@ -51,6 +79,10 @@ IsTwice (first, second) = (is_some second ≡ true) × ((file_named first ≡ No
 abbrev pub IsNamed : Option Text × Option Text → Text → Type 0
 IsNamed (first, second) name = (file_named first ≡ Some name) ⊎ (file_named second ≡ Some name)
 
+-- there are two texts, and one of them has this name in messages
+abbrev pub IsToldAs : Option Text × Option Text → Text → Type 0
+IsToldAs (first, second) name = (is_some second ≡ true) × ((name ≡ name_or_none (file_named first)) ⊎ (name ≡ name_or_none (file_named second)))
+
 -- reading failed, or memory ran out
 abbrev pub is_of_reading : ℕ → Bool
 is_of_reading number = number == MEMORY || number == READ_FAILED
@@ -60,7 +92,10 @@ abbrev pub IsOfReading : CliError → Type 0
 IsOfReading (Words error) = ⊥
 IsOfReading NoCommand = ⊥
 IsOfReading InputTwice = ⊥
+IsOfReading (Bundle name) = ⊥
 IsOfReading (Unread name) = ⊥
+IsOfReading CertificateNeedsFile = ⊥
+IsOfReading (Directory name) = ⊥
 IsOfReading (Occupied name) = ⊥
 IsOfReading (Unwritten name) = ⊥
 IsOfReading (Serve fault) = IsTrue (is_of_reading fault.number)
@@ -70,17 +105,23 @@ abbrev pub IsOfFile : Text → CliError → Type 0
 IsOfFile file (Words error) = ⊥
 IsOfFile file NoCommand = ⊥
 IsOfFile file InputTwice = ⊥
+IsOfFile file (Bundle name) = ⊥
 IsOfFile file (Unread name) = name.now ≡ file
+IsOfFile file CertificateNeedsFile = ⊥
+IsOfFile file (Directory name) = ⊥
 IsOfFile file (Occupied name) = ⊥
 IsOfFile file (Unwritten name) = ⊥
-IsOfFile file (Serve fault) = IsTrue (is_of_reading fault.number)
+IsOfFile file (Serve fault) = fault.number ≡ MEMORY
 
 -- a possible fault of a command that reads these files
 abbrev pub IsOfTexts : Command → Option Text × Option Text → CliError → Type 0
 IsOfTexts command files (Words error) = ⊥
 IsOfTexts command files NoCommand = ⊥
 IsOfTexts command files InputTwice = IsTwice files
+IsOfTexts command files (Bundle name) = IsToldAs files name.now
 IsOfTexts command files (Unread name) = IsNamed files name.now
+IsOfTexts command files CertificateNeedsFile = ⊥
+IsOfTexts command files (Directory name) = ⊥
 IsOfTexts command files (Occupied name) = ⊥
 IsOfTexts command files (Unwritten name) = ⊥
 IsOfTexts command files (Serve fault) = IsTrue (is_known_of command fault.number)
@@ -90,27 +131,63 @@ abbrev pub IsUnwritten : Option Text → CliError → Type 0
 IsUnwritten named (Words error) = ⊥
 IsUnwritten named NoCommand = ⊥
 IsUnwritten named InputTwice = ⊥
+IsUnwritten named (Bundle name) = ⊥
 IsUnwritten named (Unread name) = ⊥
+IsUnwritten named CertificateNeedsFile = ⊥
+IsUnwritten named (Directory name) = ⊥
 IsUnwritten named (Occupied name) = ⊥
 IsUnwritten named (Unwritten name) = named ≡ Some name.now
 IsUnwritten named (Serve fault) = ⊥
 
--- if the fault says that a file holds something other than a certificate, that agrees with what is known of the file
-abbrev pub IsOccupied : (Text → Option (List ℕ)) → CliError → Type 0
-IsOccupied content (Words error) = Unit {0}
-IsOccupied content NoCommand = Unit {0}
-IsOccupied content InputTwice = Unit {0}
-IsOccupied content (Unread name) = Unit {0}
-IsOccupied content (Occupied name) = IfSome (content name.now) (λ text. may_be_certificate text ≡ false)
-IsOccupied content (Unwritten name) = Unit {0}
-IsOccupied content (Serve fault) = Unit {0}
+-- if the fault says that a file holds something other than a certificate, or that there is a directory, that agrees with what is
+-- known of the files and directories
+abbrev pub IsOccupied : (Text → Option (List ℕ)) → (Text → Option Bool) → CliError → Type 0
+IsOccupied content directory (Words error) = Unit {0}
+IsOccupied content directory NoCommand = Unit {0}
+IsOccupied content directory InputTwice = Unit {0}
+IsOccupied content directory (Bundle name) = Unit {0}
+IsOccupied content directory (Unread name) = Unit {0}
+IsOccupied content directory CertificateNeedsFile = Unit {0}
+IsOccupied content directory (Directory name) = IfSome (directory name.now) (λ known. known ≡ true)
+IsOccupied content directory (Occupied name) = IfSome (content name.now) (λ text. may_be_certificate text ≡ false)
+IsOccupied content directory (Unwritten name) = Unit {0}
+IsOccupied content directory (Serve fault) = Unit {0}
+
+-- if the fault says that one of two texts is a bundle, that agrees with what is known of it
+abbrev pub IsBundled : Command → (Text → Option (List ℕ)) → Option (List ℕ) → Option Text × Option Text → CliError → Type 0
+IsBundled command content input files (Words error) = Unit {0}
+IsBundled command content input files NoCommand = Unit {0}
+IsBundled command content input files InputTwice = Unit {0}
+IsBundled command content input files (Bundle name) = IsBundleNamed command content input files name.now
+IsBundled command content input files (Unread name) = Unit {0}
+IsBundled command content input files CertificateNeedsFile = Unit {0}
+IsBundled command content input files (Directory name) = Unit {0}
+IsBundled command content input files (Occupied name) = Unit {0}
+IsBundled command content input files (Unwritten name) = Unit {0}
+IsBundled command content input files (Serve fault) = Unit {0}
+
+-- the error that the text of this name is a bundle, and it is
+abbrev pub IsOfBundle : Option Text → List ℕ → CliError → Type 0
+IsOfBundle named text (Words error) = ⊥
+IsOfBundle named text NoCommand = ⊥
+IsOfBundle named text InputTwice = ⊥
+IsOfBundle named text (Bundle name) = (name.now ≡ name_or_none (file_named named)) × (is_some (bundle_of text) ≡ true)
+IsOfBundle named text (Unread name) = ⊥
+IsOfBundle named text CertificateNeedsFile = ⊥
+IsOfBundle named text (Directory name) = ⊥
+IsOfBundle named text (Occupied name) = ⊥
+IsOfBundle named text (Unwritten name) = ⊥
+IsOfBundle named text (Serve fault) = ⊥
 
 -- a possible fault of looking at that file
 abbrev pub IsOfReplacing : Option Text → CliError → Type 0
 IsOfReplacing named (Words error) = ⊥
 IsOfReplacing named NoCommand = ⊥
 IsOfReplacing named InputTwice = ⊥
+IsOfReplacing named (Bundle name) = ⊥
 IsOfReplacing named (Unread name) = named ≡ Some name.now
+IsOfReplacing named CertificateNeedsFile = named ≡ Some (codes "-")
+IsOfReplacing named (Directory name) = named ≡ Some name.now
 IsOfReplacing named (Occupied name) = named ≡ Some name.now
 IsOfReplacing named (Unwritten name) = ⊥
 IsOfReplacing named (Serve fault) = fault.number ≡ MEMORY
@@ -121,16 +198,21 @@ IsFaultOf words (Words error) = HasKind (faults_of words) error
 IsFaultOf words NoCommand = command_of words ≡ None
 IsFaultOf words (Unwritten name) = certificate_of words ≡ Some name.now
 IsFaultOf words (Unread name) = IsNamed (files_of words) name.now ⊎ (certificate_of words ≡ Some name.now)
+IsFaultOf words CertificateNeedsFile = certificate_of words ≡ Some (codes "-")
+IsFaultOf words (Directory name) = certificate_of words ≡ Some name.now
 IsFaultOf words (Occupied name) = certificate_of words ≡ Some name.now
 IsFaultOf words fault = IfSome (command_of words) (λ command. IsOfTexts command (files_of words) fault)
 
 -- what was written before the fault: a prefix of an answer if the sink failed, and a whole one if only the certificate's
--- file failed
-abbrev pub IsWrittenBefore : CliError → Command → List ℕ → Option (List ℕ) → Option (List ℕ) → Type 0
-IsWrittenBefore (Words error) command input old new = Unit {0}
-IsWrittenBefore NoCommand command input old new = Unit {0}
-IsWrittenBefore InputTwice command input old new = Unit {0}
-IsWrittenBefore (Unread name) command input old new = Unit {0}
-IsWrittenBefore (Occupied name) command input old new = Unit {0}
-IsWrittenBefore (Unwritten name) command input old new = (status : Status) × WritesAnswer command input status old new
-IsWrittenBefore (Serve fault) command input old new = fault.number ≡ WRITE_FAILED → WritesPrefix command input old new
+-- file failed. `file` is the name of the plan's file in messages.
+abbrev pub IsWrittenBefore : CliError → Command → Text → List ℕ → Option (List ℕ) → Option (List ℕ) → Type 0
+IsWrittenBefore (Words error) command file input old new = Unit {0}
+IsWrittenBefore NoCommand command file input old new = Unit {0}
+IsWrittenBefore InputTwice command file input old new = Unit {0}
+IsWrittenBefore (Bundle name) command file input old new = Unit {0}
+IsWrittenBefore (Unread name) command file input old new = Unit {0}
+IsWrittenBefore CertificateNeedsFile command file input old new = Unit {0}
+IsWrittenBefore (Directory name) command file input old new = Unit {0}
+IsWrittenBefore (Occupied name) command file input old new = Unit {0}
+IsWrittenBefore (Unwritten name) command file input old new = (status : Status) × WritesAnswer command file input status old new
+IsWrittenBefore (Serve fault) command file input old new = fault.number ≡ WRITE_FAILED → WritesPrefix command file input old new

@@ -1,6 +1,7 @@
 -- What a command writes, and what it means.
 use Rattle.std.specs.Prelude.{◌≡◌, ◌≢◌, ◌+◌, ℕ, List, Option, Result, Ok, IfOk, IfErr, IfSome, IsTrue}
 use Rattle.std.specs.Io.KnownBytes.{Appends, Keeps}
+use Rattle.clap.specs.Words.{Text}
 use Rattle.byte_streams.specs.Reading.{ConsumesAtMost}
 use Rattle.byte_streams.specs.Writing.{AppendsFront}
 use Rattle.support.specs.declared.number.TheConstants.{READ_FAILED, WRITE_FAILED}
@@ -30,13 +31,13 @@ use Rattle.sizing_cli.specs.Ask.{IsAskAnswer, IsSafeAskInput}
 use Rattle.sizing_cli.specs.Conform.{IsConformAnswer, IsConformingInput}
 use Rattle.sizing_cli.specs.Learn.{IsConformingText, IsLearnAnswer}
 
--- the answer is a possible one of the task
-abbrev pub IsTaskAnswer : Task → List ℕ → Answer → Type 0
-IsTaskAnswer (Certify workers) input answer = IsCertifyAnswer input answer
-IsTaskAnswer (Fit sizes_form) input answer = IsFitAnswer sizes_form input answer
-IsTaskAnswer (Run rounds) input answer = answer ≡ run_report rounds input
-IsTaskAnswer (Refute states refute_format) input answer = IsRefuteAnswer states refute_format input answer
-IsTaskAnswer (Ask given options) input answer = (left : Option (List ℕ)) × IsAskAnswer given options input left answer
+-- The answer is a possible one of the task. Here and below, `file` is the name of the plan's file in messages.
+abbrev pub IsTaskAnswer : Task → Text → List ℕ → Answer → Type 0
+IsTaskAnswer (Certify workers) file input answer = IsCertifyAnswer input answer
+IsTaskAnswer (Fit sizes_form) file input answer = IsFitAnswer sizes_form input answer
+IsTaskAnswer (Run rounds) file input answer = answer ≡ run_report rounds input
+IsTaskAnswer (Refute states refute_format) file input answer = IsRefuteAnswer states refute_format input answer
+IsTaskAnswer (Ask given options) file input answer = (left : Option (List ℕ)) × IsAskAnswer given options file input left answer
 
 -- the answer is a possible one for an input with a recording
 abbrev pub IsRecordingAnswer : RecordingCommand → List ℕ → Answer → Type 0
@@ -44,22 +45,22 @@ IsRecordingAnswer Conform input answer = IsConformAnswer input answer
 IsRecordingAnswer (Learn strict) input answer = IsLearnAnswer strict input answer
 
 -- the answer is a possible one of the command
-abbrev pub IsAnswer : Command → List ℕ → Answer → Type 0
-IsAnswer (Sequential review) input answer = answer ≡ report review input
-IsAnswer (OnRecording reading) input answer = IsRecordingAnswer reading input answer
-IsAnswer (OnThreads task) input answer = IsTaskAnswer task input answer
+abbrev pub IsAnswer : Command → Text → List ℕ → Answer → Type 0
+IsAnswer (Sequential review) file input answer = answer ≡ report review input
+IsAnswer (OnRecording reading) file input answer = IsRecordingAnswer reading input answer
+IsAnswer (OnThreads task) file input answer = IsTaskAnswer task file input answer
 
 -- such an answer was written, and the status is its status
-pub record WritesAnswer (command : Command) (input : List ℕ) (status : Status) (old new : Option (List ℕ)) : Type 0 where
+pub record WritesAnswer (command : Command) (file : Text) (input : List ℕ) (status : Status) (old new : Option (List ℕ)) : Type 0 where
   pub answer : Answer
-  pub is_answer : IsAnswer command input answer
+  pub is_answer : IsAnswer command file input answer
   pub written : Appends old new answer.text
   pub status_is : status ≡ answer.status
 
 -- a prefix of such an answer was written
-pub record WritesPrefix (command : Command) (input : List ℕ) (old new : Option (List ℕ)) : Type 0 where
+pub record WritesPrefix (command : Command) (file : Text) (input : List ℕ) (old new : Option (List ℕ)) : Type 0 where
   pub answer : Answer
-  pub is_answer : IsAnswer command input answer
+  pub is_answer : IsAnswer command file input answer
   pub written : AppendsFront old new answer.text
 
 -- a bundle was written: the input's plan with a certificate that `check` accepts
@@ -107,25 +108,25 @@ MeansSafe (OnThreads (Refute states refute_format.Bundle)) input old new = Write
 MeansSafe (OnThreads (Ask given options)) input old new = IsSafeAskInput given input
 
 -- an answer of `ask` leaves this certificate; nothing is promised for other tasks
-abbrev pub IsTaskAnswerWith : Task → List ℕ → Answer → Option (List ℕ) → Type 0
-IsTaskAnswerWith (Certify workers) input answer left = Unit {0}
-IsTaskAnswerWith (Fit sizes_form) input answer left = Unit {0}
-IsTaskAnswerWith (Run rounds) input answer left = Unit {0}
-IsTaskAnswerWith (Refute states refute_format) input answer left = Unit {0}
-IsTaskAnswerWith (Ask given options) input answer left = IsAskAnswer given options input left answer
+abbrev pub IsTaskAnswerWith : Task → Text → List ℕ → Answer → Option (List ℕ) → Type 0
+IsTaskAnswerWith (Certify workers) file input answer left = Unit {0}
+IsTaskAnswerWith (Fit sizes_form) file input answer left = Unit {0}
+IsTaskAnswerWith (Run rounds) file input answer left = Unit {0}
+IsTaskAnswerWith (Refute states refute_format) file input answer left = Unit {0}
+IsTaskAnswerWith (Ask given options) file input answer left = IsAskAnswer given options file input left answer
 
 -- an answer was written that leaves this certificate, and the status is its status
-pub record TaskWritesWithCertificate (task : Task) (input : List ℕ) (status : Status) (left old new : Option (List ℕ)) : Type 0 where
+pub record TaskWritesWithCertificate (task : Task) (file : Text) (input : List ℕ) (status : Status) (left old new : Option (List ℕ)) : Type 0 where
   pub answer : Answer
-  pub is_left : IsTaskAnswerWith task input answer left
+  pub is_left : IsTaskAnswerWith task file input answer left
   pub written : Appends old new answer.text
   pub status_is : status ≡ answer.status
 
 -- what a command leaves besides its output: for `ask` the certificate that the answer rests on, if the plan is safe
-abbrev pub WritesWithCertificate : Command → List ℕ → Status → Option (List ℕ) → Option (List ℕ) → Option (List ℕ) → Type 0
-WritesWithCertificate (Sequential review) input status left old new = Unit {0}
-WritesWithCertificate (OnRecording reading) input status left old new = Unit {0}
-WritesWithCertificate (OnThreads task) input status left old new = TaskWritesWithCertificate task input status left old new
+abbrev pub WritesWithCertificate : Command → Text → List ℕ → Status → Option (List ℕ) → Option (List ℕ) → Option (List ℕ) → Type 0
+WritesWithCertificate (Sequential review) file input status left old new = Unit {0}
+WritesWithCertificate (OnRecording reading) file input status left old new = Unit {0}
+WritesWithCertificate (OnThreads task) file input status left old new = TaskWritesWithCertificate task file input status left old new
 
 -- ---- whole calls
 
@@ -141,12 +142,25 @@ pub record StreamChange : Type 0 where
 abbrev pub stream_change : {X : Type 0} → (X → Option (List ℕ)) → (X → ℕ) → X → X → StreamChange
 stream_change bytes failures old new = record { before = bytes old; after = bytes new; failed_before = failures old; failed_after = failures new }
 
+-- a call writes the command's answer to this input. If the call ends with a fault, nothing was written, except that after a
+-- fault of the sink a prefix of the answer was.
+pub record ServesInput (command : Command) (file : Text) (input : List ℕ) (sink : StreamChange) (result : Result Status ServeFault) : Type 0 where
+  -- what was written, and the status, are a possible answer of the command
+  pub answered : IfOk result (λ status. WritesAnswer command file input status sink.before sink.after)
+  pub prefix : IfErr result (λ fault. fault.number ≡ WRITE_FAILED → WritesPrefix command file input sink.before sink.after)
+  pub nothing : IfErr result (λ fault. fault.number ≢ WRITE_FAILED → Keeps sink.before sink.after)
+  pub safe : IfOk result (λ status. status ≡ Done → MeansSafe command input sink.before sink.after)
+  -- only the command's own faults occur, 60 never, and 61 exactly when the sink failed
+  pub known : IfErr result (λ fault. IsTrue (is_known_of command fault.number))
+  pub unread : IfErr result (λ fault. fault.number ≢ READ_FAILED)
+  pub write_failed : sink.failed_after ≡ sink.failed_before + count_of WRITE_FAILED result
+
 -- a call reads an input and writes the command's answer to it. If the call ends with a fault, nothing was written, except
 -- that after a fault of the sink a prefix of the answer was.
-pub record Serves (command : Command) (source sink : StreamChange) (result : Result Status ServeFault) : Type 0 where
+pub record Serves (command : Command) (file : Text) (source sink : StreamChange) (result : Result Status ServeFault) : Type 0 where
   -- what was written, and the status, are a possible answer of the command to what was read
-  pub answered : IfOk result (λ status. IfSome source.before (λ input. WritesAnswer command input status sink.before sink.after))
-  pub prefix : IfErr result (λ fault. fault.number ≡ WRITE_FAILED → IfSome source.before (λ input. WritesPrefix command input sink.before sink.after))
+  pub answered : IfOk result (λ status. IfSome source.before (λ input. WritesAnswer command file input status sink.before sink.after))
+  pub prefix : IfErr result (λ fault. fault.number ≡ WRITE_FAILED → IfSome source.before (λ input. WritesPrefix command file input sink.before sink.after))
   pub nothing : IfErr result (λ fault. fault.number ≢ WRITE_FAILED → Keeps sink.before sink.after)
   pub safe : IfOk result (λ status. status ≡ Done → IfSome source.before (λ input. MeansSafe command input sink.before sink.after))
   -- only the command's own faults occur, and 60 and 61 exactly when the source and the sink failed

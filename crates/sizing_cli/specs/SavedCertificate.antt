@@ -1,5 +1,6 @@
 -- The certificate that is written to a file.
-use Rattle.std.specs.Prelude.{◌≡◌, ◌==◌, ℕ, Bool, true, List, [], ◌∷◌, Option, IfSome}
+use Rattle.std.specs.Prelude.{◌≡◌, ◌==◌, ℕ, Bool, true, false, codes, List, [], ◌∷◌, Option, IfSome}
+use Rattle.std.specs.Str.{bytes_eq}
 use Rattle.clap.specs.Words.{Text}
 use Rattle.command_line.specs.declared.command.Command.{Command}
 use Rattle.sizing_cli.specs.CommandResult.{WritesWithCertificate}
@@ -11,13 +12,20 @@ abbrev pub may_be_certificate : List ℕ → Bool
 may_be_certificate [] = true
 may_be_certificate (byte ∷ bytes) = byte == 123
 
--- this holds of the named file, if its text is known
-abbrev pub IsReplaceable : (Text → Option (List ℕ)) → Option Text → Type 0
-IsReplaceable content named = IfSome named (λ name. IfSome (content name) (λ text. may_be_certificate text ≡ true))
+-- A certificate may be written under this name. The name is not `-`, there is no directory of that name, and a certificate may
+-- replace the file's text; the last two as far as it is known.
+pub record IsReplaceableName (content : Text → Option (List ℕ)) (directory : Text → Option Bool) (name : Text) : Type 0 where
+  pub file : bytes_eq name (codes "-") ≡ false
+  pub no_directory : IfSome (directory name) (λ known. known ≡ false)
+  pub text : IfSome (content name) (λ text. may_be_certificate text ≡ true)
+
+-- this holds of the name of the certificate's file, if there is one
+abbrev pub IsReplaceable : (Text → Option (List ℕ)) → (Text → Option Bool) → Option Text → Type 0
+IsReplaceable content directory named = IfSome named (IsReplaceableName content directory)
 
 -- An answer was written, and the certificate that it rests on, if any, is the one text that was written to a file, the named
 -- one, or that write failed. The certificate is missing if the plan is not safe, or if its text is too long to be read back.
-pub record WritesCertificateFile (before after : Option (List FileWrite)) (named : Option Text) (is_done : Bool) (command : Command) (input : List ℕ) (status : Status) (old new : Option (List ℕ)) : Type 0 where
+pub record WritesCertificateFile (before after : Option (List FileWrite)) (named : Option Text) (is_done : Bool) (command : Command) (file : Text) (input : List ℕ) (status : Status) (old new : Option (List ℕ)) : Type 0 where
   pub left : Option (List ℕ)
-  pub leaves : WritesWithCertificate command input status left old new
+  pub leaves : WritesWithCertificate command file input status left old new
   pub kept : AppendsWrites before after (file_writes left named is_done)

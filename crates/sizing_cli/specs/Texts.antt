@@ -1,5 +1,5 @@
 -- The texts that the arguments of a command line name, and the input that they form.
-use Rattle.std.specs.Prelude.{◌≡◌, ℕ, ◌+◌, false, ◌++◌, List, ◌∷◌, take, codes, Option, Some, None, if◌then◌else◌, option_and_then, option_map}
+use Rattle.std.specs.Prelude.{◌≡◌, ◌⊎◌, ℕ, ◌+◌, false, ◌++◌, List, ◌∷◌, take, codes, Option, Some, None, if◌then◌else◌, option_and_then, option_map, IfSome, is_some, true}
 use Rattle.std.specs.Str.{bytes_eq}
 use Rattle.clap.specs.Words.{Text}
 use Rattle.command_line.specs.declared.command.Command.{Command}
@@ -21,6 +21,10 @@ JoinedTextsSplitAgain = (plan second : List ℕ) → has_separator second ≡ fa
 abbrev pub read_part : Command → List ℕ → List ℕ
 read_part command = take (most_bytes command + 1)
 
+-- the text is this input, or the part of it that the command reads
+abbrev pub IsReadOf : Command → List ℕ → List ℕ → Type 0
+IsReadOf command text input = (text ≡ input) ⊎ (text ≡ read_part command input)
+
 -- the name, unless it means standard input
 abbrev pub not_input : Text → Option Text
 not_input name = if bytes_eq name (codes "-") then None else Some name
@@ -28,6 +32,15 @@ not_input name = if bytes_eq name (codes "-") then None else Some name
 -- the named file, or none for standard input
 abbrev pub file_named : Option Text → Option Text
 file_named = option_and_then not_input
+
+-- the name of the plan's file in messages
+abbrev pub name_or_none : Option Text → Text
+name_or_none None = codes "<stdin>"
+name_or_none (Some name) = name
+
+-- the name of the plan's file in messages, given the named files: the first file, or `<stdin>`
+abbrev pub plan_name : Option Text × Option Text → Text
+plan_name (first, second) = name_or_none (file_named first)
 
 -- the text of this file, or of standard input if there is none
 abbrev pub text_of : (Text → Option (List ℕ)) → Option (List ℕ) → Option Text → Option (List ℕ)
@@ -51,3 +64,22 @@ both_read_parts command _ _ = None
 abbrev pub input_named : Command → (Text → Option (List ℕ)) → Option (List ℕ) → Option Text × Option Text → Option (List ℕ)
 input_named command files input (first, None) = served_of command files input (file_named first)
 input_named command files input (first, Some second) = both_read_parts command (text_named files input first) (text_named files input (Some second))
+
+-- ---- two texts are no bundles themselves
+
+-- the text, if it is known, is no bundle; or it is one
+abbrev pub IsAlone : Command → Option (List ℕ) → Type 0
+IsAlone command known = IfSome known (λ text. bundle_of (read_part command text) ≡ None)
+
+abbrev pub IsBundle : Command → Option (List ℕ) → Type 0
+IsBundle command known = IfSome known (λ text. is_some (bundle_of (read_part command text)) ≡ true)
+
+-- if two texts are named, neither is a bundle
+abbrev pub AreAlone : Command → (Text → Option (List ℕ)) → Option (List ℕ) → Option Text × Option Text → Type 0
+AreAlone command files input (first, None) = Unit {0}
+AreAlone command files input (first, Some second) = IsAlone command (text_named files input first) × IsAlone command (text_named files input (Some second))
+
+-- the one of the two named texts that has this name in messages is a bundle
+abbrev pub IsBundleNamed : Command → (Text → Option (List ℕ)) → Option (List ℕ) → Option Text × Option Text → Text → Type 0
+IsBundleNamed command files input (first, second) name =
+    ((name ≡ name_or_none (file_named first)) × IsBundle command (text_named files input first)) ⊎ ((name ≡ name_or_none (file_named second)) × IsBundle command (text_named files input second))

@@ -1,32 +1,27 @@
 //! The entry point that serves the arguments of a command line.
 
-ghost use Rattle.std.specs.Prelude.{◌≡◌, ◌≢◌, ℕ, IfOk, IfErr, IfSome, is_ok, map, take, option_map, [], is_some, true, false, None};
+ghost use Rattle.std.specs.Prelude.{◌≡◌, ◌+◌, IfOk, IfErr, IfSome, map, option_map, [], is_some, true, false};
 ghost use Rattle.std.specs.Io.KnownBytes.{Keeps};
 ghost use Rattle.command_line.specs.Command.{IsInRange, certificate_of, command_of, faults_of, files_of_cli, files_of};
+ghost use Rattle.support.specs.declared.number.TheConstants.{READ_FAILED, WRITE_FAILED};
 ghost use Rattle.sizing_cli.specs.CommandResult.{WritesWithCertificate, MeansSafe, WritesAnswer};
-ghost use Rattle.command_line.specs.declared.command.Command.{Command as CommandValue};
-ghost use Rattle.sizing_cli.specs.FileWrites.{AppendsWrites, WritesAtMostOnce, file_writes};
+ghost use Rattle.sizing_cli.specs.FileWrites.{AppendsWrites, WritesAtMostOnce};
 ghost use Rattle.sizing_cli.specs.SavedCertificate.{IsReplaceable, WritesCertificateFile};
-ghost use Rattle.sizing_cli.specs.SavedCertificate as replaceable;
 ghost use Rattle.sizing_cli.specs.declared.status.Status.{Status as StatusValue};
 ghost use Rattle.sizing_cli.specs.Texts as spec;
-ghost use Rattle.sizing_cli.specs.CliError.{IsFaultOf, IsOccupied, IsOfFile, IsOfReading, IsOfReplacing, IsOfTexts, IsUnwritten, IsWrittenBefore, is_of_sink, is_unwritten};
+ghost use Rattle.sizing_cli.specs.CliError.{IsBundled, IsFaultOf, IsOccupied, IsOfTexts, IsWrittenBefore, count_in, is_of_sink, is_unwritten};
 
+use crate::certificate_file::{ensure_replaceable, write_certificate};
+use crate::entry_points::write_answer;
 use crate::fault::CliError;
-use crate::join::join_texts;
+use crate::named_texts::{display_name, read_texts};
 use crate::text_files::TextFiles;
-use crate::{ServeFault, Status, most_bytes, read_words, serve_named};
-use byte_streams::{InputError, MemorySource, Sink, Source, read_up_to};
-use command_line::{Cli, Command};
-use std::alloc::{AllocError, Global};
+use crate::{Status, read_words};
+use byte_streams::{Sink, Source};
+use command_line::Cli;
+use std::alloc::Global;
 use std::sync::Wait;
 use std::thread::Threads;
-
-/// The file name that means standard input.
-const STANDARD_INPUT: &str = "-";
-
-/// The name of a plan from standard input in messages.
-const NO_FILE: &str = "<stdin>";
 
 /// Runs the command that the arguments name, and writes its answer. The first argument is the
 /// program's name.
@@ -37,7 +32,7 @@ const NO_FILE: &str = "<stdin>";
 ///
 /// If the arguments name a file for the certificate that the answer rests on, that file is written
 /// last. An existing file is overwritten only if it is empty or starts with `{`, as a certificate
-/// does.
+/// does. The name `-`, or that of a directory, is an error before anything is read.
 ///
 /// # Errors
 ///
@@ -64,7 +59,7 @@ pub fn serve_words<'a, R: Threads + Wait + Sync, F: TextFiles, S: Source, K: Sin
         IfSome
         (spec.input_named command (F.content files.old) (S.remaining input.old) (files_of (map (λ word. word.now) words.now)))
         (λ text.
-        WritesAnswer command text status
+        WritesAnswer command (spec.plan_name (files_of (map (λ word. word.now) words.now))) text status
         (K.written sink.old) (K.written sink.new)))) }
     ensures safe { IfOk result (λ status.
         status ≡ Status.Done
@@ -87,8 +82,8 @@ pub fn serve_words<'a, R: Threads + Wait + Sync, F: TextFiles, S: Source, K: Sin
         (λ text.
         WritesCertificateFile (F.writes files.old) (F.writes files.new)
         (certificate_of (map (λ word. word.now) words.now)) true
-        command text status (K.written sink.old)
-        (K.written sink.new)))) }
+        command (spec.plan_name (files_of (map (λ word. word.now) words.now))) text status
+        (K.written sink.old) (K.written sink.new)))) }
     ensures attempted { IfErr result (λ fault.
         is_unwritten fault ≡ true
         → IfSome
@@ -99,8 +94,8 @@ pub fn serve_words<'a, R: Threads + Wait + Sync, F: TextFiles, S: Source, K: Sin
         (λ text.
         (status : StatusValue) × WritesCertificateFile (F.writes files.old) (F.writes files.new)
         (certificate_of (map (λ word. word.now) words.now)) false
-        command text status (K.written sink.old)
-        (K.written sink.new)))) }
+        command (spec.plan_name (files_of (map (λ word. word.now) words.now))) text status
+        (K.written sink.old) (K.written sink.new)))) }
     ensures untouched { IfErr result
         (λ fault. is_unwritten fault ≡ false → AppendsWrites (F.writes files.old) (F.writes files.new) []) }
     ensures once { IfOk result (λ _.
@@ -111,9 +106,23 @@ pub fn serve_words<'a, R: Threads + Wait + Sync, F: TextFiles, S: Source, K: Sin
         → WritesAtMostOnce (F.writes files.old) (F.writes files.new)
         (certificate_of (map (λ word. word.now) words.now)) false) }
     ensures replaceable { IfOk result
-        (λ _. IsReplaceable (F.content files.old) (certificate_of (map (λ word. word.now) words.now))) }
-    ensures occupied { IfErr result (IsOccupied (F.content files.old)) }
+        (λ _. IsReplaceable (F.content files.old) (F.directory files.old) (certificate_of (map (λ word. word.now) words.now))) }
+    ensures occupied { IfErr result (IsOccupied (F.content files.old) (F.directory files.old)) }
+
+    // Of two texts, neither is a bundle itself.
+    ensures alone { IfOk result (λ _.
+        IfSome
+        (command_of (map (λ word. word.now) words.now))
+        (λ command. spec.AreAlone command (F.content files.old) (S.remaining input.old) (files_of (map (λ word. word.now) words.now)))) }
+    ensures bundled { IfErr result (λ fault.
+        IfSome
+        (command_of (map (λ word. word.now) words.now))
+        (λ command. IsBundled command (F.content files.old) (S.remaining input.old) (files_of (map (λ word. word.now) words.now)) fault)) }
     ensures fault { IfErr result (IsFaultOf (map (λ word. word.now) words.now)) }
+
+    // Fault 60 comes exactly if standard input failed, and 61 exactly if the sink did.
+    ensures read_failed { S.failures input.new ≡ S.failures input.old + count_in READ_FAILED result }
+    ensures write_failed { K.failures sink.new ≡ K.failures sink.old + count_in WRITE_FAILED result }
     ensures nothing { IfErr result
         (λ fault. is_of_sink fault ≡ false → Keeps (K.written sink.old) (K.written sink.new)) }
 
@@ -126,7 +135,7 @@ pub fn serve_words<'a, R: Threads + Wait + Sync, F: TextFiles, S: Source, K: Sin
         IfSome
         (spec.input_named command (F.content files.old) (S.remaining input.old) (files_of (map (λ word. word.now) words.now)))
         (λ text.
-        IsWrittenBefore fault command text
+        IsWrittenBefore fault command (spec.plan_name (files_of (map (λ word. word.now) words.now))) text
         (K.written sink.old) (K.written sink.new)))) }
 {
     let Some(cli) = read_words(alloc, words)? else {
@@ -137,70 +146,6 @@ pub fn serve_words<'a, R: Threads + Wait + Sync, F: TextFiles, S: Source, K: Sin
     let status = serve_parsed(rt, alloc, cli, &*files, &mut found, input, sink)?;
     write_certificate(files, cli.certificate, &found)?;
     Ok(status)
-}
-
-/// Returns an error if the file named for the certificate holds another text, so that a misplaced
-/// argument does not overwrite a plan.
-fn ensure_replaceable<'a, F: TextFiles>(
-    alloc: Global,
-    files: &F,
-    name: Option<&'a str>,
-) -> Result<(), CliError<'a>>
-    ensures replaceable { IfOk result
-        (λ _. IsReplaceable (F.content files.now) (option_map (λ name. name.now) name.entry)) }
-    ensures occupied { IfErr result (IsOccupied (F.content files.now)) }
-    ensures fault { IfErr result (IsOfReplacing (option_map (λ name. name.now) name.entry)) }
-    ensures before { IfErr result (λ fault. is_of_sink fault ≡ false) }
-{
-    let Some(name) = name else {
-        return Ok(());
-    };
-    match files.read_stored(alloc, name, 1) {
-        Ok(Some(text)) => {
-            if may_be_certificate(&text) {
-                Ok(())
-            } else {
-                Err(CliError::Occupied(name))
-            }
-        }
-        Ok(None) => Ok(()),
-        Err(InputError::Fault) => Err(CliError::Unread(name)),
-        Err(InputError::Memory) => Err(CliError::from(AllocError)),
-    }
-}
-
-/// Returns whether a text with this first byte is a certificate, or empty.
-fn may_be_certificate(text: &[u8]) -> bool
-    ensures { result ≡ replaceable.may_be_certificate text.now }
-{
-    match text.first() {
-        Some(byte) => *byte == b'{',
-        None => true,
-    }
-}
-
-/// Writes the certificate that was found to the file named for it.
-#[tactic(auto, using(crate::proofs::SavedTexts::no_writes))]
-fn write_certificate<'a, F: TextFiles>(
-    files: &mut F,
-    name: Option<&'a str>,
-    found: &Option<Vec<u8>>,
-) -> Result<(), CliError<'a>>
-    ensures kept { AppendsWrites (F.writes files.old) (F.writes files.new)
-        (file_writes (option_map (λ text. text.items) found.now) (option_map (λ name. name.now) name.entry) (is_ok result)) }
-    ensures fault { IfErr result (IsUnwritten (option_map (λ name. name.now) name.entry)) }
-    ensures behind { IfErr result (λ fault. is_unwritten fault ≡ true) }
-{
-    let Some(text) = found else {
-        return Ok(());
-    };
-    let Some(name) = name else {
-        return Ok(());
-    };
-    match files.write(name, text) {
-        Ok(()) => Ok(()),
-        Err(_) => Err(CliError::Unwritten(name)),
-    }
 }
 
 /// Serves parsed arguments.
@@ -218,7 +163,7 @@ fn serve_parsed<'a, R: Threads + Wait + Sync, F: TextFiles, S: Source, K: Sink>(
         IfSome
         (spec.input_named cli.entry.command (F.content files.now) (S.remaining input.old) (files_of_cli cli.entry))
         (λ text.
-        WritesAnswer cli.entry.command text status
+        WritesAnswer cli.entry.command (spec.plan_name (files_of_cli cli.entry)) text status
         (K.written sink.old) (K.written sink.new))) }
     ensures safe { IfOk result (λ status.
         status ≡ Status.Done
@@ -231,147 +176,26 @@ fn serve_parsed<'a, R: Threads + Wait + Sync, F: TextFiles, S: Source, K: Sink>(
         IfSome
         (spec.input_named cli.entry.command (F.content files.now) (S.remaining input.old) (files_of_cli cli.entry))
         (λ text.
-        WritesWithCertificate cli.entry.command text status
+        WritesWithCertificate cli.entry.command (spec.plan_name (files_of_cli cli.entry)) text status
         (option_map (λ text. text.items) found.new)
         (K.written sink.old) (K.written sink.new))) }
+    ensures alone { IfOk result (λ _.
+        spec.AreAlone cli.entry.command (F.content files.now) (S.remaining input.old) (files_of_cli cli.entry)) }
+    ensures bundled { IfErr result
+        (IsBundled cli.entry.command (F.content files.now) (S.remaining input.old) (files_of_cli cli.entry)) }
     ensures fault { IfErr result (IsOfTexts cli.entry.command (files_of_cli cli.entry)) }
+    ensures read_failed { S.failures input.new ≡ S.failures input.old + count_in READ_FAILED result }
+    ensures write_failed { K.failures sink.new ≡ K.failures sink.old + count_in WRITE_FAILED result }
     ensures nothing { IfErr result
         (λ fault. is_of_sink fault ≡ false → Keeps (K.written sink.old) (K.written sink.new)) }
     ensures before { IfErr result (λ fault.
         IfSome
         (spec.input_named cli.entry.command (F.content files.now) (S.remaining input.old) (files_of_cli cli.entry))
         (λ text.
-        IsWrittenBefore fault cli.entry.command
-        text (K.written sink.old)
-        (K.written sink.new))) }
+        IsWrittenBefore fault cli.entry.command (spec.plan_name (files_of_cli cli.entry)) text
+        (K.written sink.old) (K.written sink.new))) }
 {
-    match cli.second {
-        Some(second) => {
-            let text = read_both(alloc, cli.command, files, input, cli.first, second)?;
-            let plan_name = display_name(cli.first);
-            serve_text(rt, alloc, cli.command, plan_name, found, &text, sink)
-        }
-        None => match file_named(cli.first) {
-            Some(name) => {
-                let text = read_file(alloc, cli.command, files, name)?;
-                serve_text(rt, alloc, cli.command, name, found, &text, sink)
-            }
-            None => Ok(serve_named(rt, alloc, cli.command, NO_FILE, found, input, sink)?),
-        },
-    }
-}
-
-/// Returns the name of the file, or `None` if the name means standard input.
-fn file_named(name: Option<&str>) -> Option<&str>
-    ensures { option_map (λ name. name.now) result
-        ≡ spec.file_named (option_map (λ name. name.now) name.entry) }
-{
-    name.filter(|name| *name != STANDARD_INPUT)
-}
-
-/// Returns the name of the plan in messages.
-fn display_name(name: Option<&str>) -> &str {
-    match file_named(name) {
-        Some(name) => name,
-        None => NO_FILE,
-    }
-}
-
-/// Serves a text that was read.
-fn serve_text<'a, R: Threads + Wait + Sync, K: Sink>(
-    rt: &R,
-    alloc: Global,
-    command: Command,
-    plan_name: &str,
-    found: &mut Option<Vec<u8>>,
-    text: &[u8],
-    sink: &mut K,
-) -> Result<Status, CliError<'a>>
-    requires { IsInRange command }
-    ensures answered { IfOk result
-        (λ status. WritesAnswer command text.now status (K.written sink.old) (K.written sink.new)) }
-    ensures safe { IfOk result (λ status.
-        status ≡ Status.Done
-        → MeansSafe command text.now (K.written sink.old) (K.written sink.new)) }
-    ensures left { IfOk result (λ status.
-        WritesWithCertificate command text.now status (option_map (λ text. text.items) found.new)
-        (K.written sink.old) (K.written sink.new)) }
-    ensures known { IfErr result (IsOfTexts command (None, None)) }
-    ensures nothing { IfErr result
-        (λ fault. is_of_sink fault ≡ false → Keeps (K.written sink.old) (K.written sink.new)) }
-    ensures before { IfErr result (λ fault.
-        IsWrittenBefore fault command text.now (K.written sink.old) (K.written sink.new)) }
-{
-    let mut source = MemorySource::new(text);
-    Ok(serve_named(rt, alloc, command, plan_name, found, &mut source, sink)?)
-}
-
-/// Reads the two texts of the command and joins them.
-fn read_both<'a, F: TextFiles, S: Source>(
-    alloc: Global,
-    command: Command,
-    files: &F,
-    input: &mut S,
-    first: Option<&'a str>,
-    second: &'a str,
-) -> Result<Vec<u8>, CliError<'a>>
-    ensures text { IfOk result (λ text.
-        IfSome
-        (spec.input_named command (F.content files.now) (S.remaining input.old) (option_map (λ name. name.now) first.entry, Some second.now))
-        (λ known. text.items ≡ known)) }
-    ensures fault { IfErr result (λ fault.
-        (any : CommandValue)
-        → IsOfTexts any (option_map (λ name. name.now) first.entry, Some second.now) fault) }
-    ensures before { IfErr result (λ fault. is_of_sink fault ≡ false) }
-{
-    let (plan, behind) = match (file_named(first), file_named(Some(second))) {
-        (None, None) => return Err(CliError::InputTwice),
-        (Some(first), Some(second)) => {
-            let plan = read_file(alloc, command, files, first)?;
-            (plan, read_file(alloc, command, files, second)?)
-        }
-        (Some(first), None) => {
-            let plan = read_file(alloc, command, files, first)?;
-            (plan, read_input(alloc, command, input)?)
-        }
-        (None, Some(second)) => {
-            let plan = read_input(alloc, command, input)?;
-            (plan, read_file(alloc, command, files, second)?)
-        }
-    };
-    Ok(join_texts(plan, &behind)?)
-}
-
-/// Reads standard input for the command.
-fn read_input<'a, S: Source>(
-    alloc: Global,
-    command: Command,
-    input: &mut S,
-) -> Result<Vec<u8>, CliError<'a>>
-    ensures text { IfOk result
-        (λ text. IfSome (S.remaining input.old) (λ known. text.items ≡ spec.read_part command known)) }
-    ensures fault { IfErr result IsOfReading }
-{
-    match read_up_to(alloc, input, most_bytes(command) + 1) {
-        Ok(text) => Ok(text),
-        Err(error) => Err(CliError::Serve(ServeFault::from(error))),
-    }
-}
-
-/// Reads a file for the command.
-fn read_file<'a, F: TextFiles>(
-    alloc: Global,
-    command: Command,
-    files: &F,
-    name: &'a str,
-) -> Result<Vec<u8>, CliError<'a>>
-    ensures text { IfOk result (λ text.
-        IfSome (F.content files.now name.now) (λ known. text.items ≡ spec.read_part command known)) }
-    ensures fault { IfErr result (IsOfFile name.now) }
-{
-    match files.read(alloc, name, most_bytes(command) + 1) {
-        Ok(text) => Ok(text),
-        Err(InputError::Fault) => Err(CliError::Unread(name)),
-        Err(error) => Err(CliError::Serve(ServeFault::from(error))),
-    }
+    let text = read_texts(alloc, cli, files, input)?;
+    let plan_name = display_name(cli.first);
+    Ok(write_answer(rt, alloc, cli.command, plan_name, found, text, sink)?)
 }

@@ -58,7 +58,7 @@ pub fn ask<R: Threads + Wait + Sync>(
     input: &[u8],
 ) -> Result<AskOutput, ServeFault>
     ensures answer { IfOk result
-        (λ answer. spec.IsAskAnswer given options input.now (spec.certificate_of_output answer) answer.output) }
+        (λ answer. spec.IsAskAnswer given options file.now input.now (spec.certificate_of_output answer) answer.output) }
     ensures fault { IfErr result (λ fault. IsTrue (is_of_search fault.number)) }
 {
     if input.len() > MAX_INPUT_BYTES {
@@ -78,8 +78,8 @@ fn ask_bundle<R: Threads + Wait + Sync>(
     input: &[u8],
 ) -> Result<AskOutput, ServeFault>
     ensures answer { IfOk result (λ answer.
-        spec.AnswersInput AskInput.WithCertificate options input.now (spec.certificate_of_output answer)
-        answer.output) }
+        spec.AnswersInput AskInput.WithCertificate options file.now input.now
+        (spec.certificate_of_output answer) answer.output) }
     ensures fault { IfErr result (λ fault. IsTrue (is_of_search fault.number)) }
 {
     match bundle_of(input) {
@@ -97,7 +97,8 @@ fn ask_text<R: Threads + Wait + Sync>(
     cert: Option<&[u8]>,
 ) -> Result<AskOutput, ServeFault>
     ensures answer { IfOk result (λ answer.
-        spec.AnswersReading options (option_map (λ cert. cert.now) cert.entry) (plan_of text.now)
+        spec.AnswersReading options (spec.source_of file.now text.now)
+        (option_map (λ cert. cert.now) cert.entry) (plan_of text.now)
         (spec.certificate_of_output answer) answer.output) }
     ensures fault { IfErr result (λ fault. IsTrue (is_of_search fault.number)) }
 {
@@ -124,7 +125,8 @@ fn ask_plan<R: Threads + Wait + Sync>(
     cert: Option<&[u8]>,
 ) -> Result<AskOutput, ServeFault>
     ensures answer { IfOk result (λ answer.
-        spec.AnswersGiven options (option_map (λ cert. cert.now) cert.entry) plan.now
+        spec.AnswersGiven options (spec.source_of file.now text.now)
+        (option_map (λ cert. cert.now) cert.entry) plan.now
         (spec.certificate_of_output answer) answer.output) }
     ensures fault { IfErr result (λ fault. IsTrue (is_of_search fault.number)) }
 {
@@ -144,13 +146,19 @@ fn ask_with<R: Threads + Wait + Sync>(
     cert: &[u8],
 ) -> Result<AskOutput, ServeFault>
     ensures answer { IfOk result (λ answer.
-        spec.AnswersCert options plan.now (cert_of cert.now plan.now) (spec.certificate_of_output answer)
-        answer.output) }
+        spec.AnswersCert options (spec.source_of file.now text.now) plan.now (cert_of cert.now plan.now)
+        (spec.certificate_of_output answer) answer.output) }
     ensures fault { IfErr result (λ fault. IsTrue (is_of_search fault.number)) }
 {
     match cert_in(alloc, cert, plan)? {
         Ok(cert) => ask_found(rt, alloc, options, file, text, plan, Some(cert)),
-        Err(fault) => Ok(AskOutput::without(cert_fault_answer(alloc, options.form, file, fault)?)),
+        Err(fault) => Ok(AskOutput::without(cert_fault_answer(
+            alloc,
+            options.form,
+            file,
+            text,
+            fault,
+        )?)),
     }
 }
 
@@ -165,7 +173,8 @@ fn ask_found<R: Threads + Wait + Sync>(
     cert: Option<Cert>,
 ) -> Result<AskOutput, ServeFault>
     ensures answer { IfOk result
-        (λ answer. spec.AnswersPlan options plan.now cert (spec.certificate_of_output answer) answer.output) }
+        (λ answer. spec.AnswersPlan options (spec.source_of file.now text.now) plan.now cert
+        (spec.certificate_of_output answer) answer.output) }
     ensures fault { IfErr result (λ fault. IsTrue (is_of_search fault.number)) }
 {
     let (finding, is_stale) = finding_of(rt, alloc, plan, cert)?;

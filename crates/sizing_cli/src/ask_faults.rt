@@ -1,7 +1,8 @@
 //! The answers of `ask` to texts with faults.
 
-ghost use Rattle.std.specs.Prelude.{◌≡◌, IfOk, string_bytes};
+ghost use Rattle.std.specs.Prelude.{◌≡◌, ◌++◌, IfOk, string_bytes};
 ghost use Rattle.support.specs.Pushed.{Pushes};
+ghost use Rattle.diagnostics.specs.Diagnostic.{faults_text};
 ghost use Rattle.sizing_cli.specs.Ask as spec;
 
 use crate::Status;
@@ -11,7 +12,10 @@ use cert_text::CertFault;
 use command_line::Form;
 use diagnostics::{Faults, faults_of, push_faults};
 use job_bodies::PlanFault;
-use report::{fault_json, faults_json};
+use report::{
+    fault_github, fault_html, fault_json, fault_sarif, faults_github, faults_html, faults_json,
+    faults_sarif,
+};
 use std::alloc::{AllocError, Global};
 use support::number::{CERT_TOO_LONG, NOT_JSON, VERSION, WEIGHT_TOO_LARGE};
 
@@ -24,26 +28,35 @@ pub(crate) fn faults_answer(
     text: &[u8],
     fault: PlanFault,
 ) -> Result<Output, AllocError>
-    ensures { IfOk result (spec.AnswersFault form fault) }
+    ensures { IfOk result (spec.AnswersFault form (spec.source_of file.now text.now) fault) }
 {
     let faults = faults_of(alloc, text, fault)?;
-    let text = faults_text(alloc, form, file, &faults)?;
+    let text = faults_text(alloc, form, file, text, &faults)?;
     Ok(bad_text(text))
 }
 
 /// Writes the faults in this form.
-fn faults_text(alloc: Global, form: Form, file: &str, faults: &Faults) -> Result<String, AllocError>
-    ensures { IfOk result
-        (λ text. spec.TellsFaultIn form faults.now.first.fault (string_bytes text)) }
+fn faults_text(
+    alloc: Global,
+    form: Form,
+    file: &str,
+    text: &[u8],
+    faults: &Faults,
+) -> Result<String, AllocError>
+    ensures { IfOk result (λ answer.
+        spec.TellsFaultsIn form (spec.source_of file.now text.now) faults.now (string_bytes answer)) }
 {
     match form {
-        Form::Json => faults_json(alloc, file, faults),
         Form::Words | Form::Dot => faults_lines(alloc, file, faults),
+        Form::Json => faults_json(alloc, file, text, faults),
+        Form::Html => faults_html(alloc, file, text, faults),
+        Form::Github => faults_github(alloc, file, faults),
+        Form::Sarif => faults_sarif(alloc, file, faults),
     }
 }
 
 fn faults_lines(alloc: Global, file: &str, faults: &Faults) -> Result<String, AllocError>
-    ensures { IfOk result (λ text. spec.TellsFault faults.now.first.fault (string_bytes text)) }
+    ensures { IfOk result (λ text. string_bytes text ≡ faults_text file.now faults.now) }
 {
     let mut text = String::new(alloc);
     push_faults(&mut text, file, faults)?;
@@ -61,39 +74,48 @@ fn bad_text(text: String) -> Output
 }
 
 /// Returns the answer to a certificate's text with this fault. Messages use `file` as the name of
-/// the plan's file.
+/// the plan's file, whose content is `text`.
 pub(crate) fn cert_fault_answer(
     alloc: Global,
     form: Form,
     file: &str,
+    text: &[u8],
     fault: CertFault,
 ) -> Result<Output, AllocError>
-    ensures { IfOk result (spec.AnswersCertFault form fault) }
+    ensures { IfOk result (spec.AnswersCertFault form (spec.source_of file.now text.now) fault) }
 {
-    let text = cert_fault_text(alloc, form, file, fault)?;
+    let words = words_for(fault.number);
+    let text = cert_fault_text(alloc, form, file, text, fault.number, words)?;
     Ok(bad_text(text))
 }
 
+/// Writes the fault of a certificate in this form and in these words.
 fn cert_fault_text(
     alloc: Global,
     form: Form,
     file: &str,
-    fault: CertFault,
+    text: &[u8],
+    number: u8,
+    words: &str,
 ) -> Result<String, AllocError>
-    ensures { IfOk result (λ text. spec.TellsCertFaultIn form fault (string_bytes text)) }
+    ensures { IfOk result (λ answer.
+        spec.TellsCertFaultIn form (spec.source_of file.now text.now) number words.now (string_bytes answer)) }
 {
-    let words = words_for(fault.number);
     match form {
-        Form::Json => fault_json(alloc, file, fault.number, words),
-        Form::Words | Form::Dot => cert_words(alloc, words, fault),
+        Form::Words | Form::Dot => numbered(alloc, words, number),
+        Form::Json => fault_json(alloc, file, text, number, words),
+        Form::Html => fault_html(alloc, file, text, number, words),
+        Form::Github => fault_github(alloc, file, number, words),
+        Form::Sarif => fault_sarif(alloc, file, number, words),
     }
 }
 
-fn cert_words(alloc: Global, words: &str, fault: CertFault) -> Result<String, AllocError>
-    ensures { IfOk result (λ text. spec.TellsCertFault fault (string_bytes text)) }
+/// Returns a line with these words and the number of a fault.
+fn numbered(alloc: Global, words: &str, number: u8) -> Result<String, AllocError>
+    ensures { IfOk result (λ text. string_bytes text ≡ words.now ++ spec.fault_number number) }
 {
     let mut text = String::from_str(alloc, words)?;
-    push_number(&mut text, fault.number)?;
+    push_number(&mut text, number)?;
     Ok(text)
 }
 
@@ -107,12 +129,11 @@ fn push_number(text: &mut String, number: u8) -> Result<(), AllocError>
 fn words_for(number: u8) -> &'static str {
     match number {
         NOT_JSON =>
-            "the certificate is no JSON: give the file that `sizing ask --certificate FILE PLAN` wrote",
-        VERSION =>
-            "the certificate is of a version that is not read here: its `version` is to be 1 or 2",
-        WEIGHT_TOO_LARGE => "a number of the certificate is above 1000000000",
-        CERT_TOO_LONG => "the certificate has more than 1048576 bytes",
+            "the certificate is not JSON: pass the file that `sizing ask --certificate FILE PLAN` wrote",
+        VERSION => "the certificate has an unknown version: `version` must be 1 or 2",
+        WEIGHT_TOO_LARGE => "a number in the certificate is too large: the maximum is 1000000000",
+        CERT_TOO_LONG => "the certificate is too long: the maximum is 1048576 bytes",
         _ =>
-            "the certificate is none for this plan: its keys are to be those of a certificate, its lists as long as the plan's, its numbers whole and not below 0; where pools, classes, clients or bodies changed, write a new one by `sizing ask --certificate FILE PLAN`",
+            "the certificate does not fit this plan: it has a missing or unknown key, a list of the wrong length, or a number that is negative or not whole; if pools, classes, clients or bodies changed, write a new one with `sizing ask --certificate FILE PLAN`",
     }
 }

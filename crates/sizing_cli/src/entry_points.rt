@@ -1,30 +1,28 @@
 //! The entry points that serve one input to any command.
 
-ghost use Rattle.std.specs.Prelude.{IfOk, IfErr, IfSome, IsTrue, option_map};
+ghost use Rattle.std.specs.Prelude.{IfOk, IfErr, IfSome, IsTrue, codes, option_map};
 ghost use Rattle.command_line.specs.Command.{IsInRange, IsTaskInRange};
 ghost use Rattle.command_line.specs.declared.command.Command.TheVariants.{OnThreads};
 ghost use Rattle.sizing_cli.specs.ServeFault.{is_of_search, is_of_threads};
 ghost use Rattle.sizing_cli.specs.Ask.{IsAskAnswer};
-ghost use Rattle.sizing_cli.specs.CommandResult.{IsTaskAnswerWith, IsTaskAnswer, WritesWithCertificate, Serves, stream_change};
+ghost use Rattle.sizing_cli.specs.CommandResult.{IsTaskAnswerWith, IsTaskAnswer, WritesWithCertificate, Serves, ServesInput, stream_change};
 
 use crate::ask_answer::{AskOutput, ask};
 use crate::certify::certify;
 use crate::fit::fit;
+use crate::most_bytes;
+use crate::named_texts::NO_FILE;
 use crate::output::Output;
-use crate::recording_commands::serve_recording;
+use crate::recording_commands::write_reading;
 use crate::refute::refute;
 use crate::run::run_report;
-use crate::sequential::serve_alone;
+use crate::sequential::write_review;
 use crate::status::{ServeFault, Status};
 use byte_streams::{Sink, Source, read_up_to, write_all};
 use command_line::{AskInput, AskOptions, Command, Task};
-use job_bodies::MAX_INPUT_BYTES;
 use std::alloc::Global;
 use std::sync::Wait;
 use std::thread::Threads;
-
-/// The name of the plan in messages if it was not read from a named file.
-const STANDARD_INPUT_NAME: &str = "<stdin>";
 
 /// Reads an input, and writes the command's answer to it. The whole answer is computed before its
 /// first byte is written. The numbers in the command must be in their ranges.
@@ -48,19 +46,11 @@ pub fn serve<R: Threads + Wait + Sync, S: Source, K: Sink>(
     sink: &mut K,
 ) -> Result<Status, ServeFault>
     requires { IsInRange command }
-    ensures { Serves command (stream_change S.remaining S.failures source.old source.new)
+    ensures { Serves command (codes "<stdin>") (stream_change S.remaining S.failures source.old source.new)
         (stream_change K.written K.failures sink.old sink.new) result }
 {
     let mut certificate = None;
-    serve_named(
-        rt,
-        alloc,
-        command,
-        STANDARD_INPUT_NAME,
-        &mut certificate,
-        source,
-        sink,
-    )
+    serve_named(rt, alloc, command, NO_FILE, &mut certificate, source, sink)
 }
 
 /// Does what [`serve`] does, with `file` as the name of the plan's file in messages of
@@ -80,44 +70,61 @@ pub fn serve_named<R: Threads + Wait + Sync, S: Source, K: Sink>(
     sink: &mut K,
 ) -> Result<Status, ServeFault>
     requires { IsInRange command }
-    ensures serves { Serves command (stream_change S.remaining S.failures source.old source.new)
+    ensures serves { Serves command file.now (stream_change S.remaining S.failures source.old source.new)
         (stream_change K.written K.failures sink.old sink.new) result }
 
     // If `ask` says that the plan is safe, `certificate` is the one that proves it, unless its text
     // is too long to be read back.
     ensures left { IfOk result (λ status.
         IfSome (S.remaining source.old) (λ input.
-        WritesWithCertificate command input status (option_map (λ text. text.items) certificate.new)
+        WritesWithCertificate command file.now input status (option_map (λ text. text.items) certificate.new)
         (K.written sink.old) (K.written sink.new))) }
 {
+    let input = read_up_to(alloc, source, most_bytes(command) + 1)?;
+    write_answer(rt, alloc, command, file, certificate, input, sink)
+}
+
+/// Writes the command's answer to this input, with `file` and `certificate` as in [`serve_named`].
+pub(crate) fn write_answer<R: Threads + Wait + Sync, K: Sink>(
+    rt: &R,
+    alloc: Global,
+    command: Command,
+    file: &str,
+    certificate: &mut Option<Vec<u8>>,
+    input: Vec<u8>,
+    sink: &mut K,
+) -> Result<Status, ServeFault>
+    requires { IsInRange command }
+    ensures serves { ServesInput command file.now input.items (stream_change K.written K.failures sink.old sink.new)
+        result }
+    ensures left { IfOk result (λ status.
+        WritesWithCertificate command file.now input.items status (option_map (λ text. text.items) certificate.new)
+        (K.written sink.old) (K.written sink.new)) }
+{
     match command {
-        Command::Sequential(review) => serve_alone(alloc, review, source, sink),
-        Command::OnRecording(reading) => serve_recording(alloc, reading, source, sink),
-        Command::OnThreads(task) => {
-            serve_on_threads(rt, alloc, task, file, certificate, source, sink)
-        }
+        Command::Sequential(review) => write_review(alloc, review, &input, sink),
+        Command::OnRecording(reading) => write_reading(alloc, reading, &input, sink),
+        Command::OnThreads(task) => write_task(rt, alloc, task, file, certificate, input, sink),
     }
 }
 
-/// Serves a task, which runs on threads.
-fn serve_on_threads<R: Threads + Wait + Sync, S: Source, K: Sink>(
+/// Writes an answer of the task, which runs on threads, to this input.
+fn write_task<R: Threads + Wait + Sync, K: Sink>(
     rt: &R,
     alloc: Global,
     task: Task,
     file: &str,
     certificate: &mut Option<Vec<u8>>,
-    source: &mut S,
+    input: Vec<u8>,
     sink: &mut K,
 ) -> Result<Status, ServeFault>
     requires { IsTaskInRange task }
-    ensures serves { Serves (OnThreads task) (stream_change S.remaining S.failures source.old source.new)
-        (stream_change K.written K.failures sink.old sink.new) result }
+    ensures serves { ServesInput (OnThreads task) file.now input.items (stream_change K.written K.failures sink.old sink.new)
+        result }
     ensures left { IfOk result (λ status.
-        IfSome (S.remaining source.old) (λ input.
-        WritesWithCertificate (OnThreads task) input status (option_map (λ text. text.items) certificate.new)
-        (K.written sink.old) (K.written sink.new))) }
+        WritesWithCertificate (OnThreads task) file.now input.items status (option_map (λ text. text.items) certificate.new)
+        (K.written sink.old) (K.written sink.new)) }
 {
-    let input = read_up_to(alloc, source, MAX_INPUT_BYTES + 1)?;
     let output = answer_on_threads(rt, alloc, task, file, certificate, input)?;
     write_all(sink, &output.bytes)?;
     Ok(output.status)
@@ -133,9 +140,9 @@ fn answer_on_threads<R: Threads + Wait + Sync>(
     input: Vec<u8>,
 ) -> Result<Output, ServeFault>
     requires { IsTaskInRange task }
-    ensures answer { IfOk result (IsTaskAnswer task input.items) }
+    ensures answer { IfOk result (IsTaskAnswer task file.now input.items) }
     ensures left { IfOk result (λ output.
-        IsTaskAnswerWith task input.items output (option_map (λ text. text.items) certificate.new)) }
+        IsTaskAnswerWith task file.now input.items output (option_map (λ text. text.items) certificate.new)) }
     ensures fault { IfErr result (λ fault. IsTrue (is_of_threads task fault.number)) }
 {
     match task {
@@ -163,7 +170,7 @@ fn answer_question<R: Threads + Wait + Sync>(
     input: &[u8],
 ) -> Result<Output, ServeFault>
     ensures answer { IfOk result
-        (IsAskAnswer given options input.now (option_map (λ text. text.items) certificate.new)) }
+        (IsAskAnswer given options file.now input.now (option_map (λ text. text.items) certificate.new)) }
     ensures fault { IfErr result (λ fault. IsTrue (is_of_search fault.number)) }
 {
     let AskOutput {

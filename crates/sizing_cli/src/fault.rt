@@ -25,8 +25,14 @@ pub enum CliError<'a> {
     NoCommand,
     /// Both texts are to come from standard input.
     InputTwice,
+    /// Of two texts, the one of this name, or `<stdin>`, is itself a bundle of two.
+    Bundle(&'a str),
     /// The file of this name could not be read: fault 60.
     Unread(&'a str),
+    /// The certificate's file is named `-`, which is the name of no file.
+    CertificateNeedsFile,
+    /// The name of the certificate's file is that of a directory.
+    Directory(&'a str),
     /// The file of this name, to which the certificate was to be written, holds something else. It
     /// is left as it is.
     Occupied(&'a str),
@@ -48,6 +54,9 @@ impl CliError<'_> {
             CliError::Words(_)
             | CliError::NoCommand
             | CliError::InputTwice
+            | CliError::Bundle(_)
+            | CliError::CertificateNeedsFile
+            | CliError::Directory(_)
             | CliError::Occupied(_) => USAGE,
             CliError::Unread(_) | CliError::Unwritten(_) | CliError::Serve(_) => NO_ANSWER,
         }

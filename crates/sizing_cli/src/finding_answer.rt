@@ -2,6 +2,9 @@
 
 ghost use Rattle.std.specs.Prelude.{◌≡◌, ◌++◌, IfOk, IsTrue, option_map, string_bytes};
 ghost use Rattle.soundness.specs.Accepted.{accepted};
+ghost use Rattle.command_line.specs.declared.command.Form.TheVariants as forms;
+ghost use Rattle.diagnostics.specs.Diagnostic.{WarnInSingleLines};
+ghost use Rattle.diagnostics.specs.Lines.{HasNoNewline};
 ghost use Rattle.diagnostics.specs.Lints.{lints_in};
 ghost use Rattle.job_bodies.specs.Plan.{Plan as PlanValue};
 ghost use Rattle.report.specs.Finding.{IsFinding};
@@ -13,10 +16,13 @@ use crate::ask_answer::AskOutput;
 use crate::output::Output;
 use cert_text::{Cert, write_cert};
 use command_line::{AskOptions, Form};
-use diagnostics::{Lint, Warning, push_warnings, warnings_of};
+use diagnostics::{Lint, Warning, one_line, plan_places, push_warnings, warnings_of};
 use job_bodies::{MAX_CERT_BYTES, Plan};
 use plan_text::TextPlace;
-use report::{PlanFinding, finding_json, needed_places, picture_of, render};
+use report::{
+    PlanFinding, finding_github, finding_html, finding_json, finding_sarif, needed_places,
+    picture_of, render,
+};
 use std::alloc::{AllocError, Global};
 
 /// Writes the answer for this finding. Messages use `file` as the name of the plan's file. A given
@@ -32,12 +38,15 @@ pub(crate) fn answer_of(
 ) -> Result<AskOutput, AllocError>
     requires { IsFinding plan.now finding.now }
     ensures answer { IfOk result
-        (λ answer. spec.AnswersFinding options plan.now finding.now is_stale answer.output) }
+        (λ answer. spec.AnswersFinding options (spec.source_of file.now text.now) plan.now finding.now
+        is_stale answer.output) }
     ensures leaves { IfOk result
         (λ answer. spec.IsFindingCertificate plan.now finding.now (spec.certificate_of_output answer)) }
 {
     let warnings = warnings_for(alloc, text, plan, finding, is_stale)?;
-    let answer = answer_with(alloc, options, file, plan, finding, is_stale, &warnings)?;
+    let answer = answer_with(
+        alloc, options, file, text, plan, finding, is_stale, &warnings,
+    )?;
     let certificate = certificate_text(alloc, finding)?;
     Ok(AskOutput {
         output: Output::of(answer),
@@ -82,8 +91,10 @@ fn with_stale(
     mut warnings: Vec<Warning>,
     is_stale: bool,
 ) -> Result<Vec<Warning>, AllocError>
-    ensures { IfOk result
+    requires { WarnInSingleLines warnings.items }
+    ensures lints { IfOk result
         (λ all. lints_in all.items ≡ lints_in warnings.items ++ spec.stale_if is_stale) }
+    ensures single_lines { IfOk result (λ all. WarnInSingleLines all.items) }
 {
     if is_stale {
         warnings.push(stale(alloc)?)?;
@@ -96,35 +107,110 @@ fn answer_with(
     alloc: Global,
     options: AskOptions,
     file: &str,
+    text: &[u8],
     plan: &Plan,
     finding: &PlanFinding,
     is_stale: bool,
     warnings: &[Warning],
 ) -> Result<Answer, AllocError>
     requires { spec.AreWarnings plan.now finding.now is_stale warnings.now }
-    ensures { IfOk result (spec.AnswersFinding options plan.now finding.now is_stale) }
+    ensures { IfOk result (spec.AnswersFinding options (spec.source_of file.now text.now) plan.now finding.now is_stale) }
 {
-    let text = text_of(alloc, options.form, file, plan, finding, warnings)?;
+    let text = text_of(alloc, options.form, file, text, plan, finding, warnings)?;
     let status = status_of(options.strict, warnings, finding);
     Ok(Answer { text, status })
 }
 
+/// Writes the finding with these warnings in this form.
 fn text_of(
     alloc: Global,
     form: Form,
     file: &str,
+    text: &[u8],
     plan: &Plan,
     finding: &PlanFinding,
     warnings: &[Warning],
 ) -> Result<String, AllocError>
-    ensures { IfOk result
-        (λ text. spec.TellsFindingIn form plan.now warnings.now finding.now (string_bytes text)) }
+    ensures { IfOk result (λ answer.
+        spec.TellsFindingIn form (spec.source_of file.now text.now) plan.now warnings.now finding.now
+        (string_bytes answer)) }
 {
     match form {
         Form::Words => words_of(alloc, file, plan, finding, warnings),
-        Form::Json => finding_json(alloc, file, plan, finding, warnings),
         Form::Dot => picture_of(alloc, plan, finding),
+        Form::Json => json_of(alloc, file, text, plan, finding, warnings),
+        Form::Html => page_of(alloc, file, text, plan, finding, warnings),
+        Form::Github => commands_of(alloc, file, text, plan, finding, warnings),
+        Form::Sarif => log_of(alloc, file, text, plan, finding, warnings),
     }
+}
+
+fn json_of(
+    alloc: Global,
+    file: &str,
+    text: &[u8],
+    plan: &Plan,
+    finding: &PlanFinding,
+    warnings: &[Warning],
+) -> Result<String, AllocError>
+    ensures { IfOk result (λ answer.
+        spec.TellsFindingIn forms.Json (spec.source_of file.now text.now) plan.now warnings.now finding.now
+        (string_bytes answer)) }
+{
+    let places = plan_places(alloc, text, plan)?;
+    let answer = finding_json(alloc, file, text, &places, plan, finding, warnings)?;
+    Ok(answer)
+}
+
+fn page_of(
+    alloc: Global,
+    file: &str,
+    text: &[u8],
+    plan: &Plan,
+    finding: &PlanFinding,
+    warnings: &[Warning],
+) -> Result<String, AllocError>
+    ensures { IfOk result (λ answer.
+        spec.TellsFindingIn forms.Html (spec.source_of file.now text.now) plan.now warnings.now finding.now
+        (string_bytes answer)) }
+{
+    let places = plan_places(alloc, text, plan)?;
+    let answer = finding_html(alloc, file, text, &places, plan, finding, warnings)?;
+    Ok(answer)
+}
+
+fn commands_of(
+    alloc: Global,
+    file: &str,
+    text: &[u8],
+    plan: &Plan,
+    finding: &PlanFinding,
+    warnings: &[Warning],
+) -> Result<String, AllocError>
+    ensures { IfOk result (λ answer.
+        spec.TellsFindingIn forms.Github (spec.source_of file.now text.now) plan.now warnings.now finding.now
+        (string_bytes answer)) }
+{
+    let places = plan_places(alloc, text, plan)?;
+    let answer = finding_github(alloc, file, &places, plan, finding, warnings)?;
+    Ok(answer)
+}
+
+fn log_of(
+    alloc: Global,
+    file: &str,
+    text: &[u8],
+    plan: &Plan,
+    finding: &PlanFinding,
+    warnings: &[Warning],
+) -> Result<String, AllocError>
+    ensures { IfOk result (λ answer.
+        spec.TellsFindingIn forms.Sarif (spec.source_of file.now text.now) plan.now warnings.now finding.now
+        (string_bytes answer)) }
+{
+    let places = plan_places(alloc, text, plan)?;
+    let answer = finding_sarif(alloc, file, &places, plan, finding, warnings)?;
+    Ok(answer)
 }
 
 fn words_of(
@@ -135,7 +221,7 @@ fn words_of(
     warnings: &[Warning],
 ) -> Result<String, AllocError>
     ensures { IfOk result
-        (λ text. spec.TellsFinding plan.now warnings.now finding.now (string_bytes text)) }
+        (λ text. spec.TellsFinding file.now plan.now warnings.now finding.now (string_bytes text)) }
 {
     let words = render(alloc, plan, finding)?;
     let mut text = String::new(alloc);
@@ -192,13 +278,14 @@ fn readable_text(alloc: Global, cert: &Cert) -> Result<Option<Vec<u8>>, AllocErr
 
 /// Returns the warning that the given certificate does not accept the plan.
 fn stale(alloc: Global) -> Result<Warning, AllocError>
-    ensures { IfOk result (λ warning. warning.lint ≡ Lint.StaleCertificate) }
+    ensures lint { IfOk result (λ warning. warning.lint ≡ Lint.StaleCertificate) }
+    ensures single_line { IfOk result (λ warning. HasNoNewline (string_bytes warning.what)) }
 {
     let what =
-        "the certificate that was given does not show that these sizes are safe: write a new one by --certificate";
+        "the certificate that was given does not show that these sizes are safe: write a new one with `sizing ask --certificate FILE PLAN`";
     Ok(Warning {
         lint: Lint::StaleCertificate,
         place: TextPlace { line: 1, column: 1 },
-        what: String::from_str(alloc, what)?,
+        what: one_line(alloc, what)?,
     })
 }

@@ -1,8 +1,9 @@
 //! The entry point of the commands on recordings.
 
 ghost use Rattle.std.specs.Prelude.{IfOk};
+ghost use Rattle.clap.specs.Words.{Text};
 ghost use Rattle.command_line.specs.declared.command.Command.TheVariants.{OnRecording};
-ghost use Rattle.sizing_cli.specs.CommandResult.{IsRecordingAnswer, Serves, stream_change};
+ghost use Rattle.sizing_cli.specs.CommandResult.{IsRecordingAnswer, Serves, ServesInput, stream_change};
 
 use crate::answer::Answer;
 use crate::conform::conform_report;
@@ -30,11 +31,24 @@ pub fn serve_recording<S: Source, K: Sink>(
     source: &mut S,
     sink: &mut K,
 ) -> Result<Status, ServeFault>
-    ensures { Serves (OnRecording reading) (stream_change S.remaining S.failures source.old source.new)
+    ensures { (file : Text) → Serves (OnRecording reading) file (stream_change S.remaining S.failures source.old source.new)
         (stream_change K.written K.failures sink.old sink.new) result }
 {
     let input = read_up_to(alloc, source, MAX_RECORDED_BYTES + 1)?;
-    let answer = report(alloc, reading, input.as_slice())?;
+    write_reading(alloc, reading, &input, sink)
+}
+
+/// Writes the answer of a command on a recording to this input.
+pub(crate) fn write_reading<K: Sink>(
+    alloc: Global,
+    reading: RecordingCommand,
+    input: &[u8],
+    sink: &mut K,
+) -> Result<Status, ServeFault>
+    ensures { (file : Text) → ServesInput (OnRecording reading) file input.now
+        (stream_change K.written K.failures sink.old sink.new) result }
+{
+    let answer = report(alloc, reading, input)?;
     write_all(sink, answer.text.as_bytes())?;
     Ok(answer.status)
 }

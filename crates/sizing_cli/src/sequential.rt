@@ -1,7 +1,8 @@
 //! The entry point of the reviews, which need no threads.
 
+ghost use Rattle.clap.specs.Words.{Text};
 ghost use Rattle.command_line.specs.declared.command.Command.TheVariants.{Sequential};
-ghost use Rattle.sizing_cli.specs.CommandResult.{Serves, stream_change};
+ghost use Rattle.sizing_cli.specs.CommandResult.{Serves, ServesInput, stream_change};
 
 use crate::review_answer::report;
 use crate::status::{ServeFault, Status};
@@ -27,11 +28,24 @@ pub fn serve_alone<S: Source, K: Sink>(
     source: &mut S,
     sink: &mut K,
 ) -> Result<Status, ServeFault>
-    ensures { Serves (Sequential review) (stream_change S.remaining S.failures source.old source.new)
+    ensures { (file : Text) → Serves (Sequential review) file (stream_change S.remaining S.failures source.old source.new)
         (stream_change K.written K.failures sink.old sink.new) result }
 {
     let input = read_up_to(alloc, source, MAX_INPUT_BYTES + 1)?;
-    let answer = report(alloc, review, input.as_slice())?;
+    write_review(alloc, review, &input, sink)
+}
+
+/// Writes the review's answer to this input.
+pub(crate) fn write_review<K: Sink>(
+    alloc: Global,
+    review: ReviewCommand,
+    input: &[u8],
+    sink: &mut K,
+) -> Result<Status, ServeFault>
+    ensures { (file : Text) → ServesInput (Sequential review) file input.now
+        (stream_change K.written K.failures sink.old sink.new) result }
+{
+    let answer = report(alloc, review, input)?;
     write_all(sink, answer.text.as_bytes())?;
     Ok(answer.status)
 }

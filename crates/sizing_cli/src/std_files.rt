@@ -8,7 +8,7 @@ use std::alloc::Global;
 use std::fs;
 use std::fs::{File, Files};
 
-/// The files of the operating system. Contracts know nothing of their content, and list no writes.
+/// The files of the operating system. Contracts know nothing of what they hold, and list no writes.
 #[derive(Clone, Copy)]
 pub struct StdFiles<'a, R> {
     files: &'a R,
@@ -23,6 +23,8 @@ impl<'a, R: Files> StdFiles<'a, R> {
 
 impl<R: Files> TextFiles for StdFiles<'_, R> {
     ghost content = { λ _ _. None };
+
+    ghost directory = { λ _ _. None };
 
     ghost writes = { λ _. None };
 
@@ -42,6 +44,13 @@ impl<R: Files> TextFiles for StdFiles<'_, R> {
         match fs::metadata(self.files, name) {
             Ok(found) if found.is_file() => Ok(Some(self.read(alloc, name, limit)?)),
             _ => Ok(None),
+        }
+    }
+
+    fn is_directory(&self, name: &str) -> bool {
+        match fs::metadata(self.files, name) {
+            Ok(found) => found.is_dir(),
+            Err(_) => false,
         }
     }
 

@@ -1,6 +1,6 @@
 //! The interface to files.
 
-ghost use Rattle.std.specs.Prelude.{◌≡◌, ℕ, [], ◌∷◌, List, Option, Some, IfOk, IfSome, is_ok, option_map, take};
+ghost use Rattle.std.specs.Prelude.{◌≡◌, ℕ, Bool, [], ◌∷◌, List, Option, Some, IfOk, IfSome, is_ok, option_map, take};
 ghost use Rattle.sizing_cli.specs.FileWrites.{AppendsWrites, FileWrite};
 
 use byte_streams::{InputError, IoFault};
@@ -10,6 +10,9 @@ use std::alloc::Global;
 pub trait TextFiles {
     // The bytes of the file of this name, if they are known.
     ghost content: { Self → List ℕ → Option (List ℕ) };
+
+    // Whether there is a directory of this name, if that is known.
+    ghost directory: { Self → List ℕ → Option Bool };
 
     // The writes so far, if they are known.
     ghost writes: { Self → Option (List FileWrite) };
@@ -36,6 +39,10 @@ pub trait TextFiles {
         limit: usize,
     ) -> Result<Option<Vec<u8>>, InputError>
         ensures { IfOk result (λ found. IfSome (content self.now name.now) (λ known. option_map (λ bytes. bytes.items) found ≡ Some (take limit known))) };
+
+    /// Returns whether there is a directory of this name.
+    fn is_directory(&self, name: &str) -> bool
+        ensures { IfSome (directory self.now name.now) (λ known. result ≡ known) };
 
     /// Writes these bytes to a file, which is created or replaced.
     ///

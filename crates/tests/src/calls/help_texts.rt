@@ -1,6 +1,7 @@
 //! Help texts.
 
 use command_line::read_words;
+use std::alloc::Global;
 use std::test::*;
 
 /// Arguments, and texts that their help contains.
@@ -90,28 +91,80 @@ const TABLE: &[(&[&str], &[&str])] = &[
     (
         &["sizing", "ask", "--help"],
         &[
-            "\nUsage: sizing ask [--strict] [--json | --dot] [--certificate FILE] PLAN [CERTIFICATE]\n",
+            "\nUsage: sizing ask [--strict] [--format FORMAT] [--certificate FILE] PLAN [CERTIFICATE]\n",
+            "--format <FORMAT> ",
+            "[possible values: text, json, dot, html, github, sarif]\n",
             "--json ",
             "--dot ",
+            "\n  text    ",
+            "\n  json    ",
+            "\n  dot     ",
+            "\n  html    ",
+            "\n  github  ",
+            "\n  sarif   ",
             "\n  NOT SAFE     steps that end in",
-            "\nIn a build: sizing ask --strict shop.toml\n",
+            "\nIn a build: sizing ask --strict shop.toml ",
             "\nsizing ask <<'END'\n[[pool]]\n",
             "\nEND\n\nIt answers, with status 0:\n\nSAFE\npages: 1 thread, queue 2: up to 2 jobs wait at once (2 browser)\n",
         ],
     ),
 ];
 
+/// Arguments that `clap` accepts and `ask` does not, and texts that their error contains.
+const REFUSED: &[(&[&str], &[&str])] = &[
+    (
+        &["sizing", "ask", "--format", "xml", "shop.toml"],
+        &[
+            "error: invalid value 'xml' for '--format <FORMAT>'\n",
+            "\n  [possible values: text, json, dot, html, github, sarif]\n",
+        ],
+    ),
+    (
+        &["sizing", "ask", "--json", "--dot"],
+        &["error: the arguments '--format <FORMAT>', '--json' and '--dot' exclude each other\n"],
+    ),
+    (
+        &["sizing", "ask", "--format", "json", "--json"],
+        &["error: the arguments '--format <FORMAT>', '--json' and '--dot' exclude each other\n"],
+    ),
+    (
+        &["sizing", "ask", "--dot", "--format", "xml"],
+        &["error: the arguments '--format <FORMAT>', '--json' and '--dot' exclude each other\n"],
+    ),
+    (
+        &["sizing", "ask", "--certificate", "-", "shop.toml"],
+        &["error: '--certificate <FILE>' needs the name of a file\n"],
+    ),
+    (
+        &["sizing", "ask", "--certificate=", "shop.toml"],
+        &["error: '--certificate <FILE>' needs the name of a file\n"],
+    ),
+];
+
 /// The help names the first steps, and that of each command its usage, its answers and its options.
 #[test]
 fn arguments_that_ask_for_help(rt: HostRuntime) -> Result<(), Fail> {
-    for (arguments, parts) in TABLE.iter().copied() {
-        let Err(error) = read_words(rt.alloc(), arguments) else {
+    assert_eq!(rt; incomplete_error(rt.alloc(), TABLE)?, None);
+    Ok(())
+}
+
+/// The error for options of `ask` that `clap` accepts says what is wrong with them.
+#[test]
+fn arguments_that_ask_refuses(rt: HostRuntime) -> Result<(), Fail> {
+    assert_eq!(rt; incomplete_error(rt.alloc(), REFUSED)?, None);
+    Ok(())
+}
+
+// Returns the first error that lacks one of its texts.
+fn incomplete_error(alloc: Global, table: &[(&[&str], &[&str])]) -> Result<Option<String>, Fail> {
+    for (arguments, parts) in table.iter().copied() {
+        let Err(error) = read_words(alloc, arguments) else {
             return Err(Fail::from("the arguments are valid"));
         };
-        let help = format!(in rt.alloc(); "{error}")?;
-        for part in parts {
-            assert!(rt; help.as_str().contains(part), "{help}");
+        let text = format!(in alloc; "{error}")?;
+        if !parts.iter().all(|part| text.as_str().contains(*part)) {
+            return Ok(Some(text));
         }
     }
-    Ok(())
+    Ok(None)
 }

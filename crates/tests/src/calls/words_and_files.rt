@@ -40,6 +40,8 @@ struct FakeFiles;
 impl TextFiles for FakeFiles {
     ghost content = { λ _ _. None };
 
+    ghost directory = { λ _ _. None };
+
     ghost writes = { λ _. None };
 
     fn read(&self, alloc: Global, name: &str, limit: usize) -> Result<Vec<u8>, InputError> {
@@ -66,6 +68,10 @@ impl TextFiles for FakeFiles {
             Err(InputError::Fault) => Ok(None),
             Err(error) => Err(error),
         }
+    }
+
+    fn is_directory(&self, name: &str) -> bool {
+        name == "."
     }
 
     fn write(&mut self, name: &str, bytes: &[u8]) -> Result<(), IoFault> {
@@ -218,6 +224,9 @@ const NO_ANSWERS: &[(&[&str], &str, u8)] = &[
     ),
     (&["sizing", "certify", "none.toml"], "unread none.toml", 3),
     (&["sizing", "check", "-", "-"], "input twice", 2),
+    // Of two texts, neither is a bundle itself.
+    (&["sizing", "ask", "plan.toml", "both"], "bundle both", 2),
+    (&["sizing", "check", "both", "cert.json"], "bundle both", 2),
     (&["sizing", "fit", "--bundle", "--", "-x"], "unread -x", 3),
     (&["sizing"], "no command", 2),
     // If an argument is missing or misplaced, no existing file is overwritten with a certificate.
@@ -234,6 +243,17 @@ const NO_ANSWERS: &[(&[&str], &str, u8)] = &[
     (
         &["sizing", "ask", "--certificate", "events", "plan.toml"],
         "occupied events",
+        2,
+    ),
+    // A name that no file can have is an error before the plan is read.
+    (
+        &["sizing", "ask", "--certificate", "-", "none.toml"],
+        "certificate needs file",
+        2,
+    ),
+    (
+        &["sizing", "ask", "--certificate", ".", "none.toml"],
+        "directory .",
         2,
     ),
     (
@@ -276,6 +296,12 @@ fn words_without_an_answer(rt: HostRuntime) -> Result<(), Fail> {
             CliError::NoCommand => String::from_str(rt.alloc(), "no command")?,
             CliError::InputTwice => String::from_str(rt.alloc(), "input twice")?,
             CliError::Unread(name) => format!(in rt.alloc(); "unread {name}")?,
+            CliError::Bundle(name) => format!(in rt.alloc(); "bundle {name}")?,
+            CliError::CertificateNeedsFile => String::from_str(
+                rt.alloc(),
+                "certificate needs file",
+            )?,
+            CliError::Directory(name) => format!(in rt.alloc(); "directory {name}")?,
             CliError::Occupied(name) => format!(in rt.alloc(); "occupied {name}")?,
             CliError::Unwritten(name) => format!(in rt.alloc(); "unwritten {name}")?,
             CliError::Serve(ServeFault { number }) => format!(in rt.alloc(); "fault {number}")?,

@@ -42,6 +42,10 @@ pub fn asked<R: Threads + Wait + Sync>(
         "ask json strict" => served(rt, alloc, question(plan, true, Form::Json), input),
         "ask json with" => served(rt, alloc, question(both, false, Form::Json), input),
         "ask dot" => served(rt, alloc, question(plan, false, Form::Dot), input),
+        "ask github" => served(rt, alloc, question(plan, false, Form::Github), input),
+        "ask github with" => served(rt, alloc, question(both, false, Form::Github), input),
+        "ask sarif" => served(rt, alloc, question(plan, false, Form::Sarif), input),
+        "ask sarif with" => served(rt, alloc, question(both, false, Form::Sarif), input),
         _ => String::from_str(alloc, "no such kind of input"),
     }
 }

@@ -1,4 +1,4 @@
-use Rattle.std.proofs.Common.{◌≡◌, List, ℕ, ◌∷◌, ◌++◌, [], codes, length, subst, ap, ◌∙◌, append_assoc}
+use Rattle.std.proofs.Common.{◌≡◌, List, ℕ, ◌∷◌, ◌++◌, codes, length, subst, ◌∙◌}
 use Rattle.sizing_cli.specs.CertifiedSplit.{IsCertifiedSplit}
 use Rattle.sizing_cli.proofs.Certified.{certified}
 use Rattle.sizing_cli.proofs.certified_bundle.certified_bundle.Goals as goal

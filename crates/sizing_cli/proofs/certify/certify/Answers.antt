@@ -1,4 +1,4 @@
-use Rattle.std.proofs.Common.{◌≡◌, ◌∙◌, subst, ℕ, List, Result, Err, arith}
+use Rattle.std.proofs.Common.{◌∙◌, subst, ℕ, List, Result, Err, arith}
 use Rattle.job_bodies.specs.declared.fault.PlanFault.{PlanFault}
 use Rattle.plan_text.specs.PlanOf.{plan_of}
 use Rattle.sizing_cli.specs.declared.certify.CertificateSearch.{CertificateSearch}

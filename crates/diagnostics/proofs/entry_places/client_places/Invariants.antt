@@ -1,0 +1,7 @@
+-- The bodies so far have as many places as those of the client kinds before the current index have actions.
+use Rattle.std.proofs.Common.{◌≡◌, take}
+use Rattle.diagnostics.specs.PlanPlaces.{action_counts, client_lengths}
+use Rattle.diagnostics.proofs.entry_places.client_places.Given as goal
+
+abbrev pub invariant-loop-index : goal.invariant-loop-index
+invariant-loop-index l = action_counts l.found.items ≡ take l.index (client_lengths l.plan.clients)

@@ -1,0 +1,148 @@
+//! The message for a get of a name under which no job was submitted before.
+
+use crate::actions::{ParsedAction, parse_action};
+use crate::suggestions::{comma_list, nearest};
+use std::alloc::{AllocError, Global};
+use toml::Value;
+
+/// A submit in a body.
+#[derive(Clone, Copy)]
+struct Submit<'a> {
+    /// The index of the action.
+    action: usize,
+    text: &'a str,
+    class: &'a str,
+}
+
+/// Returns the message for a get of `name`, the action with the index `get`. No earlier action of
+/// the body submits a job under this name; `names` has the names that they use.
+pub(crate) fn missing_submit(
+    alloc: Global,
+    body: &[Value],
+    get: usize,
+    name: &str,
+    names: &[&str],
+) -> Result<String, AllocError> {
+    if let Some(Submit { action, text, .. }) = named_after(body, get, name) {
+        return format!(in alloc;
+            "{name} is submitted only after this get, by action {action} \"{text}\""
+        );
+    }
+    let right = likely_cause(alloc, body, get, name, names)?;
+    format!(in alloc; "nothing was submitted as {name}{right}")
+}
+
+/// Returns the likely cause: a submit of a class of this name without `as`, a similar name, or a
+/// submit of another class without `as`.
+fn likely_cause(
+    alloc: Global,
+    body: &[Value],
+    get: usize,
+    name: &str,
+    names: &[&str],
+) -> Result<String, AllocError> {
+    let before = unnamed_before(body, get, name);
+    if let Some(submit) = before
+        && submit.class == name
+    {
+        return without_name(alloc, submit, name);
+    }
+    if let Some(word) = nearest(alloc, name, names)? {
+        return format!(in alloc; "; did you mean {word}?");
+    }
+    match before {
+        Some(submit) => without_name(alloc, submit, name),
+        None => no_submit_before(alloc, body, get, name, names),
+    }
+}
+
+/// Returns the end of the message if no earlier submit lacks an `as`.
+fn no_submit_before(
+    alloc: Global,
+    body: &[Value],
+    get: usize,
+    name: &str,
+    names: &[&str],
+) -> Result<String, AllocError> {
+    if !names.is_empty() {
+        let all = comma_list(alloc, names)?;
+        return format!(in alloc; "; there are {all}");
+    }
+    match unnamed_after(body, get) {
+        Some(
+            Submit {
+                action,
+                text,
+                class,
+            },
+        ) => format!(in alloc;
+            ": action {action} \"{text}\" comes after this get; write submit {class} as {name} before it"
+        ),
+        None => format!(in alloc; ": write submit CLASS as {name} before it"),
+    }
+}
+
+fn without_name(alloc: Global, submit: Submit<'_>, name: &str) -> Result<String, AllocError> {
+    let Submit { action, text, .. } = submit;
+    format!(in alloc; ": action {action} \"{text}\" has no as {name}")
+}
+
+/// Returns the first submit under this name after the action with the index `get`.
+fn named_after<'a>(body: &'a [Value], get: usize, name: &str) -> Option<Submit<'a>> {
+    for (action, value) in body.iter().enumerate() {
+        if action > get
+            && let Some(text) = value.as_str()
+            && let Some(ParsedAction::SubmitAs(class, slot)) = parse_action(text)
+            && slot == name
+        {
+            return Some(Submit {
+                action,
+                text,
+                class,
+            });
+        }
+    }
+    None
+}
+
+/// Returns a submit without `as` before the action with the index `get`: the first one of a class
+/// of this name, or else the last one.
+fn unnamed_before<'a>(body: &'a [Value], get: usize, name: &str) -> Option<Submit<'a>> {
+    let mut last = None;
+    for (action, value) in body.iter().enumerate() {
+        if action < get
+            && let Some(submit) = unnamed(action, value)
+        {
+            if submit.class == name {
+                return Some(submit);
+            }
+            last = Some(submit);
+        }
+    }
+    last
+}
+
+/// Returns the first submit without `as` after the action with the index `get`.
+fn unnamed_after(body: &[Value], get: usize) -> Option<Submit<'_>> {
+    for (action, value) in body.iter().enumerate() {
+        if action > get
+            && let Some(submit) = unnamed(action, value)
+        {
+            return Some(submit);
+        }
+    }
+    None
+}
+
+/// Returns the action if it is a submit without `as`.
+fn unnamed(action: usize, value: &Value) -> Option<Submit<'_>> {
+    let text = value.as_str()?;
+    match parse_action(text) {
+        Some(ParsedAction::Submit(class)) => Some(Submit {
+            action,
+            text,
+            class,
+        }),
+        _ => None,
+    }
+}

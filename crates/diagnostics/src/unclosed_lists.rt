@@ -1,0 +1,90 @@
+//! Lists that are not closed.
+
+/// The brackets of a list that are open at the end of a line.
+#[derive(Clone, Copy)]
+struct OpenList {
+    /// The line at which the list begins.
+    start: usize,
+    /// The number of open brackets. It is 0 outside of a list.
+    depth: usize,
+}
+
+/// Returns the line at which a list begins that has no `]`: in it there is a line of another entry
+/// or of another key, or the end of the text. `error` is the line of the parser's error, which must
+/// be in that part of the text.
+pub(crate) fn unclosed_list(text: &str, error: usize) -> Option<usize> {
+    let mut open = OpenList { start: 0, depth: 0 };
+    let mut number = 0usize;
+    for line in text.lines() {
+        number = number.saturating_add(1);
+        if open.depth > 0 && begins_entry(line) {
+            return start_of(open, error, number);
+        }
+        open = after_line(open, number, line);
+    }
+    start_of(open, error, number.saturating_add(1))
+}
+
+/// Returns the line at which the list begins, if it is open and the error is from there to `end`.
+fn start_of(open: OpenList, error: usize, end: usize) -> Option<usize> {
+    if open.depth > 0 && (open.start..=end).contains(&error) {
+        Some(open.start)
+    } else {
+        None
+    }
+}
+
+/// Returns whether the line is a header or a key, which no list of a plan has at the start of a
+/// line.
+fn begins_entry(line: &str) -> bool {
+    let line = line.trim();
+    if line.starts_with("[[") {
+        return true;
+    }
+    match line.split_once('=') {
+        Some((key, _)) => is_key(key.trim()),
+        None => false,
+    }
+}
+
+fn is_key(key: &str) -> bool {
+    !key.is_empty()
+        && key
+            .bytes()
+            .all(|byte| byte.is_ascii_alphanumeric() || byte == b'_')
+}
+
+/// Returns the list that is open after this line.
+fn after_line(open: OpenList, number: usize, line: &str) -> OpenList {
+    if open.depth > 0 {
+        return OpenList {
+            start: open.start,
+            depth: depth_after(open.depth, line),
+        };
+    }
+    match line.split_once('=') {
+        Some((_, value)) => OpenList {
+            start: number,
+            depth: depth_after(0, value),
+        },
+        None => open,
+    }
+}
+
+/// Returns the number of open brackets after this part of a line. Brackets in strings and comments
+/// do not count.
+fn depth_after(before: usize, part: &str) -> usize {
+    let mut depth = before;
+    let mut quote = None;
+    for byte in part.bytes() {
+        match (quote, byte) {
+            (None, b'#') => return depth,
+            (None, b'"' | b'\'') => quote = Some(byte),
+            (None, b'[') => depth = depth.saturating_add(1),
+            (None, b']') => depth = depth.saturating_sub(1),
+            (Some(open), _) if open == byte => quote = None,
+            _ => {}
+        }
+    }
+    depth
+}

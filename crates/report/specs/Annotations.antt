@@ -1,0 +1,48 @@
+-- Annotations: remarks about places in a plan's file.
+use Rattle.std.specs.Prelude.{◌≡◌, ℕ, List, ◌++◌, map, codes, decimal, Option, Result, OnOk, string_bytes}
+use Rattle.plan_text.specs.declared.place.TextPlace.{TextPlace}
+use Rattle.diagnostics.specs.declared.lint.Lint.{Lint}
+use Rattle.diagnostics.specs.declared.lint.Lint.TheVariants as lint
+use Rattle.report.specs.declared.annotation.Rule.{Rule}
+use Rattle.report.specs.declared.annotation.Rule.TheVariants.{Fault, Warning, Safe, NotSafe, NotDecided}
+use Rattle.report.specs.declared.annotation.Annotation.{Annotation}
+
+abbrev pub lint_name : Lint → List ℕ
+lint_name lint.NothingToAsk = codes "nothing-to-ask"
+lint_name lint.NoClients = codes "no-clients"
+lint_name lint.NothingSubmitted = codes "nothing-submitted"
+lint_name (lint.PoolWithoutJobs p) = codes "pool-without-jobs"
+lint_name (lint.UselessMax p) = codes "useless-max"
+lint_name (lint.QueueFarAbove p most) = codes "queue-far-above"
+lint_name (lint.ClassWithoutJobs k) = codes "class-without-jobs"
+lint_name (lint.GoesOnce c) = codes "goes-once"
+lint_name (lint.Crowd c) = codes "crowd"
+lint_name (lint.WorkLikeASize part number action units) = codes "work-like-a-size"
+lint_name lint.StaleCertificate = codes "stale-certificate"
+
+abbrev pub warning_name : Lint → List ℕ
+warning_name l = codes "warning-" ++ lint_name l
+
+-- the name of a rule
+abbrev pub rule_name : Rule → List ℕ
+rule_name (Fault number) = codes "fault-" ++ decimal number
+rule_name (Warning l) = warning_name l
+rule_name Safe = codes "safe"
+rule_name NotSafe = codes "not-safe"
+rule_name NotDecided = codes "not-decided"
+
+-- what an annotation says
+pub record Remark : Type 0 where
+  pub rule : Rule
+  pub message : List ℕ
+  pub place : Option TextPlace
+
+abbrev pub remark_of : Annotation → Remark
+remark_of a = record { rule = a.rule; message = string_bytes a.message; place = a.place }
+
+abbrev pub remarks_in : List Annotation → List Remark
+remarks_in = map remark_of
+
+-- if the call succeeds, the new list has these remarks in addition
+abbrev pub Adds : {X E : Type 0} → Result X E → List Annotation → List Annotation → List Remark → Type 0
+Adds result old new remarks = OnOk result (remarks_in new ≡ remarks_in old ++ remarks)

@@ -1,0 +1,70 @@
+-- Runs of equal steps, which clients of one kind do one after another.
+use Rattle.std.specs.Prelude.{ℕ, ◌+◌, ◌==◌, ◌&&◌, Bool, true, false, if◌then◌else◌, List, [], ◌∷◌, Option, Some, None}
+use Rattle.job_bodies.specs.Plan.{Plan}
+use Rattle.written_machine.specs.declared.event.Outcome.{Outcome}
+use Rattle.written_machine.specs.declared.event.Outcome.TheVariants.{Started, Queued, Worked, Looped}
+use Rattle.written_machine.specs.State.{State, pool_part}
+use Rattle.report.specs.declared.event_steps.Actor.{Actor}
+use Rattle.report.specs.declared.event_steps.Actor.TheVariants.{Client}
+use Rattle.report.specs.declared.event_steps.PoolCounts.{PoolCounts}
+use Rattle.report.specs.declared.event_steps.EventStep.{EventStep}
+use Rattle.report.specs.EventRows.{EventRow}
+use Rattle.report.specs.EventSteps.{step_of}
+
+-- ---- a step with the queue of its pool
+
+-- a step, and the queue of its pool after the event, the head first; the queue is empty if the step has no pool
+pub record EventShown : Type 0 where
+  pub step : EventStep
+  pub queue : List ℕ
+
+abbrev pub queue_of : State → Option PoolCounts → List ℕ
+queue_of s None = []
+queue_of s (Some counts) = (pool_part s counts.number).queue
+
+abbrev pub shown_of : Plan → EventRow → EventShown
+shown_of plan row = record { step = step_of plan row; queue = queue_of row.after (step_of plan row).pool }
+
+-- ---- runs
+
+-- a run: its first step, the number of its steps, and its last step
+pub record Run : Type 0 where
+  pub first : EventStep
+  pub times : ℕ
+  pub last : EventShown
+
+-- whether both are clients of one kind, and the number of the second is greater by n
+abbrev pub is_later_client : Actor → ℕ → Actor → Bool
+is_later_client (Client kind c) n (Client kind' c') = kind' == kind && c' == c + n
+is_later_client _ n _ = false
+
+abbrev pub is_same_action : Option ℕ → Option ℕ → Bool
+is_same_action None None = true
+is_same_action (Some i) (Some j) = j == i
+is_same_action _ _ = false
+
+-- whether both are the same outcome of a client, and the number of a job that the second made is greater by n
+abbrev pub is_later_outcome : Outcome → ℕ → Outcome → Bool
+is_later_outcome (Started j) n (Started j') = j' == j + n
+is_later_outcome (Queued j) n (Queued j') = j' == j + n
+is_later_outcome (Worked u) n (Worked u') = true
+is_later_outcome Looped n Looped = true
+is_later_outcome _ n _ = false
+
+-- whether the step belongs to the run that has n steps so far, of which this is the first
+abbrev pub follows : EventStep → ℕ → EventStep → Bool
+follows first n step =
+    is_later_client first.actor n step.actor && (is_same_action first.action step.action && is_later_outcome first.outcome n step.outcome)
+
+-- the runs of the steps, after a run that has n steps so far, with this first and this last step
+abbrev pub runs_from : EventStep → ℕ → EventShown → List EventShown → List Run
+runs_from first n last [] = record { first = first; times = n; last = last } ∷ []
+runs_from first n last (next ∷ rest) =
+    if follows first n next.step
+    then runs_from first (n + 1) next rest
+    else record { first = first; times = n; last = last } ∷ runs_from next.step 1 next rest
+
+-- the steps as runs, each as long as possible
+abbrev pub runs : List EventShown → List Run
+runs [] = []
+runs (first ∷ rest) = runs_from first.step 1 first rest

@@ -1,0 +1,36 @@
+-- The places of a plan's entries, and lines and columns as JSON.
+use Rattle.std.specs.Prelude.{ℕ, List, Option, Some, None, option_and_then, slice_get, slice_index_or}
+use Rattle.serde_json.specs.Data.{Data, null, number, unsigned}
+use Rattle.plan_text.specs.declared.place.TextPlace.{TextPlace}
+use Rattle.diagnostics.specs.declared.entry_places.BodyPlaces.{BodyPlaces}
+use Rattle.diagnostics.specs.declared.entry_places.PoolPlaces.{PoolPlaces}
+
+-- the line of the place; null if the place is not known
+abbrev pub line_data : Option TextPlace → Data
+line_data None = null
+line_data (Some place) = number (unsigned place.line)
+
+-- the column of the place; null if the place is not known
+abbrev pub column_data : Option TextPlace → Data
+column_data None = null
+column_data (Some place) = number (unsigned place.column)
+
+-- the places of a pool of which none is known
+abbrev pub no_pool_places : PoolPlaces
+no_pool_places = record { name = None; core = None; max = None; queue = None }
+
+-- the places of pool p
+abbrev pub pool_places_at : List PoolPlaces → ℕ → PoolPlaces
+pool_places_at pools p = slice_index_or pools p no_pool_places
+
+-- the place of the name of the class or client kind at an index
+abbrev pub name_place : List BodyPlaces → ℕ → Option TextPlace
+name_place bodies index = option_and_then (λ body. body.name) (slice_get bodies index)
+
+-- the place of an action, from the places of the actions of its body
+abbrev pub listed_place : List (Option TextPlace) → ℕ → Option TextPlace
+listed_place actions action = slice_index_or actions action None
+
+-- the place of an action of the class or client kind at an index
+abbrev pub action_place : List BodyPlaces → ℕ → ℕ → Option TextPlace
+action_place bodies index action = option_and_then (λ body. listed_place body.actions.items action) (slice_get bodies index)

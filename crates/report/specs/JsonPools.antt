@@ -1,0 +1,99 @@
+-- The pools of an answer as JSON: their sizes, and the bounds and the shares that a certificate gives.
+use Rattle.std.specs.Prelude.{ℕ, ◌-◌, ◌==◌, if◌then◌else◌, List, [], ◌∷◌, map, flat_map, codes, Option, Some, None, slice_get}
+use Rattle.std.specs.List.{enumerate_from}
+use Rattle.serde_json.specs.Data.{Data, null, boolean, number, unsigned, string, array, object, member, no_members}
+use Rattle.serde_json.specs.View.{items_of}
+use Rattle.job_bodies.specs.Plan.{Pool, Plan, client_at, pool_at}
+use Rattle.weights.specs.Vector.{Vector, vector_fits, total}
+use Rattle.weights.specs.Bound.{bound_vector}
+use Rattle.weights.specs.declared.bound.Bound.{Bound}
+use Rattle.weights.specs.declared.bound.Bound.TheVariants.{Standing, Lifetime}
+use Rattle.cert_text.specs.Cert.{PoolCert}
+use Rattle.report.specs.Places.{total_of}
+use Rattle.report.specs.SafeText.{waited_names}
+use Rattle.report.specs.Shares.{client_shares, worker_shares}
+
+-- ---- the bound of a queue, and the shares in it
+
+unfoldable pub share_data : ℕ → List ℕ → Data
+share_data jobs name = object (member (codes "jobs") (number (unsigned jobs)) (member (codes "name") (string name) no_members))
+
+-- one share, or nothing if it is 0
+abbrev pub share_of : ℕ → List ℕ → List Data
+share_of share name = if share == 0 then [] else share_data share name ∷ []
+
+-- the share of a kind of clients
+abbrev pub client_share : Plan → ℕ × ℕ → List Data
+client_share plan (kind, share) = share_of share (client_at plan kind).name
+
+-- the share of a pool's threads
+abbrev pub thread_share : Plan → ℕ × ℕ → List Data
+thread_share plan (pool, share) = share_of share (pool_at plan pool).name
+
+abbrev pub clients_data : Plan → List ℕ → Data
+clients_data plan shares = array (items_of (flat_map (client_share plan) (enumerate_from 0 shares)))
+
+abbrev pub threads_data : Plan → List ℕ → Data
+threads_data plan shares = array (items_of (flat_map (thread_share plan) (enumerate_from 0 shares)))
+
+-- whether the total bounds the jobs in the queue at one time, or those that are ever submitted to the pool
+abbrev pub kind_of : Bound → List ℕ
+kind_of (Standing v) = codes "standing"
+kind_of (Lifetime v) = codes "lifetime"
+
+unfoldable pub bound_object : Data → List ℕ → Data → ℕ → Data
+bound_object clients kind threads n =
+    object (member (codes "clients") clients
+    (member (codes "kind") (string kind)
+    (member (codes "threads") threads
+    (member (codes "total") (number (unsigned n)) no_members))))
+
+-- the bound by a vector of this kind
+abbrev pub vector_data : Plan → List ℕ → Vector → Data
+vector_data plan kind v = bound_object (clients_data plan (client_shares plan v)) kind (threads_data plan (worker_shares plan v)) (total plan v)
+
+-- the bound of the queue; null if the vector does not fit the plan
+abbrev pub bound_data : Plan → Bound → Data
+bound_data plan bound = if vector_fits plan (bound_vector bound) then vector_data plan (kind_of bound) (bound_vector bound) else null
+
+-- ---- threads that wait
+
+unfoldable pub waiting_data : ℕ → ℕ → Data
+waiting_data left most = object (member (codes "left") (number (unsigned left)) (member (codes "most") (number (unsigned most)) no_members))
+
+-- the most core threads that wait at once where others must go on, and how many are left; null if it is not known
+abbrev pub blocked_of : Pool → Option ℕ → Data
+blocked_of pool None = null
+blocked_of pool (Some most) = waiting_data (pool.core - most) most
+
+abbrev pub blocked_data : Plan → Pool → Vector → Data
+blocked_data plan pool v = blocked_of pool (total_of plan v)
+
+-- the names of the pools that jobs of pool p wait for
+abbrev pub waits_data : Plan → ℕ → Data
+waits_data plan p = array (items_of (map string (waited_names plan p)))
+
+-- ---- pools
+
+unfoldable pub pool_object : Data → Data → Pool → Data → Data
+pool_object blocked bound pool waits_for =
+    object (member (codes "blocked") blocked
+    (member (codes "bound") bound
+    (member (codes "core") (number (unsigned pool.core))
+    (member (codes "max") (number (unsigned pool.max))
+    (member (codes "name") (string pool.name)
+    (member (codes "prestart") (boolean pool.prestart)
+    (member (codes "queue") (number (unsigned pool.queue))
+    (member (codes "waits_for") waits_for no_members))))))))
+
+-- pool p, with the certificate's part for it if there is one
+abbrev pub pool_data : Plan → ℕ → Pool → Option PoolCert → Data
+pool_data plan p pool None = pool_object null null pool (waits_data plan p)
+pool_data plan p pool (Some part) = pool_object (blocked_data plan pool part.blocked) (bound_data plan part.bound) pool (waits_data plan p)
+
+abbrev pub pool_entry : Plan → List PoolCert → ℕ × Pool → Data
+pool_entry plan parts (p, pool) = pool_data plan p pool (slice_get parts p)
+
+-- the pools, with these parts of a certificate; none if no certificate accepts the plan
+abbrev pub pools_data : Plan → List PoolCert → Data
+pools_data plan parts = array (items_of (map (pool_entry plan parts) (enumerate_from 0 plan.pools)))

@@ -1,0 +1,115 @@
+-- The sizes that were found as JSON, or why there are none.
+use Rattle.std.specs.Prelude.{ℕ, ◌==◌, if◌then◌else◌, List, [], ◌∷◌, ◌++◌, map, codes, Option, Some, None, slice_get}
+use Rattle.std.specs.List.{enumerate_from}
+use Rattle.serde_json.specs.Data.{Data, null, number, unsigned, string, array, object, member, no_members}
+use Rattle.serde_json.specs.View.{items_of}
+use Rattle.job_bodies.specs.Plan.{Pool, Plan, pool_at, class_at, client_at}
+use Rattle.plan_text.specs.declared.place.TextPlace.{TextPlace}
+use Rattle.size_search.specs.declared.cause.Cause.TheVariants.{Circle, ClientNeverGets, ClassNeverGets}
+use Rattle.size_search.specs.declared.found.NoSizes.{NoSizes}
+use Rattle.size_search.specs.declared.found.NoSizes.TheVariants.{Cause, TooLarge}
+use Rattle.size_search.specs.declared.found.SizesFound.{SizesFound}
+use Rattle.size_search.specs.declared.found.SizesFound.TheVariants.{Found, NotFound}
+use Rattle.diagnostics.specs.declared.entry_places.PoolPlaces.{PoolPlaces}
+use Rattle.diagnostics.specs.declared.entry_places.PlanPlaces.{PlanPlaces}
+use Rattle.report.specs.Cause.{cause_words}
+use Rattle.report.specs.JsonPlaces.{line_data, column_data, pool_places_at, name_place, action_place}
+
+-- ---- sizes
+
+unfoldable pub change_data : List ℕ → Option TextPlace → ℕ → ℕ → Data
+change_data key place now value =
+    object (member (codes "column") (column_data place)
+    (member (codes "key") (string key)
+    (member (codes "line") (line_data place)
+    (member (codes "now") (number (unsigned now))
+    (member (codes "value") (number (unsigned value)) no_members)))))
+
+-- the change of one size, or nothing if it keeps its value
+abbrev pub change_of : List ℕ → Option TextPlace → ℕ → ℕ → List Data
+change_of key place now value = if now == value then [] else change_data key place now value ∷ []
+
+-- the changes of a pool's sizes, in the order core, max, queue
+abbrev pub declared_changes : PoolPlaces → Pool → Pool → List Data
+declared_changes places declared fit =
+    change_of (codes "core") places.core declared.core fit.core
+    ++ (change_of (codes "max") places.max declared.max fit.max
+    ++ change_of (codes "queue") places.queue declared.queue fit.queue)
+
+-- the same; none if no pool is declared
+abbrev pub changes_of : PoolPlaces → Option Pool → Pool → List Data
+changes_of places None fit = []
+changes_of places (Some declared) fit = declared_changes places declared fit
+
+unfoldable pub size_data : List Data → Pool → Data
+size_data changes fit =
+    object (member (codes "changes") (array (items_of changes))
+    (member (codes "core") (number (unsigned fit.core))
+    (member (codes "max") (number (unsigned fit.max))
+    (member (codes "name") (string fit.name)
+    (member (codes "queue") (number (unsigned fit.queue)) no_members)))))
+
+-- the sizes of pool p, with what changes in the declared ones
+abbrev pub size_entry : List PoolPlaces → Plan → ℕ × Pool → Data
+size_entry places plan (p, fit) = size_data (changes_of (pool_places_at places p) (slice_get plan.pools p) fit) fit
+
+-- ---- the cause why there are no sizes
+
+-- a class whose jobs submit jobs of the same class
+unfoldable pub cycle_data : Option TextPlace → List ℕ → List ℕ → Data
+cycle_data place class words =
+    object (member (codes "action") null
+    (member (codes "class") (string class)
+    (member (codes "client") null
+    (member (codes "column") (column_data place)
+    (member (codes "kind") (string (codes "cycle"))
+    (member (codes "line") (line_data place)
+    (member (codes "pool") null
+    (member (codes "text") (string words) no_members))))))))
+
+-- a submit of a client kind, or of a class, that is made without limit and whose jobs are never got
+unfoldable pub never_got_data : Option TextPlace → ℕ → Data → Data → List ℕ → Data
+never_got_data place action class client words =
+    object (member (codes "action") (number (unsigned action))
+    (member (codes "class") class
+    (member (codes "client") client
+    (member (codes "column") (column_data place)
+    (member (codes "kind") (string (codes "never got"))
+    (member (codes "line") (line_data place)
+    (member (codes "pool") null
+    (member (codes "text") (string words) no_members))))))))
+
+-- a pool whose sizes are above the limit
+unfoldable pub limit_data : Option TextPlace → List ℕ → List ℕ → Data
+limit_data place pool words =
+    object (member (codes "action") null
+    (member (codes "class") null
+    (member (codes "client") null
+    (member (codes "column") (column_data place)
+    (member (codes "kind") (string (codes "limit"))
+    (member (codes "line") (line_data place)
+    (member (codes "pool") (string pool)
+    (member (codes "text") (string words) no_members))))))))
+
+-- the cause with its place, told in these words
+abbrev pub told_cause : PlanPlaces → Plan → NoSizes → List ℕ → Data
+told_cause places plan (Cause (Circle k)) words = cycle_data (name_place places.classes.items k) (class_at plan k).name words
+told_cause places plan (Cause (ClientNeverGets c i)) words = never_got_data (action_place places.clients.items c i) i null (string (client_at plan c).name) words
+told_cause places plan (Cause (ClassNeverGets k i)) words = never_got_data (action_place places.classes.items k i) i (string (class_at plan k).name) null words
+told_cause places plan (TooLarge p) words = limit_data (pool_places_at places.pools.items p).name (pool_at plan p).name words
+
+abbrev pub cause_data : PlanPlaces → Plan → NoSizes → Data
+cause_data places plan cause = told_cause places plan cause (cause_words plan cause)
+
+-- ---- both
+
+unfoldable pub sizes_object : Data → Data → Data
+sizes_object cause pools = object (member (codes "cause") cause (member (codes "pools") pools no_members))
+
+abbrev pub pools_data : List PoolPlaces → Plan → List Pool → Data
+pools_data places plan fitted = array (items_of (map (size_entry places plan) (enumerate_from 0 fitted)))
+
+-- the result of the search for sizes
+abbrev pub sizes_data : PlanPlaces → Plan → SizesFound → Data
+sizes_data places plan (Found fit cert) = sizes_object null (pools_data places.pools.items plan fit.pools)
+sizes_data places plan (NotFound cause) = sizes_object (cause_data places plan cause) (array (items_of []))

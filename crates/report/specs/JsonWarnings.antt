@@ -1,0 +1,36 @@
+-- Warnings about a plan as JSON.
+use Rattle.std.specs.Prelude.{ℕ, List, map, codes, string_bytes, Option, Some}
+use Rattle.serde_json.specs.Data.{Data, string, array, object, member, no_members}
+use Rattle.serde_json.specs.View.{items_of}
+use Rattle.plan_text.specs.declared.place.TextPlace.{TextPlace}
+use Rattle.diagnostics.specs.declared.lint.Lint.{Lint}
+use Rattle.diagnostics.specs.declared.lint.Lint.TheVariants.{NothingToAsk, NoClients, NothingSubmitted, PoolWithoutJobs, UselessMax, QueueFarAbove, ClassWithoutJobs, GoesOnce, Crowd, WorkLikeASize, StaleCertificate}
+use Rattle.diagnostics.specs.declared.warnings.Warning.{Warning}
+use Rattle.report.specs.JsonPlaces.{line_data, column_data}
+
+-- the name of a lint's kind
+abbrev pub kind_of : Lint → List ℕ
+kind_of NothingToAsk = codes "nothing to ask"
+kind_of NoClients = codes "no clients"
+kind_of NothingSubmitted = codes "nothing submitted"
+kind_of (PoolWithoutJobs p) = codes "pool without jobs"
+kind_of (UselessMax p) = codes "useless max"
+kind_of (QueueFarAbove p most) = codes "queue far above"
+kind_of (ClassWithoutJobs k) = codes "class without jobs"
+kind_of (GoesOnce c) = codes "goes once"
+kind_of (Crowd c) = codes "crowd"
+kind_of (WorkLikeASize of number place units) = codes "work like a size"
+kind_of StaleCertificate = codes "stale certificate"
+
+unfoldable pub told_warning : TextPlace → List ℕ → List ℕ → Data
+told_warning place kind words =
+    object (member (codes "column") (column_data (Some place))
+    (member (codes "kind") (string kind)
+    (member (codes "line") (line_data (Some place))
+    (member (codes "text") (string words) no_members))))
+
+abbrev pub warning_data : Warning → Data
+warning_data warning = told_warning warning.place (kind_of warning.lint) (string_bytes warning.what)
+
+abbrev pub warnings_data : List Warning → Data
+warnings_data warnings = array (items_of (map warning_data warnings))

@@ -1,0 +1,136 @@
+-- The remarks of an answer.
+use Rattle.std.specs.Prelude.{◌≡◌, ℕ, ◌==◌, if◌then◌else◌, List, [], ◌∷◌, ◌++◌, map, codes, decimal, slice_get, slice_index_or, Option, Some, None, string_bytes}
+use Rattle.std.specs.List.{flat_map, enumerate_from}
+use Rattle.std.specs.Str.Lines.{lines}
+use Rattle.job_bodies.specs.Plan.{Pool, Plan}
+use Rattle.cert_text.specs.Cert.{Cert}
+use Rattle.plan_text.specs.declared.place.TextPlace.{TextPlace}
+use Rattle.size_search.specs.declared.cause.Cause.TheVariants.{Circle, ClientNeverGets, ClassNeverGets}
+use Rattle.size_search.specs.declared.found.NoSizes.{NoSizes}
+use Rattle.size_search.specs.declared.found.NoSizes.TheVariants.{Cause, TooLarge}
+use Rattle.size_search.specs.declared.found.SizesFound.{SizesFound}
+use Rattle.size_search.specs.declared.found.SizesFound.TheVariants.{Found, NotFound}
+use Rattle.counterexample.specs.declared.ending.Ending.{Ending}
+use Rattle.counterexample.specs.declared.ending.Ending.TheVariants.{Refused, StuckForever, StuckNow}
+use Rattle.counterexample.specs.declared.witness.Witness.{Witness}
+use Rattle.counterexample.specs.Description.{IsDescription}
+use Rattle.diagnostics.specs.declared.diagnostic.Diagnostic.{Diagnostic}
+use Rattle.diagnostics.specs.declared.diagnostic.Faults.{Faults}
+use Rattle.diagnostics.specs.declared.warnings.Warning.{Warning}
+use Rattle.diagnostics.specs.declared.entry_places.PlanPlaces.{PlanPlaces}
+use Rattle.diagnostics.specs.declared.entry_places.PoolPlaces.{PoolPlaces}
+use Rattle.report.specs.declared.annotation.Rule.{Rule}
+use Rattle.report.specs.declared.annotation.Rule.TheVariants as rule
+use Rattle.report.specs.declared.finding.PlanFinding.{PlanFinding}
+use Rattle.report.specs.declared.finding.PlanFinding.TheVariants.{Safe, NotSafe, NotDecided}
+use Rattle.report.specs.Annotations.{Remark}
+use Rattle.report.specs.Cause.{cause_words}
+use Rattle.report.specs.JsonPlaces.{pool_places_at, name_place, action_place}
+
+-- one remark, as a list
+abbrev pub one : Rule → List ℕ → Option TextPlace → List Remark
+one r message place = record { rule = r; message = message; place = place } ∷ []
+
+-- ---- faults
+
+abbrev pub fault_remark : Diagnostic → Remark
+fault_remark fault = record { rule = rule.Fault fault.fault.number; message = string_bytes fault.what; place = Some fault.place }
+
+abbrev pub each_fault : List Diagnostic → List Remark
+each_fault = map fault_remark
+
+-- a remark for each fault
+abbrev pub fault_remarks : Faults → List Remark
+fault_remarks faults = fault_remark faults.first ∷ each_fault faults.others.items
+
+-- the remark about a fault that has no place in the plan's text
+abbrev pub single_fault : ℕ → List ℕ → List Remark
+single_fault number words = one (rule.Fault number) words None
+
+-- ---- warnings
+
+abbrev pub warning_remark : Warning → Remark
+warning_remark warning = record { rule = rule.Warning warning.lint; message = string_bytes warning.what; place = Some warning.place }
+
+abbrev pub warning_remarks : List Warning → List Remark
+warning_remarks = map warning_remark
+
+-- ---- sizes to change, or the cause why there are none
+
+-- the words for a size that changes, as `pool web: queue 10 -> 13`
+abbrev pub change_words : List ℕ → List ℕ → ℕ → ℕ → List ℕ
+change_words pool key declared fit = codes "pool " ++ (pool ++ (codes ": " ++ (key ++ (codes " " ++ (decimal declared ++ (codes " -> " ++ decimal fit))))))
+
+-- the remark about a size, from the declared and the fitted one, if it changes
+abbrev pub change_remarks : Rule → Option TextPlace → List ℕ → List ℕ → ℕ × ℕ → List Remark
+change_remarks r place pool key size = if size.0 == size.1 then [] else one r (change_words pool key size.0 size.1) place
+
+abbrev pub pool_remarks : Rule → PoolPlaces → Pool → Pool → List Remark
+pool_remarks r places declared fit =
+    change_remarks r places.core declared.name (codes "core") (declared.core, fit.core)
+    ++ (change_remarks r places.max declared.name (codes "max") (declared.max, fit.max)
+    ++ change_remarks r places.queue declared.name (codes "queue") (declared.queue, fit.queue))
+
+abbrev pub declared_remarks : Rule → PoolPlaces → Option Pool → Pool → List Remark
+declared_remarks r places None fit = []
+declared_remarks r places (Some declared) fit = pool_remarks r places declared fit
+
+-- the remarks about the sizes of the fitted pool with this number
+abbrev pub fitted_remarks : Rule → PlanPlaces → Plan → ℕ × Pool → List Remark
+fitted_remarks r places plan (p, fit) = declared_remarks r (pool_places_at places.pools.items p) (slice_get plan.pools p) fit
+
+abbrev pub changes_remarks : Rule → PlanPlaces → Plan → List Pool → List Remark
+changes_remarks r places plan fitted = flat_map (fitted_remarks r places plan) (enumerate_from 0 fitted)
+
+-- the place of what the cause names
+abbrev pub cause_place : PlanPlaces → NoSizes → Option TextPlace
+cause_place places (Cause (Circle k)) = name_place places.classes.items k
+cause_place places (Cause (ClientNeverGets c i)) = action_place places.clients.items c i
+cause_place places (Cause (ClassNeverGets k i)) = action_place places.classes.items k i
+cause_place places (TooLarge p) = (pool_places_at places.pools.items p).name
+
+abbrev pub cause_remarks : Rule → PlanPlaces → Plan → NoSizes → List Remark
+cause_remarks r places plan cause = one r (cause_words plan cause) (cause_place places cause)
+
+abbrev pub sizes_remarks : Rule → PlanPlaces → Plan → SizesFound → List Remark
+sizes_remarks r places plan (Found fit cert) = changes_remarks r places plan fit.pools
+sizes_remarks r places plan (NotFound cause) = cause_remarks r places plan cause
+
+-- ---- findings
+
+abbrev pub safe_remarks : List Remark
+safe_remarks = one rule.Safe (codes "no submit is ever refused, and no jobs wait for each other forever") None
+
+-- the words that say what is not decided
+abbrev pub open_words : SizesFound → List ℕ
+open_words (NotFound (Cause cause)) = codes "no certificate accepts this plan with any sizes, and no counterexample was found"
+open_words (NotFound (TooLarge p)) = codes "neither a certificate for the declared sizes nor a counterexample was found: the sizes may be safe"
+open_words (Found fit cert) = codes "neither a certificate for the declared sizes nor a counterexample was found: the sizes may be safe"
+
+abbrev pub not_decided_remarks : PlanPlaces → Plan → SizesFound → List Remark
+not_decided_remarks places plan sizes = one rule.NotDecided (open_words sizes) None ++ sizes_remarks rule.NotDecided places plan sizes
+
+abbrev pub first_line : List ℕ → List ℕ
+first_line text = slice_index_or (lines text) 0 []
+
+-- the place of the name of the pool that refuses a submit
+abbrev pub ending_place : PlanPlaces → Ending → Option TextPlace
+ending_place places (Refused p) = (pool_places_at places.pools.items p).name
+ending_place places (StuckForever members reason) = None
+ending_place places (StuckNow members) = None
+
+abbrev pub not_safe_remarks : PlanPlaces → Plan → Witness → SizesFound → List ℕ → List Remark
+not_safe_remarks places plan witness sizes description =
+    one rule.NotSafe (first_line description) (ending_place places witness.ending) ++ sizes_remarks rule.NotSafe places plan sizes
+
+-- the warnings, the first line of a description of the witness, and the sizes
+pub record AreNotSafe (places : PlanPlaces) (plan : Plan) (witness : Witness) (sizes : SizesFound) (warnings : List Warning) (remarks : List Remark) : Type 0 where
+  pub description : List ℕ
+  pub is_description : IsDescription plan witness description
+  pub are : remarks ≡ warning_remarks warnings ++ not_safe_remarks places plan witness sizes description
+
+-- a remark for each warning, and those about the finding
+abbrev pub AreRemarks : PlanPlaces → Plan → PlanFinding → List Warning → List Remark → Type 0
+AreRemarks places plan (Safe cert) warnings remarks = remarks ≡ warning_remarks warnings ++ safe_remarks
+AreRemarks places plan (NotSafe witness sizes) warnings remarks = AreNotSafe places plan witness sizes warnings remarks
+AreRemarks places plan (NotDecided sizes) warnings remarks = remarks ≡ warning_remarks warnings ++ not_decided_remarks places plan sizes

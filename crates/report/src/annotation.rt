@@ -1,0 +1,80 @@
+//! An annotation: a remark about a place in a plan's file.
+
+ghost use Rattle.std.specs.Prelude.{◌≡◌, IfOk, string_bytes};
+ghost use Rattle.support.specs.Pushed.{Pushes};
+ghost use Rattle.report.specs.Annotations as spec;
+
+use diagnostics::Lint;
+use plan_text::TextPlace;
+use std::alloc::{AllocError, Global};
+
+/// The rule to which an annotation belongs.
+#[derive(Clone, Copy)]
+pub(crate) enum Rule {
+    /// The fault with this number.
+    Fault(u8),
+    /// A warning about this lint.
+    Warning(Lint),
+    /// The answer SAFE.
+    Safe,
+    /// The answer NOT SAFE.
+    NotSafe,
+    /// The answer NOT DECIDED.
+    NotDecided,
+}
+
+/// A remark about a place in a plan's file.
+#[derive(Drop)]
+pub(crate) struct Annotation {
+    pub(crate) rule: Rule,
+    pub(crate) message: String,
+    /// The place, if it is known. Otherwise the remark is about the whole file.
+    pub(crate) place: Option<TextPlace>,
+}
+
+/// Returns the name of a rule, such as `fault-13` or `warning-useless-max`.
+pub(crate) fn rule_name(alloc: Global, rule: Rule) -> Result<String, AllocError>
+    ensures { IfOk result (λ name. string_bytes name ≡ spec.rule_name rule) }
+{
+    let mut name = String::new(alloc);
+    push_rule_name(&mut name, rule)?;
+    Ok(name)
+}
+
+/// Appends the name of a rule, such as `fault-13` or `warning-useless-max`.
+pub(crate) fn push_rule_name(text: &mut String, rule: Rule) -> Result<(), AllocError>
+    ensures { Pushes result text.old text.new (spec.rule_name rule) }
+{
+    match rule {
+        Rule::Fault(number) => write!(text, "fault-{number}"),
+        Rule::Warning(lint) => push_warning_name(text, lint),
+        Rule::Safe => text.push_str("safe"),
+        Rule::NotSafe => text.push_str("not-safe"),
+        Rule::NotDecided => text.push_str("not-decided"),
+    }
+}
+
+fn push_warning_name(text: &mut String, lint: Lint) -> Result<(), AllocError>
+    ensures { Pushes result text.old text.new (spec.warning_name lint) }
+{
+    text.push_str("warning-")?;
+    text.push_str(lint_name(lint))
+}
+
+fn lint_name(lint: Lint) -> &'static str
+    ensures { result.now ≡ spec.lint_name lint }
+{
+    match lint {
+        Lint::NothingToAsk => "nothing-to-ask",
+        Lint::NoClients => "no-clients",
+        Lint::NothingSubmitted => "nothing-submitted",
+        Lint::PoolWithoutJobs(_) => "pool-without-jobs",
+        Lint::UselessMax(_) => "useless-max",
+        Lint::QueueFarAbove(_, _) => "queue-far-above",
+        Lint::ClassWithoutJobs(_) => "class-without-jobs",
+        Lint::GoesOnce(_) => "goes-once",
+        Lint::Crowd(_) => "crowd",
+        Lint::WorkLikeASize(_, _, _, _) => "work-like-a-size",
+        Lint::StaleCertificate => "stale-certificate",
+    }
+}

@@ -1,0 +1,261 @@
+//! The annotations of an answer: its faults, or its warnings and the finding.
+
+ghost use Rattle.std.specs.Prelude.{◌≡◌, ◌∷◌, ◌++◌, [], IfOk, string_bytes};
+ghost use Rattle.report.specs.Annotations.{Adds, remarks_in};
+ghost use Rattle.report.specs.Remarks as spec;
+
+use crate::PlanFinding;
+use crate::annotation::{Annotation, Rule};
+use crate::json_places::pool_places_at;
+use crate::size_annotations::push_sizes_found;
+use counterexample::{Ending, Witness, describe};
+use diagnostics::{Diagnostic, Faults, PlanPlaces, Warning};
+use job_bodies::Plan;
+use plan_text::TextPlace;
+use size_search::{NoSizes, SizesFound};
+use std::alloc::{AllocError, Global};
+
+// ---- faults
+
+/// Returns an annotation for each fault.
+pub(crate) fn fault_annotations(
+    alloc: Global,
+    faults: &Faults,
+) -> Result<Vec<Annotation>, AllocError>
+    ensures { IfOk result (λ found. remarks_in found.items ≡ spec.fault_remarks faults.now) }
+{
+    let mut found = Vec::new(alloc);
+    push_fault(alloc, &mut found, &faults.first)?;
+    push_faults(alloc, &mut found, &faults.others)?;
+    Ok(found)
+}
+
+fn push_faults(
+    alloc: Global,
+    found: &mut Vec<Annotation>,
+    mut faults: &[Diagnostic],
+) -> Result<(), AllocError>
+    ensures { Adds result found.old.items found.new.items (spec.each_fault faults.now) }
+{
+    while let Some((fault, rest)) = faults.split_first() {
+        push_fault(alloc, found, fault)?;
+        faults = rest;
+    }
+    Ok(())
+}
+
+fn push_fault(
+    alloc: Global,
+    found: &mut Vec<Annotation>,
+    fault: &Diagnostic,
+) -> Result<(), AllocError>
+    ensures { Adds result found.old.items found.new.items (spec.fault_remark fault.now ∷ []) }
+{
+    let rule = Rule::Fault(fault.fault.number);
+    push(alloc, found, rule, &fault.what, Some(fault.place))
+}
+
+/// Returns an annotation for one fault with this message, which has no place in the plan's text.
+pub(crate) fn single_fault(
+    alloc: Global,
+    number: u8,
+    words: &str,
+) -> Result<Vec<Annotation>, AllocError>
+    ensures { IfOk result
+        (λ found. remarks_in found.items ≡ spec.single_fault number words.now) }
+{
+    let mut found = Vec::new(alloc);
+    push(alloc, &mut found, Rule::Fault(number), words, None)?;
+    Ok(found)
+}
+
+/// Appends an annotation with this message.
+pub(crate) fn push(
+    alloc: Global,
+    found: &mut Vec<Annotation>,
+    rule: Rule,
+    message: &str,
+    place: Option<TextPlace>,
+) -> Result<(), AllocError>
+    ensures { Adds result found.old.items found.new.items (spec.one rule message.now place) }
+{
+    let message = String::from_str(alloc, message)?;
+    found.push(Annotation {
+        rule,
+        message,
+        place,
+    })?;
+    Ok(())
+}
+
+// ---- findings
+
+/// Returns the annotations of a finding about a plan: one for each warning, and those of the answer.
+pub(crate) fn annotations_of(
+    alloc: Global,
+    places: &PlanPlaces,
+    plan: &Plan,
+    finding: &PlanFinding,
+    warnings: &[Warning],
+) -> Result<Vec<Annotation>, AllocError>
+    ensures { IfOk result (λ found.
+        spec.AreRemarks places.now plan.now finding.now warnings.now (remarks_in found.items)) }
+{
+    match finding {
+        PlanFinding::Safe(_) => safe(alloc, warnings),
+        PlanFinding::NotSafe(witness, sizes) => {
+            not_safe(alloc, places, plan, witness, sizes, warnings)
+        }
+        PlanFinding::NotDecided(sizes) => not_decided(alloc, places, plan, sizes, warnings),
+    }
+}
+
+fn safe(alloc: Global, warnings: &[Warning]) -> Result<Vec<Annotation>, AllocError>
+    ensures { IfOk result (λ found.
+        remarks_in found.items ≡ spec.warning_remarks warnings.now ++ spec.safe_remarks) }
+{
+    let mut found = warning_annotations(alloc, warnings)?;
+    let words = "no submit is ever refused, and no jobs wait for each other forever";
+    push(alloc, &mut found, Rule::Safe, words, None)?;
+    Ok(found)
+}
+
+fn not_safe(
+    alloc: Global,
+    places: &PlanPlaces,
+    plan: &Plan,
+    witness: &Witness,
+    sizes: &SizesFound,
+    warnings: &[Warning],
+) -> Result<Vec<Annotation>, AllocError>
+    ensures { IfOk result (λ found.
+        spec.AreNotSafe places.now plan.now witness.now sizes.now warnings.now (remarks_in found.items)) }
+{
+    let description = describe(alloc, plan, witness)?;
+    let mut found = warning_annotations(alloc, warnings)?;
+    push_not_safe(
+        alloc,
+        &mut found,
+        places,
+        plan,
+        witness,
+        sizes,
+        &description,
+    )?;
+    Ok(found)
+}
+
+fn not_decided(
+    alloc: Global,
+    places: &PlanPlaces,
+    plan: &Plan,
+    sizes: &SizesFound,
+    warnings: &[Warning],
+) -> Result<Vec<Annotation>, AllocError>
+    ensures { IfOk result (λ found.
+        remarks_in found.items
+        ≡ spec.warning_remarks warnings.now ++ spec.not_decided_remarks places.now plan.now sizes.now) }
+{
+    let mut found = warning_annotations(alloc, warnings)?;
+    push_not_decided(alloc, &mut found, places, plan, sizes)?;
+    Ok(found)
+}
+
+fn warning_annotations(alloc: Global, warnings: &[Warning]) -> Result<Vec<Annotation>, AllocError>
+    ensures { IfOk result (λ found. remarks_in found.items ≡ spec.warning_remarks warnings.now) }
+{
+    let mut found = Vec::new(alloc);
+    push_warnings(alloc, &mut found, warnings)?;
+    Ok(found)
+}
+
+fn push_warnings(
+    alloc: Global,
+    found: &mut Vec<Annotation>,
+    mut warnings: &[Warning],
+) -> Result<(), AllocError>
+    ensures { Adds result found.old.items found.new.items (spec.warning_remarks warnings.now) }
+{
+    while let Some((warning, rest)) = warnings.split_first() {
+        push_warning(alloc, found, warning)?;
+        warnings = rest;
+    }
+    Ok(())
+}
+
+fn push_warning(
+    alloc: Global,
+    found: &mut Vec<Annotation>,
+    warning: &Warning,
+) -> Result<(), AllocError>
+    ensures { Adds result found.old.items found.new.items (spec.warning_remark warning.now ∷ []) }
+{
+    let rule = Rule::Warning(warning.lint);
+    push(alloc, found, rule, &warning.what, Some(warning.place))
+}
+
+/// Appends an annotation with the first line of a description of the witness, and those of the sizes.
+fn push_not_safe(
+    alloc: Global,
+    found: &mut Vec<Annotation>,
+    places: &PlanPlaces,
+    plan: &Plan,
+    witness: &Witness,
+    sizes: &SizesFound,
+    description: &str,
+) -> Result<(), AllocError>
+    ensures { Adds result found.old.items found.new.items
+        (spec.not_safe_remarks places.now plan.now witness.now sizes.now description.now) }
+{
+    let place = ending_place(places, &witness.ending);
+    push(alloc, found, Rule::NotSafe, first_line(description), place)?;
+    push_sizes_found(alloc, found, Rule::NotSafe, places, plan, sizes)
+}
+
+/// Returns the first line of a text.
+fn first_line(text: &str) -> &str
+    ensures { result.now ≡ spec.first_line text.now }
+{
+    match text.lines().next() {
+        Some(line) => line,
+        None => "",
+    }
+}
+
+/// Returns the place of the name of the pool that refuses a submit.
+fn ending_place(places: &PlanPlaces, ending: &Ending) -> Option<TextPlace>
+    ensures { result ≡ spec.ending_place places.now ending.now }
+{
+    match ending {
+        Ending::Refused(pool) => pool_places_at(&places.pools, *pool).name,
+        Ending::StuckForever(_, _) | Ending::StuckNow(_) => None,
+    }
+}
+
+fn push_not_decided(
+    alloc: Global,
+    found: &mut Vec<Annotation>,
+    places: &PlanPlaces,
+    plan: &Plan,
+    sizes: &SizesFound,
+) -> Result<(), AllocError>
+    ensures { Adds result found.old.items found.new.items
+        (spec.not_decided_remarks places.now plan.now sizes.now) }
+{
+    push(alloc, found, Rule::NotDecided, open_words(sizes), None)?;
+    push_sizes_found(alloc, found, Rule::NotDecided, places, plan, sizes)
+}
+
+/// Returns the words that say what is not decided.
+fn open_words(sizes: &SizesFound) -> &'static str
+    ensures { result.now ≡ spec.open_words sizes.now }
+{
+    match sizes {
+        SizesFound::NotFound(NoSizes::Cause(_)) => {
+            "no certificate accepts this plan with any sizes, and no counterexample was found"
+        }
+        SizesFound::Found { .. } | SizesFound::NotFound(NoSizes::TooLarge(_)) => {
+            "neither a certificate for the declared sizes nor a counterexample was found: the sizes may be safe"
+        }
+    }
+}

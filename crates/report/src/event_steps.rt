@@ -1,0 +1,222 @@
+//! The events of a witness: who acts in each of them, and what it does.
+
+ghost use Rattle.std.specs.Prelude.{◌≡◌, IfOk};
+ghost use Rattle.job_bodies.specs.WellFormed.{IsWellFormed};
+ghost use Rattle.written_machine.specs.State.{State, pool_of};
+ghost use Rattle.written_machine.specs.Reach.{start, IsReached};
+ghost use Rattle.interleaving.specs.LiveView.{live_view};
+ghost use Rattle.interleaving.specs.OfPlan.{IsReachableView};
+ghost use Rattle.report.specs.EventSteps as spec;
+ghost use Rattle.report.specs.Performed as performed;
+
+use interleaving::{Clients, Event, Outcome, Phase, World};
+use job_bodies::Plan;
+use std::alloc::{AllocError, Global};
+
+/// The actor of an event.
+#[derive(Clone, Copy, PartialEq, Eq)]
+pub(crate) enum Actor {
+    /// The client with the second number, which is of the client kind with the first number.
+    Client(usize, usize),
+    /// The job with the second number, which is of the class with the first number.
+    Job(usize, usize),
+    /// An idle worker of the pool with this index.
+    Pool(usize),
+}
+
+/// The numbers of threads of a pool.
+#[derive(Clone, Copy)]
+pub(crate) struct PoolCounts {
+    /// The index of the pool in the plan.
+    pub(crate) number: usize,
+    pub(crate) threads: u64,
+    pub(crate) idle: u64,
+}
+
+/// An event that was performed.
+#[derive(Clone, Copy)]
+pub(crate) struct EventStep {
+    pub(crate) actor: Actor,
+    /// The index of the action in its body. It is `None` at the end of a body, and for an event of
+    /// a pool.
+    pub(crate) action: Option<usize>,
+    pub(crate) outcome: Outcome,
+    /// The pool that the event changed or that refused, after the event.
+    pub(crate) pool: Option<PoolCounts>,
+}
+
+/// Performs the events in a new world of the plan, up to the first event that is not possible, and
+/// returns what each of them did.
+///
+/// # Errors
+///
+/// [`AllocError`] if memory runs out.
+pub(crate) fn perform_all(
+    alloc: Global,
+    plan: &Plan,
+    world: &mut World,
+    events: &[Event],
+) -> Result<Vec<EventStep>, AllocError>
+    requires { world.old.view ≡ live_view plan.now (start plan.now) }
+    ensures value { IfOk result (λ steps. performed.PerformsAll plan.now events.now world.new.view steps.items) }
+    ensures well_formed { IsWellFormed plan.now }
+{
+    let kinds = Clients::new(alloc, plan.clients())?;
+    let mut steps = Vec::new(alloc);
+    push_steps(&mut steps, plan, &kinds, world, events)?;
+    Ok(steps)
+}
+
+/// Performs the events, up to the first event that is not possible, and appends what each of them
+/// did.
+fn push_steps(
+    steps: &mut Vec<EventStep>,
+    plan: &Plan,
+    kinds: &Clients,
+    world: &mut World,
+    mut events: &[Event],
+) -> Result<(), AllocError>
+    requires kinds { kinds.now.items ≡ (start plan.now).clients }
+    requires of_plan { IsReachableView plan.now world.old.view }
+    ensures { IfOk result (λ nothing. (s : State) → IsReached plan.now s → live_view plan.now s ≡ world.old.view
+        → performed.Appends plan.now s events.entry.now steps.old.items steps.new.items world.new.view) }
+{
+    while let Some((event, rest)) = events.split_first() {
+        let Some(step) = perform(plan, kinds, world, *event)? else {
+            return Ok(());
+        };
+        steps.push(step)?;
+        events = rest;
+    }
+    Ok(())
+}
+
+/// Performs the event and returns what it did. If the event is not possible, changes nothing and
+/// returns `None`.
+fn perform(
+    plan: &Plan,
+    kinds: &Clients,
+    world: &mut World,
+    event: Event,
+) -> Result<Option<EventStep>, AllocError>
+    requires kinds { kinds.now.items ≡ (start plan.now).clients }
+    requires of_plan { IsReachableView plan.now world.old.view }
+    ensures value { IfOk result (λ step. (s : State) → IsReached plan.now s → live_view plan.now s ≡ world.old.view
+        → performed.Performs plan.now s event step world.new.view) }
+    ensures of_plan { IsReachableView plan.now world.new.view }
+{
+    let actor = actor_of(kinds, world, event);
+    let position = position_of(world, event);
+    let Some(outcome) = world.step(plan, event)? else {
+        return Ok(None);
+    };
+    let pool = changed_pool(plan, world, actor, outcome);
+    Ok(Some(EventStep {
+        actor,
+        action: action_of(outcome, position),
+        outcome,
+        pool: counts_of(plan, world, pool),
+    }))
+}
+
+fn actor_of(kinds: &Clients, world: &World, event: Event) -> Actor
+    ensures { result ≡ performed.actor_seen kinds.now.items world.now.view event }
+{
+    match event {
+        Event::Client(number) => Actor::Client(
+            kinds.get(number).map_or(0, |client| client.kind),
+            number,
+        ),
+        Event::Job(number) => Actor::Job(class_of(world, number), number),
+        Event::Take(pool) | Event::Retire(pool) => Actor::Pool(pool),
+    }
+}
+
+/// Returns the class of a live job, or 0 if the job is not live.
+fn class_of(world: &World, number: usize) -> usize
+    ensures { result ≡ performed.class_seen world.now.view number }
+{
+    world.job(number).map_or(0, |job| job.class)
+}
+
+/// Returns the position of the event's actor in its body.
+fn position_of(world: &World, event: Event) -> usize
+    ensures { result ≡ performed.position_seen world.now.view event }
+{
+    match event {
+        Event::Client(number) => world.client(number).unwrap_or(0),
+        Event::Job(number) => match world.job(number) {
+            Some(job) => position_in(job.phase),
+            None => 0,
+        },
+        Event::Take(_) | Event::Retire(_) => 0,
+    }
+}
+
+fn position_in(phase: Phase) -> usize
+    ensures { result ≡ performed.position_in phase }
+{
+    match phase {
+        Phase::At(position) => position,
+        Phase::Queued | Phase::Done => 0,
+    }
+}
+
+fn action_of(outcome: Outcome, position: usize) -> Option<usize>
+    ensures { result ≡ spec.action_of outcome position }
+{
+    match outcome {
+        Outcome::Started(_)
+        | Outcome::Queued(_)
+        | Outcome::Refused(_)
+        | Outcome::Worked(_)
+        | Outcome::Got(_) => Some(position),
+        Outcome::Looped | Outcome::Finished(_) | Outcome::Took(_) | Outcome::Retired => None,
+    }
+}
+
+/// Returns the pool that an event with this outcome changed, or that refused. `world` is the world
+/// after the event.
+fn changed_pool(plan: &Plan, world: &World, actor: Actor, outcome: Outcome) -> Option<usize>
+    ensures { result ≡ performed.changed_pool_seen plan.now world.now.view actor outcome }
+{
+    match outcome {
+        Outcome::Started(job) | Outcome::Queued(job) => Some(pool_of(plan, class_of(world, job))),
+        Outcome::Refused(pool) => Some(pool),
+        Outcome::Finished(_) | Outcome::Took(_) | Outcome::Retired => pool_of_actor(plan, actor),
+        Outcome::Worked(_) | Outcome::Got(_) | Outcome::Looped => None,
+    }
+}
+
+fn pool_of_actor(plan: &Plan, actor: Actor) -> Option<usize>
+    ensures { result ≡ spec.pool_of_actor plan.now actor }
+{
+    match actor {
+        Actor::Client(_, _) => None,
+        Actor::Job(class, _) => Some(pool_of(plan, class)),
+        Actor::Pool(pool) => Some(pool),
+    }
+}
+
+/// Returns the pool of the class with this index, or 0 if there is no such class.
+pub(crate) fn pool_of(plan: &Plan, class: usize) -> usize
+    ensures { result ≡ pool_of plan.now class }
+{
+    plan.class_at(class).map_or(0, |class| class.pool)
+}
+
+fn counts_of(plan: &Plan, world: &World, pool: Option<usize>) -> Option<PoolCounts>
+    requires { IsReachableView plan.now world.now.view }
+    ensures { result ≡ performed.counts_seen world.now.view pool }
+{
+    let number = pool?;
+    if number >= plan.pools().len() {
+        return None;
+    }
+    let pool = world.pool(number);
+    Some(PoolCounts {
+        number,
+        threads: pool.threads(),
+        idle: pool.idle(),
+    })
+}

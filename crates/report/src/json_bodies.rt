@@ -1,0 +1,122 @@
+//! The actions of a body as JSON.
+
+ghost use Rattle.std.specs.Prelude.{◌≡◌, IfOk};
+ghost use Rattle.serde_json.specs.View.{view};
+ghost use Rattle.report.specs.JsonPlan as spec;
+
+use crate::json_places::{action_place, column_value, line_value};
+use diagnostics::BodyPlaces;
+use job_bodies::{Action, Plan, has_get_of};
+use plan_text::TextPlace;
+use serde_json::{Value, json};
+use std::alloc::{AllocError, Global};
+
+/// Converts the body of the class or client kind at this index.
+pub(crate) fn body_value(
+    alloc: Global,
+    plan: &Plan,
+    places: &[BodyPlaces],
+    index: usize,
+    body: &[Action],
+) -> Result<Value, AllocError>
+    ensures { IfOk result
+        (λ value. view value ≡ spec.body_data plan.now places.now index body.now) }
+{
+    let mut values = Vec::with_capacity(alloc, body.len())?;
+    for (number, action) in body.iter().enumerate() {
+        let value = action_entry(alloc, plan, places, index, body, number, action)?;
+        values.push(value)?;
+    }
+    Ok(Value::from(values))
+}
+
+fn action_entry(
+    alloc: Global,
+    plan: &Plan,
+    places: &[BodyPlaces],
+    index: usize,
+    body: &[Action],
+    number: usize,
+    action: &Action,
+) -> Result<Value, AllocError>
+    ensures { IfOk result (λ value. view value
+        ≡ spec.action_entry plan.now places.now index body.now (number, action.now)) }
+{
+    let place = action_place(places, index, number);
+    action_value(alloc, plan, place, body, number, *action)
+}
+
+fn action_value(
+    alloc: Global,
+    plan: &Plan,
+    place: Option<TextPlace>,
+    body: &[Action],
+    number: usize,
+    action: Action,
+) -> Result<Value, AllocError>
+    ensures { IfOk result
+        (λ value. view value ≡ spec.action_data plan.now place body.now number action) }
+{
+    match action {
+        Action::Work(units) => work_value(alloc, place, units),
+        Action::Submit(class) => {
+            let slot = slot_value(body, number);
+            submit_value(alloc, place, plan.class_name(class), slot)
+        }
+        Action::Get(submit) => get_value(alloc, place, submit),
+    }
+}
+
+/// Converts the slot of a submit: its position in the body, or null if no get of the body gets it.
+fn slot_value(body: &[Action], submit: usize) -> Value
+    ensures { view result ≡ spec.slot_data body.now submit }
+{
+    if has_get_of(body, submit) {
+        Value::from(submit)
+    } else {
+        Value::Null
+    }
+}
+
+#[tactic(auto, unfolding(crate::specs::JsonPlan::work_data))]
+fn work_value(alloc: Global, place: Option<TextPlace>, units: u32) -> Result<Value, AllocError>
+    ensures { IfOk result (λ value. view value ≡ spec.work_data place units) }
+{
+    json!(in alloc; {
+        "action": "work",
+        "column": column_value(place),
+        "line": line_value(place),
+        "units": units
+    })
+}
+
+#[tactic(auto, unfolding(crate::specs::JsonPlan::submit_data))]
+fn submit_value(
+    alloc: Global,
+    place: Option<TextPlace>,
+    class: &str,
+    slot: Value,
+) -> Result<Value, AllocError>
+    ensures { IfOk result
+        (λ value. view value ≡ spec.submit_data place class.now (view slot)) }
+{
+    json!(in alloc; {
+        "action": "submit",
+        "class": class,
+        "column": column_value(place),
+        "line": line_value(place),
+        "slot": slot
+    })
+}
+
+#[tactic(auto, unfolding(crate::specs::JsonPlan::get_data))]
+fn get_value(alloc: Global, place: Option<TextPlace>, slot: usize) -> Result<Value, AllocError>
+    ensures { IfOk result (λ value. view value ≡ spec.get_data place slot) }
+{
+    json!(in alloc; {
+        "action": "get",
+        "column": column_value(place),
+        "line": line_value(place),
+        "slot": slot
+    })
+}

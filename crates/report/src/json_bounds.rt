@@ -1,0 +1,133 @@
+//! The bound of a queue and the shares in it as JSON, and the threads that wait.
+
+ghost use Rattle.std.specs.Prelude.{◌≡◌, ◌++◌, IfOk, IsTrue, OnOk, map};
+ghost use Rattle.serde_json.specs.View.{view};
+ghost use Rattle.weights.specs.Vector.{vector_fits};
+ghost use Rattle.report.specs.JsonPools as spec;
+
+use crate::{Shares, shares_of, total_of};
+use job_bodies::{Plan, Pool};
+use serde_json::{Value, json};
+use std::alloc::{AllocError, Global};
+use weights::{Bound, Vector};
+
+/// Converts a pool's bound: the maximum number of jobs in its queue at one time, or ever submitted
+/// to it, and the share of each submitter. The value is null if the vector does not fit the plan.
+pub(crate) fn bound_value(alloc: Global, plan: &Plan, bound: &Bound) -> Result<Value, AllocError>
+    ensures { IfOk result (λ value. view value ≡ spec.bound_data plan.now bound.now) }
+{
+    let vector = bound.vector();
+    if vector.fits(plan) {
+        vector_value(alloc, plan, kind_of(bound), vector)
+    } else {
+        Ok(Value::Null)
+    }
+}
+
+fn kind_of(bound: &Bound) -> &'static str
+    ensures { result.now ≡ spec.kind_of bound.now }
+{
+    match bound {
+        Bound::Standing(_) => "standing",
+        Bound::Lifetime(_) => "lifetime",
+    }
+}
+
+fn vector_value(
+    alloc: Global,
+    plan: &Plan,
+    kind: &str,
+    vector: &Vector,
+) -> Result<Value, AllocError>
+    requires { IsTrue (vector_fits plan.now vector.now) }
+    ensures { IfOk result (λ value. view value ≡ spec.vector_data plan.now kind.now vector.now) }
+{
+    let Shares { clients, workers } = shares_of(alloc, plan, vector)?;
+    let clients = clients_value(alloc, plan, &clients)?;
+    let threads = threads_value(alloc, plan, &workers)?;
+    bound_object(alloc, clients, kind, threads, vector.total(plan))
+}
+
+#[tactic(auto, unfolding(crate::specs::JsonPools::bound_object))]
+fn bound_object(
+    alloc: Global,
+    clients: Value,
+    kind: &str,
+    threads: Value,
+    total: u64,
+) -> Result<Value, AllocError>
+    ensures { IfOk result (λ value.
+        view value ≡ spec.bound_object (view clients) kind.now (view threads) total) }
+{
+    json!(in alloc; {"clients": clients, "kind": kind, "threads": threads, "total": total})
+}
+
+/// Converts the shares of the client kinds that are not 0.
+fn clients_value(alloc: Global, plan: &Plan, shares: &[u64]) -> Result<Value, AllocError>
+    ensures { IfOk result (λ value. view value ≡ spec.clients_data plan.now shares.now) }
+{
+    let mut values = Vec::new(alloc);
+    for (kind, share) in shares.iter().enumerate() {
+        push_share(alloc, &mut values, *share, plan.client_name(kind))?;
+    }
+    Ok(Value::from(values))
+}
+
+/// Converts the shares of the pools' threads that are not 0.
+fn threads_value(alloc: Global, plan: &Plan, shares: &[u64]) -> Result<Value, AllocError>
+    ensures { IfOk result (λ value. view value ≡ spec.threads_data plan.now shares.now) }
+{
+    let mut values = Vec::new(alloc);
+    for (pool, share) in shares.iter().enumerate() {
+        push_share(alloc, &mut values, *share, plan.pool_name(pool))?;
+    }
+    Ok(Value::from(values))
+}
+
+/// Appends one share, unless it is 0.
+#[tactic(auto, using(std::proofs::lemmas::List::map_push))]
+fn push_share(
+    alloc: Global,
+    values: &mut Vec<Value>,
+    share: u64,
+    name: &str,
+) -> Result<(), AllocError>
+    ensures { OnOk result
+        (map view values.new.items ≡ map view values.old.items ++ spec.share_of share name.now) }
+{
+    if share == 0 {
+        return Ok(());
+    }
+    values.push(share_value(alloc, share, name)?)?;
+    Ok(())
+}
+
+#[tactic(auto, unfolding(crate::specs::JsonPools::share_data))]
+fn share_value(alloc: Global, jobs: u64, name: &str) -> Result<Value, AllocError>
+    ensures { IfOk result (λ value. view value ≡ spec.share_data jobs name.now) }
+{
+    json!(in alloc; {"jobs": jobs, "name": name})
+}
+
+/// Converts the maximum number of core threads that wait at counted gets at once, and the number of
+/// core threads that are left. The value is null if the vector does not fit the plan.
+pub(crate) fn blocked_value(
+    alloc: Global,
+    plan: &Plan,
+    pool: &Pool,
+    blocked: &Vector,
+) -> Result<Value, AllocError>
+    ensures { IfOk result (λ value. view value ≡ spec.blocked_data plan.now pool.now blocked.now) }
+{
+    match total_of(plan, blocked) {
+        Some(most) => waiting_value(alloc, pool.core.saturating_sub(most), most),
+        None => Ok(Value::Null),
+    }
+}
+
+#[tactic(auto, unfolding(crate::specs::JsonPools::waiting_data))]
+fn waiting_value(alloc: Global, left: u64, most: u64) -> Result<Value, AllocError>
+    ensures { IfOk result (λ value. view value ≡ spec.waiting_data left most) }
+{
+    json!(in alloc; {"left": left, "most": most})
+}

@@ -1,0 +1,161 @@
+//! The cause why no sizes were found as JSON.
+
+ghost use Rattle.std.specs.Prelude.{◌≡◌, IfOk, string_bytes};
+ghost use Rattle.serde_json.specs.Data.{null, string};
+ghost use Rattle.serde_json.specs.View.{view};
+ghost use Rattle.report.specs.Cause.{cause_words};
+ghost use Rattle.report.specs.JsonSizes as spec;
+
+use crate::cause_lines::push_cause_words;
+use crate::json_places::{action_place, column_value, line_value, name_place, pool_places_at};
+use diagnostics::PlanPlaces;
+use job_bodies::Plan;
+use plan_text::TextPlace;
+use serde_json::{Value, json};
+use size_search::{Cause, NoSizes};
+use std::alloc::{AllocError, Global};
+
+/// Converts a cause: its kind, what it names, its place, and its words.
+pub(crate) fn cause_value(
+    alloc: Global,
+    places: &PlanPlaces,
+    plan: &Plan,
+    cause: NoSizes,
+) -> Result<Value, AllocError>
+    ensures { IfOk result (λ value. view value ≡ spec.cause_data places.now plan.now cause) }
+{
+    let words = words_of(alloc, plan, cause)?;
+    told_cause(alloc, places, plan, cause, &words)
+}
+
+fn words_of(alloc: Global, plan: &Plan, cause: NoSizes) -> Result<String, AllocError>
+    ensures { IfOk result (λ words. string_bytes words ≡ cause_words plan.now cause) }
+{
+    let mut words = String::new(alloc);
+    push_cause_words(&mut words, plan, cause)?;
+    Ok(words)
+}
+
+fn told_cause(
+    alloc: Global,
+    places: &PlanPlaces,
+    plan: &Plan,
+    cause: NoSizes,
+    words: &str,
+) -> Result<Value, AllocError>
+    ensures { IfOk result
+        (λ value. view value ≡ spec.told_cause places.now plan.now cause words.now) }
+{
+    match cause {
+        NoSizes::Cause(Cause::Circle(class)) => {
+            let place = name_place(&places.classes, class);
+            cycle_value(alloc, place, plan.class_name(class), words)
+        }
+        NoSizes::Cause(Cause::ClientNeverGets(client, action)) => {
+            let place = action_place(&places.clients, client, action);
+            client_never_gets(alloc, place, action, plan.client_name(client), words)
+        }
+        NoSizes::Cause(Cause::ClassNeverGets(class, action)) => {
+            let place = action_place(&places.classes, class, action);
+            class_never_gets(alloc, place, action, plan.class_name(class), words)
+        }
+        NoSizes::TooLarge(pool) => {
+            let place = pool_places_at(&places.pools, pool).name;
+            limit_value(alloc, place, plan.pool_name(pool), words)
+        }
+    }
+}
+
+#[tactic(auto, unfolding(crate::specs::JsonSizes::cycle_data))]
+fn cycle_value(
+    alloc: Global,
+    place: Option<TextPlace>,
+    class: &str,
+    words: &str,
+) -> Result<Value, AllocError>
+    ensures { IfOk result (λ value. view value ≡ spec.cycle_data place class.now words.now) }
+{
+    json!(in alloc; {
+        "action": null,
+        "class": class,
+        "client": null,
+        "column": column_value(place),
+        "kind": "cycle",
+        "line": line_value(place),
+        "pool": null,
+        "text": words
+    })
+}
+
+fn client_never_gets(
+    alloc: Global,
+    place: Option<TextPlace>,
+    action: usize,
+    client: &str,
+    words: &str,
+) -> Result<Value, AllocError>
+    ensures { IfOk result (λ value.
+        view value ≡ spec.never_got_data place action null (string client.now) words.now) }
+{
+    let client = Value::try_from_str(alloc, client)?;
+    never_got_value(alloc, place, action, Value::Null, client, words)
+}
+
+fn class_never_gets(
+    alloc: Global,
+    place: Option<TextPlace>,
+    action: usize,
+    class: &str,
+    words: &str,
+) -> Result<Value, AllocError>
+    ensures { IfOk result (λ value.
+        view value ≡ spec.never_got_data place action (string class.now) null words.now) }
+{
+    let class = Value::try_from_str(alloc, class)?;
+    never_got_value(alloc, place, action, class, Value::Null, words)
+}
+
+#[tactic(auto, unfolding(crate::specs::JsonSizes::never_got_data))]
+fn never_got_value(
+    alloc: Global,
+    place: Option<TextPlace>,
+    action: usize,
+    class: Value,
+    client: Value,
+    words: &str,
+) -> Result<Value, AllocError>
+    ensures { IfOk result (λ value. view value
+        ≡ spec.never_got_data place action (view class) (view client) words.now) }
+{
+    json!(in alloc; {
+        "action": action,
+        "class": class,
+        "client": client,
+        "column": column_value(place),
+        "kind": "never got",
+        "line": line_value(place),
+        "pool": null,
+        "text": words
+    })
+}
+
+#[tactic(auto, unfolding(crate::specs::JsonSizes::limit_data))]
+fn limit_value(
+    alloc: Global,
+    place: Option<TextPlace>,
+    pool: &str,
+    words: &str,
+) -> Result<Value, AllocError>
+    ensures { IfOk result (λ value. view value ≡ spec.limit_data place pool.now words.now) }
+{
+    json!(in alloc; {
+        "action": null,
+        "class": null,
+        "client": null,
+        "column": column_value(place),
+        "kind": "limit",
+        "line": line_value(place),
+        "pool": pool,
+        "text": words
+    })
+}

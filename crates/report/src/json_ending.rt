@@ -1,0 +1,241 @@
+//! The ending of a witness as JSON: the jobs that wait only for each other, and what each of them
+//! waits for.
+
+ghost use Rattle.std.specs.Prelude.{◌≡◌, ◌++◌, ℕ, List, map, flat_map, IfOk, OnOk, slice_get};
+ghost use Rattle.serde_json.specs.View.{view};
+ghost use Rattle.job_bodies.specs.Plan.{class_at};
+ghost use Rattle.written_machine.specs.declared.parent.Parent.TheVariants as parent;
+ghost use Rattle.interleaving.specs.ViewStep.{live_child, is_live_child};
+ghost use Rattle.interleaving.specs.Waiting.{is_busy_job, is_at_work};
+ghost use Rattle.counterexample.specs.EventLines.{stuck_members};
+ghost use Rattle.report.specs.JsonEvents as events;
+ghost use Rattle.report.specs.JsonEnding as spec;
+ghost use Rattle.report.specs.WaitsSeen as seen;
+
+use crate::event_steps::pool_of;
+use crate::json_values::numbers_value;
+use counterexample::Ending;
+use interleaving::{JobView, Parent, Phase, World};
+use job_bodies::{Action, Plan};
+use serde_json::{Value, json};
+use std::alloc::{AllocError, Global};
+
+/// Converts the ending of a witness. `world` is the world after its events.
+pub(crate) fn ending_value(
+    alloc: Global,
+    plan: &Plan,
+    world: &World,
+    ending: &Ending,
+) -> Result<Value, AllocError>
+    ensures { IfOk result (λ value. view value
+        ≡ spec.ending_parts (stuck_members ending.now) (spec.kind_word ending.now) (spec.refusing_pool plan.now ending.now)
+        (flat_map (seen.wait_seen plan.now world.now.view) (stuck_members ending.now))) }
+{
+    let members = members_of(ending);
+    let waits = wait_values(alloc, plan, world, members)?;
+    let pool = refusing_pool(alloc, plan, ending)?;
+    let jobs = numbers_value(alloc, members)?;
+    parts_value(alloc, jobs, kind_word(ending), pool, waits)
+}
+
+/// Returns the numbers of the jobs that wait only for each other after the last event.
+pub(crate) fn members_of(ending: &Ending) -> &[usize]
+    ensures { result.now ≡ stuck_members ending.now }
+{
+    match ending {
+        Ending::Refused(_) => &[],
+        Ending::StuckForever(members, _) => members,
+        Ending::StuckNow(members) => members,
+    }
+}
+
+fn kind_word(ending: &Ending) -> &'static str
+    ensures { result.now ≡ spec.kind_word ending.now }
+{
+    match ending {
+        Ending::Refused(_) => "refused",
+        Ending::StuckForever(_, _) => "stuck forever",
+        Ending::StuckNow(_) => "stuck now",
+    }
+}
+
+fn refusing_pool(alloc: Global, plan: &Plan, ending: &Ending) -> Result<Value, AllocError>
+    ensures { IfOk result (λ value. view value ≡ spec.refusing_pool plan.now ending.now) }
+{
+    match ending {
+        Ending::Refused(pool) => Value::try_from_str(alloc, plan.pool_name(*pool)),
+        Ending::StuckForever(_, _) | Ending::StuckNow(_) => Ok(Value::Null),
+    }
+}
+
+#[tactic(auto, unfolding(crate::specs::JsonEnding::ending_parts))]
+fn parts_value(
+    alloc: Global,
+    jobs: Value,
+    kind: &str,
+    pool: Value,
+    waits: Vec<Value>,
+) -> Result<Value, AllocError>
+    ensures { IfOk result (λ value. (numbers : List ℕ) → view jobs ≡ events.numbers_data numbers
+        → view value ≡ spec.ending_parts numbers kind.now (view pool) (map view waits.items)) }
+{
+    let waits = Value::Array(waits);
+    json!(in alloc; {"jobs": jobs, "kind": kind, "pool": pool, "waits": waits})
+}
+
+/// Returns what each member waits for.
+fn wait_values(
+    alloc: Global,
+    plan: &Plan,
+    world: &World,
+    mut members: &[usize],
+) -> Result<Vec<Value>, AllocError>
+    ensures { IfOk result (λ values. map view values.items
+        ≡ flat_map (seen.wait_seen plan.now world.now.view) members.entry.now) }
+{
+    let mut values = Vec::new(alloc);
+    while let Some((member, rest)) = members.split_first() {
+        push_wait(&mut values, alloc, plan, world, *member)?;
+        members = rest;
+    }
+    Ok(values)
+}
+
+/// Appends what the job with this number waits for, if it waits.
+fn push_wait(
+    values: &mut Vec<Value>,
+    alloc: Global,
+    plan: &Plan,
+    world: &World,
+    number: usize,
+) -> Result<(), AllocError>
+    ensures { OnOk result (map view values.new.items
+        ≡ map view values.old.items ++ seen.wait_seen plan.now world.now.view number) }
+{
+    let Some(job) = world.job(number) else {
+        return Ok(());
+    };
+    match job.phase {
+        Phase::Queued => {
+            let running = running_in(alloc, plan, world, pool_of(plan, job.class))?;
+            let running = numbers_value(alloc, &running)?;
+            let wait = wait_value(alloc, "queue", running, number, pool_name(plan, job.class))?;
+            values.push(wait)?;
+            Ok(())
+        }
+        Phase::At(position) => {
+            let action = action_at(plan, job.class, position);
+            let awaited = awaited(alloc, world, number, action)?;
+            let awaited = numbers_value(alloc, &awaited)?;
+            let wait = wait_value(alloc, "get", awaited, number, pool_name(plan, job.class))?;
+            values.push(wait)?;
+            Ok(())
+        }
+        Phase::Done => Ok(()),
+    }
+}
+
+fn pool_name(plan: &Plan, class: usize) -> &str
+    ensures { result.now ≡ spec.pool_name plan.now class }
+{
+    plan.pool_name(pool_of(plan, class))
+}
+
+#[tactic(auto, unfolding(crate::specs::JsonEnding::wait_data))]
+fn wait_value(
+    alloc: Global,
+    place: &str,
+    awaited: Value,
+    number: usize,
+    pool: &str,
+) -> Result<Value, AllocError>
+    ensures { IfOk result (λ value. (numbers : List ℕ) → view awaited ≡ events.numbers_data numbers
+        → view value ≡ spec.wait_data place.now numbers number pool.now) }
+{
+    json!(in alloc; {"at": place, "for": awaited, "job": number, "pool": pool})
+}
+
+fn action_at(plan: &Plan, class: usize, position: usize) -> Option<Action>
+    ensures { result ≡ slice_get (class_at plan.now class).body position }
+{
+    match plan.class_at(class) {
+        Some(class) => class.body.get(position).copied(),
+        None => None,
+    }
+}
+
+/// Returns the job for which the job with this number waits at this action, if the action is a get.
+fn awaited(
+    alloc: Global,
+    world: &World,
+    number: usize,
+    action: Option<Action>,
+) -> Result<Vec<usize>, AllocError>
+    ensures { IfOk result (λ jobs. jobs.items ≡ seen.awaited_seen world.now.view number action) }
+{
+    let mut jobs = Vec::new(alloc);
+    if let Some(Action::Get(submit)) = action {
+        if let Some(child) = child_of(world, number, submit) {
+            jobs.push(child)?;
+        }
+    }
+    Ok(jobs)
+}
+
+/// Returns the latest live job that the job with this number created by the submit at this position.
+fn child_of(world: &World, number: usize, submit: usize) -> Option<usize>
+    ensures { result ≡ live_child world.now.view.jobs (parent.Job number) submit }
+{
+    let mut child = None;
+    for job in 0..world.made() {
+        if is_child_of(world.job(job), number, submit) {
+            child = Some(job);
+        }
+    }
+    child
+}
+
+fn is_child_of(job: Option<JobView>, number: usize, submit: usize) -> bool
+    ensures { result ≡ is_live_child (parent.Job number) submit job }
+{
+    match job {
+        Some(job) => job.is_child_of(Parent::Job(number), submit),
+        None => false,
+    }
+}
+
+/// Returns the jobs that run in the pool.
+fn running_in(
+    alloc: Global,
+    plan: &Plan,
+    world: &World,
+    pool: usize,
+) -> Result<Vec<usize>, AllocError>
+    ensures { IfOk result (λ jobs. jobs.items ≡ seen.running_seen plan.now world.now.view pool) }
+{
+    let mut jobs = Vec::new(alloc);
+    for job in 0..world.made() {
+        if runs_in(plan, world.job(job), pool) {
+            jobs.push(job)?;
+        }
+    }
+    Ok(jobs)
+}
+
+fn runs_in(plan: &Plan, job: Option<JobView>, pool: usize) -> bool
+    ensures { result ≡ is_busy_job plan.now pool job }
+{
+    match job {
+        Some(job) => is_at_work(job.phase) && pool_of(plan, job.class) == pool,
+        None => false,
+    }
+}
+
+fn is_at_work(phase: Phase) -> bool
+    ensures { result ≡ is_at_work phase }
+{
+    match phase {
+        Phase::At(_) => true,
+        Phase::Queued | Phase::Done => false,
+    }
+}

@@ -1,0 +1,163 @@
+//! The members of an event as JSON.
+
+ghost use Rattle.std.specs.Prelude.{◌≡◌, ℕ, List, IfOk};
+ghost use Rattle.serde_json.specs.View.{view};
+ghost use Rattle.report.specs.JsonEvents as spec;
+
+use crate::event_steps::Actor;
+use diagnostics::{BodyPlaces, PlanPlaces};
+use interleaving::Outcome;
+use job_bodies::Plan;
+use plan_text::TextPlace;
+use serde_json::{Value, json};
+use std::alloc::{AllocError, Global};
+
+/// The members of an event that are values.
+#[derive(Drop)]
+pub(crate) struct EventParts {
+    pub(crate) action: Value,
+    pub(crate) actor: Value,
+    pub(crate) column: Value,
+    pub(crate) job: Value,
+    pub(crate) line: Value,
+    pub(crate) pool: Value,
+}
+
+/// Creates the object of an event.
+#[tactic(auto, unfolding(crate::specs::JsonEvents::event_data))]
+pub(crate) fn event_value(
+    alloc: Global,
+    parts: EventParts,
+    outcome: &str,
+    times: usize,
+) -> Result<Value, AllocError>
+    ensures { IfOk result (λ value. view value ≡ spec.event_data (record {
+      action = view parts.action;
+      actor = view parts.actor;
+      column = view parts.column;
+      job = view parts.job;
+      line = view parts.line;
+      outcome = outcome.now;
+      pool = view parts.pool;
+      times = times;
+    })) }
+{
+    let EventParts {
+        action,
+        actor,
+        column,
+        job,
+        line,
+        pool,
+    } = parts;
+    json!(in alloc; {
+        "action": action,
+        "actor": actor,
+        "column": column,
+        "job": job,
+        "line": line,
+        "outcome": outcome,
+        "pool": pool,
+        "times": times
+    })
+}
+
+/// Returns the place of the actor's action, or `None` if it is not known.
+pub(crate) fn action_place(
+    places: &PlanPlaces,
+    actor: Actor,
+    action: Option<usize>,
+) -> Option<TextPlace>
+    ensures { result ≡ spec.action_place places.now actor action }
+{
+    let index = action?;
+    match actor {
+        Actor::Client(kind, _) => place_in(&places.clients, kind, index),
+        Actor::Job(class, _) => place_in(&places.classes, class, index),
+        Actor::Pool(_) => None,
+    }
+}
+
+fn place_in(bodies: &[BodyPlaces], body: usize, index: usize) -> Option<TextPlace>
+    ensures { result ≡ spec.place_in bodies.now body index }
+{
+    *bodies.get(body)?.actions.get(index)?
+}
+
+/// Converts the actor of an event.
+pub(crate) fn actor_value(alloc: Global, plan: &Plan, actor: Actor) -> Result<Value, AllocError>
+    ensures { IfOk result (λ value. view value ≡ spec.actor_data plan.now actor) }
+{
+    match actor {
+        Actor::Client(kind, number) => client_value(alloc, plan.client_name(kind), number),
+        Actor::Job(class, number) => job_value(alloc, plan.class_name(class), number),
+        Actor::Pool(pool) => pool_name_value(alloc, plan.pool_name(pool)),
+    }
+}
+
+#[tactic(auto, unfolding(crate::specs::JsonEvents::client_data))]
+fn client_value(alloc: Global, kind: &str, number: usize) -> Result<Value, AllocError>
+    ensures { IfOk result (λ value. view value ≡ spec.client_data kind.now number) }
+{
+    json!(in alloc; {"client": kind, "number": number})
+}
+
+#[tactic(auto, unfolding(crate::specs::JsonEvents::job_data))]
+fn job_value(alloc: Global, class: &str, number: usize) -> Result<Value, AllocError>
+    ensures { IfOk result (λ value. view value ≡ spec.job_data class.now number) }
+{
+    json!(in alloc; {"class": class, "job": number})
+}
+
+#[tactic(auto, unfolding(crate::specs::JsonEvents::pool_name_data))]
+fn pool_name_value(alloc: Global, name: &str) -> Result<Value, AllocError>
+    ensures { IfOk result (λ value. view value ≡ spec.pool_name_data name.now) }
+{
+    json!(in alloc; {"pool": name})
+}
+
+/// Creates the object of a pool after an event.
+#[tactic(auto, unfolding(crate::specs::JsonEvents::pool_state_data))]
+pub(crate) fn pool_state_value(
+    alloc: Global,
+    idle: u64,
+    name: &str,
+    queue: Value,
+    threads: u64,
+) -> Result<Value, AllocError>
+    ensures { IfOk result (λ value. (numbers : List ℕ) → view queue ≡ spec.numbers_data numbers
+        → view value ≡ spec.pool_state_data idle name.now numbers threads) }
+{
+    json!(in alloc; {"idle": idle, "name": name, "queue": queue, "threads": threads})
+}
+
+/// Returns the word for an outcome.
+pub(crate) fn outcome_word(outcome: Outcome) -> &'static str
+    ensures { result.now ≡ spec.outcome_word outcome }
+{
+    match outcome {
+        Outcome::Started(_) => "started",
+        Outcome::Queued(_) => "queued",
+        Outcome::Refused(_) => "refused",
+        Outcome::Worked(_) => "worked",
+        Outcome::Got(_) => "got",
+        Outcome::Looped => "looped",
+        Outcome::Finished(_) => "finished",
+        Outcome::Took(_) => "took",
+        Outcome::Retired => "retired",
+    }
+}
+
+/// Returns the job that was made, got or taken, or that ended.
+pub(crate) fn job_of(outcome: Outcome) -> Option<usize>
+    ensures { result ≡ spec.job_of outcome }
+{
+    match outcome {
+        Outcome::Started(job)
+        | Outcome::Queued(job)
+        | Outcome::Got(job)
+        | Outcome::Finished(job)
+        | Outcome::Took(job) => Some(job),
+        Outcome::Refused(_) | Outcome::Worked(_) | Outcome::Looped | Outcome::Retired => None,
+    }
+}

@@ -1,0 +1,201 @@
+//! The events of a witness as JSON. Equal steps that clients of one kind do one after another are
+//! one event.
+
+ghost use Rattle.std.specs.Prelude.{◌≡◌, ◌+◌, ◌==◌, ◌++◌, ◌∷◌, [], map, IfOk, OnOk};
+ghost use Rattle.serde_json.specs.View.{view};
+ghost use Rattle.report.specs.EventRuns as runs;
+ghost use Rattle.report.specs.EventsShown as shown;
+ghost use Rattle.report.specs.JsonEvents as spec;
+
+use crate::event_queues::queue_value;
+use crate::event_steps::{Actor, EventStep, PoolCounts};
+use crate::json_event_parts::{
+    EventParts, action_place, actor_value, event_value, job_of, outcome_word, pool_state_value,
+};
+use crate::json_values::optional_number;
+use diagnostics::PlanPlaces;
+use interleaving::Outcome;
+use job_bodies::Plan;
+use serde_json::Value;
+use std::alloc::{AllocError, Global};
+
+/// A run of equal steps so far: its first step, the number of its steps, and its last step.
+#[derive(Clone, Copy)]
+struct OpenRun {
+    first: EventStep,
+    times: usize,
+    last: EventStep,
+}
+
+/// Converts the steps, which are those of a plan from its start.
+pub(crate) fn events_value(
+    alloc: Global,
+    plan: &Plan,
+    places: &PlanPlaces,
+    steps: &[EventStep],
+) -> Result<Value, AllocError>
+    ensures { IfOk result (λ value. view value
+        ≡ spec.list_data (map (spec.run_data plan.now places.now) (runs.runs (shown.shown_from [] steps.now)))) }
+{
+    let mut values = Vec::new(alloc);
+    push_runs(&mut values, alloc, plan, places, steps)?;
+    Ok(Value::Array(values))
+}
+
+/// Appends the runs of the steps.
+fn push_runs(
+    values: &mut Vec<Value>,
+    alloc: Global,
+    plan: &Plan,
+    places: &PlanPlaces,
+    steps: &[EventStep],
+) -> Result<(), AllocError>
+    ensures { OnOk result (map view values.new.items
+        ≡ map view values.old.items ++ map (spec.run_data plan.now places.now) (runs.runs (shown.shown_from [] steps.now))) }
+{
+    if steps.is_empty() {
+        return Ok(());
+    }
+    let mut run = OpenRun {
+        first: steps[0],
+        times: 1,
+        last: steps[0],
+    };
+    let mut index = 1;
+    while index < steps.len() {
+        let next = steps[index];
+        if follows(run, next) {
+            run = OpenRun {
+                first: run.first,
+                times: run.times + 1,
+                last: next,
+            };
+        } else {
+            push_run(values, alloc, plan, places, run, &steps[..index])?;
+            run = OpenRun {
+                first: next,
+                times: 1,
+                last: next,
+            };
+        }
+        index += 1;
+    }
+    push_run(values, alloc, plan, places, run, steps)
+}
+
+/// Returns whether the step belongs to the run.
+fn follows(run: OpenRun, step: EventStep) -> bool
+    ensures { result ≡ runs.follows run.first run.times step }
+{
+    is_later_client(run.first.actor, run.times, step.actor)
+        && is_same_action(run.first.action, step.action)
+        && is_later_outcome(run.first.outcome, run.times, step.outcome)
+}
+
+fn is_later_client(first: Actor, times: usize, next: Actor) -> bool
+    ensures { result ≡ runs.is_later_client first times next }
+{
+    match (first, next) {
+        (Actor::Client(kind, number), Actor::Client(next_kind, next_number)) => {
+            next_kind == kind && is_sum(next_number, number, times)
+        }
+        _ => false,
+    }
+}
+
+fn is_same_action(first: Option<usize>, next: Option<usize>) -> bool
+    ensures { result ≡ runs.is_same_action first next }
+{
+    match (first, next) {
+        (None, None) => true,
+        (Some(first), Some(next)) => next == first,
+        _ => false,
+    }
+}
+
+fn is_later_outcome(first: Outcome, times: usize, next: Outcome) -> bool
+    ensures { result ≡ runs.is_later_outcome first times next }
+{
+    match (first, next) {
+        (Outcome::Started(job), Outcome::Started(next_job)) => is_sum(next_job, job, times),
+        (Outcome::Queued(job), Outcome::Queued(next_job)) => is_sum(next_job, job, times),
+        (Outcome::Worked(_), Outcome::Worked(_)) => true,
+        (Outcome::Looped, Outcome::Looped) => true,
+        _ => false,
+    }
+}
+
+/// Returns whether the sum of two numbers is this total.
+fn is_sum(total: usize, number: usize, times: usize) -> bool
+    ensures { result ≡ (total == number + times) }
+{
+    number <= total && total - number == times
+}
+
+/// Appends a run, after these steps, of which the last ones are the run.
+fn push_run(
+    values: &mut Vec<Value>,
+    alloc: Global,
+    plan: &Plan,
+    places: &PlanPlaces,
+    run: OpenRun,
+    steps: &[EventStep],
+) -> Result<(), AllocError>
+    ensures { OnOk result (map view values.new.items
+        ≡ map view values.old.items ++ spec.run_data plan.now places.now (shown.run_of run steps.now) ∷ []) }
+{
+    let value = run_value(alloc, plan, places, run, steps)?;
+    values.push(value)?;
+    Ok(())
+}
+
+fn run_value(
+    alloc: Global,
+    plan: &Plan,
+    places: &PlanPlaces,
+    run: OpenRun,
+    steps: &[EventStep],
+) -> Result<Value, AllocError>
+    ensures { IfOk result (λ value. view value
+        ≡ spec.run_data plan.now places.now (shown.run_of run steps.now)) }
+{
+    let place = action_place(places, run.first.actor, run.first.action);
+    let pool = pool_value(alloc, plan, run.last.pool, steps)?;
+    let actor = actor_value(alloc, plan, run.first.actor)?;
+    event_value(
+        alloc,
+        EventParts {
+            action: optional_number(run.first.action),
+            actor,
+            column: optional_number(place.map(|place| place.column)),
+            job: optional_number(job_of(run.first.outcome)),
+            line: optional_number(place.map(|place| place.line)),
+            pool,
+        },
+        outcome_word(run.first.outcome),
+        run.times,
+    )
+}
+
+/// Converts the pool of a step after these steps, of which it is the last.
+fn pool_value(
+    alloc: Global,
+    plan: &Plan,
+    pool: Option<PoolCounts>,
+    steps: &[EventStep],
+) -> Result<Value, AllocError>
+    ensures { IfOk result (λ value. view value
+        ≡ spec.pool_data plan.now pool (shown.queue_after steps.now pool)) }
+{
+    let Some(counts) = pool else {
+        return Ok(Value::Null);
+    };
+    let queue = queue_value(alloc, steps, counts.number)?;
+    pool_state_value(
+        alloc,
+        counts.idle,
+        plan.pool_name(counts.number),
+        queue,
+        counts.threads,
+    )
+}

@@ -1,0 +1,103 @@
+//! The members of a JSON answer about a plan.
+
+ghost use Rattle.std.specs.Prelude.{◌≡◌, IfOk};
+ghost use Rattle.serde_json.specs.View.{view};
+ghost use Rattle.report.specs.Json as spec;
+
+use crate::PlanFinding;
+use crate::json_answers::AnswerParts;
+use crate::json_plan::plan_value;
+use crate::json_pools::pools_value;
+use crate::json_sizes::sizes_value;
+use crate::json_warnings::warnings_value;
+use crate::json_witness::witness_value;
+use diagnostics::{PlanPlaces, Warning};
+use job_bodies::Plan;
+use serde_json::{Value, json};
+use std::alloc::{AllocError, Global};
+
+/// Creates the members of an answer about a plan that was read from this text.
+pub(crate) fn finding_parts(
+    alloc: Global,
+    text: &[u8],
+    places: &PlanPlaces,
+    plan: &Plan,
+    finding: &PlanFinding,
+    warnings: &[Warning],
+) -> Result<AnswerParts, AllocError>
+    ensures { IfOk result (λ parts. spec.parts_of parts
+        ≡ spec.finding_parts text.now places.now plan.now finding.now warnings.now) }
+{
+    Ok(AnswerParts {
+        assumptions: assumptions_value(alloc, finding)?,
+        faults: Value::Array(Vec::new(alloc)),
+        plan: plan_value(alloc, text, places, plan)?,
+        pools: pools_of(alloc, plan, finding)?,
+        sizes: sizes_of(alloc, places, plan, finding)?,
+        warnings: warnings_value(alloc, warnings)?,
+        witness: witness_of(alloc, places, plan, finding)?,
+    })
+}
+
+/// Returns what the answer rests on, besides the plan: texts for SAFE, and otherwise none.
+fn assumptions_value(alloc: Global, finding: &PlanFinding) -> Result<Value, AllocError>
+    ensures { IfOk result (λ value. view value ≡ spec.assumptions_data finding.now) }
+{
+    match finding {
+        PlanFinding::Safe(_) => safe_assumptions(alloc),
+        PlanFinding::NotSafe(_, _) | PlanFinding::NotDecided(_) => {
+            Ok(Value::Array(Vec::new(alloc)))
+        }
+    }
+}
+
+#[tactic(auto, unfolding(crate::specs::Json::safe_assumptions))]
+fn safe_assumptions(alloc: Global) -> Result<Value, AllocError>
+    ensures { IfOk result (λ value. view value ≡ spec.safe_assumptions) }
+{
+    json!(in alloc; [
+        "The service does what the plan says: these pools, these submitters, these bodies. A job may skip any submit together with its get. `sizing conform` compares a recorded test run with the plan.",
+        "The executors have the sizes of the plan. `PlanCheck` compares them when the service starts.",
+        "Each `work` of a job returns, whatever other jobs and clients do.",
+        "No timed get expires, no future is cancelled, and no exception leaves a body with an open future, except with permits."
+    ])
+}
+
+fn pools_of(alloc: Global, plan: &Plan, finding: &PlanFinding) -> Result<Value, AllocError>
+    ensures { IfOk result (λ value. view value ≡ spec.pools_of plan.now finding.now) }
+{
+    match finding {
+        PlanFinding::Safe(cert) => pools_value(alloc, plan, &cert.pools),
+        PlanFinding::NotSafe(_, _) | PlanFinding::NotDecided(_) => pools_value(alloc, plan, &[]),
+    }
+}
+
+fn sizes_of(
+    alloc: Global,
+    places: &PlanPlaces,
+    plan: &Plan,
+    finding: &PlanFinding,
+) -> Result<Value, AllocError>
+    ensures { IfOk result (λ value. view value ≡ spec.sizes_of places.now plan.now finding.now) }
+{
+    match finding {
+        PlanFinding::Safe(_) => Ok(Value::Null),
+        PlanFinding::NotSafe(_, sizes) | PlanFinding::NotDecided(sizes) => {
+            sizes_value(alloc, places, plan, sizes)
+        }
+    }
+}
+
+fn witness_of(
+    alloc: Global,
+    places: &PlanPlaces,
+    plan: &Plan,
+    finding: &PlanFinding,
+) -> Result<Value, AllocError>
+    ensures { IfOk result (λ value. view value ≡ spec.witness_of places.now plan.now finding.now) }
+{
+    match finding {
+        PlanFinding::NotSafe(witness, _) => witness_value(alloc, plan, places, witness),
+        PlanFinding::Safe(_) | PlanFinding::NotDecided(_) => Ok(Value::Null),
+    }
+}

@@ -1,0 +1,73 @@
+//! The places of a plan's entries as JSON.
+
+ghost use Rattle.std.specs.Prelude.{◌≡◌};
+ghost use Rattle.serde_json.specs.View.{view};
+ghost use Rattle.report.specs.JsonPlaces as spec;
+
+use diagnostics::{BodyPlaces, PoolPlaces};
+use plan_text::TextPlace;
+use serde_json::Value;
+
+/// Converts the line of a place. The value is null if the place is not known.
+pub(crate) fn line_value(place: Option<TextPlace>) -> Value
+    ensures { view result ≡ spec.line_data place }
+{
+    match place {
+        Some(place) => Value::from(place.line),
+        None => Value::Null,
+    }
+}
+
+/// Converts the column of a place. The value is null if the place is not known.
+pub(crate) fn column_value(place: Option<TextPlace>) -> Value
+    ensures { view result ≡ spec.column_data place }
+{
+    match place {
+        Some(place) => Value::from(place.column),
+        None => Value::Null,
+    }
+}
+
+/// Returns the places of the pool with this number.
+pub(crate) fn pool_places_at(pools: &[PoolPlaces], pool: usize) -> PoolPlaces
+    ensures { result ≡ spec.pool_places_at pools.now pool }
+{
+    match pools.get(pool) {
+        Some(places) => *places,
+        None => PoolPlaces {
+            name: None,
+            core: None,
+            max: None,
+            queue: None,
+        },
+    }
+}
+
+/// Returns the place of the name of the class or client kind at this index.
+pub(crate) fn name_place(bodies: &[BodyPlaces], index: usize) -> Option<TextPlace>
+    ensures { result ≡ spec.name_place bodies.now index }
+{
+    match bodies.get(index) {
+        Some(body) => body.name,
+        None => None,
+    }
+}
+
+/// Returns the place of an action of the class or client kind at this index.
+pub(crate) fn action_place(bodies: &[BodyPlaces], index: usize, action: usize) -> Option<TextPlace>
+    ensures { result ≡ spec.action_place bodies.now index action }
+{
+    match bodies.get(index) {
+        Some(body) => place_at(&body.actions, action),
+        None => None,
+    }
+}
+
+fn place_at(actions: &[Option<TextPlace>], action: usize) -> Option<TextPlace>
+    ensures { result ≡ spec.listed_place actions.now action }
+{
+    match actions.get(action) {
+        Some(place) => *place,
+        None => None,
+    }
+}

@@ -1,0 +1,44 @@
+//! Numbers as JSON.
+
+ghost use Rattle.std.specs.Prelude.{◌≡◌, IfOk, map};
+ghost use Rattle.serde_json.specs.View.{view};
+ghost use Rattle.report.specs.JsonEvents as spec;
+
+use serde_json::Value;
+use std::alloc::{AllocError, Global};
+
+/// Converts a number, or `None` to null.
+pub(crate) fn optional_number(number: Option<usize>) -> Value
+    ensures { view result ≡ spec.optional_number number }
+{
+    match number {
+        Some(number) => Value::from(number),
+        None => Value::Null,
+    }
+}
+
+/// Creates a list of these values.
+pub(crate) fn array_value(values: Vec<Value>) -> Value
+    ensures { view result ≡ spec.list_data (map view values.items) }
+{
+    Value::Array(values)
+}
+
+/// Converts a list of numbers.
+pub(crate) fn numbers_value(alloc: Global, numbers: &[usize]) -> Result<Value, AllocError>
+    ensures { IfOk result (λ value. view value ≡ spec.numbers_data numbers.now) }
+{
+    let values = number_values(alloc, numbers)?;
+    Ok(Value::Array(values))
+}
+
+fn number_values(alloc: Global, mut numbers: &[usize]) -> Result<Vec<Value>, AllocError>
+    ensures { IfOk result (λ values. map view values.items ≡ map spec.number_data numbers.entry.now) }
+{
+    let mut values = Vec::with_capacity(alloc, numbers.len())?;
+    while let Some((number, rest)) = numbers.split_first() {
+        values.push(Value::from(*number))?;
+        numbers = rest;
+    }
+    Ok(values)
+}

@@ -1,0 +1,71 @@
+//! The answer of `ask` as a page for a browser, which shows the JSON answer.
+
+ghost use Rattle.std.specs.Prelude.{IfOk, string_bytes};
+ghost use Rattle.report.specs.Page as spec;
+
+use crate::{PlanFinding, fault_json, faults_json, finding_json};
+use diagnostics::{Faults, PlanPlaces, Warning};
+use job_bodies::Plan;
+use report_page::page_of;
+use std::alloc::{AllocError, Global};
+
+/// Returns the page of the finding about a plan, with these warnings. `file` is the name of the
+/// plan's file, `text` its content, and `places` has the places of the plan's entries in it.
+///
+/// # Errors
+///
+/// [`AllocError`] if memory runs out.
+pub fn finding_html(
+    alloc: Global,
+    file: &str,
+    text: &[u8],
+    places: &PlanPlaces,
+    plan: &Plan,
+    finding: &PlanFinding,
+    warnings: &[Warning],
+) -> Result<String, AllocError>
+    ensures { IfOk result (λ page. spec.TellsFinding
+        file.now text.now places.now plan.now finding.now warnings.now (string_bytes page)) }
+{
+    let line = finding_json(alloc, file, text, places, plan, finding, warnings)?;
+    page_of(alloc, &line)
+}
+
+/// Returns the page of the faults of a plan's text. `file` is the name of the plan's file, and
+/// `text` its content.
+///
+/// # Errors
+///
+/// [`AllocError`] if memory runs out.
+pub fn faults_html(
+    alloc: Global,
+    file: &str,
+    text: &[u8],
+    faults: &Faults,
+) -> Result<String, AllocError>
+    ensures { IfOk result
+        (λ page. spec.TellsFaults file.now text.now faults.now (string_bytes page)) }
+{
+    let line = faults_json(alloc, file, text, faults)?;
+    page_of(alloc, &line)
+}
+
+/// Returns the page of one fault with this message, which has no place in the plan's text. `file`
+/// is the name of the plan's file, and `text` its content.
+///
+/// # Errors
+///
+/// [`AllocError`] if memory runs out.
+pub fn fault_html(
+    alloc: Global,
+    file: &str,
+    text: &[u8],
+    number: u8,
+    words: &str,
+) -> Result<String, AllocError>
+    ensures { IfOk result
+        (λ page. spec.TellsFault file.now text.now number words.now (string_bytes page)) }
+{
+    let line = fault_json(alloc, file, text, number, words)?;
+    page_of(alloc, &line)
+}

@@ -1,0 +1,270 @@
+//! The answer of `ask` as a SARIF 2.1.0 log, which code scanning tools read.
+
+ghost use Rattle.std.specs.Prelude.{◌≡◌, IfOk, OnOk, map, string_bytes};
+ghost use Rattle.serde_json.specs.View.{view};
+ghost use Rattle.report.specs.Annotations.{remarks_in, remark_of};
+ghost use Rattle.report.specs.Json.{IsLineOf};
+ghost use Rattle.report.specs.Remarks.{fault_remarks, single_fault};
+ghost use Rattle.report.specs.Sarif as spec;
+
+use crate::PlanFinding;
+use crate::annotation::{Annotation, Rule, rule_name};
+use crate::annotations::{annotations_of, fault_annotations, single_fault};
+use crate::version::VERSION;
+use diagnostics::{Faults, PlanPlaces, Warning};
+use job_bodies::Plan;
+use plan_text::TextPlace;
+use serde_json::{Value, json};
+use std::alloc::{AllocError, Global};
+
+/// Returns the log with the finding about a plan, with these warnings, on one line. `file` is the
+/// name of the plan's file.
+///
+/// # Errors
+///
+/// [`AllocError`] if memory runs out.
+pub fn finding_sarif(
+    alloc: Global,
+    file: &str,
+    places: &PlanPlaces,
+    plan: &Plan,
+    finding: &PlanFinding,
+    warnings: &[Warning],
+) -> Result<String, AllocError>
+    ensures { IfOk result (λ text. spec.TellsFinding
+        file.now places.now plan.now finding.now warnings.now (string_bytes text)) }
+{
+    let annotations = annotations_of(alloc, places, plan, finding, warnings)?;
+    log_of(alloc, file, &annotations)
+}
+
+/// Returns the log with the faults of a plan's text, on one line. `file` is the name of the plan's
+/// file.
+///
+/// # Errors
+///
+/// [`AllocError`] if memory runs out.
+pub fn faults_sarif(alloc: Global, file: &str, faults: &Faults) -> Result<String, AllocError>
+    ensures { IfOk result (λ text.
+        IsLineOf (spec.sarif_data file.now (fault_remarks faults.now)) (string_bytes text)) }
+{
+    let annotations = fault_annotations(alloc, faults)?;
+    log_of(alloc, file, &annotations)
+}
+
+/// Returns the log with one fault with this message, which has no place in the plan's text, on one
+/// line.
+///
+/// # Errors
+///
+/// [`AllocError`] if memory runs out.
+pub fn fault_sarif(alloc: Global, file: &str, number: u8, words: &str) -> Result<String, AllocError>
+    ensures { IfOk result (λ text.
+        IsLineOf (spec.sarif_data file.now (single_fault number words.now)) (string_bytes text)) }
+{
+    let annotations = single_fault(alloc, number, words)?;
+    log_of(alloc, file, &annotations)
+}
+
+fn log_of(alloc: Global, file: &str, annotations: &[Annotation]) -> Result<String, AllocError>
+    ensures { IfOk result (λ text.
+        IsLineOf (spec.sarif_data file.now (remarks_in annotations.now)) (string_bytes text)) }
+{
+    let value = sarif_value(alloc, file, annotations)?;
+    line_of(alloc, &value)
+}
+
+/// Returns the text of the value, followed by a newline.
+fn line_of(alloc: Global, value: &Value) -> Result<String, AllocError>
+    ensures { IfOk result (λ text. IsLineOf (view value.now) (string_bytes text)) }
+{
+    let mut text = value.to_string(alloc)?;
+    text.push('\n')?;
+    Ok(text)
+}
+
+/// Creates the log of these annotations of a file.
+fn sarif_value(alloc: Global, file: &str, annotations: &[Annotation]) -> Result<Value, AllocError>
+    ensures { IfOk result
+        (λ value. view value ≡ spec.sarif_data file.now (remarks_in annotations.now)) }
+{
+    let results = results_value(alloc, file, annotations)?;
+    let rules = rules_value(alloc, annotations)?;
+    let driver = driver_value(alloc, rules)?;
+    log_value(alloc, results, driver)
+}
+
+#[tactic(auto, unfolding(crate::specs::Sarif::log_data))]
+fn log_value(alloc: Global, results: Value, driver: Value) -> Result<Value, AllocError>
+    ensures { IfOk result (λ value. view value ≡ spec.log_data (view results) (view driver)) }
+{
+    json!(in alloc; {
+        "$schema": "https://json.schemastore.org/sarif-2.1.0.json",
+        "runs": [{"results": results, "tool": {"driver": driver}}],
+        "version": "2.1.0"
+    })
+}
+
+#[tactic(auto, unfolding(crate::specs::Sarif::driver_data))]
+fn driver_value(alloc: Global, rules: Value) -> Result<Value, AllocError>
+    ensures { IfOk result (λ value. view value ≡ spec.driver_data (view rules)) }
+{
+    json!(in alloc; {"name": "sizing", "rules": rules, "version": VERSION})
+}
+
+// ---- results
+
+fn results_value(alloc: Global, file: &str, annotations: &[Annotation]) -> Result<Value, AllocError>
+    ensures { IfOk result
+        (λ value. view value ≡ spec.results_data file.now (remarks_in annotations.now)) }
+{
+    let mut values = Vec::with_capacity(alloc, annotations.len())?;
+    for annotation in annotations {
+        values.push(result_value(alloc, file, annotation)?)?;
+    }
+    Ok(Value::Array(values))
+}
+
+#[tactic(auto, unfolding(crate::specs::Sarif::result_data))]
+fn result_value(alloc: Global, file: &str, annotation: &Annotation) -> Result<Value, AllocError>
+    ensures { IfOk result
+        (λ value. view value ≡ spec.result_data file.now (remark_of annotation.now)) }
+{
+    let name = rule_name(alloc, annotation.rule)?;
+    let level = level_word(annotation.rule);
+    let location = location_value(alloc, file, annotation.place)?;
+    let message = message_value(alloc, &annotation.message)?;
+    json!(in alloc; {"level": level, "locations": [location], "message": message, "ruleId": &name})
+}
+
+#[tactic(auto, unfolding(crate::specs::Sarif::message_data))]
+fn message_value(alloc: Global, text: &str) -> Result<Value, AllocError>
+    ensures { IfOk result (λ value. view value ≡ spec.message_data text.now) }
+{
+    json!(in alloc; {"text": text})
+}
+
+fn level_word(rule: Rule) -> &'static str
+    ensures { result.now ≡ spec.level_word rule }
+{
+    match rule {
+        Rule::Fault(_) | Rule::NotSafe => "error",
+        Rule::Warning(_) | Rule::NotDecided => "warning",
+        Rule::Safe => "note",
+    }
+}
+
+#[tactic(auto, unfolding(crate::specs::Sarif::location_data))]
+fn location_value(alloc: Global, file: &str, place: Option<TextPlace>) -> Result<Value, AllocError>
+    ensures { IfOk result (λ value. view value ≡ spec.location_data file.now place) }
+{
+    let physical = physical_value(alloc, file, place)?;
+    json!(in alloc; {"physicalLocation": physical})
+}
+
+/// Converts the file, and the place in it if it is known.
+fn physical_value(alloc: Global, file: &str, place: Option<TextPlace>) -> Result<Value, AllocError>
+    ensures { IfOk result (λ value. view value ≡ spec.physical_data file.now place) }
+{
+    let file = file_value(alloc, file)?;
+    match place {
+        Some(place) => part_of_file(alloc, file, place),
+        None => whole_file(alloc, file),
+    }
+}
+
+#[tactic(auto, unfolding(crate::specs::Sarif::file_data))]
+fn file_value(alloc: Global, file: &str) -> Result<Value, AllocError>
+    ensures { IfOk result (λ value. view value ≡ spec.file_data file.now) }
+{
+    json!(in alloc; {"uri": file})
+}
+
+#[tactic(auto, unfolding(crate::specs::Sarif::whole_file))]
+fn whole_file(alloc: Global, file: Value) -> Result<Value, AllocError>
+    ensures { IfOk result (λ value. view value ≡ spec.whole_file (view file)) }
+{
+    json!(in alloc; {"artifactLocation": file})
+}
+
+#[tactic(auto, unfolding(crate::specs::Sarif::part_of_file, crate::specs::Sarif::region_data))]
+fn part_of_file(alloc: Global, file: Value, place: TextPlace) -> Result<Value, AllocError>
+    ensures { IfOk result (λ value. view value ≡ spec.part_of_file (view file) place) }
+{
+    let region = region_value(alloc, place)?;
+    json!(in alloc; {"artifactLocation": file, "region": region})
+}
+
+#[tactic(auto, unfolding(crate::specs::Sarif::region_data))]
+fn region_value(alloc: Global, place: TextPlace) -> Result<Value, AllocError>
+    ensures { IfOk result (λ value. view value ≡ spec.region_data place) }
+{
+    let line = place.line;
+    let column = place.column;
+    json!(in alloc; {"startColumn": column, "startLine": line})
+}
+
+// ---- rules
+
+/// Converts the rules of the annotations, each once.
+fn rules_value(alloc: Global, annotations: &[Annotation]) -> Result<Value, AllocError>
+    ensures { IfOk result (λ value. view value ≡ spec.rules_data (remarks_in annotations.now)) }
+{
+    let names = rule_names(alloc, annotations)?;
+    names_value(alloc, &names)
+}
+
+fn names_value(alloc: Global, names: &[String]) -> Result<Value, AllocError>
+    ensures { IfOk result
+        (λ value. view value ≡ spec.names_data (map string_bytes names.now)) }
+{
+    let mut values = Vec::with_capacity(alloc, names.len())?;
+    for name in names {
+        values.push(rule_value(alloc, name)?)?;
+    }
+    Ok(Value::Array(values))
+}
+
+#[tactic(auto, unfolding(crate::specs::Sarif::rule_data))]
+fn rule_value(alloc: Global, name: &str) -> Result<Value, AllocError>
+    ensures { IfOk result (λ value. view value ≡ spec.rule_data name.now) }
+{
+    json!(in alloc; {"id": name})
+}
+
+/// Returns the names of the rules, each once, in the order in which they occur.
+fn rule_names(alloc: Global, mut annotations: &[Annotation]) -> Result<Vec<String>, AllocError>
+    ensures { IfOk result
+        (λ names. map string_bytes names.items ≡ spec.rule_names (remarks_in annotations.now)) }
+{
+    let mut names = Vec::new(alloc);
+    while let Some((annotation, rest)) = annotations.split_first() {
+        push_new(&mut names, rule_name(alloc, annotation.rule)?)?;
+        annotations = rest;
+    }
+    Ok(names)
+}
+
+/// Appends the name unless the list has it.
+fn push_new(names: &mut Vec<String>, name: String) -> Result<(), AllocError>
+    ensures { OnOk result
+        (map string_bytes names.new.items ≡ spec.with_name (map string_bytes names.old.items) (string_bytes name)) }
+{
+    if has_name(names, &name) {
+        return Ok(());
+    }
+    names.push(name)?;
+    Ok(())
+}
+
+fn has_name(mut names: &[String], name: &str) -> bool
+    ensures { result ≡ spec.has_name (map string_bytes names.now) name.now }
+{
+    while let Some((each, rest)) = names.split_first() {
+        if each.as_str() == name {
+            return true;
+        }
+        names = rest;
+    }
+    false
+}

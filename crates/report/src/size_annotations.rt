@@ -1,0 +1,176 @@
+//! The annotations for the sizes to change, or for the cause why there are none.
+
+ghost use Rattle.std.specs.Prelude.{◌≡◌, IfOk, option_map, string_bytes};
+ghost use Rattle.report.specs.Annotations.{Adds};
+ghost use Rattle.report.specs.Remarks as spec;
+
+use crate::annotation::{Annotation, Rule};
+use crate::annotations::push;
+use crate::cause_lines::push_cause_words;
+use crate::json_places::{action_place, name_place, pool_places_at};
+use diagnostics::{PlanPlaces, PoolPlaces};
+use job_bodies::{Plan, Pool};
+use plan_text::TextPlace;
+use size_search::{Cause, NoSizes, SizesFound};
+use std::alloc::{AllocError, Global};
+
+/// Appends an annotation for each size to change, or one for the cause why there are no sizes.
+pub(crate) fn push_sizes_found(
+    alloc: Global,
+    found: &mut Vec<Annotation>,
+    rule: Rule,
+    places: &PlanPlaces,
+    plan: &Plan,
+    sizes: &SizesFound,
+) -> Result<(), AllocError>
+    ensures { Adds result found.old.items found.new.items
+        (spec.sizes_remarks rule places.now plan.now sizes.now) }
+{
+    match sizes {
+        SizesFound::Found { plan: fit, .. } => {
+            push_changes(alloc, found, rule, places, plan, fit.pools())
+        }
+        SizesFound::NotFound(cause) => push_cause(alloc, found, rule, places, plan, *cause),
+    }
+}
+
+// ---- sizes to change
+
+fn push_changes(
+    alloc: Global,
+    found: &mut Vec<Annotation>,
+    rule: Rule,
+    places: &PlanPlaces,
+    plan: &Plan,
+    fitted: &[Pool],
+) -> Result<(), AllocError>
+    ensures { Adds result found.old.items found.new.items
+        (spec.changes_remarks rule places.now plan.now fitted.now) }
+{
+    for (number, fit) in fitted.iter().enumerate() {
+        push_fitted(alloc, found, rule, places, plan, number, fit)?;
+    }
+    Ok(())
+}
+
+fn push_fitted(
+    alloc: Global,
+    found: &mut Vec<Annotation>,
+    rule: Rule,
+    places: &PlanPlaces,
+    plan: &Plan,
+    number: usize,
+    fit: &Pool,
+) -> Result<(), AllocError>
+    ensures { Adds result found.old.items found.new.items
+        (spec.fitted_remarks rule places.now plan.now (number, fit.now)) }
+{
+    let places = pool_places_at(&places.pools, number);
+    push_declared(alloc, found, rule, places, plan.pools().get(number), fit)
+}
+
+fn push_declared(
+    alloc: Global,
+    found: &mut Vec<Annotation>,
+    rule: Rule,
+    places: PoolPlaces,
+    declared: Option<&Pool>,
+    fit: &Pool,
+) -> Result<(), AllocError>
+    ensures { Adds result found.old.items found.new.items (spec.declared_remarks
+        rule places (option_map (λ declared. declared.now) declared.entry) fit.now) }
+{
+    match declared {
+        Some(declared) => push_pool(alloc, found, rule, places, declared, fit),
+        None => Ok(()),
+    }
+}
+
+fn push_pool(
+    alloc: Global,
+    found: &mut Vec<Annotation>,
+    rule: Rule,
+    places: PoolPlaces,
+    declared: &Pool,
+    fit: &Pool,
+) -> Result<(), AllocError>
+    ensures { Adds result found.old.items found.new.items
+        (spec.pool_remarks rule places declared.now fit.now) }
+{
+    let pool = declared.name.as_str();
+    let core = (declared.core, fit.core);
+    push_change(alloc, found, rule, places.core, pool, "core", core)?;
+    let max = (declared.max, fit.max);
+    push_change(alloc, found, rule, places.max, pool, "max", max)?;
+    let queue = (declared.queue, fit.queue);
+    push_change(alloc, found, rule, places.queue, pool, "queue", queue)
+}
+
+/// Appends an annotation for a size, which is declared as `size.0` and fitted as `size.1`, if it
+/// changes.
+fn push_change(
+    alloc: Global,
+    found: &mut Vec<Annotation>,
+    rule: Rule,
+    place: Option<TextPlace>,
+    pool: &str,
+    key: &str,
+    size: (u64, u64),
+) -> Result<(), AllocError>
+    ensures { Adds result found.old.items found.new.items
+        (spec.change_remarks rule place pool.now key.now size) }
+{
+    if size.0 == size.1 {
+        return Ok(());
+    }
+    let words = change_words(alloc, pool, key, size)?;
+    push(alloc, found, rule, &words, place)
+}
+
+fn change_words(
+    alloc: Global,
+    pool: &str,
+    key: &str,
+    size: (u64, u64),
+) -> Result<String, AllocError>
+    ensures { IfOk result
+        (λ words. string_bytes words ≡ spec.change_words pool.now key.now size.0 size.1) }
+{
+    let declared = size.0;
+    let fit = size.1;
+    format!(in alloc; "pool {pool}: {key} {declared} -> {fit}")
+}
+
+// ---- the cause
+
+fn push_cause(
+    alloc: Global,
+    found: &mut Vec<Annotation>,
+    rule: Rule,
+    places: &PlanPlaces,
+    plan: &Plan,
+    cause: NoSizes,
+) -> Result<(), AllocError>
+    ensures { Adds result found.old.items found.new.items
+        (spec.cause_remarks rule places.now plan.now cause) }
+{
+    let mut words = String::new(alloc);
+    push_cause_words(&mut words, plan, cause)?;
+    push(alloc, found, rule, &words, cause_place(places, cause))
+}
+
+/// Returns the place of the class, the action or the pool that the cause names.
+fn cause_place(places: &PlanPlaces, cause: NoSizes) -> Option<TextPlace>
+    ensures { result ≡ spec.cause_place places.now cause }
+{
+    match cause {
+        NoSizes::Cause(Cause::Circle(class)) => name_place(&places.classes, class),
+        NoSizes::Cause(Cause::ClientNeverGets(client, action)) => {
+            action_place(&places.clients, client, action)
+        }
+        NoSizes::Cause(Cause::ClassNeverGets(class, action)) => {
+            action_place(&places.classes, class, action)
+        }
+        NoSizes::TooLarge(pool) => pool_places_at(&places.pools, pool).name,
+    }
+}

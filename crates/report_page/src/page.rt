@@ -1,0 +1,52 @@
+//! The page of an answer: the template with the answer's JSON text in the place of its mark.
+
+ghost use Rattle.std.specs.Prelude.{◌≡◌, ◌++◌, IfOk, string_bytes};
+ghost use Rattle.support.specs.Pushed.{Pushes};
+ghost use Rattle.report_page.specs.Page as spec;
+
+use crate::page_template::{AFTER, BEFORE};
+use std::alloc::{AllocError, Global};
+
+/// Returns the page of an answer, from its JSON text on one line.
+///
+/// # Errors
+///
+/// [`AllocError`] if memory runs out.
+pub fn page_of(alloc: Global, json: &str) -> Result<String, AllocError>
+    ensures { IfOk result (λ page. string_bytes page ≡ spec.page_of json.now) }
+{
+    page_between(alloc, BEFORE, json, AFTER)
+}
+
+/// Returns the JSON text, as it is written in a script element, between these texts.
+fn page_between(alloc: Global, before: &str, json: &str, after: &str) -> Result<String, AllocError>
+    ensures { IfOk result (λ page.
+        string_bytes page ≡ (before.now ++ spec.script_text json.now) ++ after.now) }
+{
+    let mut page = String::from_str(alloc, before)?;
+    push_script_text(&mut page, json)?;
+    page.push_str(after)?;
+    Ok(page)
+}
+
+/// Appends a JSON text as it is written in a script element.
+fn push_script_text(page: &mut String, json: &str) -> Result<(), AllocError>
+    ensures { Pushes result page.old page.new (spec.script_text json.now) }
+{
+    for c in json.chars() {
+        push_script_char(page, c)?;
+    }
+    Ok(())
+}
+
+/// Appends a character as it is written in a script element: `<` as an escape, so that no tag begins
+/// in the text, and no newline. A JSON text has a newline only at its end.
+fn push_script_char(page: &mut String, c: char) -> Result<(), AllocError>
+    ensures { Pushes result page.old page.new (spec.script_char c) }
+{
+    match c {
+        '<' => page.push_str("\\u003c"),
+        '\n' => Ok(()),
+        _ => page.push(c),
+    }
+}

@@ -1,5 +1,0 @@
-use Rattle.std.proofs.Common.{rules, refl}
-use Rattle.sizing_cli.proofs.ask_faults.faults_lines.Goals as goal
-
-pub returns : goal.returns
-returns c = record { file = c.args.file.now; faults = c.args.faults.now; is_first = refl; text_is = search rules }

@@ -1,0 +1,184 @@
+//! The reading of the texts that the arguments name.
+
+ghost use Rattle.std.specs.Prelude.{◌≡◌, ◌+◌, IfOk, IfErr, IfSome, None, Some, false, option_map, take};
+ghost use Rattle.command_line.specs.Command.{files_of_cli};
+ghost use Rattle.command_line.specs.declared.command.Command.{Command as CommandValue};
+ghost use Rattle.support.specs.declared.number.TheConstants.{READ_FAILED};
+ghost use Rattle.sizing_cli.specs.Bundle.{bundle_of};
+ghost use Rattle.sizing_cli.specs.Texts as spec;
+ghost use Rattle.sizing_cli.specs.CliError.{IsBundled, IsOfBundle, IsOfFile, IsOfReading, IsOfTexts, count_in, is_of_sink};
+
+use crate::bundle::bundle_of;
+use crate::fault::CliError;
+use crate::join::join_texts;
+use crate::text_files::TextFiles;
+use crate::{ServeFault, most_bytes};
+use byte_streams::{InputError, Source, read_up_to};
+use command_line::{Cli, Command};
+use std::alloc::{AllocError, Global};
+
+/// The file name that means standard input.
+pub(crate) const STANDARD_INPUT: &str = "-";
+
+/// The name in messages of a plan that is not read from a file.
+pub(crate) const NO_FILE: &str = "<stdin>";
+
+/// Reads the input of the command: one text, or two that are joined.
+pub(crate) fn read_texts<'a, F: TextFiles, S: Source>(
+    alloc: Global,
+    cli: Cli<'a>,
+    files: &F,
+    input: &mut S,
+) -> Result<Vec<u8>, CliError<'a>>
+    ensures text { IfOk result (λ text.
+        IfSome
+        (spec.input_named cli.entry.command (F.content files.now) (S.remaining input.old) (files_of_cli cli.entry))
+        (λ known. spec.IsReadOf cli.entry.command text.items known)) }
+    ensures alone { IfOk result (λ _.
+        spec.AreAlone cli.entry.command (F.content files.now) (S.remaining input.old) (files_of_cli cli.entry)) }
+    ensures bundled { IfErr result
+        (IsBundled cli.entry.command (F.content files.now) (S.remaining input.old) (files_of_cli cli.entry)) }
+    ensures fault { IfErr result (IsOfTexts cli.entry.command (files_of_cli cli.entry)) }
+    ensures before { IfErr result (λ fault. is_of_sink fault ≡ false) }
+    ensures read_failed { S.failures input.new ≡ S.failures input.old + count_in READ_FAILED result }
+{
+    match cli.second {
+        Some(second) => read_both(alloc, cli.command, files, input, cli.first, second),
+        None => match file_named(cli.first) {
+            Some(name) => read_file(alloc, cli.command, files, name),
+            None => read_input(alloc, cli.command, input),
+        },
+    }
+}
+
+/// Reads the two texts of the command and joins them. Neither may be a bundle itself, so the joined
+/// text splits into the same two again.
+fn read_both<'a, F: TextFiles, S: Source>(
+    alloc: Global,
+    command: Command,
+    files: &F,
+    input: &mut S,
+    first: Option<&'a str>,
+    second: &'a str,
+) -> Result<Vec<u8>, CliError<'a>>
+    ensures text { IfOk result (λ text.
+        IfSome
+        (spec.input_named command (F.content files.now) (S.remaining input.old) (option_map (λ name. name.now) first.entry, Some second.now))
+        (λ known. text.items ≡ known)) }
+    ensures alone { IfOk result (λ _.
+        spec.AreAlone command (F.content files.now) (S.remaining input.old) (option_map (λ name. name.now) first.entry, Some second.now)) }
+    ensures bundled { IfErr result
+        (IsBundled command (F.content files.now) (S.remaining input.old) (option_map (λ name. name.now) first.entry, Some second.now)) }
+    ensures fault { IfErr result (λ fault. (any : CommandValue) → IsOfTexts any (option_map (λ name. name.now) first.entry, Some second.now) fault) }
+    ensures before { IfErr result (λ fault. is_of_sink fault ≡ false) }
+    ensures read_failed { S.failures input.new ≡ S.failures input.old + count_in READ_FAILED result }
+{
+    let (plan, behind) = read_pair(alloc, command, files, input, first, second)?;
+    ensure_alone(first, &plan)?;
+    ensure_alone(Some(second), &behind)?;
+    Ok(join_texts(plan, &behind)?)
+}
+
+/// Reads the two texts of the command.
+fn read_pair<'a, F: TextFiles, S: Source>(
+    alloc: Global,
+    command: Command,
+    files: &F,
+    input: &mut S,
+    first: Option<&'a str>,
+    second: &'a str,
+) -> Result<(Vec<u8>, Vec<u8>), CliError<'a>>
+    ensures plan { IfOk result (λ pair.
+        IfSome
+        (spec.text_named (F.content files.now) (S.remaining input.old) (option_map (λ name. name.now) first.entry))
+        (λ known. pair.0.items ≡ spec.read_part command known)) }
+    ensures behind { IfOk result (λ pair.
+        IfSome
+        (spec.text_named (F.content files.now) (S.remaining input.old) (Some second.now))
+        (λ known. pair.1.items ≡ spec.read_part command known)) }
+    ensures bundled { IfErr result
+        (IsBundled command (F.content files.now) (S.remaining input.old) (option_map (λ name. name.now) first.entry, Some second.now)) }
+    ensures fault { IfErr result (λ fault. (any : CommandValue) → IsOfTexts any (option_map (λ name. name.now) first.entry, Some second.now) fault) }
+    ensures before { IfErr result (λ fault. is_of_sink fault ≡ false) }
+    ensures read_failed { S.failures input.new ≡ S.failures input.old + count_in READ_FAILED result }
+{
+    match (file_named(first), file_named(Some(second))) {
+        (None, None) => Err(CliError::InputTwice),
+        (Some(first), Some(second)) => {
+            let plan = read_file(alloc, command, files, first)?;
+            Ok((plan, read_file(alloc, command, files, second)?))
+        }
+        (Some(first), None) => {
+            let plan = read_file(alloc, command, files, first)?;
+            Ok((plan, read_input(alloc, command, input)?))
+        }
+        (None, Some(second)) => {
+            let plan = read_input(alloc, command, input)?;
+            Ok((plan, read_file(alloc, command, files, second)?))
+        }
+    }
+}
+
+/// Returns an error if the text of this name, one of two, is a bundle itself.
+fn ensure_alone<'a>(name: Option<&'a str>, text: &[u8]) -> Result<(), CliError<'a>>
+    ensures alone { IfOk result (λ _. bundle_of text.now ≡ None) }
+    ensures bundle { IfErr result (IsOfBundle (option_map (λ name. name.now) name.entry) text.now) }
+{
+    match bundle_of(text) {
+        Some(_) => Err(CliError::Bundle(display_name(name))),
+        None => Ok(()),
+    }
+}
+
+/// Reads standard input for the command.
+fn read_input<'a, S: Source>(
+    alloc: Global,
+    command: Command,
+    input: &mut S,
+) -> Result<Vec<u8>, CliError<'a>>
+    ensures text { IfOk result
+        (λ text. IfSome (S.remaining input.old) (λ known. text.items ≡ spec.read_part command known)) }
+    ensures fault { IfErr result IsOfReading }
+    ensures read_failed { S.failures input.new ≡ S.failures input.old + count_in READ_FAILED result }
+{
+    match read_up_to(alloc, input, most_bytes(command) + 1) {
+        Ok(text) => Ok(text),
+        Err(error) => Err(CliError::Serve(ServeFault::from(error))),
+    }
+}
+
+/// Reads a file for the command.
+fn read_file<'a, F: TextFiles>(
+    alloc: Global,
+    command: Command,
+    files: &F,
+    name: &'a str,
+) -> Result<Vec<u8>, CliError<'a>>
+    ensures text { IfOk result (λ text.
+        IfSome (F.content files.now name.now) (λ known. text.items ≡ spec.read_part command known)) }
+    ensures fault { IfErr result (IsOfFile name.now) }
+{
+    match files.read(alloc, name, most_bytes(command) + 1) {
+        Ok(text) => Ok(text),
+        Err(InputError::Fault) => Err(CliError::Unread(name)),
+        Err(InputError::Memory) => Err(CliError::from(AllocError)),
+    }
+}
+
+/// Returns the name of the file, or `None` if the name means standard input.
+fn file_named(name: Option<&str>) -> Option<&str>
+    ensures { option_map (λ name. name.now) result
+        ≡ spec.file_named (option_map (λ name. name.now) name.entry) }
+{
+    name.filter(|name| *name != STANDARD_INPUT)
+}
+
+/// Returns the name of the plan in messages.
+pub(crate) fn display_name<'a>(name: Option<&'a str>) -> &'a str
+    ensures { result.now ≡ spec.name_or_none (spec.file_named (option_map (λ name. name.now) name.entry)) }
+{
+    match file_named(name) {
+        Some(name) => name,
+        None => NO_FILE,
+    }
+}
