@@ -127,16 +127,22 @@ final class PermitMisuses {
         ExecutorService pages = run.pool("pages");
         run.rounds("request", 1, 1, () -> {
             CountDownLatch submitted = new CountDownLatch(1);
-            Future<Integer> page = pages.submit(label("page", () -> {
+            CountDownLatch interrupted = new CountDownLatch(1);
+            Future<?> page = pages.submit(label("page", () -> {
                 Future<?> part = pages.submit(label("part", () -> {
                     run.awaitEnd();
                 }));
                 submitted.countDown();
-                part.get();
-                return 1;
+                try {
+                    return part.get();
+                } finally {
+                    interrupted.countDown();
+                }
             }));
-            submitted.await(60, TimeUnit.SECONDS);
+            run.await(submitted);
             page.cancel(true);
+            // A get that is interrupted only after its job is done returns.
+            run.await(interrupted);
         });
     }
 
