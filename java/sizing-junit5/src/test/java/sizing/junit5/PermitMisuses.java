@@ -225,6 +225,20 @@ final class PermitMisuses {
         scheduler.shutdown();
     }
 
+    /** A second try begins while the first is in flight. */
+    static void hedgedTry(ServiceRun run) throws Exception {
+        Mails mails = Mails.of(run);
+        ExecutorService send = label("send", mails.pool());
+        CountDownLatch started = new CountDownLatch(1);
+        run.threads("client", 1, 1, () -> {
+            mails.permits().acquire();
+            CompletableFuture<Void> first = CompletableFuture.runAsync(run.untilEnd(started), send);
+            run.await(started);
+            CompletableFuture<Void> second = CompletableFuture.runAsync(() -> work(1), send);
+            CompletableFuture.anyOf(first, second).whenComplete((sent, failed) -> mails.permits().release()).join();
+        });
+    }
+
     /** A place is free again after a cancel, while its row is still running. */
     static void cancelledPlace(ServiceRun run) throws Exception {
         ExecutorService load = run.pool("load");
