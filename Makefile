@@ -1,4 +1,4 @@
-# The commands of this repository. Only the toolchain (rt), make, gcc and python3 are needed.
+# The commands of this repository. Only the toolchain (rt), make, gcc and python3 are needed, and for `java` and `dist` a JDK and Maven.
 PREFIX ?= /usr/local
 PROGRAM = crates/sizing/out/sizing
 READER = bench/plan_reader/out/plan_reader
@@ -43,7 +43,8 @@ install: program
 	@echo "sizing is in $(DESTDIR)$(PREFIX)/bin"
 endif
 
-# Packs what `make gate` built into dist/sizing-VERSION-linux-x86_64.tar.gz: seconds, and the same bytes each time.
+# Packs what `make gate` built, and the jars of java/, into dist/sizing-VERSION-linux-x86_64.tar.gz: about a minute, and the
+# same bytes each time. It needs what `make java` needs.
 dist:
 	@tools/dist
 

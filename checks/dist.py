@@ -21,8 +21,8 @@ from releases import (ROOT, KIT, apply_dockerfile, build_stub, commit, copy_of_r
 VERSION = (ROOT / "VERSION").read_text().strip()
 NAME = f"sizing-{VERSION}-linux-x86_64"
 ARCHIVE = f"dist/{NAME}.tar.gz"
-# The files of a release, without examples, completions and jars.
-FILES = f"""
+# The files of a release, without examples, pictures and jars.
+FILES = """
     Dockerfile PROVED SHA256SUMS VERSION install.sh
     bin/sizing
     share/man/man1/sizing.1
@@ -30,15 +30,36 @@ FILES = f"""
     share/doc/sizing/docs/COVERAGE.md share/doc/sizing/docs/GUIDE.md share/doc/sizing/docs/MODEL.md
     share/doc/sizing/docs/PATTERNS.md share/doc/sizing/docs/PERMITS.md share/doc/sizing/docs/PROOFS.md
     share/doc/sizing/docs/RECORDING.md
+    share/sizing/plan.schema.json
+    share/bash-completion/completions/sizing share/zsh/site-functions/_sizing share/fish/vendor_completions.d/sizing.fish
 """.split()
 NOT_PACKED = {"check.py", "demo", "pages.py"}
-COMPLETIONS = ["share/bash-completion/completions/sizing", "share/zsh/site-functions/_sizing", "share/fish/vendor_completions.d/sizing.fish"]
 # The files that a release adds to its own folder, and an installation does not need.
 NOT_INSTALLED = {"Dockerfile", "SHA256SUMS", "install.sh"}
-PARENT = """<project xmlns="http://maven.apache.org/POM/4.0.0"><groupId>sizing</groupId><artifactId>sizing-parent</artifactId>
-<version>{version}</version></project>"""
-MODULE = """<project xmlns="http://maven.apache.org/POM/4.0.0"><parent><groupId>sizing</groupId><artifactId>sizing-parent</artifactId>
-<version>{version}</version></parent><artifactId>sizing-recorder</artifactId></project>"""
+# What Maven builds, without the checksums beside it.
+MODULES = ["sizing-junit5", "sizing-recorder", "sizing-spring"]
+ARTIFACTS = [f"sizing-parent/{VERSION}/sizing-parent-{VERSION}.pom"]
+ARTIFACTS += [f"{module}/{VERSION}/{module}-{VERSION}{ending}" for module in MODULES for ending in (".pom", ".jar", "-sources.jar", "-javadoc.jar")]
+JARS = [f"share/sizing/maven/sizing/{path}{ending}" for path in ARTIFACTS for ending in ("", ".sha1")]
+# A stub of tools/java. Its jars depend on the sources and their modes, as real jars do. NO_JAVA is what it lacks, and NO_JAR a kind
+# of jars that it does not build.
+JAVA = """#!/bin/sh
+set -eu
+if [ "$1" = --check ]; then
+    [ -z "${NO_JAVA-}" ] || { echo "$NO_JAVA"; exit 1; }
+    exit 0
+fi
+cd "$2"
+for module in */; do
+    module=${module%/}
+    mkdir "$module/target"
+    for kind in "" -sources -javadoc; do
+        [ "$kind" != "${NO_JAR-none}" ] || continue
+        find "$module/src" -type f | LC_ALL=C sort | xargs stat -c "%a %n" > "$module/target/$module-VERSION$kind.jar"
+        find "$module/src" -type f | LC_ALL=C sort | xargs cat >> "$module/target/$module-VERSION$kind.jar"
+    done
+done
+"""
 
 
 class Cases:
@@ -66,12 +87,13 @@ def main():
     with tempfile.TemporaryDirectory(prefix="sizing-dist-check-") as folder:
         room = Path(folder)
         repository = room / "repository"
-        copy_of_repository(repository, with_one_module)
+        copy_of_repository(repository, with_stub_of_java)
         stub = build_stub(room / "stub")
         put_program(repository, stub)
         release = same_bytes(cases, room, repository)
         contents(cases, repository, release)
         installations(cases, room, repository, release)
+        no_java(cases, room, repository)
         refusals(cases, room, repository, stub)
     with tempfile.TemporaryDirectory(prefix="sizing-version-check-") as folder:
         versions(cases, Path(folder))
@@ -82,35 +104,36 @@ def main():
 # ---- jars
 
 
-def with_one_module(repository):
-    """Adds poms if the copy has none, and a jar of each module, whose bytes no check reads."""
-    java = repository / "java"
-    if not (java / "pom.xml").is_file():
-        (java / "sizing-recorder").mkdir()
-        (java / "pom.xml").write_text(PARENT.format(version=VERSION))
-        (java / "sizing-recorder" / "pom.xml").write_text(MODULE.format(version=VERSION))
-    for module in java.glob("*/pom.xml"):
-        (module.parent / "target").mkdir()
-        (module.parent / "target" / f"{artifact_of(module)}-{java_version(java)}.jar").write_text("a jar\n")
+def with_stub_of_java(repository):
+    """Replaces tools/java by a stub, which needs neither a JDK nor Maven."""
+    path = repository / "tools/java"
+    path.write_text(JAVA.replace("VERSION", VERSION))
+    path.chmod(0o755)
 
 
-def artifact_of(pom):
-    """Returns the artifact of a module, which is the first that its pom names outside its parent."""
-    return re.search(r"<artifactId>(.*?)</artifactId>", re.sub(r"(?s)<parent>.*?</parent>", "", pom.read_text()))[1]
+def no_java(cases, room, repository):
+    """Checks that nothing is packed without all nine jars, and that CI passes then and says why."""
+    lack = "missing packages, install them: apt-get install maven"
+    environment = {**os.environ, "NO_JAVA": lack}
+    packs_nothing(cases, repository, "no Maven", ["tools/dist"], environment, (1, f"dist: the jars cannot be built: {lack}\n"))
+    line = f"dist: the version has changed, but no release is packed, because the jars cannot be built: {lack}\n"
+    packs_nothing(cases, repository, "no Maven, in CI", ["tools/dist", "--ci"], environment, (0, line))
+    line = f"dist: tools/java --jars did not build sizing-junit5-{VERSION}-javadoc.jar\n"
+    packs_nothing(cases, repository, "no Javadoc jars", ["tools/dist"], {**os.environ, "NO_JAR": "-javadoc"}, (1, line))
+    tools = room / "tools_without_java"
+    tools.mkdir()
+    for tool in ("bash", "dirname", "sed"):
+        (tools / tool).symlink_to(shutil.which(tool))
+    status, printed = run([ROOT / "tools/java", "--check"], room, env={"PATH": str(tools)})
+    wanted = "missing packages, install them: apt-get install --no-install-recommends openjdk-17-jdk-headless maven python3"
+    cases.true("tools/java --check names all that is missing, in a line", status == 1 and printed.startswith(wanted) and printed.count("\n") == 1, printed)
 
 
-def java_version(java):
-    return re.search(r"<version>(.*?)</version>", (java / "pom.xml").read_text())[1]
-
-
-def jars(repository):
-    """Returns the paths of the jars and poms of a repository in a release."""
-    java = repository / "java"
-    version = java_version(java)
-    modules = [artifact_of(pom) for pom in java.glob("*/pom.xml")]
-    found = {f"sizing-parent/{version}/sizing-parent-{version}.pom"}
-    found |= {f"{module}/{version}/{module}-{version}.{ending}" for module in modules for ending in ("jar", "pom")}
-    return {f"share/sizing/maven/sizing/{path}{ending}" for path in found for ending in ("", ".sha1")}
+def packs_nothing(cases, repository, name, words, environment, wanted):
+    """Checks what a command prints that does not pack a release."""
+    shutil.rmtree(repository / "dist", ignore_errors=True)
+    found = run(words, repository, env=environment)
+    cases.true(name, found == wanted and not (repository / "dist").exists(), found)
 
 
 # ---- contents
@@ -118,10 +141,14 @@ def jars(repository):
 
 def same_bytes(cases, room, repository):
     """Packs two releases under different circumstances, compares them, and returns the folder of the unpacked one."""
-    must(["make", "dist"], repository)
+    must(["tools/dist", "--ci"], repository)
     first = (repository / ARCHIVE).read_bytes()
     for path in repository.rglob("*.toml"):
         os.utime(path, (1, 1))
+    must(["chmod", "-R", "go=", "java"], repository)
+    for built in (f"sizing-recorder-{VERSION}.jar", "sizing-recorder-0.0.1.jar"):
+        (repository / "java/sizing-recorder/target").mkdir(exist_ok=True)
+        (repository / "java/sizing-recorder/target" / built).write_text("an earlier make java\n")
     shutil.rmtree(repository / "dist")
     printed = must(["sh", "-c", "umask 077; make dist"], repository, env={**os.environ, "TZ": "Asia/Tokyo", "LC_ALL": "C"})
     second = (repository / ARCHIVE).read_bytes()
@@ -138,10 +165,15 @@ def contents(cases, repository, release):
     """Checks that a release has each file that it should have, and checks the texts of its own files."""
     examples = {f"share/sizing/examples/{path}" for path in files_below(repository / "examples") if path not in NOT_PACKED}
     pictures = {f"share/doc/sizing/docs/pictures/{path}" for path in files_below(repository / "docs/pictures")}
-    completions = set(COMPLETIONS) if (repository / "tools/completions").is_file() else set()
-    schema = {"share/sizing/plan.schema.json"} if (repository / "share/plan.schema.json").is_file() else set()
     files = files_below(release)
-    cases.equal("the files of a release", files, {*FILES, *examples, *pictures, *completions, *schema, *jars(repository)})
+    cases.equal("the files of a release", files, {*FILES, *examples, *pictures, *JARS})
+    sums = {path: (release / f"{path}.sha1").read_text() for path in JARS if not path.endswith(".sha1")}
+    cases.equal("the .sha1 files", sums, {path: hashlib.sha1((release / path).read_bytes()).hexdigest() for path in sums})
+    modes = set(re.findall(r"(?m)^(\d+) sizing-\w+/src/", (release / JARS[4]).read_text()))
+    cases.equal("the modes of the files in a jar", modes, {"644"})
+    # README says that a release does not have CONTRIBUTING.md.
+    pages = re.findall(r"`([\w/-]+\.md)`", (release / "share/doc/sizing/README.md").read_text().replace("`CONTRIBUTING.md` in a checkout", ""))
+    cases.equal("the pages that README names and a release lacks", {page for page in pages if f"share/doc/sizing/{page}" not in files}, set())
     executable = {path for path in files if os.access(release / path, os.X_OK) and (release / path).stat().st_mode & 0o100}
     cases.equal("the files that can be run", executable, {"bin/sizing", "install.sh"})
     sums = dict(reversed(line.split("  ")) for line in (release / "SHA256SUMS").read_text().splitlines())
@@ -261,8 +293,8 @@ def versions(cases, room):
     notes = must(["make", "-s", "release-notes"], ROOT)
     section = (ROOT / "CHANGELOG.md").read_text(encoding="utf-8").partition(f"## {VERSION}\n")[2].partition("\n## ")[0]
     cases.equal("make release-notes", notes.strip(), section.strip())
-    if (ROOT / "java/pom.xml").is_file():
-        cases.equal("the version in java/pom.xml", java_version(ROOT / "java"), VERSION)
+    cases.equal("tools/version --check", run(["tools/version", "--check"], ROOT), (0, ""))
+    another_version(cases, room / "repository")
     (room / "tools").mkdir()
     for path in ("tools/version", "tools/changes.py", "tools/crates.py"):
         shutil.copy(ROOT / path, room / path)
@@ -275,6 +307,23 @@ def versions(cases, room):
         must(["git", "add", "-A"], room)
         commit(room, f"2026-01-01T{hour:02}:00:00Z")
         cases.equal(f"tools/version --changed: {name}", run(["tools/version", "--changed"], room), (status, ""))
+
+
+def another_version(cases, repository):
+    """Checks that one command writes a version into all files that have it, and that a file with another version is reported."""
+    copy_of_repository(repository)
+    found = lambda version: run(["git", "grep", "-lwF", version, "--", "VERSION", "*.md", "java", "crates/report", ":!CHANGELOG.md"], repository)
+    _, before = found(VERSION)
+    cases.equal("tools/version --set", run(["tools/version", "--set", "97.98.99"], repository), (0, ""))
+    cases.equal("the files that have the new version", found("97.98.99"), (0, before))
+    cases.equal("the files that have the old version", found(VERSION), (1, ""))
+    cases.equal("tools/version --check after --set", run(["tools/version", "--check"], repository), (0, ""))
+    pom = repository / "java/sizing-spring/pom.xml"
+    pom.write_text(pom.read_text().replace("97.98.99", "97.98.0"))
+    line = "java/sizing-spring/pom.xml has the version 97.98.0, and VERSION has 97.98.99: run `tools/version --set 97.98.99`\n"
+    cases.equal("a pom of another version", run(["tools/version", "--check"], repository), (1, line))
+    cases.true("tools/dist of two versions", f"dist: {line}" in run(["tools/dist"], repository)[1])
+    cases.equal("tools/version --set of no version", run(["tools/version", "--set", "1.2"], repository)[0], 1)
 
 
 if __name__ == "__main__":

@@ -1,7 +1,8 @@
 #!/usr/bin/env python3
 """fresh_system.py [RELEASE]: unpacks a release in a fresh Debian system without the toolchain, and runs its contents there.
 
-RELEASE is a tarball of `make dist`. Without it, the check packs a release of a copy of this repository and the built program. The
+RELEASE is a tarball of `make dist`. Without it, the check packs a release of a copy of this repository and the built program, for
+which a JDK and Maven are needed: if they are missing, the check prints what is missing and ends with 0. The
 base system is created by debootstrap, which needs root, a network and a few minutes, or copied from the folder that the environment
 variable SIZING_BASE names. If neither is possible, the check prints one line and ends with 0. README.md describes the cases.
 
@@ -13,11 +14,12 @@ import shutil
 import subprocess
 import sys
 import tempfile
+import zipfile
 from pathlib import Path
 
 sys.dont_write_bytecode = True
 from asking import built_program
-from releases import ROOT, apply_dockerfile, copy_of_repository, must, put_program, unpack
+from releases import ROOT, apply_dockerfile, copy_of_repository, must, put_program, run, unpack
 
 sys.path.insert(0, str(ROOT / "examples"))
 from pages import commands_of
@@ -26,6 +28,12 @@ SUITE = "bookworm"
 # The packages of the base system in addition to those of a minimal Debian: the reader of manual pages.
 PACKAGES = "man-db"
 EXAMPLES = "share/sizing/examples"
+# A class of each module's main jar.
+MAIN_CLASSES = {
+    "sizing-recorder": "sizing/Recorder.class",
+    "sizing-junit5": "sizing/junit5/SizingPlan.class",
+    "sizing-spring": "sizing/spring/SizingBeans.class",
+}
 ASKED = f"bin/sizing ask {EXAMPLES}/two-clients.toml"
 
 
@@ -52,6 +60,10 @@ def main(words):
     if os.geteuid() or not (base or shutil.which("debootstrap")):
         print("fresh_system: this check needs root, and debootstrap or SIZING_BASE (README.md), so nothing is tried")
         return 0
+    lacks_java, lack = run(["tools/java", "--check"], ROOT)
+    if lacks_java and not words:
+        print(f"fresh_system: no release can be packed, so nothing is tried: {lack}", end="")
+        return 0
     with tempfile.TemporaryDirectory(prefix="sizing-system-") as folder:
         room = Path(folder)
         release = Path(words[0]).resolve() if words else packed(room)
@@ -66,6 +78,7 @@ def main(words):
         print(f"Debian {SUITE if not base else base}, {system.run('getconf GNU_LIBC_VERSION')[1].strip()}")
         at = unpack(release, root / "opt")
         unpacked(system, at)
+        jars(system, at)
         an_installation(system, at)
         an_image(system, at)
     print(f"{system.wrong} wrong")
@@ -106,6 +119,22 @@ def unpacked(system, at):
         system.case(f"README: {command}", printed == wanted, printed)
     status, printed = system.run("man -l share/man/man1/sizing.1", here)
     system.case("man -l share/man/man1/sizing.1", status == 0 and "SIZING ASK" in printed, printed)
+
+
+def jars(system, at):
+    """Checks that a release has the jars of each module, with their checksums, and that each main jar has classes."""
+    maven = at / "share/sizing/maven/sizing"
+    version = system.run("sed -n 's/^version: //p' VERSION", f"/{at.relative_to(system.root)}")[1].strip()
+    wanted = {f"{module}-{version}{kind}.jar" for module in MAIN_CLASSES for kind in ("", "-sources", "-javadoc")}
+    found = {path.name for path in maven.rglob("*.jar")}
+    system.case("the nine jars", found == wanted, f"{sorted(found)}")
+    command = "for file in */*/*.jar */*/*.pom; do echo \"$(cat $file.sha1)  $file\"; done | sha1sum -c"
+    status, printed = system.run(command, f"/{maven.relative_to(system.root)}")
+    system.case("the checksums of the jars and poms", status == 0 and printed.count(": OK\n") == 13, printed)
+    for module, main_class in MAIN_CLASSES.items():
+        jar = maven / module / version / f"{module}-{version}.jar"
+        names = zipfile.ZipFile(jar).namelist() if jar.is_file() else []
+        system.case(f"{jar.name} has {main_class}", main_class in names, names)
 
 
 def an_installation(system, at):

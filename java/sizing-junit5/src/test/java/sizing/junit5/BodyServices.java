@@ -11,6 +11,7 @@ import java.util.List;
 import java.util.concurrent.Callable;
 import java.util.concurrent.CountDownLatch;
 import java.util.concurrent.ExecutionException;
+import java.util.concurrent.ExecutorCompletionService;
 import java.util.concurrent.ExecutorService;
 import java.util.concurrent.Future;
 import java.util.concurrent.ThreadLocalRandom;
@@ -95,6 +96,23 @@ final class BodyServices {
                 each.get();
             }
             return 1;
+        })).get());
+    }
+
+    /** The report gets the section that is done first, and a body fixes the order of its gets. */
+    static void reportThatGetsTheFirstDone(ServiceRun run) throws Exception {
+        ExecutorService reports = run.pool("reports");
+        CountDownLatch taken = new CountDownLatch(1);
+        run.rounds("user", 1, 1, () -> reports.submit(label("report", () -> {
+            ExecutorCompletionService<Integer> sections = new ExecutorCompletionService<>(reports);
+            sections.submit(label("section", () -> {
+                run.await(taken);
+                return 1;
+            }));
+            sections.submit(task("section", 1));
+            sections.take().get();
+            taken.countDown();
+            return sections.take().get();
         })).get());
     }
 

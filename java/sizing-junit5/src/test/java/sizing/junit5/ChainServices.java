@@ -139,6 +139,21 @@ final class ChainServices {
         });
     }
 
+    /** The plan has one order of the two chains, and the service takes another: the second chain overtakes the first. */
+    static void chainsInAJob(ServiceRun run) throws Exception {
+        ExecutorService web = run.pool("web");
+        ExecutorService io = run.pool("io");
+        ExecutorService load = label("load", io);
+        ExecutorService render = label("render", io);
+        CountDownLatch overtaken = new CountDownLatch(1);
+        run.rounds("request", 1, 1, () -> web.submit(label("page", () -> {
+            CompletableFuture<Void> first = CompletableFuture.runAsync(() -> run.await(overtaken), load).thenRunAsync(() -> work(1), render);
+            CompletableFuture<Void> second = CompletableFuture.runAsync(() -> work(1), load).thenRunAsync(overtaken::countDown, render);
+            CompletableFuture.allOf(first, second).join();
+            return 1;
+        })).get());
+    }
+
     /** A stage in no pool submits, in a thread that has completed its job. */
     static void chainWithASubmitInNoPool(ServiceRun run) throws Exception {
         Chain chain = Chain.of(run);
@@ -148,6 +163,25 @@ final class ChainServices {
                     .thenRun(() -> chain.render.submit(() -> work(1)));
             joined.countDown();
             accepted.join();
+        });
+    }
+
+    /** The first stage is tried again while the second is open. */
+    static void retryBesideAnOpenStage(ServiceRun run) throws Exception {
+        ExecutorService tasks = run.pool("tasks");
+        ExecutorService profile = label("profile", tasks);
+        CountDownLatch open = new CountDownLatch(1);
+        CountDownLatch retried = new CountDownLatch(1);
+        run.rounds("request", 1, 1, () -> {
+            CompletableFuture<Void> loaded = CompletableFuture.runAsync(() -> {
+                run.await(open);
+                throw new IllegalStateException("planned");
+            }, profile).exceptionallyCompose(failed -> CompletableFuture.runAsync(retried::countDown, profile));
+            CompletableFuture<Void> orders = CompletableFuture.runAsync(() -> {
+                open.countDown();
+                run.await(retried);
+            }, label("orders", tasks));
+            CompletableFuture.allOf(loaded, orders).join();
         });
     }
 

@@ -127,16 +127,22 @@ final class PermitMisuses {
         ExecutorService pages = run.pool("pages");
         run.rounds("request", 1, 1, () -> {
             CountDownLatch submitted = new CountDownLatch(1);
-            Future<Integer> page = pages.submit(label("page", () -> {
+            CountDownLatch interrupted = new CountDownLatch(1);
+            Future<?> page = pages.submit(label("page", () -> {
                 Future<?> part = pages.submit(label("part", () -> {
                     run.awaitEnd();
                 }));
                 submitted.countDown();
-                part.get();
-                return 1;
+                try {
+                    return part.get();
+                } finally {
+                    interrupted.countDown();
+                }
             }));
-            submitted.await(60, TimeUnit.SECONDS);
+            run.await(submitted);
             page.cancel(true);
+            // A get that is interrupted only after its job is done returns.
+            run.await(interrupted);
         });
     }
 
@@ -217,6 +223,20 @@ final class PermitMisuses {
         });
         run.await(done);
         scheduler.shutdown();
+    }
+
+    /** A second try begins while the first is in flight. */
+    static void hedgedTry(ServiceRun run) throws Exception {
+        Mails mails = Mails.of(run);
+        ExecutorService send = label("send", mails.pool());
+        CountDownLatch started = new CountDownLatch(1);
+        run.threads("client", 1, 1, () -> {
+            mails.permits().acquire();
+            CompletableFuture<Void> first = CompletableFuture.runAsync(run.untilEnd(started), send);
+            run.await(started);
+            CompletableFuture<Void> second = CompletableFuture.runAsync(() -> work(1), send);
+            CompletableFuture.anyOf(first, second).whenComplete((sent, failed) -> mails.permits().release()).join();
+        });
     }
 
     /** A place is free again after a cancel, while its row is still running. */

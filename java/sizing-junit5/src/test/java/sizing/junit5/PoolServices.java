@@ -21,6 +21,7 @@ import java.util.concurrent.Semaphore;
 import java.util.concurrent.SynchronousQueue;
 import java.util.concurrent.ThreadPoolExecutor;
 import java.util.concurrent.TimeUnit;
+import java.util.concurrent.TimeoutException;
 import java.util.function.Supplier;
 
 /** Services for the entries of docs/PATTERNS.md on pools: right uses, and uses that the page does not cover and a recording shows. */
@@ -129,6 +130,12 @@ final class PoolServices {
         run.rounds("request", 1, 1, () -> tasks.submit(task("profile", 1)));
     }
 
+    /** The job of an {@code @Async} method gets the future that the method returns. */
+    static void asyncWithAnUndoneFuture(ServiceRun run) throws Exception {
+        ExecutorService tasks = run.pool("tasks");
+        run.rounds("request", 1, 1, () -> tasks.submit(label("profile", () -> tasks.submit(task("orders", 1)).get())).get());
+    }
+
     /** Spring MVC runs a request's {@code Callable} in the same executor. */
     static void asyncWithAnotherUser(ServiceRun run) throws Exception {
         ExecutorService tasks = run.pool("tasks");
@@ -180,6 +187,20 @@ final class PoolServices {
                 pool.execute(label("a", () -> {
                     work(1);
                 }));
+            }
+        });
+    }
+
+    /** The handler drops the job, whose get would never return. */
+    static void callerRunsAfterShutdown(ServiceRun run) throws Exception {
+        ExecutorService pool = run.pool("p", new ThreadPoolExecutor(1, 1, 0, TimeUnit.SECONDS, new ArrayBlockingQueue<>(2),
+                new ThreadPoolExecutor.CallerRunsPolicy()));
+        run.rounds("c", 1, 1, () -> {
+            pool.shutdown();
+            try {
+                pool.submit(task("a", 1)).get(1, TimeUnit.MILLISECONDS);
+            } catch (TimeoutException planned) {
+                return;
             }
         });
     }

@@ -133,9 +133,13 @@ class ServicesTest {
                         "pool tasks: core threads may time out"),
                 new Case("async_with_another_user", "async-joined", PoolServices::asyncWithAnotherUser,
                         "kind mvc: not in the plan"),
+                new Case("async_with_an_undone_future", "async-joined", PoolServices::asyncWithAnUndoneFuture,
+                        "job 0 of class profile submitted orders; " + NO_SUBMIT),
                 new Case("no_concurrency_limit", "virtual-threads", PoolServices::noConcurrencyLimit,
                         "kind permit: 65 at once, count is 64"),
                 new Case("caller_runs_called", "two-clients-queue-of-two", PoolServices::callerRunsCalled, "was refused"),
+                new Case("caller_runs_after_shutdown", "two-clients-queue-of-two", PoolServices::callerRunsAfterShutdown,
+                        "job 0 was refused"),
                 new Case("refused", "two-clients-queue-of-two", PoolServices::refused, "was refused"),
                 new Case("thread_pool_bulkhead_with_time_limiter", "thread-pool-bulkhead", PoolServices::threadPoolBulkheadWithTimeLimiter,
                         "round 0 of kind request ended; " + NO_GET),
@@ -183,6 +187,8 @@ class ServicesTest {
                         "round 0 of kind request submitted tax; " + NO_SUBMIT),
                 new Case("report_of_nine", "report-up-to-eight", BodyServices::reportOfNine,
                         "job 0 of class report submitted section; " + NO_SUBMIT),
+                new Case("report_that_gets_the_first_done", "report-up-to-eight", BodyServices::reportThatGetsTheFirstDone,
+                        "job 0 of class report got section; its body has no such get"),
                 new Case("report_with_an_open_section", "report-up-to-eight", BodyServices::reportWithAnOpenSection,
                         "job 0 of class report ended; " + NO_GET),
                 new Case("exception_with_an_open_future", "fan-out-of-two", BodyServices::exceptionWithAnOpenFuture,
@@ -190,6 +196,9 @@ class ServicesTest {
                 new Case("interrupted_get", "fan-out-of-two", BodyServices::interruptedGet, "round 0 of kind c ended; " + NO_GET),
                 new Case("retry_before_the_first_is_done", "three-tries", BodyServices::retryBeforeTheFirstIsDone,
                         "round 0 of kind c submitted a; " + NO_SUBMIT),
+                new Case("hedged_try", "permits", PermitMisuses::hedgedTry, "kind client: not in the plan"),
+                new Case("retry_beside_an_open_stage", "async-joined", ChainServices::retryBesideAnOpenStage,
+                        "round 0 of kind request submitted profile; " + NO_SUBMIT),
                 new Case("retry_without_its_permit", "permits", PermitMisuses::retryWithoutItsPermit,
                         "kind pool_thread: not in the plan"),
                 new Case("invoke_all_with_timeout", "invoke-all", BodyServices::invokeAllWithTimeout, "job 0 was cancelled"),
@@ -205,6 +214,8 @@ class ServicesTest {
                 new Case("chain_with_timed_get", "future-chain", ChainServices::chainWithTimedGet,
                         "round 0 of kind chain ended; " + NO_GET),
                 new Case("chain_with_a_stage_beside", "future-chain", ChainServices::chainWithAStageBeside, "kind chain"),
+                new Case("chains_in_a_job", "two-chains-in-a-job", ChainServices::chainsInAJob,
+                        "job 0 of class page got load; its body has no such get"),
                 new Case("chain_with_a_submit_in_no_pool", "future-chain", ChainServices::chainWithASubmitInNoPool,
                         "kind pool_thread: not in the plan"),
                 new Case("composed_stage_that_is_dropped", "future-chain", ChainServices::composedStageThatIsDropped,
@@ -245,8 +256,10 @@ class ServicesTest {
         return recording;
     }
 
+    /** Returns the plan of this name in examples/, or otherwise in the resources of the tests. */
     private static Path planOf(Case one) {
-        return ROOT.resolve("examples").resolve(one.plan + ".toml");
+        Path example = ROOT.resolve("examples").resolve(one.plan + ".toml");
+        return Files.exists(example) ? example : Path.of("src", "test", "resources", one.plan + ".toml");
     }
 
     /** Compares with the program, or without one with the second implementation. */
