@@ -50,7 +50,7 @@ SAMPLES = [
     Sample(
         "refused",
         "examples/two-clients.toml",
-        ["NOT SAFE", "Pool p refuses a submit after 7 events", "p queue 1 → 2", "1 thread of p is idle"],
+        ["NOT SAFE", "Pool p refuses a submit after 7 events", "p queue 1 → 2", "queue = 2", "1 thread of p is idle"],
     ),
     Sample(
         "stuck-forever",

@@ -66,10 +66,10 @@ fn pool_places(
     let mut found = Vec::with_capacity(alloc, plan.pools().len())?;
     for index in 0..plan.pools().len() {
         found.push(PoolPlaces {
-            name: places.key(list, index, "name"),
-            core: places.key(list, index, "core"),
-            max: places.key(list, index, "max"),
-            queue: places.key(list, index, "queue"),
+            name: places.value(list, index, "name"),
+            core: places.value(list, index, "core"),
+            max: places.value(list, index, "max"),
+            queue: places.value(list, index, "queue"),
         })?;
     }
     Ok(found)
@@ -120,7 +120,7 @@ fn body_places(
         actions.push(places.element(list, index, "body", action))?;
     }
     Ok(BodyPlaces {
-        name: places.key(list, index, "name"),
+        name: places.value(list, index, "name"),
         actions,
     })
 }
