@@ -1,7 +1,7 @@
 -- The possible answers of `ask` to an input, and the certificate that it leaves. `file` is the name of the plan's file in
 -- messages. This is a relation: it does not fix which certificate, witness or sizes are found, or that some are, nor the wording
 -- of faults and of a witness's story, nor the places of a plan's entries.
-use Rattle.std.specs.Prelude.{◌≡◌, ◌≤◌, ℕ, nat_lt, Bool, true, false, not, ◌&&◌, ◌==◌, if◌then◌else◌, List, [], ◌∷◌, ◌++◌, length, codes, decimal, Option, Some, None, IfSome, Result, Ok, Err, option_map, IsTrue, MatchBool}
+use Rattle.std.specs.Prelude.{◌≡◌, ◌≤◌, ◌<◌, ℕ, nat_lt, Bool, true, false, not, ◌&&◌, ◌==◌, if◌then◌else◌, List, [], ◌∷◌, ◌++◌, length, codes, decimal, Option, Some, None, IfSome, Result, Ok, Err, option_map, IsTrue, MatchBool}
 use Rattle.clap.specs.Words.{Text}
 use Rattle.job_bodies.specs.Plan.{Plan}
 use Rattle.job_bodies.specs.declared.fault.PlanFault.{PlanFault}
@@ -16,6 +16,7 @@ use Rattle.diagnostics.specs.declared.lint.Lint.TheVariants.{StaleCertificate}
 use Rattle.diagnostics.specs.declared.warnings.Warning.{Warning}
 use Rattle.diagnostics.specs.Lints.{AreLints, lints_in}
 use Rattle.diagnostics.specs.Diagnostic.{HaveSingleLines, WarnInSingleLines, faults_text, warnings_text}
+use Rattle.diagnostics.specs.Lines.{HasNoNewline}
 use Rattle.diagnostics.specs.PlanPlaces.{FitPlan}
 use Rattle.diagnostics.specs.declared.entry_places.PlanPlaces.{PlanPlaces}
 use Rattle.report.specs.declared.finding.PlanFinding.{PlanFinding}
@@ -62,12 +63,13 @@ TellsFaultsIn Html source faults text = page.TellsFaults source.file source.text
 TellsFaultsIn Github source faults text = text ≡ github.github_text source.file (fault_remarks faults)
 TellsFaultsIn Sarif source faults text = json.IsLineOf (sarif.sarif_data source.file (fault_remarks faults)) text
 
--- the answer reports at most 100 faults of a plan's text, each in one line, and the first one is this
+-- the answer reports at most 100 faults of a plan's text, each in one line, and the first one is this; only after 100 are others left out
 pub record AnswersFault (form : Form) (source : PlanSource) (fault : PlanFault) (answer : Answer) : Type 0 where
   pub faults : Faults
   pub is_first : faults.first.fault ≡ fault
   pub single_lines : HaveSingleLines faults
   pub within : length faults.others.items ≤ 99
+  pub full : 0 < faults.omitted → length faults.others.items ≡ 99
   pub tells : TellsFaultsIn form source faults answer.text
   pub status : answer.status ≡ BadText
 
@@ -84,9 +86,10 @@ TellsCertFaultIn Html source number words text = page.TellsFault source.file sou
 TellsCertFaultIn Github source number words text = text ≡ github.github_text source.file (single_fault number words)
 TellsCertFaultIn Sarif source number words text = json.IsLineOf (sarif.sarif_data source.file (single_fault number words)) text
 
--- the answer reports a fault of a certificate
+-- the answer reports a fault of a certificate, in words that are one line
 pub record AnswersCertFault (form : Form) (source : PlanSource) (fault : CertFault) (answer : Answer) : Type 0 where
   pub words : List ℕ
+  pub single_line : HasNoNewline words
   pub tells : TellsCertFaultIn form source fault.number words answer.text
   pub status : answer.status ≡ BadText
 

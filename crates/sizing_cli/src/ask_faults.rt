@@ -10,7 +10,7 @@ use crate::answer::Answer;
 use crate::output::Output;
 use cert_text::CertFault;
 use command_line::Form;
-use diagnostics::{Faults, faults_of, push_faults};
+use diagnostics::{Faults, faults_of, one_line, push_faults};
 use job_bodies::PlanFault;
 use report::{
     fault_github, fault_html, fault_json, fault_sarif, faults_github, faults_html, faults_json,
@@ -84,8 +84,8 @@ pub(crate) fn cert_fault_answer(
 ) -> Result<Output, AllocError>
     ensures { IfOk result (spec.AnswersCertFault form (spec.source_of file.now text.now) fault) }
 {
-    let words = words_for(fault.number);
-    let text = cert_fault_text(alloc, form, file, text, fault.number, words)?;
+    let words = one_line(alloc, words_for(fault.number))?;
+    let text = cert_fault_text(alloc, form, file, text, fault.number, &words)?;
     Ok(bad_text(text))
 }
 

@@ -7,6 +7,7 @@ returns c = record {
   is_first = c.in_ok-faults.ensures.first;
   single_lines = c.in_ok-faults.ensures.single_lines;
   within = c.in_ok-faults.ensures.within;
+  full = c.in_ok-faults.ensures.full;
   tells = search rules;
   status = search rules;
 }
