@@ -248,7 +248,7 @@ const NO_ANSWERS: &[(&[&str], &str, u8)] = &[
     // A name that no file can have is an error before the plan is read.
     (
         &["sizing", "ask", "--certificate", "-", "none.toml"],
-        "certificate needs file",
+        "words ValueValidation",
         2,
     ),
     (
