@@ -100,6 +100,10 @@ final class Actor {
         return !unclaimed().isEmpty();
     }
 
+    boolean hasUnfinished() {
+        return unclaimed().stream().anyMatch(job -> !job.actor.ended);
+    }
+
     List<Job> finishedUnclaimed() {
         return unclaimed().stream().filter(job -> job.actor.ended).toList();
     }

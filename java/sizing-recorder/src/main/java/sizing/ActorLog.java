@@ -347,18 +347,13 @@ final class ActorLog {
         } else {
             permit = permitOf(state.lastJob, semaphore);
         }
-        if (permit == null) {
-            permit = semaphore.choose(state.permits);
+        if (permit == null || !semaphore.taken.remove(permit)) {
+            permit = semaphore.giveBack(state.permits);
         }
-        // another thread may give back the chosen permit at the same time; then this thread ends another one
-        while (permit == null || !semaphore.taken.remove(permit)) {
-            permit = semaphore.choose(semaphore.taken);
-            if (permit == null) {
-                return;
-            }
+        if (permit != null) {
+            state.permits.remove(permit);
+            end(permit);
         }
-        state.permits.remove(permit);
-        end(permit);
     }
 
     private static Actor permitOf(Job job, RecordedSemaphore semaphore) {

@@ -23,24 +23,49 @@ final class RecordedSemaphore extends Semaphore {
         this.kind = kind;
     }
 
-    /** Returns the permit of this semaphore to give back: one whose jobs are done, else an unused one, else any; null if none. */
-    Actor choose(Collection<Actor> permits) {
+    /**
+     * Removes and returns the permit that a thread gives back, if no job on the thread has one: the latest that the thread acquired and
+     * that has no unfinished job, else any whose jobs are done, else one that the thread acquired, else any without jobs, else any; null
+     * if none is taken.
+     *
+     * <p>The latest comes before an earlier one whose job is done, because the thread that ran that job may be about to give it back.
+     * That thread would then end another round. One thread at a time chooses: a thread whose permit was given back by another one
+     * finds that one's permit.
+     */
+    Actor giveBack(Collection<Actor> acquired) {
+        synchronized (taken) {
+            Actor permit = choose(acquired);
+            while (permit != null && !taken.remove(permit)) {
+                // the thread that runs its job gave it back meanwhile
+                permit = choose(acquired);
+            }
+            return permit;
+        }
+    }
+
+    private Actor choose(Collection<Actor> acquired) {
+        Actor own = null;
+        for (Actor permit : acquired) {
+            if (taken.contains(permit)) {
+                if (!permit.hasUnfinished()) {
+                    return permit;
+                }
+                own = own == null ? permit : own;
+            }
+        }
         Actor unused = null;
         Actor open = null;
-        for (Actor permit : permits) {
-            if (permit.semaphore != this || permit.ended) {
-                continue;
-            }
+        for (Actor permit : taken) {
             if (permit.hasOnlyFinishedUnclaimed()) {
                 return permit;
             }
             if (permit.hasUnclaimed()) {
-                open = open == null ? permit : open;
+                open = permit;
             } else {
-                unused = unused == null ? permit : unused;
+                unused = permit;
             }
         }
-        return unused == null ? open : unused;
+        return own != null ? own : unused != null ? unused : open;
     }
 
     private boolean acquired(int permits) {

@@ -45,9 +45,9 @@ import java.util.function.UnaryOperator;
  * <p><b>Cost.</b> Each line is one entry in a lock-free queue: one allocation and one compare-and-set on the thread that acts. A
  * daemon thread of the recorder formats and writes the lines. A job that is submitted and got takes no lock. A permit takes a lock of
  * its own for each of its jobs, and so does a round or job that has stages or jobs of an {@code ExecutorCompletionService}. A stage
- * also takes the lock of one map. The queue of lines has no bound: if the writer is slower than the service for long, memory fills.
- * All threads add to one queue, so the recorder may change the order in which they run. Each order that it causes can also happen
- * without it.
+ * also takes the lock of one map, and a {@code release} on a thread without a job of the permit that of its semaphore. The queue of
+ * lines has no bound: if the writer is slower than the service for long, memory fills. All threads add to one queue, so the recorder
+ * may change the order in which they run. Each order that it causes can also happen without it.
  *
  * <p>The lines of one actor are in its own order (docs/RECORDING.md, "Order").
  *
@@ -140,8 +140,9 @@ public final class Recorder implements AutoCloseable {
      * get of that job is recorded at {@code release}, as the permit's. A get of it by a round is not recorded.
      *
      * <p>{@code release} may run on any thread. It gives back the permit of the job that runs on the thread, and records the end of
-     * that job; otherwise that of the job that ran there last, as in {@code afterExecute}; otherwise one that the thread acquired;
-     * otherwise any whose jobs are done.
+     * that job; otherwise that of the job that ran there last, as in {@code afterExecute}; otherwise the latest that the thread acquired
+     * and that has no unfinished job; otherwise any whose jobs are done. So if a thread has an unused permit and gives back that of a
+     * job that it took from a completion service, the wrong round ends: let it submit first.
      *
      * <p>If a thread has two jobs open within one permit, the second submit is recorded as the thread's own. Begin a {@link #round}
      * where it acquires such a permit, and use a plain semaphore.

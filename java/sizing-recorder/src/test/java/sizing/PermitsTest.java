@@ -328,6 +328,132 @@ class PermitsTest {
         assertEquals(threads * turns, acts.stream().filter(line -> line.endsWith(" end")).count());
     }
 
+    private static void await(CountDownLatch latch) {
+        try {
+            Recording.await(latch);
+        } catch (InterruptedException interrupted) {
+            throw new AssertionError(interrupted);
+        }
+    }
+
+    private static List<String> linesOf(int round, List<String> acts) {
+        return acts.stream().filter(line -> line.startsWith("round " + round + " ")).toList();
+    }
+
+    /** Each round from the first to the last submits the job of its number, gets it, and ends. */
+    private static void assertSubmitAndGet(List<String> acts, String kind, String where, int rounds) {
+        for (int number = 0; number < rounds; number++) {
+            String round = "round " + number + " ";
+            assertLines(linesOf(number, acts), round + "begin " + kind, round + "submit " + number + " " + where, round + "got " + number,
+                    round + "end");
+        }
+    }
+
+    /** A row of a flatMap that ends only after its stage is attached, so that a thread of the pool runs the stage. */
+    private static void row(ExecutorService load, CountDownLatch mayEnd, Runnable stage) {
+        CountDownLatch attached = new CountDownLatch(1);
+        CompletableFuture.runAsync(() -> {
+            await(attached);
+            await(mayEnd);
+        }, load).whenComplete((none, failed) -> stage.run());
+        attached.countDown();
+    }
+
+    /**
+     * Thread 1 submits row 2 and later gives back a permit that it did not use. Meanwhile row 2 is done, and thread 2, which submitted
+     * row 3, is about to give back its permit. If thread 1 ended the round of row 2, thread 2 would end that of row 3, which is open.
+     */
+    @Test
+    void aReleaseOfAnUnusedPermitDoesNotEndOneThatAnotherThreadGivesBack() throws Exception {
+        ExecutorService load = Recorder.label("row", recording.pool("load", Recording.executor(2, 2, 2)));
+        Semaphore places = recording.recorder.permits("place", 3);
+        CountDownLatch begun = new CountDownLatch(1);
+        CountDownLatch submitted = new CountDownLatch(1);
+        CountDownLatch ended = new CountDownLatch(1);
+        CountDownLatch unusedReleased = new CountDownLatch(1);
+        CountDownLatch released = new CountDownLatch(1);
+        places.acquire();
+        row(load, begun, () -> {
+            places.release();
+            places.acquireUninterruptibly();
+            row(load, new CountDownLatch(0), () -> {
+                ended.countDown();
+                await(unusedReleased);
+                places.release();
+                released.countDown();
+            });
+            submitted.countDown();
+            await(ended);
+            places.acquireUninterruptibly();
+            places.release();
+            unusedReleased.countDown();
+        });
+        places.acquire();
+        row(load, submitted, () -> {
+            places.release();
+            places.acquireUninterruptibly();
+            row(load, released, places::release);
+        });
+        begun.countDown();
+        await(released);
+        assertTrue(places.tryAcquire(3, 60, TimeUnit.SECONDS));
+        List<String> acts = recording.acts();
+        assertSubmitAndGet(acts, "place", "row load", 4);
+        assertLines(linesOf(4, acts), "round 4 begin place", "round 4 end");
+    }
+
+    @Test
+    void aReleaseEndsAFinishedPermitOfAnotherThreadRatherThanAnOpenOne() throws Exception {
+        ExecutorCompletionService<Void> service = new ExecutorCompletionService<>(recording.pool("mail", Recording.executor(2, 2, 2)));
+        CountDownLatch taken = new CountDownLatch(1);
+        Recording.on("importer-1", () -> {
+            permits.acquire();
+            service.submit(Recorder.label("row", () -> Recording.await(taken)));
+            Recording.on("importer-2", () -> {
+                permits.acquire();
+                service.submit(Recorder.label("row", () -> null));
+            });
+            service.take();
+            permits.release();
+        });
+        taken.countDown();
+        Recording.on("importer-2", () -> {
+            service.take();
+            permits.release();
+        });
+        assertSubmitAndGet(recording.acts(), "permit", "row mail", 2);
+    }
+
+    @Test
+    void importersThatShareACompletionServiceEndFinishedPermits() throws Exception {
+        int importers = 8;
+        ExecutorService mail = recording.pool("mail", Recording.executor(4, 4, importers));
+        ExecutorCompletionService<Integer> service = new ExecutorCompletionService<>(mail);
+        Semaphore places = recording.recorder.permits("place", importers);
+        List<Thread> threads = new ArrayList<>();
+        for (int importer = 0; importer < importers; importer++) {
+            threads.add(new Thread(() -> {
+                try {
+                    for (int row = 0; row < 500; row++) {
+                        places.acquire();
+                        service.submit(Recorder.label("row", () -> 1));
+                        service.take();
+                        places.release();
+                    }
+                } catch (InterruptedException interrupted) {
+                    throw new AssertionError(interrupted);
+                }
+            }));
+        }
+        threads.forEach(Thread::start);
+        for (Thread thread : threads) {
+            thread.join();
+        }
+        List<String> acts = recording.acts();
+        assertEquals(importers * 500, acts.stream().filter(line -> line.startsWith("round ") && line.endsWith(" end")).count());
+        assertEquals(importers * 500, acts.stream().filter(line -> line.contains(" got ")).count());
+    }
+
     @Test
     void manyThreadsNeverHaveMorePermitsAtOnce() throws Exception {
         ExecutorService mail = recording.pool("mail", Recording.executor(2, 2, 2));
