@@ -1,4 +1,4 @@
--- The owners of events, and of the lists of receipts of a run.
+-- The owners of events. Each list of receipts of a run belongs to one owner.
 use Rattle.std.specs.Prelude.{◌≡◌, ◌++◌, ℕ, List, map, replicate, length, take, slice_get, Option, Some, None}
 use Rattle.std.specs.List.{flat_map, enumerate_from}
 use Rattle.job_bodies.specs.Plan.{Plan, Client, Pool}

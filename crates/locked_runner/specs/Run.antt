@@ -60,7 +60,8 @@ abbrev pub number_of : ThreadFault → ℕ
 number_of cause.Memory = MEMORY
 number_of cause.Gate = GATE
 
--- fault 41: a list has a receipt that is not of its owner's events of the legal part, or its receipts are not in ascending order
+-- fault 41: the receipts of a list are not in ascending order, or one of them is not the receipt of an event in the legal
+-- part that belongs to the list's owner
 pub record IsStrange (plan : Plan) (history : List Event) (lists : List (List (Receipt Event))) (fault : RunFault) : Type 0 where
   pub number : fault.number ≡ STRANGE
   pub strange : ¬ AreListsOf plan (take fault.events history) (lists_of plan) lists

@@ -1,4 +1,4 @@
-//! The owners of events, and of the lists of receipts of a run.
+//! The owners of events. Each list of receipts of a run belongs to one owner.
 
 ghost use Rattle.std.specs.Prelude.{◌≡◌, ◌≢◌, ◌<◌, None, IfOk, map, length};
 ghost use Rattle.job_bodies.specs.WellFormed.{IsWellFormed};

@@ -56,7 +56,7 @@ line_view (code.Unseen pool jobs) = Unseen pool.now jobs
 line_view code.End = End
 
 -- ---- lines of actors
--- the line of an action on a job, from the word before the job's number
+-- the line of an action on a job, given the word for the action and the job's number
 unfoldable pub job_action_of : RecordedActor → List ℕ → ℕ → Option RecordedLine
 job_action_of actor word job =
     if bytes_eq word (codes "got") then Some (Got actor job)
@@ -66,18 +66,18 @@ job_action_of actor word job =
     else (if bytes_eq word (codes "cancel") then Some (Cancels actor job)
     else None))))
 
--- the line of a submit, from `J CLASS POOL` after `submit`
+-- the line of a submit, given the words `J CLASS POOL` after `submit`
 unfoldable pub submit_of : RecordedActor → List ℕ → Option RecordedLine
 submit_of actor text = parse_number text >>= λ job. parse_name job.1 >>= λ class. name_of class.1 >>= λ pool. Some (Submits actor job.0 class.0 pool)
 
--- the line of an action of an actor, from the first word after the actor and the other words
+-- the line of an action of an actor, given the first word after the actor and the other words
 unfoldable pub action_of : RecordedActor → List ℕ → List ℕ → Option RecordedLine
 action_of actor word rest =
     if bytes_eq word (codes "submit") then submit_of actor rest
     else (if bytes_eq word (codes "any") then (name_of rest >>= λ pool. Some (InvokesAny actor pool))
     else (number_of rest >>= λ job. job_action_of actor word job))
 
--- the line that begins with `job N`, from the words after that
+-- the line that begins with `job N`, given the words after that
 unfoldable pub job_line_of : ℕ → List ℕ → Option RecordedLine
 job_line_of job text =
     if bytes_eq text (codes "start") then Some (JobStarts job)
@@ -85,7 +85,7 @@ job_line_of job text =
     else (if bytes_eq text (codes "threw") then Some (JobThrew job)
     else (split_space text >>= λ words. action_of (actor.Job job) words.0 words.1)))
 
--- the line that begins with `round N`, from the words after that
+-- the line that begins with `round N`, given the words after that
 unfoldable pub round_line_of : ℕ → List ℕ → Option RecordedLine
 round_line_of round text =
     if bytes_eq text (codes "end") then Some (RoundEnds round)
@@ -93,7 +93,7 @@ round_line_of round text =
     if bytes_eq words.0 (codes "begin") then (name_of words.1 >>= λ kind. Some (RoundBegins round kind)) else action_of (actor.Round round) words.0 words.1)
 
 -- ---- lines
--- the line without an actor, from its first word and the other words
+-- the line without an actor, given its first word and the other words
 unfoldable pub other_line_of : List ℕ → List ℕ → Option RecordedLine
 other_line_of word rest =
     if bytes_eq word (codes "pool") then (parse_name rest >>= λ name. pool_sizes_of name.1 >>= λ sizes. Some (Pool name.0 sizes))
@@ -103,7 +103,7 @@ other_line_of word rest =
     else (if bytes_eq word (codes "unseen") then (parse_name rest >>= λ pool. number_of pool.1 >>= λ jobs. Some (Unseen pool.0 jobs))
     else None))))
 
--- the line of several words, from its first word and the other words
+-- the line of several words, given its first word and the other words
 unfoldable pub line_of_words : List ℕ → List ℕ → Option RecordedLine
 line_of_words word rest =
     if bytes_eq word (codes "job") then (parse_number rest >>= λ job. job_line_of job.0 job.1)

@@ -6,8 +6,8 @@ ghost use Rattle.recordings.specs.PoolSizes as spec;
 use crate::words::{is_word, parse_number, parse_word_and_number, strip_word};
 use line_words::split_space;
 
-/// The settings of a pool. A larger value of the pool than a line can contain is written as
-/// [`MAX_LINE_NUMBER`](job_bodies::MAX_LINE_NUMBER).
+/// The settings of a pool. A number above [`MAX_LINE_NUMBER`](job_bodies::MAX_LINE_NUMBER), which
+/// no line can contain, is recorded as that limit.
 #[derive(Clone, Copy, PartialEq, Eq)]
 pub struct PoolSizes {
     pub core: usize,

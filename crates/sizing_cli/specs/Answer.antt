@@ -17,7 +17,7 @@ code Refused = 1
 code BadText = 2
 code Undecided = 4
 
--- the status of an answer in two parts: that of the second, unless it is Done
+-- the status of an answer in two parts: that of the second part if the first is Done, otherwise that of the first
 abbrev pub then_status : Status → Status → Status
 then_status status Done = status
 then_status status Refused = Refused
@@ -28,7 +28,7 @@ then_status status Undecided = Undecided
 abbrev pub yes_or_no : Bool → Status
 yes_or_no answer = if answer then Done else Refused
 
--- an answer followed by the rest of it
+-- the answer that begins with `front` and ends with `rest`
 abbrev pub followed_by : Answer → Answer → Answer
 followed_by front rest = record { text = front.text ++ rest.text; status = then_status front.status rest.status }
 

@@ -54,7 +54,7 @@ source_of file text = record { file = file; text = text }
 
 -- ---- faults
 
--- the text reports the faults of a plan's text in this form; no picture shows a fault
+-- the text reports the faults of a plan's text in this form; the form `Dot` uses words for faults
 abbrev pub TellsFaultsIn : Form → PlanSource → Faults → List ℕ → Type 0
 TellsFaultsIn Words source faults text = text ≡ faults_text source.file faults
 TellsFaultsIn Json source faults text = json.TellsFaults source.file source.text faults text
@@ -63,7 +63,8 @@ TellsFaultsIn Html source faults text = page.TellsFaults source.file source.text
 TellsFaultsIn Github source faults text = text ≡ github.github_text source.file (fault_remarks faults)
 TellsFaultsIn Sarif source faults text = json.IsLineOf (sarif.sarif_data source.file (fault_remarks faults)) text
 
--- the answer reports at most 100 faults of a plan's text, each in one line, and the first one is this; only after 100 are others left out
+-- the answer reports at most 100 faults of a plan's text, each in one line. The first of them is `fault`. It omits faults
+-- only if it reports 100.
 pub record AnswersFault (form : Form) (source : PlanSource) (fault : PlanFault) (answer : Answer) : Type 0 where
   pub faults : Faults
   pub is_first : faults.first.fault ≡ fault
@@ -95,7 +96,7 @@ pub record AnswersCertFault (form : Form) (source : PlanSource) (fault : CertFau
 
 -- ---- answers
 
--- the status of a finding; with `strict` a warning makes a safe plan a no
+-- the status of a finding; a safe plan with warnings has the status of a no if `strict` is set
 abbrev pub status_of : Bool → List Warning → PlanFinding → Status
 status_of strict warnings (Safe cert) = if strict && not (length warnings == 0) then Refused else Done
 status_of strict warnings (NotSafe witness sizes) = Refused
@@ -115,14 +116,14 @@ is_stale plan (Some cert) = not (accepted plan cert)
 abbrev pub RestsOnGiven : Plan → Option Cert → PlanFinding → Type 0
 RestsOnGiven plan given finding = IfSome given (λ cert. IsTrue (accepted plan cert) → finding ≡ Safe cert)
 
--- the number of places that each pool needs, by the certificate that was found
+-- the number of places that each pool needs according to the certificate that was found; empty if none was found
 abbrev pub needed_of : Plan → PlanFinding → List (Option ℕ)
 needed_of plan (Safe cert) = needed_places plan cert
 needed_of plan (NotSafe witness sizes) = []
 needed_of plan (NotDecided sizes) = []
 
--- the warnings are exactly the lints of the plan, in order, with these numbers of places for the pools; then a warning about
--- a stale certificate, if it is stale
+-- the warnings report exactly the lints of the plan, in order, computed with the places that its pools need; if the
+-- certificate is stale, one more warning says so
 pub record AreWarnings (plan : Plan) (finding : PlanFinding) (stale : Bool) (warnings : List Warning) : Type 0 where
   pub lints : List Lint
   pub are_lints : AreLints plan (needed_of plan finding) lints
@@ -159,12 +160,14 @@ pub record AnswersFinding (options : AskOptions) (source : PlanSource) (plan : P
 
 -- ---- the certificate that an answer leaves
 
--- the text left is that of the certificate; it is missing exactly if it would be too long to be read back
+-- the text that is left, if any, is that of the certificate; if there is none, the certificate's text is too long to be
+-- read back
 abbrev pub IsCertificateText : Plan → Cert → Option (List ℕ) → Type 0
 IsCertificateText plan cert (Some text) = cert_of text plan ≡ Ok cert
 IsCertificateText plan cert None = HasLongText cert
 
--- a finding leaves the certificate that accepts the plan, if there is one
+-- the certificate's text that a finding leaves: that of the certificate that accepts the plan, or None if there is no such
+-- certificate
 abbrev pub IsFindingCertificate : Plan → PlanFinding → Option (List ℕ) → Type 0
 IsFindingCertificate plan (Safe cert) left = IsCertificateText plan cert left
 IsFindingCertificate plan (NotSafe witness sizes) left = left ≡ None

@@ -139,8 +139,8 @@ IsUnwritten named (Occupied name) = ⊥
 IsUnwritten named (Unwritten name) = named ≡ Some name.now
 IsUnwritten named (Serve fault) = ⊥
 
--- if the fault says that a file holds something other than a certificate, or that there is a directory, that agrees with what is
--- known of the files and directories
+-- an error `Occupied` is reported only if the file's content is not that of a certificate, and an error `Directory` only if
+-- the file is a directory; both as far as files and directories are known
 abbrev pub IsOccupied : (Text → Option (List ℕ)) → (Text → Option Bool) → CliError → Type 0
 IsOccupied content directory (Words error) = Unit {0}
 IsOccupied content directory NoCommand = Unit {0}
@@ -153,7 +153,7 @@ IsOccupied content directory (Occupied name) = IfSome (content name.now) (λ tex
 IsOccupied content directory (Unwritten name) = Unit {0}
 IsOccupied content directory (Serve fault) = Unit {0}
 
--- if the fault says that one of two texts is a bundle, that agrees with what is known of it
+-- an error `Bundle` is reported only if the text that it names is a bundle, as far as that text is known
 abbrev pub IsBundled : Command → (Text → Option (List ℕ)) → Option (List ℕ) → Option Text × Option Text → CliError → Type 0
 IsBundled command content input files (Words error) = Unit {0}
 IsBundled command content input files NoCommand = Unit {0}
@@ -179,7 +179,7 @@ IsOfBundle named text (Occupied name) = ⊥
 IsOfBundle named text (Unwritten name) = ⊥
 IsOfBundle named text (Serve fault) = ⊥
 
--- a possible fault of looking at that file
+-- a possible error of the check that a certificate may be written to that file
 abbrev pub IsOfReplacing : Option Text → CliError → Type 0
 IsOfReplacing named (Words error) = ⊥
 IsOfReplacing named NoCommand = ⊥
@@ -192,7 +192,7 @@ IsOfReplacing named (Occupied name) = named ≡ Some name.now
 IsOfReplacing named (Unwritten name) = ⊥
 IsOfReplacing named (Serve fault) = fault.number ≡ MEMORY
 
--- a possible fault for these arguments
+-- a possible error for these arguments
 abbrev pub IsFaultOf : List Text → CliError → Type 0
 IsFaultOf words (Words error) = HasKind (faults_of words) error
 IsFaultOf words NoCommand = command_of words ≡ None

@@ -91,8 +91,8 @@ pub record WritesLearned (input : List ℕ) (old new : Option (List ℕ)) : Type
 
 -- what status 0 means. For `check`, `run`, `ask`, the sizes of `fit` and the story of `refute`: the input's plan is safe.
 -- For `certify` and the bundle of `fit`: the plan that was written is safe. For the bundle of `refute`: the plan that was
--- written has a witness. For `conform`: the recording is one of the plan. For `learn`: the recording conforms to the plan
--- that was written.
+-- written has a witness. For `conform`: the recording conforms to the input's plan. For `learn`: the recording conforms to
+-- the plan that was written.
 abbrev pub MeansSafe : Command → List ℕ → Option (List ℕ) → Option (List ℕ) → Type 0
 MeansSafe (Sequential Replay) input old new = Unit {0}
 MeansSafe (Sequential Check) input old new = IsSafeInput input
@@ -138,12 +138,12 @@ pub record StreamChange : Type 0 where
   pub failed_before : ℕ
   pub failed_after : ℕ
 
--- the passage of a stream, given its bytes and its failures
+-- the change of a stream from `old` to `new`, given its bytes and its number of failures in each state
 abbrev pub stream_change : {X : Type 0} → (X → Option (List ℕ)) → (X → ℕ) → X → X → StreamChange
 stream_change bytes failures old new = record { before = bytes old; after = bytes new; failed_before = failures old; failed_after = failures new }
 
--- a call writes the command's answer to this input. If the call ends with a fault, nothing was written, except that after a
--- fault of the sink a prefix of the answer was.
+-- a call runs the command on this input and writes the answer to the sink. If the call ends with a fault, it wrote nothing,
+-- or after a fault of the sink a prefix of the answer.
 pub record ServesInput (command : Command) (file : Text) (input : List ℕ) (sink : StreamChange) (result : Result Status ServeFault) : Type 0 where
   -- what was written, and the status, are a possible answer of the command
   pub answered : IfOk result (λ status. WritesAnswer command file input status sink.before sink.after)
@@ -155,8 +155,8 @@ pub record ServesInput (command : Command) (file : Text) (input : List ℕ) (sin
   pub unread : IfErr result (λ fault. fault.number ≢ READ_FAILED)
   pub write_failed : sink.failed_after ≡ sink.failed_before + count_of WRITE_FAILED result
 
--- a call reads an input and writes the command's answer to it. If the call ends with a fault, nothing was written, except
--- that after a fault of the sink a prefix of the answer was.
+-- a call reads an input, runs the command on it and writes the answer to the sink. If the call ends with a fault, it wrote
+-- nothing, or after a fault of the sink a prefix of the answer.
 pub record Serves (command : Command) (file : Text) (source sink : StreamChange) (result : Result Status ServeFault) : Type 0 where
   -- what was written, and the status, are a possible answer of the command to what was read
   pub answered : IfOk result (λ status. IfSome source.before (λ input. WritesAnswer command file input status sink.before sink.after))

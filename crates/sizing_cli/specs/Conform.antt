@@ -41,7 +41,7 @@ is_undecided (finding.TooMany excess) = false
 is_undecided (finding.ForeignGet get name) = false
 is_undecided (finding.Invalidation void) = false
 
--- the status is a no if any finding is more than undecided
+-- the status: Done if there are no findings, Undecided if all findings are undecided, and otherwise Refused
 abbrev pub status_of : List Finding → Status
 status_of findings = if length findings == 0 then Done else (if list_all is_undecided findings then Undecided else Refused)
 

@@ -23,7 +23,7 @@ use Rattle.sizing_cli.specs.declared.status.Status.TheVariants.{Done, Refused}
 use Rattle.sizing_cli.specs.Answer.{Answer, fault, input_too_long, yes_or_no}
 use Rattle.sizing_cli.specs.Certify.{IsBundleWith, HasLongText}
 
--- the sizes of the fitted plan; a no if one differs from the plan's
+-- the answer with the sizes of the fitted plan; its status is a no if a size differs from the plan's
 abbrev pub sizes_answer : Plan → Plan → Answer
 sizes_answer plan fit = record { text = sizes_text plan fit; status = yes_or_no (changes plan fit == 0) }
 
@@ -55,7 +55,7 @@ pub record IsBundled (fit : Plan) (cert : Cert) (answer : Answer) : Type 0 where
   pub bundle : IsBundleOf fit cert answer.text
   pub status : answer.status ≡ Done
 
--- the answers for sizes that were found and their certificate: the bundle, or that one of its texts is too long
+-- the answers for sizes that were found and their certificate: the bundle, or a report that one of its texts is too long
 abbrev pub BundlesSizes : Plan → Cert → Answer → Type 0
 BundlesSizes fit cert answer = ((answer ≡ text_too_long) × (HasLongPlanText fit ⊎ HasLongText cert)) ⊎ IsBundled fit cert answer
 
@@ -87,7 +87,8 @@ AnswersReading sizes_form (Ok plan) answer = AnswersPlan sizes_form plan answer
 abbrev pub IsFitAnswer : SizesForm → List ℕ → Answer → Type 0
 IsFitAnswer sizes_form input answer = MatchBool (nat_lt MAX_INPUT_BYTES (length input)) (answer ≡ input_too_long) (AnswersReading sizes_form (plan_of input) answer)
 
--- what status 0 means for a bundle: it has such sizes, and the certificate for which they are the least
+-- what status 0 means for a bundle: it has a fitted plan and a certificate, and the sizes of the plan are the least for
+-- that certificate
 pub record IsFittedBundle (plan : Plan) (text : List ℕ) : Type 0 where
   pub cert : Cert
   pub fit : Plan

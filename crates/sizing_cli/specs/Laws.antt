@@ -26,6 +26,6 @@ pub record IsSplit (input : List ℕ) (bundle : Bundle) : Type 0 where
 abbrev pub InputsSplitAtTheLastSeparator : Type 0
 InputsSplitAtTheLastSeparator = (input : List ℕ) (bundle : Bundle) → bundle_of input ≡ Some bundle ↔ IsSplit input bundle
 
--- an input is no bundle exactly if none of its lines is `%%`
+-- an input is not a bundle exactly if none of its lines is `%%`
 abbrev pub NoBundleWithoutASeparator : Type 0
 NoBundleWithoutASeparator = (input : List ℕ) → bundle_of input ≡ None ↔ has_separator input ≡ false

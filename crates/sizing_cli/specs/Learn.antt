@@ -32,7 +32,7 @@ use Rattle.sizing_cli.specs.Conform.{AreAllFindings, bad_recording}
 abbrev pub extent_comment : ℕ → ℕ → List ℕ
 extent_comment rounds jobs = codes "# Learned from a recording. Rounds: " ++ (decimal rounds ++ (codes ". Jobs: " ++ (decimal jobs ++ (codes "." ++ 10 ∷ []))))
 
--- what a recording cannot show
+-- a note on what a recording cannot show
 abbrev pub not_taken_comment : List ℕ
 not_taken_comment = codes "# What was not taken is not here: another path, class, kind or pool. Each count is what was seen at once." ++ 10 ∷ []
 
@@ -91,11 +91,11 @@ pub record IsConformingText (recording text : List ℕ) : Type 0 where
   pub learned : IsLearnedText recording text
   pub conforms : learned.findings ≡ []
 
--- the findings of a recording to whose plan it does not conform, as --strict writes them
+-- the report of `--strict` on a recording that does not conform to the plan derived from it
 abbrev pub differences : Plan → List Finding → List ℕ
 differences plan findings = codes "no plan was written: the recording does not conform to it" ++ 10 ∷ findings_text plan findings
 
--- the answer with a learned plan of this text and these findings: a yes only if there is none
+-- the answer for a learned plan with this text and these findings; its status is a yes only if there are no findings
 abbrev pub learned_answer : Bool → List ℕ → Plan → List Finding → Answer
 learned_answer strict text plan [] = record { text = text; status = Done }
 learned_answer false text plan (finding ∷ others) = record { text = text; status = Refused }

@@ -1,4 +1,5 @@
--- The replies of a world, in terms of each state that it is the view of, and the answer after some of the lines.
+-- The replies of a world, and the answer after some of the lines. Both are defined by every reachable state whose view is
+-- the world.
 use Rattle.std.specs.Prelude.{◌≡◌, ℕ, List, Option, Some, None}
 use Rattle.job_bodies.specs.Plan.{Plan}
 use Rattle.written_machine.specs.State.{State}

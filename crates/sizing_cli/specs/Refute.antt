@@ -25,7 +25,7 @@ pub record HasCertificate (plan : Plan) : Type 0 where
   pub cert : Cert
   pub accepts : IsTrue (accepted plan cert)
 
--- this is a witness against the plan; if it names jobs, their numbers rise
+-- this is a witness against the plan; if it names jobs, their numbers are in ascending order
 abbrev pub IsWitnessOf : Plan → Witness → Type 0
 IsWitnessOf plan witness = IsWitness plan witness.events.items witness.ending
 

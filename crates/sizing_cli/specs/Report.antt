@@ -39,7 +39,7 @@ replay plan second = if nat_lt MAX_EVENT_BYTES (length second) then input_too_lo
 
 -- ---- check
 
--- the verdict on a plan; a no if the certificate does not accept it
+-- the answer with the verdict on a plan; its status is a no if the certificate does not accept the plan
 abbrev pub verdict_answer : Plan → Verdict → Answer
 verdict_answer plan verdict = record { text = verdict_text plan verdict; status = yes_or_no verdict.yes }
 

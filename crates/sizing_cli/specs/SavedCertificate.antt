@@ -12,19 +12,20 @@ abbrev pub may_be_certificate : List ℕ → Bool
 may_be_certificate [] = true
 may_be_certificate (byte ∷ bytes) = byte == 123
 
--- A certificate may be written under this name. The name is not `-`, there is no directory of that name, and a certificate may
--- replace the file's text; the last two as far as it is known.
+-- A certificate may be written under this name: the name is not `-`; if it is known what files exist, there is no directory
+-- of that name; and if the file's text is known, a certificate may replace it.
 pub record IsReplaceableName (content : Text → Option (List ℕ)) (directory : Text → Option Bool) (name : Text) : Type 0 where
   pub file : bytes_eq name (codes "-") ≡ false
   pub no_directory : IfSome (directory name) (λ known. known ≡ false)
   pub text : IfSome (content name) (λ text. may_be_certificate text ≡ true)
 
--- this holds of the name of the certificate's file, if there is one
+-- if the certificate's file has a name, a certificate may be written under it
 abbrev pub IsReplaceable : (Text → Option (List ℕ)) → (Text → Option Bool) → Option Text → Type 0
 IsReplaceable content directory named = IfSome named (IsReplaceableName content directory)
 
--- An answer was written, and the certificate that it rests on, if any, is the one text that was written to a file, the named
--- one, or that write failed. The certificate is missing if the plan is not safe, or if its text is too long to be read back.
+-- An answer was written. If it rests on a certificate and a file is named for it, the certificate's text was written to
+-- that file, or that write failed; nothing else was written to a file. The certificate is missing if the plan is not safe,
+-- or if the certificate's text is too long to be read back.
 pub record WritesCertificateFile (before after : Option (List FileWrite)) (named : Option Text) (is_done : Bool) (command : Command) (file : Text) (input : List ℕ) (status : Status) (old new : Option (List ℕ)) : Type 0 where
   pub left : Option (List ℕ)
   pub leaves : WritesWithCertificate command file input status left old new

@@ -51,7 +51,7 @@ text_of files input (Some name) = files name
 abbrev pub text_named : (Text → Option (List ℕ)) → Option (List ℕ) → Option Text → Option (List ℕ)
 text_named files input name = text_of files input (file_named name)
 
--- the input if all is in one text
+-- the input if no second text is named
 abbrev pub served_of : Command → (Text → Option (List ℕ)) → Option (List ℕ) → Option Text → Option (List ℕ)
 served_of command files input None = input
 served_of command files input (Some name) = option_map (read_part command) (files name)
@@ -65,9 +65,9 @@ abbrev pub input_named : Command → (Text → Option (List ℕ)) → Option (Li
 input_named command files input (first, None) = served_of command files input (file_named first)
 input_named command files input (first, Some second) = both_read_parts command (text_named files input first) (text_named files input (Some second))
 
--- ---- two texts are no bundles themselves
+-- ---- bundles among the two named texts
 
--- the text, if it is known, is no bundle; or it is one
+-- the text is not a bundle, or it is not known
 abbrev pub IsAlone : Command → Option (List ℕ) → Type 0
 IsAlone command known = IfSome known (λ text. bundle_of (read_part command text) ≡ None)
 

@@ -50,7 +50,8 @@ abbrev pub reply_to : Plan → State → Line → State × Reply
 reply_to plan s (Perform event) = event_reply s (step plan s event)
 reply_to plan s (Stuck members) = (s, reply.Stuck (is_waiting_set plan s members))
 
--- a reply, and then the rest from the new state, or the ending
+-- the answer with this reply, followed by the rest of the replay, or by the last line if no line is replayed after the
+-- reply
 abbrev pub reply_then : Plan → ℕ → State × Reply → (State → Answer) → Answer
 reply_then plan number x rest = followed_by (reply_answer plan number x.1) (if is_last x.1 then ending x.0 else rest x.0)
 

@@ -109,7 +109,7 @@ pub fn serve_words<'a, R: Threads + Wait + Sync, F: TextFiles, S: Source, K: Sin
         (λ _. IsReplaceable (F.content files.old) (F.directory files.old) (certificate_of (map (λ word. word.now) words.now))) }
     ensures occupied { IfErr result (IsOccupied (F.content files.old) (F.directory files.old)) }
 
-    // Of two texts, neither is a bundle itself.
+    // If two texts are named, neither of them is a bundle.
     ensures alone { IfOk result (λ _.
         IfSome
         (command_of (map (λ word. word.now) words.now))
@@ -120,7 +120,7 @@ pub fn serve_words<'a, R: Threads + Wait + Sync, F: TextFiles, S: Source, K: Sin
         (λ command. IsBundled command (F.content files.old) (S.remaining input.old) (files_of (map (λ word. word.now) words.now)) fault)) }
     ensures fault { IfErr result (IsFaultOf (map (λ word. word.now) words.now)) }
 
-    // Fault 60 comes exactly if standard input failed, and 61 exactly if the sink did.
+    // The fault is 60 exactly if standard input failed, and 61 exactly if the sink failed.
     ensures read_failed { S.failures input.new ≡ S.failures input.old + count_in READ_FAILED result }
     ensures write_failed { K.failures sink.new ≡ K.failures sink.old + count_in WRITE_FAILED result }
     ensures nothing { IfErr result

@@ -24,7 +24,7 @@ pub fn bundle_of(input: &[u8]) -> Option<Bundle<'_>>
     // No line that begins after this prefix is `%%`.
     let mut front = input;
     loop {
-        // Nor is a line that begins after its last `%`.
+        // No line that begins after the last `%` of this prefix is `%%` either.
         let percent = memrchr(b'%', front)?;
         let (plan, rest) = input.split_at(last_line_start(&front[..percent]));
         if let Some(second) = after_separator(rest) {

@@ -23,8 +23,8 @@ use std::thread::Threads;
 /// The number of threads that search and check, for commands without an option for it.
 pub(crate) const WORKERS: usize = DEFAULT_WORKERS as usize;
 
-/// The number of pools for each search thread. For fewer, another thread costs more memory than it
-/// saves time.
+/// The number of pools for each search thread. With fewer, one more thread saves too little time
+/// for the memory that it needs.
 const POOLS_OF_A_WORKER: usize = 16;
 
 /// Searches for a certificate in at most `workers` threads. If that finds none, searches for sizes

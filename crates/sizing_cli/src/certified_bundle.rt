@@ -44,7 +44,7 @@ fn join_texts(plan: Vec<u8>, cert: Vec<u8>) -> Result<Vec<u8>, AllocError>
     ensures { IfOk result (λ text. text.items ≡ plan.items ++ (codes "%%" ++ 10 ∷ cert.items)) }
 {
     let mut text = plan;
-    // Growing without this could double the memory of the plan.
+    // An exact reservation. `extend_from_slice` alone could double the memory of the plan's text.
     text.reserve_exact(cert.len().saturating_add(3))?;
     text.extend_from_slice(b"%%\n")?;
     text.extend_from_slice(&cert)?;

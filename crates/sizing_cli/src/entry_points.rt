@@ -24,8 +24,8 @@ use std::alloc::Global;
 use std::sync::Wait;
 use std::thread::Threads;
 
-/// Reads an input, and writes the command's answer to it. The whole answer is computed before its
-/// first byte is written. The numbers in the command must be in their ranges.
+/// Reads an input, runs the command on it, and writes the answer to the sink. The whole answer is
+/// computed before its first byte is written. The numbers in the command must be in their ranges.
 ///
 /// It reads at most 2,097,156 bytes, or 268,435,457 for a command on a recording. Each read except
 /// the last takes at least one byte. For a [`Task`] it starts threads and joins them.
@@ -53,7 +53,7 @@ pub fn serve<R: Threads + Wait + Sync, S: Source, K: Sink>(
     serve_named(rt, alloc, command, NO_FILE, &mut certificate, source, sink)
 }
 
-/// Does what [`serve`] does, with `file` as the name of the plan's file in messages of
+/// Runs the command as [`serve`] does, with `file` as the name of the plan's file in messages of
 /// [`Task::Ask`]. If the answer of `ask` rests on a certificate, sets `certificate` to its text
 /// with a newline at its end, unless that is too long to be read back.
 ///
@@ -84,7 +84,8 @@ pub fn serve_named<R: Threads + Wait + Sync, S: Source, K: Sink>(
     write_answer(rt, alloc, command, file, certificate, input, sink)
 }
 
-/// Writes the command's answer to this input, with `file` and `certificate` as in [`serve_named`].
+/// Runs the command on this input, and writes the answer to the sink. `file` and `certificate` are
+/// as in [`serve_named`].
 pub(crate) fn write_answer<R: Threads + Wait + Sync, K: Sink>(
     rt: &R,
     alloc: Global,
@@ -108,7 +109,7 @@ pub(crate) fn write_answer<R: Threads + Wait + Sync, K: Sink>(
     }
 }
 
-/// Writes an answer of the task, which runs on threads, to this input.
+/// Runs the task on this input, with threads, and writes the answer to the sink.
 fn write_task<R: Threads + Wait + Sync, K: Sink>(
     rt: &R,
     alloc: Global,
@@ -130,7 +131,7 @@ fn write_task<R: Threads + Wait + Sync, K: Sink>(
     Ok(output.status)
 }
 
-/// Returns an answer of the task to the input.
+/// Runs the task on this input, and returns the answer.
 fn answer_on_threads<R: Threads + Wait + Sync>(
     rt: &R,
     alloc: Global,

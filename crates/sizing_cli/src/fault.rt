@@ -25,7 +25,8 @@ pub enum CliError<'a> {
     NoCommand,
     /// Both texts are to come from standard input.
     InputTwice,
-    /// Of two texts, the one of this name, or `<stdin>`, is itself a bundle of two.
+    /// One of two texts is itself a bundle of two texts: the one of this name, or standard input if
+    /// the name is `<stdin>`.
     Bundle(&'a str),
     /// The file of this name could not be read: fault 60.
     Unread(&'a str),

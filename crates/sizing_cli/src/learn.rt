@@ -21,10 +21,7 @@ use plan_text::write_plan;
 use std::alloc::{AllocError, Global};
 
 /// Returns the plan that a recording shows. The input is the recording. If `strict`, the answer has
-/// no plan to which the recording does not conform.
-///
-/// The bodies of a long recording are first derived from its start and compared with all of it.
-/// They are derived from the whole recording only if they do not explain all of it.
+/// the plan only if the recording conforms to it.
 ///
 /// # Errors
 ///
@@ -231,7 +228,8 @@ fn learned_answer(
     })
 }
 
-/// Returns the findings of a recording to whose plan it does not conform, a line each.
+/// Returns the findings, one on each line, of a recording that does not conform to the plan derived
+/// from it.
 fn differences(alloc: Global, plan: &Plan, findings: &[Finding]) -> Result<String, AllocError>
     ensures { IfOk result (λ text. string_bytes text ≡ spec.differences plan.now findings.now) }
 {

@@ -14,8 +14,8 @@ use command_line::RecordingCommand;
 use job_bodies::MAX_RECORDED_BYTES;
 use std::alloc::{AllocError, Global};
 
-/// Reads an input, and writes the answer to it. The whole answer is computed before its first byte
-/// is written.
+/// Reads an input, runs the command on it, and writes the answer to the sink. The whole answer is
+/// computed before its first byte is written.
 ///
 /// It reads at most 268,435,457 bytes. Each read except the last takes at least one byte, so the
 /// call returns whatever the source and the sink do.
@@ -38,7 +38,7 @@ pub fn serve_recording<S: Source, K: Sink>(
     write_reading(alloc, reading, &input, sink)
 }
 
-/// Writes the answer of a command on a recording to this input.
+/// Runs the command on the recording in this input, and writes the answer to the sink.
 pub(crate) fn write_reading<K: Sink>(
     alloc: Global,
     reading: RecordingCommand,

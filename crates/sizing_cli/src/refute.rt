@@ -19,9 +19,10 @@ use std::alloc::{AllocError, Global};
 use std::sync::Wait;
 use std::thread::Threads;
 
-/// Returns that the plan is safe if a certificate is found; otherwise a witness, as a story or as a
-/// bundle with its events; otherwise that it is undecided, with the number of states searched,
-/// which is at most `states`. The input is a plan's text.
+/// Searches for a certificate and then for a witness, and returns the answer. If a certificate is
+/// found, the plan is safe. If a witness is found, the answer is its story, or a bundle with its
+/// events. Otherwise the plan is undecided, and the answer has the number of states that were
+/// searched, at most `states`. The input is a plan's text.
 ///
 /// # Errors
 ///

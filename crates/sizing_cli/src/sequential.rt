@@ -11,8 +11,8 @@ use command_line::ReviewCommand;
 use job_bodies::MAX_INPUT_BYTES;
 use std::alloc::Global;
 
-/// Reads an input, and writes the review's answer to it. The whole answer is computed before its
-/// first byte is written.
+/// Reads an input, runs the review on it, and writes the answer to the sink. The whole answer is
+/// computed before its first byte is written.
 ///
 /// It reads at most 2,097,156 bytes. Each read except the last takes at least one byte, so the call
 /// returns whatever the source and the sink do.
@@ -35,7 +35,7 @@ pub fn serve_alone<S: Source, K: Sink>(
     write_review(alloc, review, &input, sink)
 }
 
-/// Writes the review's answer to this input.
+/// Runs the review on this input, and writes the answer to the sink.
 pub(crate) fn write_review<K: Sink>(
     alloc: Global,
     review: ReviewCommand,

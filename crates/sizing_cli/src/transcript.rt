@@ -81,7 +81,8 @@ fn reply_to(
             None => Ok(Reply::NotPossible),
         },
         EventLine::Stuck(members) => {
-            // `World::stuck` finds numbers by bisection, so they must rise.
+            // `World::stuck` searches the list by bisection, so its numbers must be in ascending
+            // order.
             let mut members = members.to_vec(alloc)?;
             members.sort_unstable();
             Ok(Reply::Stuck(world.stuck(plan, &members)))
