@@ -39,9 +39,9 @@ SECONDS = 20
 
 NOT_WRITTEN = (3, b"", b"fault 61 WriteFailed\n")
 NOT_READ = (3, b"", b"fault 60 ReadFailed\n")
-TWICE = (2, b"", b"standard input has one of the two texts, not both: name a file for the other\n")
+TWICE = (2, b"", b"`-` names standard input for both texts: name a file for one of them\n")
 NO_COMMAND = (2, b"", b"no command\n")
-NOT_UTF_8 = (2, b"", b"the words of the command line are to be UTF-8\n")
+NOT_UTF_8 = (2, b"", b"the arguments must be UTF-8\n")
 
 
 def main():
@@ -100,7 +100,7 @@ def cases_of_files(title, words, parts, folder):
 def cases_of_certificates(program, folder):
     """Yields the cases of `ask --certificate` on a file with some content. The expected end includes the content of the file after it."""
     plan = (EXAMPLES / "two-clients-queue-of-two.toml").read_bytes()
-    occupied = b"%s is there and no certificate, so it stays as it is: name another file for --certificate\n"
+    occupied = b"%s exists and is not a certificate, so it was not changed: name another file for --certificate\n"
     for what, before, is_kept in (
         ("its own plan", plan, True), ("a recording", b"recording 1\n", True), ("a blank", b" {}", True),
         ("nothing", None, False), ("an empty file", b"", False), ("an older certificate", b'{"version":1}\n', False),

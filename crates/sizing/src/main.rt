@@ -87,7 +87,7 @@ fn unread_words(rt: &(impl Eprint + Files), kind: io::ErrorKind) -> ExitCode {
     if kind == io::ErrorKind::OutOfMemory {
         return ended(rt, &CliError::from(AllocError));
     }
-    let _ = eprintln!(rt; "the words of the command line are to be UTF-8");
+    let _ = eprintln!(rt; "the arguments must be UTF-8");
     ExitCode::from(USAGE)
 }
 
@@ -107,7 +107,7 @@ fn tell(rt: &(impl Eprint + Files), fault: &CliError<'_>) -> io::Result<()> {
         CliError::NoCommand => eprintln!(rt; "no command"),
         CliError::InputTwice => {
             eprintln!(rt;
-                "standard input has one of the two texts, not both: name a file for the other"
+                "`-` names standard input for both texts: name a file for one of them"
             )
         }
         CliError::Bundle(name) => {
@@ -123,7 +123,7 @@ fn tell(rt: &(impl Eprint + Files), fault: &CliError<'_>) -> io::Result<()> {
         }
         CliError::Occupied(name) => {
             eprintln!(rt;
-                "{name} is there and no certificate, so it stays as it is: name another file for --certificate"
+                "{name} exists and is not a certificate, so it was not changed: name another file for --certificate"
             )
         }
         CliError::Unwritten(name) => eprintln!(rt; "{} at {name}", FaultHead(WRITE_FAILED)),
