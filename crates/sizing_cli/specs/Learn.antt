@@ -22,7 +22,7 @@ use Rattle.learning.specs.Unfinished.{unfinished_rounds, unfinished_jobs}
 use Rattle.learning.specs.declared.inference_result.InferredPlan.{InferredPlan}
 use Rattle.learning.specs.declared.inference_limit.InferenceLimit.{InferenceLimit}
 use Rattle.learning.specs.declared.inference_limit.InferenceLimit.TheVariants.{Paths, Text}
-use Rattle.job_bodies.specs.declared.limits.TheConstants.{MAX_PATH_STEPS, MAX_RECORDED_BYTES}
+use Rattle.job_bodies.specs.declared.limits.TheConstants.{MAX_RECORDED_BYTES}
 use Rattle.sizing_cli.specs.declared.status.Status.TheVariants.{Done, Refused}
 use Rattle.sizing_cli.specs.Answer.{Answer, input_too_long}
 use Rattle.sizing_cli.specs.Conform.{AreAllFindings, bad_recording}
@@ -79,7 +79,7 @@ pub record IsLearnedText (recording text : List ℕ) : Type 0 where
   pub seen : InferredPlan
   pub is_seen : IsSeen (lines_of recording) seen
   pub findings : List Finding
-  pub found : AreFindingsOf seen.plan MAX_PATH_STEPS (lines_of recording) findings
+  pub found : AreFindingsOf seen.plan (lines_of recording) findings
   pub in_order : AreInOrder findings
   pub beside_actors : list_any is_of_actors findings ≡ false
   pub actors : DoAsPlanned seen.plan (lines_of recording)

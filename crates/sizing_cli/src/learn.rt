@@ -15,7 +15,7 @@ use crate::Status;
 use crate::answer::{Answer, bad_recording, input_too_long};
 use crate::texts::plan_in;
 use conformance::{Conformance, Finding, conform, push_finding, push_findings};
-use job_bodies::{MAX_PATH_STEPS, MAX_PLAN_BYTES, MAX_RECORDED_BYTES, Plan};
+use job_bodies::{MAX_PLAN_BYTES, MAX_RECORDED_BYTES, Plan};
 use learning::{Extent, InferenceLimit, InferenceResult, InferredPlan, START_BYTES, learn};
 use plan_text::write_plan;
 use std::alloc::{AllocError, Global};
@@ -49,7 +49,7 @@ fn learn_from_start(
 ) -> Result<Option<Answer>, AllocError>
     ensures { IfOk result (λ found. IfSome found (spec.AnswersLines strict recording.now)) }
 {
-    match learn(alloc, recording, Extent::Start, MAX_PATH_STEPS)? {
+    match learn(alloc, recording, Extent::Start)? {
         InferenceResult::Invalid(fault) => Ok(Some(bad_recording(alloc, fault)?)),
         InferenceResult::InferenceLimit(_) => Ok(None),
         InferenceResult::Inferred(seen) => plan_answer(alloc, strict, recording, &seen),
@@ -60,7 +60,7 @@ fn learn_from_start(
 fn learn_from_all(alloc: Global, strict: bool, recording: &[u8]) -> Result<Answer, AllocError>
     ensures { IfOk result (spec.AnswersLines strict recording.now) }
 {
-    match learn(alloc, recording, Extent::Whole, MAX_PATH_STEPS)? {
+    match learn(alloc, recording, Extent::Whole)? {
         InferenceResult::Invalid(fault) => bad_recording(alloc, fault),
         InferenceResult::InferenceLimit(reason) => not_learned(alloc, reason),
         InferenceResult::Inferred(seen) => match plan_answer(alloc, strict, recording, &seen)? {
@@ -83,8 +83,7 @@ fn plan_answer(
     requires seen { spec.IsSeen (lines_of recording.now) seen.now }
     ensures { IfOk result (λ found. IfSome found (spec.AnswersLines strict recording.now)) }
 {
-    let Conformance::Compared(findings) = conform(alloc, &seen.plan, recording, MAX_PATH_STEPS)?
-    else {
+    let Conformance::Compared(findings) = conform(alloc, &seen.plan, recording)? else {
         return Ok(None);
     };
     if are_of_actors(&findings) {

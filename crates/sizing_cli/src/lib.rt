@@ -45,6 +45,7 @@ mod witness;
 
 pub use arguments::serve_words;
 pub use ask_answer::{AskOutput, ask};
+pub use bundle::{Bundle, bundle_of};
 pub use byte_streams::{IoFault, MemorySink, MemorySource, Sink, Source, StdSink, StdSource};
 pub use certify::whole_lines;
 pub use command_line::{
