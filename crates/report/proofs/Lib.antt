@@ -12,3 +12,5 @@ mod ReplayLines
 mod WaitsShown
 mod Witnesses
 mod JsonLists
+mod StoryTurns
+mod StoryState

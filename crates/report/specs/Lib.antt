@@ -29,3 +29,6 @@ pub mod Remarks
 pub mod Github
 pub mod Sarif
 pub mod Page
+pub mod Story
+pub mod StorySeen
+pub mod Description

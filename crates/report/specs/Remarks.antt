@@ -13,7 +13,7 @@ use Rattle.size_search.specs.declared.found.SizesFound.TheVariants.{Found, NotFo
 use Rattle.counterexample.specs.declared.ending.Ending.{Ending}
 use Rattle.counterexample.specs.declared.ending.Ending.TheVariants.{Refused, StuckForever, StuckNow}
 use Rattle.counterexample.specs.declared.witness.Witness.{Witness}
-use Rattle.counterexample.specs.Description.{IsDescription}
+use Rattle.report.specs.Description.{IsDescription}
 use Rattle.diagnostics.specs.declared.diagnostic.Diagnostic.{Diagnostic}
 use Rattle.diagnostics.specs.declared.diagnostic.Faults.{Faults}
 use Rattle.diagnostics.specs.declared.warnings.Warning.{Warning}

@@ -6,9 +6,10 @@ ghost use Rattle.report.specs.Remarks as spec;
 
 use crate::PlanFinding;
 use crate::annotation::{Annotation, Rule};
+use crate::description::describe;
 use crate::json_places::pool_places_at;
 use crate::size_annotations::push_sizes_found;
-use counterexample::{Ending, Witness, describe};
+use counterexample::{Ending, Witness};
 use diagnostics::{Diagnostic, Faults, PlanPlaces, Warning};
 use job_bodies::Plan;
 use plan_text::TextPlace;

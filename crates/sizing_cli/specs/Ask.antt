@@ -1,6 +1,6 @@
 -- The possible answers of `ask` to an input, and the certificate that it leaves. `file` is the name of the plan's file in
 -- messages. This is a relation: it does not fix which certificate, witness or sizes are found, or that some are, nor the wording
--- of faults and of a witness's story, nor the places of a plan's entries.
+-- of faults, nor the places of a plan's entries.
 use Rattle.std.specs.Prelude.{◌≡◌, ◌≤◌, ◌<◌, ℕ, nat_lt, Bool, true, false, not, ◌&&◌, ◌==◌, if◌then◌else◌, List, [], ◌∷◌, ◌++◌, length, codes, decimal, Option, Some, None, IfSome, Result, Ok, Err, option_map, IsTrue, MatchBool}
 use Rattle.clap.specs.Words.{Text}
 use Rattle.job_bodies.specs.Plan.{Plan}

@@ -8,6 +8,8 @@ use Rattle.counterexample.specs.declared.ending.Ending.{Ending}
 use Rattle.counterexample.specs.declared.ending.Ending.TheVariants.{Refused, StuckForever, StuckNow}
 use Rattle.counterexample.specs.declared.ending.Reason.TheVariants.{PoolsAreFull, PoolsStayAtCore}
 use Rattle.counterexample.specs.declared.witness.Witness.{Witness}
+use Rattle.counterexample.specs.EventLines.{stuck_members}
+use Rattle.report.specs.Story.{story_text}
 
 -- the text that says how many jobs wait only for each other
 abbrev pub jobs_wait : List ℕ → List ℕ
@@ -51,9 +53,8 @@ why_text (StuckForever members PoolsAreFull) = codes "forever: each pool in whos
 why_text (StuckForever members PoolsStayAtCore) = codes "forever: each pool in whose queue one of them waits has all its threads, or never starts one above core" ++ 10 ∷ []
 why_text (StuckNow members) = codes "until a pool in whose queue one of them waits starts a thread above core" ++ 10 ∷ []
 
--- the text is the first line, a story that no clause specifies, and the last line
+-- the text is the first line, the story, and the last line
 pub record IsDescription (plan : Plan) (witness : Witness) (text : List ℕ) : Type 0 where
   pub clients : ℕ
   pub clients_are : IsActiveClientCount witness.events.items clients
-  pub story : List ℕ
-  pub is : text ≡ (head plan witness clients ++ story) ++ why_text witness.ending
+  pub is : text ≡ (head plan witness clients ++ story_text plan witness.events.items (stuck_members witness.ending)) ++ why_text witness.ending

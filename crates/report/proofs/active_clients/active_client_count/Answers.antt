@@ -4,7 +4,7 @@ use Rattle.std.proofs.lemmas.List.Filters.{dedup_is}
 use Rattle.std.proofs.lemmas.List.Kept.{Contains-dedup_nat, Contains-from_dedup}
 use Rattle.std.proofs.lemmas.List.Sorted.{Contains-permutation, IsPermutation-sym}
 use Rattle.std.proofs.lemmas.Map.Keys.{IsStrictlyIncreasing-dedup}
-use Rattle.counterexample.proofs.active_clients.active_client_count.Goals as goal
+use Rattle.report.proofs.active_clients.active_client_count.Goals as goal
 
 pub returns : goal.returns
 returns c =

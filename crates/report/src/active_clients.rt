@@ -1,7 +1,7 @@
 //! The clients that act in a list of events.
 
 ghost use Rattle.std.specs.Prelude.{◌≡◌, IfOk};
-ghost use Rattle.counterexample.specs.Description as spec;
+ghost use Rattle.report.specs.Description as spec;
 
 use interleaving::Event;
 use std::alloc::{AllocError, Global};

@@ -2,12 +2,12 @@
 
 ghost use Rattle.std.specs.Prelude.{◌++◌, IfOk, codes, string_bytes};
 ghost use Rattle.support.specs.Pushed.{Pushes};
-ghost use Rattle.counterexample.specs.Description as spec;
+ghost use Rattle.report.specs.Description as spec;
 
 use crate::active_clients::active_client_count;
-use crate::event_texts::stuck_members;
-use crate::stories::story;
-use crate::{Ending, Reason, Witness};
+use crate::json_ending::members_of;
+use crate::story::push_story;
+use counterexample::{Ending, Reason, Witness};
 use job_bodies::Plan;
 use std::alloc::{AllocError, Global};
 
@@ -26,8 +26,13 @@ pub fn describe(alloc: Global, plan: &Plan, witness: &Witness) -> Result<String,
     let clients = active_client_count(alloc, &witness.events)?;
     let mut text = String::new(alloc);
     push_head(&mut text, plan, witness, clients)?;
-    let story = story(alloc, plan, &witness.events, stuck_members(&witness.ending))?;
-    text.push_str(&story)?;
+    push_story(
+        &mut text,
+        alloc,
+        plan,
+        &witness.events,
+        members_of(&witness.ending),
+    )?;
     push_why(&mut text, &witness.ending)?;
     Ok(text)
 }
