@@ -23,7 +23,7 @@ MAIN_AS_TEST = f"fn main(_rt: HostRuntime) {{}}\n\n#[test]\nfn {STORED_RUN}("
 
 # What a test writes last if it passes, and what the checks write if they stop a run.
 PASSED = b"\ntest result: ok\n"
-STOPPED = re.compile(r"^==\d+==ERROR: ", re.M)
+STOPPED = re.compile(r"^(?:AddressSanitizer:DEADLYSIGNAL\n)*(?:=+\n)?==\d+==ERROR: ", re.M)
 
 
 class Build(NamedTuple):
@@ -42,13 +42,19 @@ class Ran(NamedTuple):
     output: bytes
     said: str
 
+    def is_ended_with(self, status):
+        return self.status == status and not STOPPED.search(self.said)
+
     def ended_text(self):
         if self.status is None:
             return "it was stopped after its time limit"
-        return "a check stopped it (`rt try` in the crate's folder says where)" if STOPPED.search(self.said) else f"it ended with {self.status}"
+        if STOPPED.search(self.said):
+            return "a check stopped it: rt try in the crate's folder, for a test with --test, prints where"
+        return f"it ended with {self.status}"
 
-    def is_ended_with(self, status):
-        return self.status == status and not STOPPED.search(self.said)
+    def texts(self):
+        """Returns the end of the output and of the error output, without the report of a check that has only addresses."""
+        return self.output.decode(errors="replace")[-4000:], STOPPED.split(self.said)[0][-2000:]
 
 
 def root_file(crate, top=ROOT):
