@@ -377,7 +377,10 @@ def learned_orders(program, folder):
     given = written(folder, "learn", *alike_jobs(True))
     with open(given, "rb") as text:
         ended = subprocess.run([program, "learn"], stdin=text, capture_output=True, text=True, timeout=SECONDS)
-    plan = tomllib.loads(ended.stdout) if ended.returncode == 0 else {}
+    try:
+        plan = tomllib.loads(ended.stdout)
+    except tomllib.TOMLDecodeError:
+        plan = {}
     bodies = [entry["body"] for kind in ("class", "client") for entry in plan.get(kind, [])]
     lengths = [len(body) for body in bodies if body]
     print(f"  learn: status {ended.returncode}, bodies of {lengths or 'no'} actions, wanted one of {2 * ALIKE}", flush=True)
