@@ -133,8 +133,8 @@ needed_of plan (NotDecided sizes) = needed_by_sizes sizes
 -- the lowered plan is the plan with each maximum lowered to the core size of its pool, and its certificate accepts it
 pub record IsAcceptedAtCore (plan : Plan) (lowered : LoweredPlan) : Type 0 where
   pub above : has_max_above_core plan ≡ true
-  pub at_core : lowered.plan ≡ at_core plan
-  pub accepted : IsTrue (accepted lowered.plan lowered.cert)
+  pub is_at_core : lowered.plan ≡ at_core plan
+  pub is_accepted : IsTrue (accepted lowered.plan lowered.cert)
 
 -- only a plan that is not decided has a lowered plan
 abbrev pub IsLowered : Plan → PlanFinding → Option LoweredPlan → Type 0
