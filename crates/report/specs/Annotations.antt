@@ -8,6 +8,9 @@ use Rattle.report.specs.declared.annotation.Rule.TheVariants.{Fault, Warning, Sa
 use Rattle.report.specs.declared.annotation.Annotation.{Annotation}
 
 abbrev pub lint_name : Lint → List ℕ
+lint_name lint.SafeAtCore = codes "safe-at-core"
+lint_name (lint.SubmitsItself k) = codes "submits-itself"
+lint_name (lint.NeverGot part number action) = codes "never-got"
 lint_name lint.NothingToAsk = codes "nothing-to-ask"
 lint_name lint.NoClients = codes "no-clients"
 lint_name lint.NothingSubmitted = codes "nothing-submitted"

@@ -65,6 +65,9 @@ fn lint_name(lint: Lint) -> &'static str
     ensures { result.now ≡ spec.lint_name lint }
 {
     match lint {
+        Lint::SafeAtCore => "safe-at-core",
+        Lint::SubmitsItself(_) => "submits-itself",
+        Lint::NeverGot(_, _, _) => "never-got",
         Lint::NothingToAsk => "nothing-to-ask",
         Lint::NoClients => "no-clients",
         Lint::NothingSubmitted => "nothing-submitted",
