@@ -12,3 +12,4 @@ mod ReplayLines
 mod WaitsShown
 mod Witnesses
 mod JsonLists
+mod CompactText

@@ -18,6 +18,7 @@ mod json_event_parts;
 mod json_events;
 mod json_faults;
 mod json_findings;
+mod json_line;
 mod json_places;
 mod json_plan;
 mod json_pools;
@@ -36,6 +37,7 @@ mod size_laws;
 mod size_lines;
 mod text;
 mod unsafe_sizes;
+mod uri;
 mod version;
 mod waits;
 
