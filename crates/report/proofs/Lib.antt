@@ -14,3 +14,4 @@ mod Witnesses
 mod JsonLists
 mod StoryTurns
 mod StoryState
+mod CompactText

@@ -22,6 +22,7 @@ pub mod JsonPlan
 pub mod JsonPools
 pub mod JsonSizes
 pub mod JsonFaults
+pub mod JsonLine
 pub mod JsonWarnings
 pub mod JsonWitness
 pub mod Annotations
@@ -32,3 +33,4 @@ pub mod Page
 pub mod Story
 pub mod StorySeen
 pub mod Description
+pub mod Uri

@@ -20,6 +20,7 @@ mod json_event_parts;
 mod json_events;
 mod json_faults;
 mod json_findings;
+mod json_line;
 mod json_places;
 mod json_plan;
 mod json_pools;
@@ -44,6 +45,7 @@ mod story_turns;
 mod story_waits;
 mod text;
 mod unsafe_sizes;
+mod uri;
 mod version;
 mod waits;
 

@@ -33,7 +33,8 @@ use Rattle.report.specs.Page as page
 use Rattle.report.specs.Github as github
 use Rattle.report.specs.Sarif as sarif
 use Rattle.report.specs.Remarks.{fault_remarks, single_fault}
-use Rattle.report.specs.Picture.{IsPicture}
+use Rattle.report.specs.JsonLine.{IsLineOf}
+use Rattle.report.specs.Picture.{picture_text}
 use Rattle.command_line.specs.declared.command.AskInput.{AskInput}
 use Rattle.command_line.specs.declared.command.AskInput.TheVariants.{PlanAlone, WithCertificate}
 use Rattle.command_line.specs.declared.command.Form.{Form}
@@ -65,7 +66,7 @@ TellsFaultsIn Json source faults text = json.TellsFaults source.file source.text
 TellsFaultsIn Dot source faults text = text ≡ faults_text source.file faults
 TellsFaultsIn Html source faults text = page.TellsFaults source.file source.text faults text
 TellsFaultsIn Github source faults text = text ≡ github.github_text source.file (fault_remarks faults)
-TellsFaultsIn Sarif source faults text = json.IsLineOf (sarif.sarif_data source.file (fault_remarks faults)) text
+TellsFaultsIn Sarif source faults text = IsLineOf (sarif.sarif_data source.file (fault_remarks faults)) text
 
 -- the answer reports at most 100 faults of a plan's text, each in one line. The first of them is `fault`. It omits faults
 -- only if it reports 100.
@@ -89,7 +90,7 @@ TellsCertFaultIn Json source number words text = json.TellsFault source.file sou
 TellsCertFaultIn Dot source number words text = text ≡ words ++ fault_number number
 TellsCertFaultIn Html source number words text = page.TellsFault source.file source.text number words text
 TellsCertFaultIn Github source number words text = text ≡ github.github_text source.file (single_fault number words)
-TellsCertFaultIn Sarif source number words text = json.IsLineOf (sarif.sarif_data source.file (single_fault number words)) text
+TellsCertFaultIn Sarif source number words text = IsLineOf (sarif.sarif_data source.file (single_fault number words)) text
 
 -- the answer reports a fault of a certificate, in words that are one line
 pub record AnswersCertFault (form : Form) (source : PlanSource) (fault : CertFault) (answer : Answer) : Type 0 where
@@ -172,7 +173,7 @@ pub record WithPlaces (plan : Plan) (Holds : PlanPlaces → Type 0) : Type 0 whe
 abbrev pub TellsFindingIn : Form → PlanSource → Plan → List Warning → PlanFinding → List ℕ → Type 0
 TellsFindingIn Words source plan warnings finding text = TellsFinding source.file plan warnings finding text
 TellsFindingIn Json source plan warnings finding text = WithPlaces plan (λ places. json.TellsFinding source.file source.text places plan finding warnings text)
-TellsFindingIn Dot source plan warnings finding text = IsPicture text
+TellsFindingIn Dot source plan warnings finding text = text ≡ picture_text plan finding
 TellsFindingIn Html source plan warnings finding text = WithPlaces plan (λ places. page.TellsFinding source.file source.text places plan finding warnings text)
 TellsFindingIn Github source plan warnings finding text = WithPlaces plan (λ places. github.TellsFinding source.file places plan finding warnings text)
 TellsFindingIn Sarif source plan warnings finding text = WithPlaces plan (λ places. sarif.TellsFinding source.file places plan finding warnings text)

@@ -56,13 +56,14 @@ const SERVED: [&str; 12] = [
     "recorded_learns",
 ];
 
-const ON_THREADS: [&str; 7] = [
+const ON_THREADS: [&str; 8] = [
     "threads_certify",
     "threads_checks",
     "threads_fits",
     "threads_runs",
     "threads_refutes",
     "threads_asks",
+    "threads_formats",
     "found_sizes",
 ];
 
