@@ -46,10 +46,10 @@ same_mismatches lines one other same (first ∷ reported) [] all = absurd all
 same_mismatches lines one other same (first ∷ reported) (mismatch ∷ found) all = (same_reported lines one other same first mismatch all.0, same_mismatches lines one other same reported found all.1)
 
 -- ---- all findings
-pub all_found : (plan : Plan) (budget : ℕ) (lines : List RecordedLine) (survey : Survey) (kinds : List (Option ℕ)) (excesses : List RoundExcess) (collect_findings findings : List Finding)
-    → (so : IsSurveyOf plan budget lines survey) → AreFirstKinds plan lines so.actor_survey.reported kinds → excesses ≡ excesses_by_lines plan kinds lines → AreCollected lines survey excesses collect_findings → IsPermutation collect_findings findings
-    → AreFindingsOf plan budget lines findings
-all_found plan budget lines survey kinds excesses collect_findings findings so first excess_tracker are moved =
+pub all_found : (plan : Plan) (lines : List RecordedLine) (survey : Survey) (kinds : List (Option ℕ)) (excesses : List RoundExcess) (collect_findings findings : List Finding)
+    → (so : IsSurveyOf plan lines survey) → AreFirstKinds plan lines so.actor_survey.reported kinds → excesses ≡ excesses_by_lines plan kinds lines → AreCollected lines survey excesses collect_findings → IsPermutation collect_findings findings
+    → AreFindingsOf plan lines findings
+all_found plan lines survey kinds excesses collect_findings findings so first excess_tracker are moved =
     let verdicts = survey.actor_survey.verdicts in
     let found = survey.line_survey in
     let as_counted = ap (λ (rounds : List RoundExcess). all_findings found.deviations.items found.unplanned.found.items are.mismatches verdicts.undecided.actors.items rounds are.foreign (filter is_path_independent (invalidations_of lines))) excess_tracker in

@@ -31,7 +31,7 @@ use Rattle.conformance.specs.declared.survey.Survey.{Survey}
 use Rattle.conformance.specs.declared.unplanned.NotPlanned.{NotPlanned}
 use Rattle.conformance.specs.Conforms.{Conforms, DoAsPlanned, HasNoInvalidation, IsOfAClass, IsOfAKind, HasItsKind}
 use Rattle.conformance.specs.Findings.{is_of_actors}
-use Rattle.conformance.specs.FirstKinds.{AreFirstKinds, has_kind, round_and_kind}
+use Rattle.conformance.specs.FirstKinds.{AreFirstKinds, has_kind, has_no_kind, round_and_kind}
 use Rattle.conformance.specs.CollectedFindings.{AreCollected, AreMismatchesOf, AreForeign, not_decided, is_path_independent}
 use Rattle.conformance.specs.CollectedFindings as made
 use Rattle.conformance.specs.JobSet.{has_job}
@@ -61,47 +61,49 @@ some_kind plan lines round (n ∷ more) can_be some = record { kinds = n ∷ mor
 
 -- The round counts as the first kind that it can belong to.
 counted_so : (plan : Plan) (lines : List RecordedLine) (reported : List ClassifiedActor) (kinds : List (Option ℕ)) (one : ClassifiedActor) (round : ℕ) (members : List ℕ) → AreFirstKinds plan lines reported kinds → Contains reported one
-    → one.actor ≡ Round round → one.family.members.items ≡ members → CanBe plan lines (Round round) members → is_empty members ≡ false → HasItsKind plan lines kinds round
-counted_so plan lines reported kinds one round [] are among actor_is members_are can_be some = absurd (grind (arith, some))
-counted_so plan lines reported kinds one round (kind ∷ more) are among actor_is members_are can_be some =
-    let reported_is : round_and_kind one ≡ Some (round, kind) = ap (λ (m : List ℕ). has_kind m one.actor) members_are ∙ ap (λ (a : RecordedActor). has_kind (kind ∷ more) a) actor_is in
+    → one.actor ≡ Round round → one.family.is_decided ≡ true → one.family.members.items ≡ members → CanBe plan lines (Round round) members → is_empty members ≡ false → HasItsKind plan lines kinds round
+counted_so plan lines reported kinds one round [] are among actor_is decided members_are can_be some = absurd (grind (arith, some))
+counted_so plan lines reported kinds one round (kind ∷ more) are among actor_is decided members_are can_be some =
+    let reported_is : round_and_kind one ≡ Some (round, Some kind) =
+    ap (λ (b : Bool). if b then has_kind one.family.members.items one.actor else has_no_kind one.actor) decided
+    ∙ (ap (λ (m : List ℕ). has_kind m one.actor) members_are ∙ ap (λ (a : RecordedActor). has_kind (kind ∷ more) a) actor_is) in
     record {
       kind = kind;
       can_be = kind ∷ more;
       exact = can_be;
       among = here kind more;
-      is = ap (λ (o : Option (Option ℕ)). option_and_then (λ (k : Option ℕ). k) o) (are.reports_of one round kind among reported_is);
+      is = ap (λ (o : Option (Option ℕ)). option_and_then (λ (k : Option ℕ). k) o) (are.reports_of one round (Some kind) among reported_is);
     }
 
 -- ---- all actors
-pub record AreWellFormed (plan : Plan) (budget : ℕ) (lines : List RecordedLine) (reported : List ClassifiedActor) : Type 0 where
-  pub all : AreAllResultsOf plan budget lines reported
+pub record AreWellFormed (plan : Plan) (lines : List RecordedLine) (reported : List ClassifiedActor) : Type 0 where
+  pub all : AreAllResultsOf plan lines reported
   pub good : (one : ClassifiedActor) → Contains reported one → IsWellFormed one
 
-job_so : (plan : Plan) (budget : ℕ) (lines : List RecordedLine) (reported : List ClassifiedActor) (job : ℕ) → AreWellFormed plan budget lines reported → is_submitted lines job ≡ true → IsOfAClass plan lines job
-job_so plan budget lines reported job are come =
+job_so : (plan : Plan) (lines : List RecordedLine) (reported : List ClassifiedActor) (job : ℕ) → AreWellFormed plan lines reported → is_submitted lines job ≡ true → IsOfAClass plan lines job
+job_so plan lines reported job are come =
     let one = passing (is_reported (Job job)) reported (are.all.each (Job job) ∙ come) in
     let good = are.good one.one one.among in
-    let so = All-contains (IsCorrectResult plan budget lines) reported one.one are.all.reported one.among in
+    let so = All-contains (IsCorrectResult plan lines) reported one.one are.all.reported one.among in
     let is = same_job one.one.actor job one.passes in
     some_class plan lines job one.one.family.members.items (subst (λ (a : RecordedActor). CanBe plan lines a one.one.family.members.items) is (so.members good.decided)) good.some
 
-round_so : (plan : Plan) (budget : ℕ) (lines : List RecordedLine) (reported : List ClassifiedActor) (round : ℕ) → AreWellFormed plan budget lines reported → is_begun lines round ≡ true → IsOfAKind plan lines round
-round_so plan budget lines reported round are come =
+round_so : (plan : Plan) (lines : List RecordedLine) (reported : List ClassifiedActor) (round : ℕ) → AreWellFormed plan lines reported → is_begun lines round ≡ true → IsOfAKind plan lines round
+round_so plan lines reported round are come =
     let one = passing (is_reported (Round round)) reported (are.all.each (Round round) ∙ come) in
     let good = are.good one.one one.among in
-    let so = All-contains (IsCorrectResult plan budget lines) reported one.one are.all.reported one.among in
+    let so = All-contains (IsCorrectResult plan lines) reported one.one are.all.reported one.among in
     let is = same_round one.one.actor round one.passes in
     some_kind plan lines round one.one.family.members.items (subst (λ (a : RecordedActor). CanBe plan lines a one.one.family.members.items) is (so.members good.decided)) good.some
 
-kind_so : (plan : Plan) (budget : ℕ) (lines : List RecordedLine) (reported : List ClassifiedActor) (kinds : List (Option ℕ)) (round : ℕ) → AreWellFormed plan budget lines reported → AreFirstKinds plan lines reported kinds
+kind_so : (plan : Plan) (lines : List RecordedLine) (reported : List ClassifiedActor) (kinds : List (Option ℕ)) (round : ℕ) → AreWellFormed plan lines reported → AreFirstKinds plan lines reported kinds
     → is_begun lines round ≡ true → HasItsKind plan lines kinds round
-kind_so plan budget lines reported kinds round are first come =
+kind_so plan lines reported kinds round are first come =
     let one = passing (is_reported (Round round)) reported (are.all.each (Round round) ∙ come) in
     let good = are.good one.one one.among in
-    let so = All-contains (IsCorrectResult plan budget lines) reported one.one are.all.reported one.among in
+    let so = All-contains (IsCorrectResult plan lines) reported one.one are.all.reported one.among in
     let is = same_round one.one.actor round one.passes in
-    counted_so plan lines reported kinds one.one round one.one.family.members.items first one.among is refl (subst (λ (a : RecordedActor). CanBe plan lines a one.one.family.members.items) is (so.members good.decided)) good.some
+    counted_so plan lines reported kinds one.one round one.one.family.members.items first one.among is good.decided refl (subst (λ (a : RecordedActor). CanBe plan lines a one.one.family.members.items) is (so.members good.decided)) good.some
 
 -- ---- the notes
 no_foreign : (lines : List RecordedLine) (get : Option ForeignGet) (found : List Finding) → AreForeign lines get found → found ≡ [] → get ≡ None
@@ -164,33 +166,33 @@ none_before xs ys moved none = empty_if xs (sym (length_permutation xs ys moved)
 
 -- ---- all findings
 -- If no finding concerns an actor, the actors behave as planned.
-pub actors_do : (plan : Plan) (budget : ℕ) (lines : List RecordedLine) (survey : Survey) (kinds : List (Option ℕ)) (excesses : List RoundExcess) (found : List Finding)
-    → RoundsAreWithinPlan → (so : IsSurveyOf plan budget lines survey) → AreFirstKinds plan lines so.actor_survey.reported kinds → excesses ≡ excesses_by_lines plan kinds lines → AreCollected lines survey excesses found
+pub actors_do : (plan : Plan) (lines : List RecordedLine) (survey : Survey) (kinds : List (Option ℕ)) (excesses : List RoundExcess) (found : List Finding)
+    → RoundsAreWithinPlan → (so : IsSurveyOf plan lines survey) → AreFirstKinds plan lines so.actor_survey.reported kinds → excesses ≡ excesses_by_lines plan kinds lines → AreCollected lines survey excesses found
     → list_any is_of_actors found ≡ false → DoAsPlanned plan lines
-actors_do plan budget lines survey kinds excesses found are_within so first excess_tracker collect_findings none =
+actors_do plan lines survey kinds excesses found are_within so first excess_tracker collect_findings none =
     let parts = none_in_parts survey.line_survey.deviations.items survey.line_survey.unplanned.found.items collect_findings.mismatches survey.actor_survey.verdicts.undecided.actors.items excesses collect_findings.foreign (filter is_path_independent (invalidations_of lines))
     (ap (list_any is_of_actors) (sym collect_findings.all) ∙ none) in
     let no_mismatches = none_reported lines (has_job survey.actor_survey.verdicts.classless) survey.actor_survey.verdicts.mismatches.actors.items collect_findings.mismatches collect_findings.mismatches_so parts.astray_none in
     let actor_survey = so.actor_survey in
-    let are : AreWellFormed plan budget lines actor_survey.reported = record {
+    let are : AreWellFormed plan lines actor_survey.reported = record {
       all = actor_survey.all;
-      good = λ one among. all_good plan budget lines actor_survey.reported survey.actor_survey.verdicts survey.line_survey.unplanned one actor_survey.all.reported actor_survey.verdicts so.line_survey.unplanned no_mismatches parts.undecided_none parts.labels_none among;
+      good = λ one among. all_good plan lines actor_survey.reported survey.actor_survey.verdicts survey.line_survey.unplanned one actor_survey.all.reported actor_survey.verdicts so.line_survey.unplanned no_mismatches parts.undecided_none parts.labels_none among;
     } in
     record {
-      jobs = λ job. job_so plan budget lines actor_survey.reported job are;
-      rounds = λ round. round_so plan budget lines actor_survey.reported round are;
+      jobs = λ job. job_so plan lines actor_survey.reported job are;
+      rounds = λ round. round_so plan lines actor_survey.reported round are;
       clients = record {
         kinds = kinds;
-        each = λ round. kind_so plan budget lines actor_survey.reported kinds round are first;
+        each = λ round. kind_so plan lines actor_survey.reported kinds round are first;
         within = λ before after is. are_within plan kinds before after (ap (excesses_by_lines plan kinds) (sym is) ∙ (sym excess_tracker ∙ parts.excesses_none));
       };
     }
 
-pub conforms : (plan : Plan) (budget : ℕ) (lines : List RecordedLine) (survey : Survey) (kinds : List (Option ℕ)) (excesses : List RoundExcess) (found : List Finding)
+pub conforms : (plan : Plan) (lines : List RecordedLine) (survey : Survey) (kinds : List (Option ℕ)) (excesses : List RoundExcess) (found : List Finding)
     → PoolsAreAsPlanned → PoolsAreRecorded → RoundsAreWithinPlan
-    → (so : IsSurveyOf plan budget lines survey) → AreFirstKinds plan lines so.actor_survey.reported kinds → excesses ≡ excesses_by_lines plan kinds lines → AreCollected lines survey excesses found → found ≡ []
+    → (so : IsSurveyOf plan lines survey) → AreFirstKinds plan lines so.actor_survey.reported kinds → excesses ≡ excesses_by_lines plan kinds lines → AreCollected lines survey excesses found → found ≡ []
     → Conforms plan lines × HasNoInvalidation lines
-conforms plan budget lines survey kinds excesses found as_planned are_recorded are_within so first excess_tracker collect_findings none =
+conforms plan lines survey kinds excesses found as_planned are_recorded are_within so first excess_tracker collect_findings none =
     let p6 = both_none _ _ (sym collect_findings.all ∙ none) in
     let p5 = both_none _ _ p6.0 in
     let p4 = both_none _ _ p5.0 in
@@ -203,7 +205,7 @@ conforms plan budget lines survey kinds excesses found as_planned are_recorded a
       record {
         pools = as_planned plan lines pools.0;
         recorded = λ closed. are_recorded plan lines closed pools.1;
-        actors = actors_do plan budget lines survey kinds excesses found are_within so first excess_tracker collect_findings (ap (list_any is_of_actors) none);
+        actors = actors_do plan lines survey kinds excesses found are_within so first excess_tracker collect_findings (ap (list_any is_of_actors) none);
         gets = no_foreign lines _ _ collect_findings.foreign_so p5.1;
       },
       not_invalidation lines no_invalidations,

@@ -1,15 +1,7 @@
-pub mod StepAnswers
-pub mod WalkSteps
-pub mod SubmitPlaces
-pub mod ChoiceFromWalk
-pub mod WalkFromChoice
-pub mod Prefix
-pub mod SearchResults
-pub mod EnoughSteps
-mod WorkedPaths
 pub mod Names
 pub mod OneByOne
 pub mod Explained
+pub mod OneClassEach
 pub mod MatchedBodies
 pub mod MatchedClasses
 pub mod MatchedKinds
@@ -30,7 +22,7 @@ pub mod BegunActors
 pub mod OtherActors
 pub mod RemovedActor
 pub mod AddsResults
-pub mod Enough
+pub mod AllClauses
 pub mod SubmitsOnce
 pub mod OneResult
 pub mod Progress

@@ -39,9 +39,9 @@ is_classless_in reported job = list_any (is_classless_job job) reported
 -- each label of the plan, the first actor whose path matches no body and the first one for which this is undecided; the
 -- first line at which each kind has too many rounds; the first get of another actor's job; and the first line of each event
 -- type that invalidates a SAFE answer.
-pub record AreFindingsOf (plan : Plan) (budget : ℕ) (lines : List RecordedLine) (findings : List Finding) : Type 0 where
+pub record AreFindingsOf (plan : Plan) (lines : List RecordedLine) (findings : List Finding) : Type 0 where
   pub reported : List ClassifiedActor
-  pub all_reported : AreAllResultsOf plan budget lines reported
+  pub all_reported : AreAllResultsOf plan lines reported
   pub kinds : List (Option ℕ)
   pub kinds_so : AreFirstKinds plan lines reported kinds
   pub deviations : List PoolDeviation

@@ -35,8 +35,6 @@ pub enum Conformance {
 
 /// Compares the recording of a service with a plan.
 ///
-/// `budget` limits the steps of each check of one path against one body of the plan.
-///
 /// The findings are exactly these, each listed once:
 ///
 /// - every way in which a pool differs from the plan, with the first line that shows it, and every
@@ -44,8 +42,8 @@ pub enum Conformance {
 /// - every label that is not in the plan, with the first line that has it;
 /// - for each label of the plan, the actor with the smallest number whose path matches no body,
 ///   with its first step that no body explains and the line of that step;
-/// - for each label of the plan, the actor with the smallest number for which the budget was too
-///   small to decide this. If the budget is large enough for the plan, there is none;
+/// - for each label of the plan, the actor with the smallest number for which this is undecided. If
+///   each label is one class in each pool, there is none;
 /// - for each client kind, the first line at which it has more rounds than the plan allows. Each
 ///   round counts as the first kind that it can belong to;
 /// - the first get of a job by an actor that did not submit it;
@@ -64,7 +62,6 @@ pub fn conform(
     alloc: Global,
     plan: &Plan,
     recording: &[u8],
-    budget: u64,
 ) -> Result<Conformance, AllocError>
     ensures bad { IfOk result
         (λ reported. IsFirstFault (lines_read recording.now) (spec.fault_of reported)) }
@@ -76,10 +73,10 @@ pub fn conform(
         spec.IfCompared reported (λ findings.
         list_any is_of_actors findings ≡ false → DoAsPlanned plan.now (lines_of recording.now))) }
     ensures found { IfOk result
-        (λ reported. spec.IfCompared reported (AreFindingsOf plan.now budget (lines_of recording.now))) }
+        (λ reported. spec.IfCompared reported (AreFindingsOf plan.now (lines_of recording.now))) }
     ensures ascending { IfOk result (λ reported. spec.IfCompared reported spec.AreInOrder) }
 {
-    match survey_recording(alloc, plan, recording, budget)? {
+    match survey_recording(alloc, plan, recording)? {
         Ok(survey) => Ok(Conformance::Compared(findings_of_survey(
             alloc, plan, recording, survey,
         )?)),
@@ -94,23 +91,20 @@ fn findings_of_survey(
     recording: &[u8],
     survey: Survey,
 ) -> Result<Vec<Finding>, AllocError>
-    ensures conforms { (budget : ℕ)
-        → KeepsRules (lines_of recording.now)
-        → IsSurveyOf plan.now budget (lines_of recording.now) survey
+    ensures conforms { KeepsRules (lines_of recording.now)
+        → IsSurveyOf plan.now (lines_of recording.now) survey
         → IfOk result (λ findings.
         findings.items ≡ []
         → Conforms plan.now (lines_of recording.now) × HasNoInvalidation (lines_of recording.now)) }
-    ensures actors { (budget : ℕ)
-        → KeepsRules (lines_of recording.now)
-        → IsSurveyOf plan.now budget (lines_of recording.now) survey
+    ensures actors { KeepsRules (lines_of recording.now)
+        → IsSurveyOf plan.now (lines_of recording.now) survey
         → IfOk result (λ findings.
         list_any is_of_actors findings.items ≡ false
         → DoAsPlanned plan.now (lines_of recording.now)) }
-    ensures found { (budget : ℕ)
-        → KeepsRules (lines_of recording.now)
-        → IsSurveyOf plan.now budget (lines_of recording.now) survey
+    ensures found { KeepsRules (lines_of recording.now)
+        → IsSurveyOf plan.now (lines_of recording.now) survey
         → IfOk result
-        (λ findings. AreFindingsOf plan.now budget (lines_of recording.now) findings.items) }
+        (λ findings. AreFindingsOf plan.now (lines_of recording.now) findings.items) }
     ensures ascending { IfOk result (λ findings. spec.AreInOrder findings.items) }
 {
     pools_are_as_planned();
@@ -130,9 +124,9 @@ fn round_excesses(
     recording: &[u8],
     survey: &Survey,
 ) -> Result<Vec<RoundExcess>, AllocError>
-    ensures { (budget : ℕ) (kinds : List (Option ℕ))
+    ensures { (kinds : List (Option ℕ))
         → KeepsRules (lines_of recording.now)
-        → (so : IsSurveyOf plan.now budget (lines_of recording.now) survey.now)
+        → (so : IsSurveyOf plan.now (lines_of recording.now) survey.now)
         → AreFirstKinds plan.now (lines_of recording.now) so.actor_survey.reported kinds
         → IfOk result
         (λ found. found.items ≡ excesses_by_lines plan.now kinds (lines_of recording.now)) }

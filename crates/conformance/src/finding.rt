@@ -22,9 +22,9 @@ pub enum Finding {
         line: Option<usize>,
         mismatch: PathMismatch,
     },
-    /// Of the actors of one label for which the budget was too small to decide which bodies their
-    /// path matches, the one with the smallest number. The label is in the plan. The result for
-    /// this label is neither yes nor no.
+    /// Of the actors of one label for which it is undecided which bodies their path matches, the one
+    /// with the smallest number. The label is in the plan. The result for this label is neither yes
+    /// nor no.
     NotDecided {
         actor: RecordedActor,
         label: String,

@@ -1,7 +1,7 @@
 //! The comparison of a recording with a plan.
 //!
-//! Each recorded job and client is matched with the bodies of the plan, within a budget of steps. [`conform`] returns every
-//! difference, in the order of the lines.
+//! Each recorded job and client is matched with the bodies of the plan. [`conform`] returns every difference, in the order of
+//! the lines.
 #![tactic(auto)]
 
 mod actor_classifier;
@@ -13,7 +13,6 @@ mod classified_actor;
 mod collect_findings;
 mod comparison;
 mod comparison_laws;
-mod continuation;
 mod describe_mismatch;
 mod difference;
 mod ended_actor;
@@ -47,7 +46,6 @@ mod step;
 mod survey;
 mod unplanned;
 mod verdicts;
-mod walk;
 mod well_formed_lines;
 
 pub use actor_classifier::ActorClassifier;
@@ -69,5 +67,5 @@ pub use pool_comparison::{PoolComparison, PoolDeviation};
 pub use round_comparison::{RoundComparison, RoundExcess};
 pub use round_count::RoundCount;
 pub use sizes::differences;
-pub use step::{PathState, PathStep};
+pub use step::{ActorKind, PathState, PathStep};
 pub use unplanned::NotPlanned;
