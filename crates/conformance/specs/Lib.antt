@@ -1,15 +1,11 @@
 pub mod PathStep
 pub mod Path
 pub mod PathMatch
-pub mod Continuation
-pub mod Walk
-pub mod StepBudget
 pub mod Family
 pub mod FamilyMatch
 pub mod FamilyResult
 pub mod PathState
 pub mod Label
-pub mod PlanBudget
 pub mod Classes
 pub mod ClassifiedActor
 pub mod Laws
