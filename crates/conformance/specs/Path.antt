@@ -17,15 +17,15 @@ abbrev pub without : ℕ → List ℕ → List ℕ
 without job jobs = filter (λ other. not (other == job)) jobs
 
 abbrev pub open_after_action : Option Action → ℕ → List ℕ → List ℕ
-open_after_action None index open = open
-open_after_action (Some (action.Work units)) index open = open
-open_after_action (Some (action.Submit class)) index open = open ++ index ∷ []
-open_after_action (Some (action.Get submit)) index open = without submit open
+open_after_action None index jobs = jobs
+open_after_action (Some (action.Work units)) index jobs = jobs
+open_after_action (Some (action.Submit class)) index jobs = jobs ++ index ∷ []
+open_after_action (Some (action.Get submit)) index jobs = without submit jobs
 
 abbrev pub open_after_step : Option PathStep → ℕ → List ℕ → List ℕ
-open_after_step None index open = open
-open_after_step (Some (step.Submits classes)) index open = open ++ index ∷ []
-open_after_step (Some (step.Gets submit)) index open = without submit open
+open_after_step None index jobs = jobs
+open_after_step (Some (step.Submits classes)) index jobs = jobs ++ index ∷ []
+open_after_step (Some (step.Gets submit)) index jobs = without submit jobs
 
 -- The jobs that are open in the body before an index, in the order of their submits.
 abbrev pub open_in_body : List Action → ℕ → List ℕ
