@@ -108,7 +108,12 @@ kind_so plan lines reported kinds round are first come =
 -- ---- the notes
 no_foreign : (lines : List RecordedLine) (get : Option ForeignGet) (found : List Finding) → AreForeign lines get found → found ≡ [] → get ≡ None
 no_foreign lines _ _ made.none none = refl
-no_foreign lines _ _ (made.one get label is) none = absurd (grind (arith, none))
+no_foreign lines _ _ (made.one get label job is job_is) none = absurd (grind (arith, none))
+
+no_events : (lines : List RecordedLine) (invalidations : List Invalidation) (found : List Finding) → made.AreInvalidationsOf lines invalidations found → found ≡ [] → invalidations ≡ []
+no_events lines [] found are none = refl
+no_events lines (one ∷ more) [] are none = absurd are
+no_events lines (one ∷ more) (first ∷ found) are none = absurd (grind (arith, none))
 
 -- ---- no findings about actors
 contra : true ≡ false → ⊥
@@ -127,14 +132,14 @@ record NoActors (labels : List NotPlanned) (mismatched : List Finding) (undecide
   undecided_none : undecided ≡ []
   excesses_none : excesses ≡ []
 
-none_in_parts : (deviations : List PoolDeviation) (labels : List NotPlanned) (mismatched : List Finding) (undecided : List ClassifiedActor) (excesses : List RoundExcess) (gets : List Finding) (invalidations : List Invalidation)
+none_in_parts : (deviations : List PoolDeviation) (labels : List NotPlanned) (mismatched : List Finding) (undecided : List ClassifiedActor) (excesses : List RoundExcess) (gets invalidations : List Finding)
     → list_any is_of_actors (made.all_findings deviations labels mismatched undecided excesses gets invalidations) ≡ false → NoActors labels mismatched undecided excesses
 none_in_parts deviations labels mismatched undecided excesses gets invalidations none =
     let pools = map finding.Pool deviations in
     let named = map finding.NotPlanned labels in
     let not_yet = map not_decided undecided in
     let many = map finding.TooMany excesses in
-    let p6 = none_in_both (pools ++ named ++ mismatched ++ not_yet ++ many ++ gets) (map finding.Invalidation invalidations) none in
+    let p6 = none_in_both (pools ++ named ++ mismatched ++ not_yet ++ many ++ gets) invalidations none in
     let p5 = none_in_both (pools ++ named ++ mismatched ++ not_yet ++ many) gets p6.0 in
     let p4 = none_in_both (pools ++ named ++ mismatched ++ not_yet) many p5.0 in
     let p3 = none_in_both (pools ++ named ++ mismatched) not_yet p4.0 in
@@ -147,14 +152,14 @@ none_in_parts deviations labels mismatched undecided excesses gets invalidations
       excesses_none = none_mapped finding.TooMany excesses (λ excess. refl) p4.1;
     }
 
-of_actors : (lines : List RecordedLine) (is_classless : ℕ → Bool) (reported : ClassifiedActor) (found : Finding) → made.IsMismatchFinding lines is_classless reported found → is_of_actors found ≡ true
-of_actors lines is_classless reported _ (made.mismatches number mismatch so) = refl
+of_actors : (plan : Plan) (lines : List RecordedLine) (is_classless : ℕ → Bool) (reported : ClassifiedActor) (found : Finding) → made.IsMismatchFinding plan lines is_classless reported found → is_of_actors found ≡ true
+of_actors plan lines is_classless reported _ (made.mismatches number mismatch so) = refl
 
-none_reported : (lines : List RecordedLine) (is_classless : ℕ → Bool) (reported : List ClassifiedActor) (found : List Finding) → AreMismatchesOf lines is_classless reported found → list_any is_of_actors found ≡ false → reported ≡ []
-none_reported lines is_classless [] found are none = refl
-none_reported lines is_classless (one ∷ reported) [] are none = absurd are
-none_reported lines is_classless (one ∷ reported) (first ∷ found) are none =
-    absurd (contra (sym (of_actors lines is_classless one first are.0) ∙ (none_of_both (is_of_actors first) (list_any is_of_actors found) none).0))
+none_reported : (plan : Plan) (lines : List RecordedLine) (is_classless : ℕ → Bool) (reported : List ClassifiedActor) (found : List Finding) → AreMismatchesOf plan lines is_classless reported found → list_any is_of_actors found ≡ false → reported ≡ []
+none_reported plan lines is_classless [] found are none = refl
+none_reported plan lines is_classless (one ∷ reported) [] are none = absurd are
+none_reported plan lines is_classless (one ∷ reported) (first ∷ found) are none =
+    absurd (contra (sym (of_actors plan lines is_classless one first are.0) ∙ (none_of_both (is_of_actors first) (list_any is_of_actors found) none).0))
 
 -- ---- permutations
 pub empty_if : {X : Type 0} (xs : List X) → length xs ≡ 0 → xs ≡ []
@@ -167,12 +172,12 @@ none_before xs ys moved none = empty_if xs (sym (length_permutation xs ys moved)
 -- ---- all findings
 -- If no finding concerns an actor, the actors behave as planned.
 pub actors_do : (plan : Plan) (lines : List RecordedLine) (survey : Survey) (kinds : List (Option ℕ)) (excesses : List RoundExcess) (found : List Finding)
-    → RoundsAreWithinPlan → (so : IsSurveyOf plan lines survey) → AreFirstKinds plan lines so.actor_survey.reported kinds → excesses ≡ excesses_by_lines plan kinds lines → AreCollected lines survey excesses found
+    → RoundsAreWithinPlan → (so : IsSurveyOf plan lines survey) → AreFirstKinds plan lines so.actor_survey.reported kinds → excesses ≡ excesses_by_lines plan kinds lines → AreCollected plan lines survey excesses found
     → list_any is_of_actors found ≡ false → DoAsPlanned plan lines
 actors_do plan lines survey kinds excesses found are_within so first excess_tracker collect_findings none =
-    let parts = none_in_parts survey.line_survey.deviations.items survey.line_survey.unplanned.found.items collect_findings.mismatches survey.actor_survey.verdicts.undecided.actors.items excesses collect_findings.foreign (filter is_path_independent (invalidations_of lines))
+    let parts = none_in_parts survey.line_survey.deviations.items survey.line_survey.unplanned.found.items collect_findings.mismatches survey.actor_survey.verdicts.undecided.actors.items excesses collect_findings.foreign collect_findings.invalidations
     (ap (list_any is_of_actors) (sym collect_findings.all) ∙ none) in
-    let no_mismatches = none_reported lines (has_job survey.actor_survey.verdicts.classless) survey.actor_survey.verdicts.mismatches.actors.items collect_findings.mismatches collect_findings.mismatches_so parts.astray_none in
+    let no_mismatches = none_reported plan lines (has_job survey.actor_survey.verdicts.classless) survey.actor_survey.verdicts.mismatches.actors.items collect_findings.mismatches collect_findings.mismatches_so parts.astray_none in
     let actor_survey = so.actor_survey in
     let are : AreWellFormed plan lines actor_survey.reported = record {
       all = actor_survey.all;
@@ -190,7 +195,7 @@ actors_do plan lines survey kinds excesses found are_within so first excess_trac
 
 pub conforms : (plan : Plan) (lines : List RecordedLine) (survey : Survey) (kinds : List (Option ℕ)) (excesses : List RoundExcess) (found : List Finding)
     → PoolsAreAsPlanned → PoolsAreRecorded → RoundsAreWithinPlan
-    → (so : IsSurveyOf plan lines survey) → AreFirstKinds plan lines so.actor_survey.reported kinds → excesses ≡ excesses_by_lines plan kinds lines → AreCollected lines survey excesses found → found ≡ []
+    → (so : IsSurveyOf plan lines survey) → AreFirstKinds plan lines so.actor_survey.reported kinds → excesses ≡ excesses_by_lines plan kinds lines → AreCollected plan lines survey excesses found → found ≡ []
     → Conforms plan lines × HasNoInvalidation lines
 conforms plan lines survey kinds excesses found as_planned are_recorded are_within so first excess_tracker collect_findings none =
     let p6 = both_none _ _ (sym collect_findings.all ∙ none) in
@@ -200,7 +205,7 @@ conforms plan lines survey kinds excesses found as_planned are_recorded are_with
     let p2 = both_none _ _ p3.0 in
     let p1 = both_none _ _ p2.0 in
     let no_deviations = map_none finding.Pool _ p1.0 in
-    let no_invalidations : filter is_path_independent (invalidations_of lines) ≡ [] = map_none finding.Invalidation _ p6.1 in
+    let no_invalidations : filter is_path_independent (invalidations_of lines) ≡ [] = no_events lines _ _ collect_findings.invalidations_so p6.1 in
     let pools = both_none (deviations_by_lines plan lines) (deviations_at_end plan lines) (sym so.line_survey.deviations ∙ ap (map deviation_seen) no_deviations) in (
       record {
         pools = as_planned plan lines pools.0;

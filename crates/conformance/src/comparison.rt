@@ -28,8 +28,8 @@ pub enum Conformance {
     /// The first invalid line of the recording. No comparison was made.
     Invalid(RecordingFault),
     /// Every difference from the plan and every event that invalidates a SAFE answer, each listed
-    /// once. Findings are ordered by line; those without a line come last. The recording conforms
-    /// if the list is empty.
+    /// once. Findings are ordered by line, then by type; those without a line come last. The
+    /// recording conforms if the list is empty.
     Compared(Vec<Finding>),
 }
 
@@ -45,7 +45,8 @@ pub enum Conformance {
 /// - for each label of the plan, the actor with the smallest number for which this is undecided. If
 ///   each label is one class in each pool, there is none;
 /// - for each client kind, the first line at which it has more rounds than the plan allows. Each
-///   round counts as the first kind that it can belong to;
+///   round counts as the first kind that it can belong to. A round for which this is undecided
+///   counts in no kind;
 /// - the first get of a job by an actor that did not submit it;
 /// - for each event type that invalidates a SAFE answer, its first line.
 ///
@@ -110,8 +111,8 @@ fn findings_of_survey(
     pools_are_as_planned();
     rounds_are_within_plan();
     let excesses = round_excesses(alloc, plan, recording, &survey)?;
-    let mut findings = collect_findings(alloc, recording, survey, excesses)?;
-    findings.sort_by_key(Finding::place)?;
+    let mut findings = collect_findings(alloc, plan, recording, survey, excesses)?;
+    findings.sort_by_key(Finding::sort_key)?;
     Ok(findings)
 }
 

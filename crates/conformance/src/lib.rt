@@ -5,6 +5,7 @@
 #![tactic(auto)]
 
 mod actor_classifier;
+mod actor_label;
 mod actor_path;
 mod actor_table;
 mod bodies;
@@ -49,6 +50,7 @@ mod verdicts;
 mod well_formed_lines;
 
 pub use actor_classifier::ActorClassifier;
+pub use actor_label::ActorLabel;
 pub use classified_actor::ClassifiedActor;
 pub use comparison::{Conformance, conform};
 pub use comparison_laws::{pools_are_as_planned, rounds_are_within_plan};

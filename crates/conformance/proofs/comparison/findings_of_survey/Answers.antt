@@ -1,7 +1,7 @@
 use Rattle.std.proofs.Common.{◌∙◌, rules}
 use Rattle.std.proofs.lemmas.List.Sorted.{list_any-IsPermutation, IsNonDecreasingBy-from_sort_by_key}
 use Rattle.conformance.specs.Lines.{lines_of}
-use Rattle.conformance.specs.Finding.{place_of}
+use Rattle.conformance.specs.Finding.{sort_key}
 use Rattle.conformance.specs.Findings.{is_of_actors}
 use Rattle.conformance.proofs.AllFound.{all_found}
 use Rattle.conformance.proofs.Conforming.{conforms, actors_do, none_before}
@@ -37,4 +37,4 @@ returns-clause-found c = λ keeps so.
     c.in_ok-sort_by_key.ensures.permutation
 
 pub returns-clause-ascending : goal.returns-clause-ascending
-returns-clause-ascending c = IsNonDecreasingBy-from_sort_by_key place_of _ c.in_ok-sort_by_key.ensures.sorted (λ a r q k. search rules)
+returns-clause-ascending c = IsNonDecreasingBy-from_sort_by_key sort_key _ c.in_ok-sort_by_key.ensures.sorted (λ a r q k. search rules)
