@@ -1,5 +1,5 @@
 -- The lines determine the classes that a job can belong to.
-use Rattle.std.proofs.Common.{◌≡◌, ◌==◌, ℕ, zero, suc, true, List, [], ◌∷◌, length, map, slice_index_or, Option, Some, None, refl, ap, sym, subst, ◌∙◌, arith}
+use Rattle.std.proofs.Common.{◌≡◌, ◌==◌, ℕ, zero, suc, true, List, [], ◌∷◌, length, slice_index_or, Option, Some, None, refl, ap, sym, subst, ◌∙◌, arith}
 use Rattle.std.specs.Prelude.{Contains, slice_get, ⊤}
 use Rattle.std.specs.List.{list_any, AllZip}
 use Rattle.std.specs.declared.alloc.Global.{Global}
@@ -20,7 +20,8 @@ use Rattle.conformance.specs.declared.step.PathStep.TheVariants as step
 use Rattle.conformance.specs.declared.step.PathState.{PathState}
 use Rattle.conformance.specs.declared.step.PathState.TheVariants.{Whole, Prefix}
 use Rattle.conformance.specs.PathStep.{submits}
-use Rattle.conformance.specs.Path.{IsPathOf, Walks, starts, body_moves, both_submit, path_gets, IsWithin, open_in_path, open_after_step, path_classes, body_classes, without}
+use Rattle.conformance.specs.Path.{IsPathOf, Walks, starts, body_moves, both_submit, path_gets}
+use Rattle.conformance.specs.declared.open_job.OpenJob.{OpenJob}
 use Rattle.conformance.specs.FamilyMatch.{IsClassOf, IsKindOf, AreExactly, class_body, client_body}
 use Rattle.conformance.specs.PathState.{path_state_of}
 use Rattle.conformance.specs.Label.{label_of, kind_of}
@@ -78,22 +79,6 @@ gets_within : (one : PathStep) (place : ℕ) → IsStepWithin (step.Gets place) 
 gets_within (step.Gets other) place w = ap (λ (p : ℕ). step.Gets p) (sym w)
 gets_within (step.Submits other) place w = absurd w
 
--- ---- open jobs
-same_after : (here there : Option PathStep) → HasStepWithin here there → (index : ℕ) (open : List ℕ) → open_after_step here index open ≡ open_after_step there index open
-same_after None None w index open = refl
-same_after (Some (step.Submits one)) (Some (step.Submits other)) w index open = refl
-same_after (Some (step.Gets one)) (Some (step.Gets other)) w index open = ap (λ (job : ℕ). without job open) w
-same_after (Some (step.Submits one)) (Some (step.Gets other)) w index open = absurd w
-same_after (Some (step.Gets one)) (Some (step.Submits other)) w index open = absurd w
-same_after None (Some other) w index open = absurd w
-same_after (Some one) None w index open = absurd w
-
-same_open : (one other : List PathStep) → AllZip IsStepWithin one other → (index : ℕ) → open_in_path one index ≡ open_in_path other index
-same_open one other w zero = refl
-same_open one other w (suc index) =
-    same_after (slice_get one index) (slice_get other index) (within_at one other w index) index (open_in_path one index)
-    ∙ ap (open_after_step (slice_get other index) index) (same_open one other w index)
-
 same_length : (one other : List PathStep) → AllZip IsStepWithin one other → length one ≡ length other
 same_length [] [] w = refl
 same_length (x ∷ xs) (y ∷ ys) w = ap suc (same_length xs ys w.1)
@@ -101,26 +86,20 @@ same_length [] (y ∷ ys) w = absurd w
 same_length (x ∷ xs) [] w = absurd w
 
 -- ---- walks
-module _ (kind : ActorKind) (body : List Action) (one other : List PathStep) (class_of : ℕ → ℕ) (w : AllZip IsStepWithin one other) where
-  same_classes : (p : ℕ) → path_classes class_of one p ≡ path_classes class_of other p
-  same_classes p = ap (map class_of) (same_open one other w p)
-
-  bounded : (p : ℕ) (in_body : List ℕ) → IsWithin (path_classes class_of one p) in_body → IsWithin (path_classes class_of other p) in_body
-  bounded p in_body b = subst (λ (in_path : List ℕ). IsWithin in_path in_body) (same_classes p) b
-
-  walks_within : (q p : ℕ) → Walks kind body one class_of q p → Walks kind body other class_of q p
-  walks_within _ _ starts = starts
-  walks_within _ _ (body_moves {q} {p} action walked there b) = body_moves action (walks_within q p walked) there (bounded p (body_classes body (suc q)) b)
-  walks_within _ _ (both_submit {q} {p} step walked in_body there is b) =
+module _ (kind : ActorKind) (body : List Action) (one other : List PathStep) (w : AllZip IsStepWithin one other) where
+  walks_within : (q p : ℕ) (jobs : List OpenJob) → Walks kind body one q p jobs → Walks kind body other q p jobs
+  walks_within _ _ _ starts = starts
+  walks_within _ _ _ (body_moves {q} {p} {jobs} action walked there b) = body_moves action (walks_within q p jobs walked) there b
+  walks_within _ _ _ (both_submit {q} {p} {jobs} step class walked in_body there is b) =
       let at = step_within step (slice_get one p) (slice_get other p) (within_at one other w p) there in
-      both_submit at.other (walks_within q p walked) in_body at.is (submits_within step at.other (class_of p) at.within is) (bounded (suc p) (body_classes body (suc q)) b)
-  walks_within _ _ (path_gets {q} {p} job walked there open may b) =
+      both_submit at.other class (walks_within q p jobs walked) in_body at.is (submits_within step at.other class at.within is) b
+  walks_within _ _ _ (path_gets {q} {p} {jobs} job class walked there is_open may b) =
       let at = step_within (step.Gets job) (slice_get one p) (slice_get other p) (within_at one other w p) there in
-      path_gets job (walks_within q p walked) (at.is ∙ ap Some (gets_within at.other job at.within)) (subst (λ (jobs : List ℕ). Contains jobs job) (same_open one other w p) open) may (bounded (suc p) (body_classes body q) b)
+      path_gets job class (walks_within q p jobs walked) (at.is ∙ ap Some (gets_within at.other job at.within)) is_open may b
 
 path_within : (kind : ActorKind) (path_state : PathState) (body : List Action) (one other : List PathStep) → AllZip IsStepWithin one other → IsPathOf kind path_state body one → IsPathOf kind path_state body other
-path_within kind Whole body one other w h = (h.0, subst (λ (n : ℕ). Walks kind body other h.0 (length body) n) (same_length one other w) (walks_within kind body one other h.0 w (length body) (length one) h.1))
-path_within kind Prefix body one other w h = (h.0, h.1, subst (λ (n : ℕ). Walks kind body other h.0 h.1 n) (same_length one other w) (walks_within kind body one other h.0 w h.1 (length one) h.2))
+path_within kind Whole body one other w h = (h.0, subst (λ (n : ℕ). Walks kind body other (length body) n h.0) (same_length one other w) (walks_within kind body one other w (length body) (length one) h.0 h.1))
+path_within kind Prefix body one other w h = (h.0, h.1, subst (λ (n : ℕ). Walks kind body other h.0 n h.1) (same_length one other w) (walks_within kind body one other w h.0 (length one) h.1 h.2))
 
 -- ---- a path with classes
 abbrev StandsAs : Plan → List RecordedLine → List RecordedStep → List PathStep → Type 0

@@ -26,7 +26,7 @@ length-push xs y = length-append xs (y ∷ [])
 
 -- A whole path of a body is also a prefix of one.
 pub begun_whole : (kind : ActorKind) (path_state : PathState) (body : List Action) (path : List PathStep) → IsPathOf kind path_state body path → IsPathOf kind Prefix body path
-begun_whole kind Whole body path of = (of.0, length body, of.1)
+begun_whole kind Whole body path of = (length body, of.0, of.1)
 begun_whole kind Prefix body path of = of
 
 -- ---- body by body

@@ -33,6 +33,7 @@ mod line_query;
 mod members;
 mod mismatch;
 mod numbers;
+mod open_job;
 mod open_rounds;
 mod other_kinds;
 mod path;
