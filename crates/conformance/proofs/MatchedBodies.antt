@@ -12,9 +12,10 @@ use Rattle.conformance.specs.declared.step.ActorKind.{ActorKind}
 use Rattle.conformance.specs.declared.step.PathStep.{PathStep}
 use Rattle.conformance.specs.declared.step.PathState.{PathState}
 use Rattle.conformance.specs.Path.{IsPathOf}
-use Rattle.conformance.specs.PathMatch.{IsExplained}
-use Rattle.conformance.specs.FamilyMatch.{IsMostExplained, AreOneClassEach}
+use Rattle.conformance.specs.PathMatch.{IsExplained, IsUnambiguous}
+use Rattle.conformance.specs.FamilyMatch.{IsMostExplained}
 use Rattle.conformance.specs.FamilyResult.{IsCorrectResult}
+use Rattle.conformance.proofs.OneClassEach.{one_class_each}
 use Rattle.conformance.proofs.Explained.{explained_fits, explained_deviates}
 
 -- ---- a prefix of a list
@@ -41,6 +42,10 @@ below_last xs y m pairs there =
 abbrev pub IsMember : ActorKind → (ℕ → List Action) → PathState → List PathStep → List ℕ → ℕ → Type 0
 IsMember kind body_of path_state path matched n = Contains matched n × IsPathOf kind path_state (body_of n) path
 
+-- If each job of the path has one class of the body at most, and the path matches the body, the number is a member.
+abbrev pub IsSure : ActorKind → (ℕ → List Action) → PathState → List PathStep → List ℕ → ℕ → Type 0
+IsSure kind body_of path_state path members n = IsUnambiguous (body_of n) path → IsPathOf kind path_state (body_of n) path → Contains members n
+
 -- Members remain members after one more body.
 members_stay : (kind : ActorKind) (body_of : ℕ → List Action) (path_state : PathState) (path : List PathStep) (matched members : List ℕ) (n : ℕ) → All (IsMember kind body_of path_state path matched) members → All (IsMember kind body_of path_state path (matched ++ n ∷ [])) members
 members_stay kind body_of path_state path matched members n sound =
@@ -56,9 +61,12 @@ pub reported_fits : (kind : ActorKind) (body_of : ℕ → List Action) (path_sta
 reported_fits kind body_of path_state path matched members longest is_decided n reported of =
     let P : ℕ → Type 0 = λ m. IsPathOf kind path_state (body_of m) path → Contains members m in
     let Q : ℕ → Type 0 = λ m. IsPathOf kind path_state (body_of m) path → Contains (members ++ n ∷ []) m in
+    let R : ℕ → Type 0 = λ m. IsUnambiguous (body_of m) path → IsPathOf kind path_state (body_of m) path → Contains members m in
+    let S : ℕ → Type 0 = λ m. IsUnambiguous (body_of m) path → IsPathOf kind path_state (body_of m) path → Contains (members ++ n ∷ []) m in
     record {
       sound = All-push (IsMember kind body_of path_state path (matched ++ n ∷ [])) members n (members_stay kind body_of path_state path matched members n reported.sound) (Contains-push matched n, of);
       complete = λ all. All-push Q matched n (All-weaker P Q (λ m there one. Contains-append_left members (n ∷ []) m (there one)) matched (reported.complete all)) (λ _. Contains-push members n);
+      sure = All-push S matched n (All-weaker R S (λ m there only one. Contains-append_left members (n ∷ []) m (there only one)) matched reported.sure) (λ _ _. Contains-push members n);
       explained = λ all. subst (λ (bodies : List (List Action)). IsMostExplained kind bodies path (length path)) (sym (bodies_more body_of matched n)) (explained_fits kind path_state (map body_of matched) path (body_of n) of);
       decided = reported.decided;
       few = omega (arith, reported.few, length-append members (n ∷ []), length-append matched (n ∷ []));
@@ -77,6 +85,7 @@ pub reported_deviates : (kind : ActorKind) (body_of : ℕ → List Action) (path
 reported_deviates kind body_of path_state path matched members longest is_decided n explained reported not_of by = record {
   sound = members_stay kind body_of path_state path matched members n reported.sound;
   complete = λ all. reported_not kind body_of path_state path matched members n (reported.complete all) not_of;
+  sure = All-push (IsSure kind body_of path_state path members) matched n reported.sure (λ only of. absurd (not_of of));
   explained = λ all. subst (λ (bodies : List (List Action)). IsMostExplained kind bodies path (max longest explained)) (sym (bodies_more body_of matched n)) (explained_deviates kind (map body_of matched) path (body_of n) longest explained (reported.explained all) by);
   decided = reported.decided;
   few = omega (arith, reported.few, length-append matched (n ∷ []));
@@ -84,13 +93,14 @@ reported_deviates kind body_of path_state path matched members longest is_decide
 }
 
 -- It is undecided whether the path matches the next body.
-pub reported_undecided : (kind : ActorKind) (body_of : ℕ → List Action) (path_state : PathState) (path : List PathStep) (matched members : List ℕ) (longest : ℕ) (is_decided : Bool) (n : ℕ) → IsCorrectResult kind body_of path_state path matched members longest is_decided → ¬ AreOneClassEach path
+pub reported_undecided : (kind : ActorKind) (body_of : ℕ → List Action) (path_state : PathState) (path : List PathStep) (matched members : List ℕ) (longest : ℕ) (is_decided : Bool) (n : ℕ) → IsCorrectResult kind body_of path_state path matched members longest is_decided → ¬ IsUnambiguous (body_of n) path
     → IsCorrectResult kind body_of path_state path (matched ++ n ∷ []) members longest false
 reported_undecided kind body_of path_state path matched members longest is_decided n reported several = record {
   sound = members_stay kind body_of path_state path matched members n reported.sound;
   complete = λ all. cc;
+  sure = All-push (IsSure kind body_of path_state path members) matched n reported.sure (λ only of. absurd (several only));
   explained = λ all. cc;
-  decided = λ each. absurd (several each);
+  decided = λ each. absurd (several (one_class_each (body_of n) path each));
   few = omega (arith, reported.few, length-append matched (n ∷ []));
   ascending = λ pairs. reported.ascending (pairs_front matched n pairs);
 }
@@ -117,3 +127,7 @@ pub range_ascends : (test : ℕ → Bool) (count : ℕ) → IsStrictlyIncreasing
 range_ascends test count = IsStrictlyIncreasing-filter test (range_with_len 0 count) (λ k inside.
     let long : length (range_with_len 0 count) ≡ count = length-range_with_len 0 count in
     omega (arith, get_or-range_with_len 0 count k 0 (omega arith), get_or-range_with_len 0 count (k + 1) 0 (omega arith)))
+
+-- Each entry of the family of which each job of the path has one class at most, and whose body the path matches, is a member.
+pub reported_sure : (kind : ActorKind) (body_of : ℕ → List Action) (path_state : PathState) (path : List PathStep) (family members : List ℕ) (longest : ℕ) (is_decided : Bool) → IsCorrectResult kind body_of path_state path family members longest is_decided → (n : ℕ) → Contains family n → IsSure kind body_of path_state path members n
+reported_sure kind body_of path_state path family members longest is_decided reported n among = All-contains (IsSure kind body_of path_state path members) family n reported.sure among

@@ -5,6 +5,7 @@ use Rattle.conformance.specs.declared.step.ActorKind.{ActorKind}
 use Rattle.conformance.specs.declared.step.PathStep.{PathStep}
 use Rattle.conformance.specs.declared.step.PathState.{PathState}
 use Rattle.conformance.specs.Path.{IsPathOf}
+use Rattle.conformance.specs.PathMatch.{IsUnambiguous}
 use Rattle.conformance.specs.declared.family_match.FamilyMatch.{FamilyMatch}
 use Rattle.conformance.specs.FamilyMatch.{IsMostExplained, AreOneClassEach}
 
@@ -12,6 +13,7 @@ use Rattle.conformance.specs.FamilyMatch.{IsMostExplained, AreOneClassEach}
 pub record IsCorrectResult (kind : ActorKind) (body_of : ℕ → List Action) (path_state : PathState) (path : List PathStep) (matched : List ℕ) (members : List ℕ) (longest : ℕ) (is_decided : Bool) : Type 0 where
   pub sound : All (λ n. Contains matched n × IsPathOf kind path_state (body_of n) path) members
   pub complete : IsTrue is_decided → All (λ n. IsPathOf kind path_state (body_of n) path → Contains members n) matched
+  pub sure : All (λ n. IsUnambiguous (body_of n) path → IsPathOf kind path_state (body_of n) path → Contains members n) matched
   pub explained : IsTrue is_decided → IsMostExplained kind (map body_of matched) path longest
   pub decided : AreOneClassEach path → IsTrue is_decided
   pub few : length members ≤ length matched

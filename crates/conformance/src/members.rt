@@ -1,10 +1,11 @@
 //! The classes and client kinds whose bodies a path matches.
 
-ghost use Rattle.std.specs.Prelude.{◌≤◌, All, IsTrue, IfOk, length};
+ghost use Rattle.std.specs.Prelude.{◌≤◌, ℕ, All, Contains, IsTrue, IfOk, length};
 ghost use Rattle.std.specs.List.Sorted.{IsStrictlyIncreasing};
 ghost use Rattle.conformance.specs.declared.step.ActorKind.TheVariants as actor_kind;
 ghost use Rattle.conformance.specs.Family.{class_family, client_family};
-ghost use Rattle.conformance.specs.FamilyMatch.{IsClassOf, IsKindOf, AreExactly, IsMostExplained, AreOneClassEach, class_bodies, client_bodies};
+ghost use Rattle.conformance.specs.FamilyMatch.{IsClassOf, IsKindOf, AreExactly, IsMostExplained, AreOneClassEach, class_body, client_body, class_bodies, client_bodies};
+ghost use Rattle.conformance.specs.PathMatch.{IsUnambiguous};
 
 use crate::bodies::{class_body, client_body};
 use crate::family::{is_class_in_family, is_client_in_family};
@@ -32,6 +33,10 @@ pub fn classes_of_path(
     ensures exact { IfOk result (λ reported.
         IsTrue reported.is_decided
         → AreExactly (IsClassOf plan.now label.now pool.now path_state path.now) reported.members.items) }
+    ensures sure { IfOk result (λ reported. (class : ℕ)
+        → IsClassOf plan.now label.now pool.now path_state path.now class
+        → IsUnambiguous (class_body plan.now class) path.now
+        → Contains reported.members.items class) }
     ensures explained { IfOk result (λ reported.
         IsTrue reported.is_decided
         → IsMostExplained actor_kind.Job (class_bodies plan.now label.now pool.now) path.now reported.explained) }
@@ -68,6 +73,10 @@ pub fn kinds_of_path(
     ensures exact { IfOk result (λ reported.
         IsTrue reported.is_decided
         → AreExactly (IsKindOf plan.now label.now path_state path.now) reported.members.items) }
+    ensures sure { IfOk result (λ reported. (kind : ℕ)
+        → IsKindOf plan.now label.now path_state path.now kind
+        → IsUnambiguous (client_body plan.now kind) path.now
+        → Contains reported.members.items kind) }
     ensures explained { IfOk result (λ reported.
         IsTrue reported.is_decided
         → IsMostExplained actor_kind.Round (client_bodies plan.now label.now) path.now reported.explained) }

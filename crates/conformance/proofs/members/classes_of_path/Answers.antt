@@ -6,7 +6,7 @@ use Rattle.conformance.specs.FamilyResult.{IsCorrectMatch}
 use Rattle.conformance.specs.declared.step.ActorKind.TheVariants as actor_kind
 use Rattle.conformance.specs.declared.family_match.FamilyMatch.{FamilyMatch}
 use Rattle.conformance.proofs.OneByOne.{kept_one, kept_none}
-use Rattle.conformance.proofs.MatchedClasses.{class_whole, class_sound, class_exact, class_ascending}
+use Rattle.conformance.proofs.MatchedClasses.{class_whole, class_sound, class_exact, class_sure, class_ascending}
 use Rattle.conformance.proofs.members.classes_of_path.Goals as goal
 use Rattle.conformance.proofs.members.classes_of_path.Goals.{then-is_class_in_family+in_ok-match_body, else-is_class_in_family}
 
@@ -31,6 +31,9 @@ returns-clause-ascending c = class_ascending c.args.plan.now c.args.label.now c.
 
 pub returns-clause-exact : goal.returns-clause-exact
 returns-clause-exact c = class_exact c.args.plan.now c.args.label.now c.args.pool.now c.args.path_state c.args.path.now _ _ _ (class_whole c.args.plan.now c.args.label.now c.args.pool.now c.args.path_state c.args.path.now c.loop-class.reported c.loop-class.class (omega (arith, c.loop-class-test.false, c.loop-class.auto.class-end, ap length c.classes-class-end.ensures.value)) c.loop-class.invariant)
+
+pub returns-clause-sure : goal.returns-clause-sure
+returns-clause-sure c = class_sure c.args.plan.now c.args.label.now c.args.pool.now c.args.path_state c.args.path.now _ _ _ (class_whole c.args.plan.now c.args.label.now c.args.pool.now c.args.path_state c.args.path.now c.loop-class.reported c.loop-class.class (omega (arith, c.loop-class-test.false, c.loop-class.auto.class-end, ap length c.classes-class-end.ensures.value)) c.loop-class.invariant)
 
 pub returns-clause-explained : goal.returns-clause-explained
 returns-clause-explained c = (class_whole c.args.plan.now c.args.label.now c.args.pool.now c.args.path_state c.args.path.now c.loop-class.reported c.loop-class.class (omega (arith, c.loop-class-test.false, c.loop-class.auto.class-end, ap length c.classes-class-end.ensures.value)) c.loop-class.invariant).explained

@@ -6,7 +6,7 @@ use Rattle.conformance.specs.FamilyResult.{IsCorrectMatch}
 use Rattle.conformance.specs.declared.step.ActorKind.TheVariants as actor_kind
 use Rattle.conformance.specs.declared.family_match.FamilyMatch.{FamilyMatch}
 use Rattle.conformance.proofs.OneByOne.{kept_one, kept_none}
-use Rattle.conformance.proofs.MatchedKinds.{kind_whole, kind_sound, kind_exact, kind_ascending}
+use Rattle.conformance.proofs.MatchedKinds.{kind_whole, kind_sound, kind_exact, kind_sure, kind_ascending}
 use Rattle.conformance.proofs.members.kinds_of_path.Goals as goal
 use Rattle.conformance.proofs.members.kinds_of_path.Goals.{then-is_client_in_family+in_ok-match_body, else-is_client_in_family}
 
@@ -31,6 +31,9 @@ returns-clause-ascending c = kind_ascending c.args.plan.now c.args.label.now c.a
 
 pub returns-clause-exact : goal.returns-clause-exact
 returns-clause-exact c = kind_exact c.args.plan.now c.args.label.now c.args.path_state c.args.path.now _ _ _ (kind_whole c.args.plan.now c.args.label.now c.args.path_state c.args.path.now c.loop-kind.reported c.loop-kind.kind (omega (arith, c.loop-kind-test.false, c.loop-kind.auto.kind-end, ap length c.clients-kind-end.ensures.value)) c.loop-kind.invariant)
+
+pub returns-clause-sure : goal.returns-clause-sure
+returns-clause-sure c = kind_sure c.args.plan.now c.args.label.now c.args.path_state c.args.path.now _ _ _ (kind_whole c.args.plan.now c.args.label.now c.args.path_state c.args.path.now c.loop-kind.reported c.loop-kind.kind (omega (arith, c.loop-kind-test.false, c.loop-kind.auto.kind-end, ap length c.clients-kind-end.ensures.value)) c.loop-kind.invariant)
 
 pub returns-clause-explained : goal.returns-clause-explained
 returns-clause-explained c = (kind_whole c.args.plan.now c.args.label.now c.args.path_state c.args.path.now c.loop-kind.reported c.loop-kind.kind (omega (arith, c.loop-kind-test.false, c.loop-kind.auto.kind-end, ap length c.clients-kind-end.ensures.value)) c.loop-kind.invariant).explained

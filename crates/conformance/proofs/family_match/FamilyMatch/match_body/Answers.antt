@@ -1,10 +1,9 @@
 use Rattle.std.proofs.Common.{ℕ, List, [], ◌∷◌, ◌++◌, length, sym, subst}
 use Rattle.job_bodies.specs.declared.action.Action.{Action}
 use Rattle.conformance.specs.Path.{IsPathOf}
-use Rattle.conformance.specs.PathMatch.{IsExplained}
+use Rattle.conformance.specs.PathMatch.{IsExplained, IsUnambiguous}
 use Rattle.conformance.specs.FamilyResult.{IsCorrectResult}
 use Rattle.conformance.proofs.MatchedBodies.{reported_fits, reported_deviates, reported_undecided}
-use Rattle.conformance.proofs.OneClassEach.{one_class_each}
 use Rattle.conformance.proofs.family_match.FamilyMatch.match_body.Goals as goal
 
 pub returns-in_ok-push-in-Fits : goal.returns-in_ok-push-in-Fits
@@ -28,4 +27,4 @@ pub returns-in-Undecided : goal.returns-in-Undecided
 returns-in-Undecided c body_of matched same reported =
     let a = c.args in
     reported_undecided a.kind body_of a.path_state a.path.now matched a.self.now.members.items a.self.now.explained a.self.now.is_decided a.number reported
-    (λ each. c.in-Undecided.ensures.decided (one_class_each a.body.now a.path.now each))
+    (λ only. c.in-Undecided.ensures.decided (subst (λ (body : List Action). IsUnambiguous body a.path.now) same only))
