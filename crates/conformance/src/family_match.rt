@@ -52,7 +52,8 @@ impl FamilyMatch {
             → IsCorrectMatch self.old kind body_of path_state path.now matched
             → OnOk result (IsCorrectMatch self.new kind body_of path_state path.now (matched ++ number ∷ [])) }
     {
-        match match_path(alloc, body, path, kind, path_state)? {
+        let path_match = match_path(alloc, body, path, kind, path_state)?;
+        match path_match {
             PathMatch::Fits => {
                 self.explained = path.len();
                 self.members.push(number)?;
