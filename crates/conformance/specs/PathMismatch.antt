@@ -35,7 +35,7 @@ abbrev pub end_text : List ℕ
 end_text = codes " ended; its body has a get before its end"
 
 abbrev pub cause_text : ℕ → List ℕ → List ℕ
-cause_text job class = codes " as job " ++ decimal job ++ codes ", whose own path matches no class " ++ class
+cause_text job class = (codes " as job " ++ decimal job) ++ (codes ", whose own path matches no class " ++ class)
 
 abbrev pub unplanned_job_text : ℕ → List ℕ
 unplanned_job_text job = codes " as job " ++ decimal job ++ codes ", which is of no class of the plan"

@@ -151,10 +151,8 @@ fn push_end(text: &mut String) -> Result<(), AllocError>
 fn push_cause(text: &mut String, job: usize, class: &str) -> Result<(), AllocError>
     ensures { Pushes result text.old text.new (spec.cause_text job class.now) }
 {
-    write!(
-        text,
-        " as job {job}, whose own path matches no class {class}"
-    )
+    write!(text, " as job {job}")?;
+    write!(text, ", whose own path matches no class {class}")
 }
 
 fn push_unplanned_job(text: &mut String, job: usize) -> Result<(), AllocError>

@@ -1,6 +1,7 @@
 use Rattle.std.proofs.Common.{ℕ, List, refl, sym, subst, ◌∙◌}
 use Rattle.recordings.specs.declared.paths.Paths.{Paths}
 use Rattle.recordings.specs.PathsOfLines.{IsPathsOf}
+use Rattle.conformance.specs.RemainingActors.{AreRoundsAmong}
 use Rattle.conformance.specs.ClassifiedActor.{IsCorrectResult}
 use Rattle.conformance.proofs.RemainingNumbers.{rounds_among, jobs_still_none}
 use Rattle.conformance.proofs.AddsResults.{tells_none, tells_then}
