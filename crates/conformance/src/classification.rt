@@ -123,9 +123,7 @@ fn members_of(
     ensures { IfOk result (IsFamilyOf plan.now actor label.now pool.now path_state steps.now) }
 {
     match actor {
-        RecordedActor::Job(_) => classes_of_path(
-            alloc, plan, label, pool, steps, path_state,
-        ),
+        RecordedActor::Job(_) => classes_of_path(alloc, plan, label, pool, steps, path_state),
         RecordedActor::Round(_) => kinds_of_path(alloc, plan, label, steps, path_state),
     }
 }

@@ -166,7 +166,10 @@ fn push_undecided(
 {
     for reported in undecided {
         let ClassifiedActor {
-            actor, label, pool, ..
+            actor,
+            label,
+            pool,
+            ..
         } = reported;
         let label = ActorLabel { name: label, pool };
         findings.push(Finding::NotDecided { actor, label })?;

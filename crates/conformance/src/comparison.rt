@@ -59,11 +59,7 @@ pub enum Conformance {
 /// # Errors
 ///
 /// Returns [`AllocError`] if memory runs out.
-pub fn conform(
-    alloc: Global,
-    plan: &Plan,
-    recording: &[u8],
-) -> Result<Conformance, AllocError>
+pub fn conform(alloc: Global, plan: &Plan, recording: &[u8]) -> Result<Conformance, AllocError>
     ensures bad { IfOk result
         (λ reported. IsFirstFault (lines_read recording.now) (spec.fault_of reported)) }
     ensures conforms { IfOk result (λ reported.

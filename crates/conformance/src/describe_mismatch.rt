@@ -128,12 +128,7 @@ fn deviating_step(
     }
 }
 
-fn deviating_submit(
-    plan: &Plan,
-    classless: &JobSet,
-    job: usize,
-    label: ActorLabel,
-) -> DeviatingStep
+fn deviating_submit(plan: &Plan, classless: &JobSet, job: usize, label: ActorLabel) -> DeviatingStep
     ensures { result
         ≡ spec.deviating_submit (has_job classless.now job)
         (is_planned_class plan.now (string_bytes label.name) (string_bytes label.pool)) job label }

@@ -11,7 +11,9 @@ use recordings::{ForeignGet, Invalidation, RecordedActor};
 
 /// The sort keys of one line: a rank of 4 bits, and a number of 60 bits.
 const RANKS: u128 = 1 << 64;
+
 const NUMBERS: u128 = 1 << 60;
+
 const LAST_NUMBER: usize = (1 << 60) - 1;
 
 /// A difference between a recording and a plan, or an event that invalidates a SAFE answer. Lines

@@ -5,8 +5,8 @@ ghost use Rattle.support.specs.Pushed.{Pushes};
 ghost use Rattle.conformance.specs.FindingText as spec;
 ghost use Rattle.conformance.specs.PathMismatch.{job_text};
 
-use crate::finding::Finding;
 use crate::actor_label::ActorLabel;
+use crate::finding::Finding;
 use crate::mismatch::{push_actor, push_job, push_mismatch};
 use crate::unplanned::NotPlanned;
 use crate::{Difference, PoolDeviation, RoundExcess};
@@ -45,7 +45,9 @@ pub fn push_finding(text: &mut String, plan: &Plan, finding: &Finding) -> Result
         Finding::PathMismatch { mismatch, .. } => push_mismatch(text, mismatch),
         Finding::NotDecided { actor, label } => {
             push_actor(text, *actor, label)?;
-            text.push_str(": not decided, too many jobs that may be of several classes are open at once")
+            text.push_str(
+                ": not decided, too many jobs that may be of several classes are open at once",
+            )
         }
         Finding::TooMany(excess) => push_excess(text, plan, *excess),
         Finding::ForeignGet { get, label, job } => push_foreign_get(text, *get, label, job),
@@ -195,7 +197,10 @@ fn push_event(
             write!(text, " called invokeAny in pool {pool}")
         }
         InvalidatingEvent::Unseen { jobs } => {
-            write!(text, "{jobs} jobs were run in pool {pool} that no line mentions")
+            write!(
+                text,
+                "{jobs} jobs were run in pool {pool} that no line mentions"
+            )
         }
     }
 }
@@ -208,11 +213,7 @@ fn push_get_of(text: &mut String, job: usize, class: &str, pool: &str) -> Result
 }
 
 /// Appends an actor with its class or kind, without a pool.
-fn push_short_actor(
-    text: &mut String,
-    actor: RecordedActor,
-    name: &str,
-) -> Result<(), AllocError>
+fn push_short_actor(text: &mut String, actor: RecordedActor, name: &str) -> Result<(), AllocError>
     ensures { Pushes result text.old text.new (spec.short_actor_text actor name.now) }
 {
     match actor {
