@@ -1,11 +1,12 @@
-pub mod StepAnswers
+pub mod OpenCounts
+pub mod Walks
+pub mod OpenJobs
+pub mod Rows
+pub mod BodyGets
+pub mod Candidates
+pub mod WalkStates
 pub mod WalkSteps
-pub mod SubmitPlaces
-pub mod ChoiceFromWalk
-pub mod WalkFromChoice
-pub mod Prefix
-pub mod SearchResults
-pub mod EnoughSteps
+pub mod WalkProgress
 mod WorkedPaths
 pub mod Names
 pub mod OneByOne
@@ -30,7 +31,6 @@ pub mod BegunActors
 pub mod OtherActors
 pub mod RemovedActor
 pub mod AddsResults
-pub mod Enough
 pub mod SubmitsOnce
 pub mod OneResult
 pub mod Progress

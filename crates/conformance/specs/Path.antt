@@ -1,8 +1,10 @@
 -- The paths that match a body.
-use Rattle.std.specs.Prelude.{◌≡◌, ◌≤◌, ℕ, zero, suc, ◌==◌, not, List, [], ◌∷◌, ◌++◌, Option, None, Some, ⊤, length, map, filter, count_by, slice_get, Contains, IsTrue}
+use Rattle.std.specs.Prelude.{◌≡◌, ◌≤◌, ℕ, zero, suc, Bool, true, false, ◌==◌, not, if◌then◌else◌, List, [], ◌∷◌, ◌++◌, Option, None, Some, ⊤, length, filter, count_by, slice_get}
+use Rattle.std.specs.List.{list_any}
 use Rattle.job_bodies.specs.declared.action.Action.{Action}
 use Rattle.job_bodies.specs.declared.action.Action.TheVariants as action
 use Rattle.job_bodies.specs.Plan.{submitted_class}
+use Rattle.conformance.specs.declared.open_job.OpenJob.{OpenJob}
 use Rattle.conformance.specs.declared.step.ActorKind.{ActorKind}
 use Rattle.conformance.specs.declared.step.ActorKind.TheVariants as actor_kind
 use Rattle.conformance.specs.declared.step.PathStep.{PathStep}
@@ -11,47 +13,41 @@ use Rattle.conformance.specs.declared.step.PathState.{PathState}
 use Rattle.conformance.specs.declared.step.PathState.TheVariants as path_state
 use Rattle.conformance.specs.PathStep.{submits}
 
--- ---- open jobs
--- A job is open after its submit and before its get. A job is named by the index of its submit.
-abbrev pub without : ℕ → List ℕ → List ℕ
-without job jobs = filter (λ other. not (other == job)) jobs
-
+-- ---- the open jobs of a body
+-- A job is open after its submit and before its get.
 abbrev pub open_after_action : Option Action → ℕ → List ℕ → List ℕ
 open_after_action None index jobs = jobs
 open_after_action (Some (action.Work units)) index jobs = jobs
 open_after_action (Some (action.Submit class)) index jobs = jobs ++ index ∷ []
-open_after_action (Some (action.Get submit)) index jobs = without submit jobs
+open_after_action (Some (action.Get submit)) index jobs = filter (λ other. not (other == submit)) jobs
 
-abbrev pub open_after_step : Option PathStep → ℕ → List ℕ → List ℕ
-open_after_step None index jobs = jobs
-open_after_step (Some (step.Submits classes)) index jobs = jobs ++ index ∷ []
-open_after_step (Some (step.Gets submit)) index jobs = without submit jobs
-
--- The jobs that are open in the body before an index, in the order of their submits.
+-- The submits whose jobs are open before an index of the body.
 abbrev pub open_in_body : List Action → ℕ → List ℕ
 open_in_body body zero = []
 open_in_body body (suc index) = open_after_action (slice_get body index) index (open_in_body body index)
 
--- The jobs that are open in the path before an index, in the order of their submits.
-abbrev pub open_in_path : List PathStep → ℕ → List ℕ
-open_in_path path zero = []
-open_in_path path (suc index) = open_after_step (slice_get path index) index (open_in_path path index)
+-- The number of jobs of the class that are open before an index of the body.
+abbrev pub count_in_body : ℕ → List Action → ℕ → ℕ
+count_in_body class body index = count_by (λ submit. submitted_class body submit == class) (open_in_body body index)
 
--- The classes of the jobs that are open in the body before an index.
-abbrev pub body_classes : List Action → ℕ → List ℕ
-body_classes body index = map (submitted_class body) (open_in_body body index)
+-- ---- the open jobs of a path
+-- An open job has the index of its submit in the path, and its class.
+abbrev pub count_in : ℕ → List OpenJob → ℕ
+count_in class jobs = count_by (λ one. one.class == class) jobs
 
--- The classes of the jobs that are open in the path before an index. `class_of` is the class of each job of the path.
-abbrev pub path_classes : (ℕ → ℕ) → List PathStep → ℕ → List ℕ
-path_classes class_of path index = map class_of (open_in_path path index)
+-- The class of the job, if it is open.
+abbrev pub open_class : ℕ → List OpenJob → Option ℕ
+open_class job [] = None
+open_class job (one ∷ others) = if one.job == job then Some one.class else open_class job others
+
+abbrev pub without : ℕ → List OpenJob → List OpenJob
+without job [] = []
+without job (one ∷ others) = if one.job == job then others else one ∷ without job others
 
 -- ---- walks
-abbrev pub count_of : ℕ → List ℕ → ℕ
-count_of class classes = count_by (λ other. other == class) classes
-
--- For each class, the path has at most as many open jobs as the body.
-abbrev pub IsWithin : List ℕ → List ℕ → Type 0
-IsWithin in_path in_body = (class : ℕ) → count_of class in_path ≤ count_of class in_body
+-- For each class, at most as many of these jobs are open as in the body before an index.
+abbrev pub IsWithin : List OpenJob → List Action → ℕ → Type 0
+IsWithin jobs body index = (class : ℕ) → count_in class jobs ≤ count_in_body class body index
 
 -- The body has a get of a job of this class at this index or later.
 pub record HasGetFrom (body : List Action) (index class : ℕ) : Type 0 where
@@ -61,44 +57,54 @@ pub record HasGetFrom (body : List Action) (index class : ℕ) : Type 0 where
   pub gets : slice_get body get ≡ Some (action.Get submit)
   pub of_class : submitted_class body submit ≡ class
 
--- An actor of this kind may get a job of this class when its body is at this index. A job gets only a job of a class that its
+-- An actor of this kind may get a job of this class when its body is at this index. A job gets only jobs of classes that its
 -- body still gets. A round gets any of its jobs.
 abbrev pub MayGet : ActorKind → List Action → ℕ → ℕ → Type 0
 MayGet actor_kind.Job body index class = HasGetFrom body index class
 MayGet actor_kind.Round body index class = ⊤
 
--- The body and the path can be walked together up to these indices, each in its own order, so that at each moment the open
--- jobs of the path are within those of the body.
-pub data Walks (kind : ActorKind) (body : List Action) (path : List PathStep) (class_of : ℕ → ℕ) : ℕ → ℕ → Type 0 where
-  starts : Walks kind body path class_of 0 0
-  -- The body goes on alone: it works, a submit is skipped, or a job is got that the path got earlier or skipped.
-  body_moves : {q p : ℕ} (action : Action) → Walks kind body path class_of q p
+-- The body and the path can be walked together up to these indices, each in its own order, so that these jobs of the path are
+-- open then, each of the class with which it was submitted, and at each moment at most as many jobs of each class are open in
+-- the path as in the body.
+pub data Walks (kind : ActorKind) (body : List Action) (path : List PathStep) : ℕ → ℕ → List OpenJob → Type 0 where
+  starts : Walks kind body path 0 0 []
+  -- The body moves alone: it works, it submits a job that the path skips, or it gets a job.
+  body_moves : {q p : ℕ} {jobs : List OpenJob} (action : Action) → Walks kind body path q p jobs
       → slice_get body q ≡ Some action
-      → IsWithin (path_classes class_of path p) (body_classes body (suc q))
-      → Walks kind body path class_of (suc q) p
+      → IsWithin jobs body (suc q)
+      → Walks kind body path (suc q) p jobs
   -- Both submit a job of one class.
-  both_submit : {q p : ℕ} (step : PathStep) → Walks kind body path class_of q p
-      → slice_get body q ≡ Some (action.Submit (class_of p))
+  both_submit : {q p : ℕ} {jobs : List OpenJob} (step : PathStep) (class : ℕ) → Walks kind body path q p jobs
+      → slice_get body q ≡ Some (action.Submit class)
       → slice_get path p ≡ Some step
-      → IsTrue (submits step (class_of p))
-      → IsWithin (path_classes class_of path (suc p)) (body_classes body (suc q))
-      → Walks kind body path class_of (suc q) (suc p)
+      → submits step class ≡ true
+      → IsWithin (jobs ++ record { job = p; class = class } ∷ []) body (suc q)
+      → Walks kind body path (suc q) (suc p) (jobs ++ record { job = p; class = class } ∷ [])
   -- The path gets one of its open jobs.
-  path_gets : {q p : ℕ} (job : ℕ) → Walks kind body path class_of q p
+  path_gets : {q p : ℕ} {jobs : List OpenJob} (job class : ℕ) → Walks kind body path q p jobs
       → slice_get path p ≡ Some (step.Gets job)
-      → Contains (open_in_path path p) job
-      → MayGet kind body q (class_of job)
-      → IsWithin (path_classes class_of path (suc p)) (body_classes body q)
-      → Walks kind body path class_of q (suc p)
+      → open_class job jobs ≡ Some class
+      → MayGet kind body q class
+      → IsWithin (without job jobs) body q
+      → Walks kind body path q (suc p) (without job jobs)
 
 -- ---- paths
--- The path of an actor matches the body if each of its jobs can have a class so that the two can be walked together: both to
--- their ends, or, if the actor may continue, the path to its end. Then the path is the beginning of one that matches.
+-- The path of an actor matches the body if the two can be walked together: both to their ends, or, if the actor may continue,
+-- the path to its end.
 abbrev pub IsPathOf : ActorKind → PathState → List Action → List PathStep → Type 0
-IsPathOf kind path_state.Whole body path = (class_of : ℕ → ℕ) × Walks kind body path class_of (length body) (length path)
-IsPathOf kind path_state.Prefix body path = (class_of : ℕ → ℕ) × (index : ℕ) × Walks kind body path class_of index (length path)
+IsPathOf kind path_state.Whole body path = (jobs : List OpenJob) × Walks kind body path (length body) (length path) jobs
+IsPathOf kind path_state.Prefix body path = (index : ℕ) × (jobs : List OpenJob) × Walks kind body path index (length path) jobs
 
--- Each job of the path can have at most one of the classes that the body submits.
+-- ---- ambiguous jobs
+abbrev pub is_submit_of : ℕ → Option Action → Bool
+is_submit_of class (Some (action.Submit other)) = other == class
+is_submit_of class _ = false
+
+-- The body submits jobs of the class.
+abbrev pub has_submit_of : List Action → ℕ → Bool
+has_submit_of body class = list_any (λ one. is_submit_of class (Some one)) body
+
+-- If the step is a submit, its job can have at most one of the classes that the body submits.
 abbrev pub HasOneClass : List Action → PathStep → Type 0
-HasOneClass body step = (class other : ℕ) → IsTrue (submits step class) → IsTrue (submits step other)
-    → Contains body (action.Submit class) → Contains body (action.Submit other) → class ≡ other
+HasOneClass body step = (class other : ℕ) → submits step class ≡ true → submits step other ≡ true
+    → has_submit_of body class ≡ true → has_submit_of body other ≡ true → class ≡ other
