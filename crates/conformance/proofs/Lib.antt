@@ -1,3 +1,13 @@
+pub mod OpenCounts
+pub mod Walks
+pub mod OpenJobs
+pub mod Rows
+pub mod BodyGets
+pub mod Candidates
+pub mod WalkStates
+pub mod WalkSteps
+pub mod WalkProgress
+mod WorkedPaths
 pub mod Names
 pub mod OneByOne
 pub mod Explained

@@ -1,5 +1,8 @@
 pub mod PathStep
 pub mod Path
+pub mod BodyGets
+pub mod Candidate
+pub mod WalkState
 pub mod PathMatch
 pub mod Family
 pub mod FamilyMatch

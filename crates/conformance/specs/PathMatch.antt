@@ -3,6 +3,7 @@ use Rattle.std.specs.Prelude.{◌≤◌, ◌<◌, ℕ, List, ⊤, length, take, 
 use Rattle.job_bodies.specs.declared.action.Action.{Action}
 use Rattle.conformance.specs.declared.step.ActorKind.{ActorKind}
 use Rattle.conformance.specs.declared.step.PathStep.{PathStep}
+use Rattle.conformance.specs.declared.step.PathState.{PathState}
 use Rattle.conformance.specs.declared.step.PathState.TheVariants.{Prefix}
 use Rattle.conformance.specs.declared.path_match.PathMatch.{PathMatch}
 use Rattle.conformance.specs.declared.path_match.PathMatch.TheVariants.{Fits, Deviates, Undecided}
@@ -39,3 +40,9 @@ IsDecided Undecided = ⊥
 -- Each job of the path can have at most one of the classes that the body submits.
 abbrev pub IsUnambiguous : List Action → List PathStep → Type 0
 IsUnambiguous body path = All (HasOneClass body) path
+
+-- The result is correct for the path and the body.
+abbrev pub IsMatch : ActorKind → PathState → List Action → List PathStep → PathMatch → Type 0
+IsMatch kind path_state body path Fits = IsPathOf kind path_state body path
+IsMatch kind path_state body path (Deviates explained) = (¬ IsPathOf kind path_state body path) × IsExplained kind body path explained
+IsMatch kind path_state body path Undecided = ¬ IsUnambiguous body path

@@ -9,6 +9,8 @@ mod actor_label;
 mod actor_path;
 mod actor_table;
 mod bodies;
+mod body_gets;
+mod candidate;
 mod classification;
 mod classified_actor;
 mod collect_findings;
@@ -48,6 +50,7 @@ mod step;
 mod survey;
 mod unplanned;
 mod verdicts;
+mod walk_state;
 mod well_formed_lines;
 
 pub use actor_classifier::ActorClassifier;

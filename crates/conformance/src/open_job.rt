@@ -1,6 +1,6 @@
 //! The open jobs of a path.
 
-ghost use Rattle.std.specs.Prelude.{◌≡◌};
+ghost use Rattle.std.specs.Prelude.{◌≡◌, ◌<◌, ◌==◌, length, position, IfSome};
 ghost use Rattle.conformance.specs.Path as spec;
 
 /// A job of a path that is submitted and not yet got.
@@ -23,11 +23,18 @@ pub(crate) fn take_job(jobs: &mut Vec<OpenJob>, job: usize) -> Option<usize>
     ensures class { result ≡ spec.open_class job jobs.old.items }
     ensures jobs { jobs.new.items ≡ spec.without job jobs.old.items }
 {
-    match jobs.iter().position(|one| one.job == job) {
+    match index_of(jobs, job) {
         Some(index) => {
             let one = jobs.remove(index);
             Some(one.class)
         }
         None => None,
     }
+}
+
+fn index_of(jobs: &[OpenJob], job: usize) -> Option<usize>
+    ensures value { result ≡ position (λ one. one.job == job) jobs.now }
+    ensures bound { IfSome result (λ index. index < length jobs.now) }
+{
+    jobs.iter().position(|one| one.job == job)
 }

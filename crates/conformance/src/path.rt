@@ -1,11 +1,15 @@
 //! Matching of a path against a body.
 
-ghost use Rattle.std.specs.Prelude.{IfOk};
+ghost use Rattle.std.specs.Prelude.{IfOk, length};
+ghost use Rattle.conformance.specs.declared.step.ActorKind.{ActorKind};
 ghost use Rattle.conformance.specs.Path.{IsPathOf};
-ghost use Rattle.conformance.specs.PathMatch.{OnFits, OnDeviates, IfDeviates, IsExplained, IsDecided, IsUnambiguous};
+ghost use Rattle.conformance.specs.PathMatch.{OnFits, OnDeviates, IfDeviates, IsExplained, IsDecided, IsUnambiguous, IsMatch};
+ghost use Rattle.conformance.specs.WalkState.{IsStateAt, IsBegun};
 
+use crate::body_gets::body_gets;
 use crate::path_match::PathMatch;
 use crate::step::{ActorKind, PathState, PathStep};
+use crate::walk_state::{Progress, WalkState};
 use job_bodies::Action;
 use std::alloc::{AllocError, Global};
 
@@ -17,8 +21,10 @@ use std::alloc::{AllocError, Global};
 /// The path may get its jobs in any order, and sooner than the body. A job gets only jobs of
 /// classes that its body still gets.
 ///
-/// The result is [`PathMatch::Undecided`] only if jobs that may belong to several classes of the
-/// body are open in more than [`MAX_STATES`] combinations of classes.
+/// The result is [`PathMatch::Undecided`] only if a job of the path may belong to several classes
+/// that the body submits.
+///
+/// The number of steps is at most proportional to the length of the body times that of the path.
 ///
 /// # Errors
 ///
@@ -43,5 +49,38 @@ pub fn match_path(
     ensures decided { IfOk result
         (λ path_match. IsUnambiguous body.now path.now → IsDecided path_match) }
 {
-    Ok(PathMatch::Undecided)
+    let gets = body_gets(alloc, body)?;
+    let mut state = WalkState::new(alloc, body)?;
+    for (place, step) in path.iter().enumerate() {
+        match state.take_step(kind, body, &gets, place, step)? {
+            Progress::Walked => {}
+            Progress::Stops => return Ok(PathMatch::Deviates(place)),
+            Progress::Undecided => return Ok(PathMatch::Undecided),
+        }
+    }
+    Ok(match_at_end(&state, body, path, path_state))
+}
+
+/// Returns the result for a path whose steps are all walked.
+fn match_at_end(
+    state: &WalkState,
+    body: &[Action],
+    path: &[PathStep],
+    path_state: PathState,
+) -> PathMatch
+    ensures { (kind : ActorKind)
+        → IsStateAt kind body.now path.now (length path.now) state.now
+        → IsBegun state.now
+        → IsMatch kind path_state body.now path.now result }
+{
+    match path_state {
+        PathState::Prefix => PathMatch::Fits,
+        PathState::Whole => {
+            if state.is_at(body.len()) {
+                PathMatch::Fits
+            } else {
+                PathMatch::Deviates(path.len())
+            }
+        }
+    }
 }

@@ -9,6 +9,6 @@ pub enum PathMatch {
     /// begins a path of the body. The step at this index deviates, or the actor ended too early if
     /// it is the length of the path.
     Deviates(usize),
-    /// Too many jobs are open that may belong to several classes of the body.
+    /// A job of the path may belong to several classes that the body submits.
     Undecided,
 }
