@@ -34,8 +34,8 @@ missing_text step = codes "; its body has no such " ++ step
 abbrev pub end_text : List ℕ
 end_text = codes " ended; its body has a get before its end"
 
-abbrev pub cause_text : ℕ → List ℕ → List ℕ
-cause_text job class = (codes " as job " ++ decimal job) ++ (codes ", whose own path matches no class " ++ class)
+abbrev pub cause_text : ℕ → List ℕ
+cause_text job = codes " as job " ++ decimal job ++ codes ", whose own path matches no such class"
 
 abbrev pub unplanned_job_text : ℕ → List ℕ
 unplanned_job_text job = codes " as job " ++ decimal job ++ codes ", which is of no class of the plan"
@@ -49,7 +49,7 @@ position_text (Some (Gets class)) = codes " after get " ++ string_bytes class
 abbrev pub deviating_step_text : DeviatingStep → Option NamedStep → List ℕ
 deviating_step_text (step.Submits label) after = (submit_text (string_bytes label.name) (string_bytes label.pool) ++ missing_text (codes "submit")) ++ position_text after
 deviating_step_text (step.Gets label) after = (get_text (string_bytes label.name) (string_bytes label.pool) ++ missing_text (codes "get")) ++ position_text after
-deviating_step_text (step.SubmitsMismatched job label) after = submit_text (string_bytes label.name) (string_bytes label.pool) ++ cause_text job (string_bytes label.name)
+deviating_step_text (step.SubmitsMismatched job label) after = submit_text (string_bytes label.name) (string_bytes label.pool) ++ cause_text job
 deviating_step_text (step.SubmitsUnplanned job label) after = submit_text (string_bytes label.name) (string_bytes label.pool) ++ unplanned_job_text job
 deviating_step_text step.Ends after = end_text
 

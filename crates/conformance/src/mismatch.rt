@@ -74,7 +74,7 @@ fn push_deviation(
         }
         DeviatingStep::SubmitsMismatched { job, label } => {
             push_submit(text, label)?;
-            push_cause(text, *job, &label.name)
+            push_cause(text, *job)
         }
         DeviatingStep::SubmitsUnplanned { job, label } => {
             push_submit(text, label)?;
@@ -148,11 +148,10 @@ fn push_end(text: &mut String) -> Result<(), AllocError>
     write!(text, " ended; its body has a get before its end")
 }
 
-fn push_cause(text: &mut String, job: usize, class: &str) -> Result<(), AllocError>
-    ensures { Pushes result text.old text.new (spec.cause_text job class.now) }
+fn push_cause(text: &mut String, job: usize) -> Result<(), AllocError>
+    ensures { Pushes result text.old text.new (spec.cause_text job) }
 {
-    write!(text, " as job {job}")?;
-    write!(text, ", whose own path matches no class {class}")
+    write!(text, " as job {job}, whose own path matches no such class")
 }
 
 fn push_unplanned_job(text: &mut String, job: usize) -> Result<(), AllocError>
