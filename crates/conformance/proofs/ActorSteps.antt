@@ -1,5 +1,5 @@
 -- The tables and the results after each step.
-use Rattle.std.proofs.Common.{◌≡◌, ℕ, if◌then◌else◌, List, Option, Some, None, refl, sym}
+use Rattle.std.proofs.Common.{◌≡◌, if◌then◌else◌, List, Option, Some, None, refl, sym}
 use Rattle.recordings.specs.declared.recording_line.RecordedActor.{RecordedActor}
 use Rattle.recordings.specs.RecordingLine.{RecordedLine}
 use Rattle.recordings.specs.LineParts.{is_same_actor}

@@ -1,5 +1,5 @@
 -- The state after a line.
-use Rattle.std.proofs.Common.{◌≡◌, ℕ, true, List, [], ◌∷◌, ◌++◌, Option, Some, None, sym, subst, ◌∙◌}
+use Rattle.std.proofs.Common.{◌≡◌, true, List, [], ◌∷◌, ◌++◌, Option, Some, None, sym, subst, ◌∙◌}
 use Rattle.recordings.specs.declared.recording_line.RecordedActor.{RecordedActor}
 use Rattle.recordings.specs.RecordingLine.{RecordedLine}
 use Rattle.recordings.specs.Path.{path_of}
@@ -12,7 +12,6 @@ use Rattle.conformance.specs.declared.actor_classifier.ActorClassifier.{ActorCla
 use Rattle.conformance.specs.declared.classified_actor.ClassifiedActor.{ClassifiedActor}
 use Rattle.recordings.specs.LastLine.{ended_by}
 use Rattle.conformance.specs.Changes.{ChangesTable}
-use Rattle.conformance.specs.ActorTables.{AreUnambiguousIn}
 use Rattle.conformance.specs.ClassifiedActor.{AddsSettled}
 use Rattle.conformance.specs.Represents.{AreTablesOf, IsClassifierOf}
 use Rattle.conformance.specs.ClassificationResults.{IsStep}

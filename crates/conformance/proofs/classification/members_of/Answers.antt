@@ -1,6 +1,5 @@
-use Rattle.std.proofs.Common.{◌≡◌, ◌≤◌, ℕ, length, sym, subst}
+use Rattle.std.proofs.Common.{sym, subst}
 use Rattle.recordings.specs.declared.recording_line.RecordedActor.{RecordedActor}
-use Rattle.recordings.specs.declared.recording_line.RecordedActor.TheVariants.{Job, Round}
 use Rattle.conformance.specs.declared.family_match.FamilyMatch.{FamilyMatch}
 use Rattle.conformance.specs.ClassificationResults.{IsFamilyOf}
 use Rattle.conformance.proofs.AllClauses.{all_five}

@@ -1,4 +1,4 @@
-use Rattle.std.proofs.Common.{◌≡◌, List, Option, refl, ap, sym, subst, ◌∙◌, rules}
+use Rattle.std.proofs.Common.{◌≡◌, List, Option, refl, ap, sym, subst, ◌∙◌}
 use Rattle.recordings.specs.declared.step.RecordedStep.{RecordedStep}
 use Rattle.conformance.specs.declared.describe_mismatch.JobStep.{JobStep}
 use Rattle.conformance.specs.declared.mismatch.NamedStep.{NamedStep}

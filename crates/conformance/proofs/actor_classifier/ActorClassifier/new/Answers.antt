@@ -1,4 +1,3 @@
-use Rattle.std.proofs.Common.{refl}
 use Rattle.conformance.specs.ActorTables.{classes_in}
 use Rattle.conformance.proofs.Words.{two_of}
 use Rattle.conformance.proofs.EmptyTables.{kept_none}

@@ -1,4 +1,4 @@
-use Rattle.std.proofs.Common.{[], ℕ}
+use Rattle.std.proofs.Common.{[]}
 use Rattle.recordings.specs.RecordingLine.{lines_read}
 use Rattle.recordings.specs.Faults.{lines_before}
 use Rattle.recordings.specs.CheckedLines.{IsCheckerState, lines_left}
