@@ -76,3 +76,4 @@ pub mod ExcessTrackerAfter
 pub mod CollectedLists
 pub mod Steps
 pub mod AllFound
+pub mod NoneUndecided

@@ -30,6 +30,16 @@ is_of_actors (finding.Pool deviation) = false
 is_of_actors (finding.ForeignGet get label job) = false
 is_of_actors (finding.Invalidation invalidation label) = false
 
+-- It is undecided whether the path of an actor matches a body.
+abbrev pub is_not_decided : Finding → Bool
+is_not_decided (finding.NotDecided actor label) = true
+is_not_decided (finding.NotPlanned label) = false
+is_not_decided (finding.PathMismatch line mismatch) = false
+is_not_decided (finding.TooMany excess) = false
+is_not_decided (finding.Pool deviation) = false
+is_not_decided (finding.ForeignGet get label job) = false
+is_not_decided (finding.Invalidation invalidation label) = false
+
 -- The job is one of the classified jobs whose path matches no class.
 abbrev pub is_classless_in : List ClassifiedActor → ℕ → Bool
 is_classless_in reported job = list_any (is_classless_job job) reported

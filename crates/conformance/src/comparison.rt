@@ -8,7 +8,8 @@ ghost use Rattle.recordings.specs.PathsOfLines.{KeepsRules};
 ghost use Rattle.conformance.specs.RoundExcesses.{excesses_by_lines};
 ghost use Rattle.conformance.specs.Lines.{lines_of};
 ghost use Rattle.conformance.specs.Conforms.{Conforms, DoAsPlanned, HasNoInvalidation};
-ghost use Rattle.conformance.specs.Findings.{AreFindingsOf, is_of_actors};
+ghost use Rattle.conformance.specs.Findings.{AreFindingsOf, is_of_actors, is_not_decided};
+ghost use Rattle.conformance.specs.Family.{HasNoFamilies};
 ghost use Rattle.conformance.specs.FirstKinds.{AreFirstKinds};
 ghost use Rattle.conformance.specs.Survey.{IsSurveyOf};
 ghost use Rattle.conformance.specs.Outcome as spec;
@@ -71,6 +72,9 @@ pub fn conform(alloc: Global, plan: &Plan, recording: &[u8]) -> Result<Conforman
         list_any is_of_actors findings ≡ false → DoAsPlanned plan.now (lines_of recording.now))) }
     ensures found { IfOk result
         (λ reported. spec.IfCompared reported (AreFindingsOf plan.now (lines_of recording.now))) }
+    ensures decided { IfOk result (λ reported.
+        spec.IfCompared reported (λ findings.
+        HasNoFamilies plan.now → list_any is_not_decided findings ≡ false)) }
     ensures ascending { IfOk result (λ reported. spec.IfCompared reported spec.AreInOrder) }
 {
     match survey_recording(alloc, plan, recording)? {
@@ -102,6 +106,10 @@ fn findings_of_survey(
         → IsSurveyOf plan.now (lines_of recording.now) survey
         → IfOk result
         (λ findings. AreFindingsOf plan.now (lines_of recording.now) findings.items) }
+    ensures decided { KeepsRules (lines_of recording.now)
+        → IsSurveyOf plan.now (lines_of recording.now) survey
+        → IfOk result (λ findings.
+        HasNoFamilies plan.now → list_any is_not_decided findings.items ≡ false) }
     ensures ascending { IfOk result (λ findings. spec.AreInOrder findings.items) }
 {
     pools_are_as_planned();

@@ -20,3 +20,8 @@ pub returns-in_ok-findings_of_survey-in-Ok-clause-found : goal.returns-in_ok-fin
 returns-in_ok-findings_of_survey-in-Ok-clause-found c =
     let so = subst (λ (found : Result Survey RecordingFault). IsSurveyResult c.args.plan.now c.args.recording.now found) c.in-Ok.is c.in_ok-survey.ensures in
     c.in_ok-findings_of_survey-in-Ok.ensures.found (keeps_rules c.args.recording.now so.0) so.1
+
+pub returns-in_ok-findings_of_survey-in-Ok-clause-decided : goal.returns-in_ok-findings_of_survey-in-Ok-clause-decided
+returns-in_ok-findings_of_survey-in-Ok-clause-decided c =
+    let so = subst (λ (found : Result Survey RecordingFault). IsSurveyResult c.args.plan.now c.args.recording.now found) c.in-Ok.is c.in_ok-survey.ensures in
+    c.in_ok-findings_of_survey-in-Ok.ensures.decided (keeps_rules c.args.recording.now so.0) so.1

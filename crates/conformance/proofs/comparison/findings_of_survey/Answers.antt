@@ -4,6 +4,7 @@ use Rattle.conformance.specs.Lines.{lines_of}
 use Rattle.conformance.specs.Finding.{sort_key}
 use Rattle.conformance.specs.Findings.{is_of_actors}
 use Rattle.conformance.proofs.AllFound.{all_found}
+use Rattle.conformance.proofs.NoneUndecided.{none_undecided}
 use Rattle.conformance.proofs.Conforming.{conforms, actors_do, none_before}
 use Rattle.conformance.proofs.KindsByResults.{all_first_kinds}
 use Rattle.conformance.proofs.comparison.findings_of_survey.Goals as goal
@@ -35,6 +36,16 @@ returns-clause-found c = λ keeps so.
     all_found plan lines c.args.survey first.kinds c.in_ok-excesses.excesses.items c.in_ok-findings.findings.items _
     so first.so (c.in_ok-excesses.ensures first.kinds keeps so first.so) (c.in_ok-findings.ensures so.line_survey.notes)
     c.in_ok-sort_by_key.ensures.permutation
+
+pub returns-clause-decided : goal.returns-clause-decided
+returns-clause-decided c = λ keeps so.
+    let lines = lines_of c.args.recording.now in
+    let plan = c.args.plan.now in
+    let first = all_first_kinds plan lines so.actor_survey.reported keeps so.actor_survey.all in
+    none_undecided plan lines _
+    (all_found plan lines c.args.survey first.kinds c.in_ok-excesses.excesses.items c.in_ok-findings.findings.items _
+    so first.so (c.in_ok-excesses.ensures first.kinds keeps so first.so) (c.in_ok-findings.ensures so.line_survey.notes)
+    c.in_ok-sort_by_key.ensures.permutation)
 
 pub returns-clause-ascending : goal.returns-clause-ascending
 returns-clause-ascending c = IsNonDecreasingBy-from_sort_by_key sort_key _ c.in_ok-sort_by_key.ensures.sorted (λ a r q k. search rules)
