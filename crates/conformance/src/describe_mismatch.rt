@@ -1,16 +1,18 @@
 //! The first deviating step of an actor, looked up in the text of the recording.
 
 ghost use Rattle.std.specs.Prelude.{◌≡◌, IfOk, string_bytes};
-ghost use Rattle.recordings.specs.declared.recording_line.RecordedActor.TheVariants.{Job};
 ghost use Rattle.conformance.specs.JobSet.{has_job};
 ghost use Rattle.conformance.specs.Lines.{lines_of};
-ghost use Rattle.conformance.specs.LineQuery.{IsLabelOf, found_seen};
+ghost use Rattle.conformance.specs.LineQuery.{found_seen};
+ghost use Rattle.conformance.specs.Verdicts.{is_planned_class};
 ghost use Rattle.conformance.specs.Description as spec;
 
-use crate::ClassifiedActor;
+use crate::actor_label::{ActorLabel, label_of};
 use crate::job_set::JobSet;
-use crate::line_query::{LineQuery, first_line, label_in};
+use crate::line_query::{LineQuery, first_line};
 use crate::mismatch::{DeviatingStep, NamedStep, PathMismatch};
+use crate::{ClassifiedActor, first_class};
+use job_bodies::Plan;
 use recordings::{Line, RecordedActor, RecordedStep};
 use std::alloc::{AllocError, Global};
 
@@ -23,13 +25,14 @@ use std::alloc::{AllocError, Global};
 /// Returns `AllocError` if memory runs out.
 pub(crate) fn describe_mismatch(
     alloc: Global,
+    plan: &Plan,
     recording: &[u8],
     classless: &JobSet,
     reported: &ClassifiedActor,
 ) -> Result<(Option<usize>, PathMismatch), AllocError>
     ensures { IfOk result (λ found.
-        spec.IsDescriptionOf (lines_of recording.now) (has_job classless.now) reported.now found.0
-        found.1) }
+        spec.IsDescriptionOf plan.now (lines_of recording.now) (has_job classless.now) reported.now
+        found.0 found.1) }
 {
     let explained = reported.family.explained;
     let step = step_at(&reported.path, explained);
@@ -40,8 +43,8 @@ pub(crate) fn describe_mismatch(
     };
     let mismatch = PathMismatch {
         actor: reported.actor,
-        label: reported.label.clone()?,
-        step: deviating_step(alloc, recording, classless, step)?,
+        label: label_of_classified(reported)?,
+        step: deviating_step(alloc, plan, recording, classless, step)?,
         after,
     };
     Ok((line, mismatch))
@@ -92,29 +95,59 @@ fn line_query_of(actor: RecordedActor, step: Option<JobStep>) -> LineQuery
     }
 }
 
+/// Returns the label of a classified actor.
+fn label_of_classified(reported: &ClassifiedActor) -> Result<ActorLabel, AllocError>
+    ensures name { IfOk result (λ label. string_bytes label.name ≡ string_bytes reported.now.label) }
+    ensures pool { IfOk result (λ label. string_bytes label.pool ≡ string_bytes reported.now.pool) }
+{
+    let name = reported.label.clone()?;
+    let pool = reported.pool.clone()?;
+    Ok(ActorLabel { name, pool })
+}
+
 fn deviating_step(
     alloc: Global,
+    plan: &Plan,
     recording: &[u8],
     classless: &JobSet,
     step: Option<JobStep>,
 ) -> Result<DeviatingStep, AllocError>
-    ensures { IfOk result (spec.IsDeviatingStep (lines_of recording.now) (has_job classless.now) step) }
+    ensures { IfOk result
+        (spec.IsDeviatingStep plan.now (lines_of recording.now) (has_job classless.now) step) }
 {
     match step {
         None => Ok(DeviatingStep::Ends),
         Some(JobStep::Submits(job)) => {
-            let class = class_of(alloc, recording, job)?;
-            if classless.contains(job) {
-                Ok(DeviatingStep::SubmitsMismatched { job, class })
-            } else {
-                Ok(DeviatingStep::PathStep(NamedStep::Submits(class)))
-            }
+            let label = label_of(alloc, recording, RecordedActor::Job(job))?;
+            Ok(deviating_submit(plan, classless, job, label))
         }
         Some(JobStep::Gets(job)) => {
-            let class = class_of(alloc, recording, job)?;
-            Ok(DeviatingStep::PathStep(NamedStep::Gets(class)))
+            let label = label_of(alloc, recording, RecordedActor::Job(job))?;
+            Ok(DeviatingStep::Gets(label))
         }
     }
+}
+
+fn deviating_submit(plan: &Plan, classless: &JobSet, job: usize, label: ActorLabel) -> DeviatingStep
+    ensures { result
+        ≡ spec.deviating_submit (has_job classless.now job)
+        (is_planned_class plan.now (string_bytes label.name) (string_bytes label.pool)) job label }
+{
+    if !classless.contains(job) {
+        DeviatingStep::Submits(label)
+    } else if is_planned_class(plan, &label.name, &label.pool) {
+        DeviatingStep::SubmitsMismatched { job, label }
+    } else {
+        DeviatingStep::SubmitsUnplanned { job, label }
+    }
+}
+
+/// Returns true if the plan has such a class in the pool.
+#[tactic(auto, using(crate::proofs::UnplannedAfter::is_filled))]
+fn is_planned_class(plan: &Plan, class: &str, pool: &str) -> bool
+    ensures { result ≡ is_planned_class plan.now class.now pool.now }
+{
+    first_class(plan, class, pool).is_some()
 }
 
 fn named_step(
@@ -127,39 +160,12 @@ fn named_step(
     match step {
         None => Ok(None),
         Some(JobStep::Submits(job)) => {
-            let class = class_of(alloc, recording, job)?;
-            Ok(Some(NamedStep::Submits(class)))
+            let label = label_of(alloc, recording, RecordedActor::Job(job))?;
+            Ok(Some(NamedStep::Submits(label.name)))
         }
         Some(JobStep::Gets(job)) => {
-            let class = class_of(alloc, recording, job)?;
-            Ok(Some(NamedStep::Gets(class)))
+            let label = label_of(alloc, recording, RecordedActor::Job(job))?;
+            Ok(Some(NamedStep::Gets(label.name)))
         }
-    }
-}
-
-/// Returns the class that the job's submit names.
-fn class_of(alloc: Global, recording: &[u8], job: usize) -> Result<String, AllocError>
-    ensures { IfOk result
-        (λ class. IsLabelOf (lines_of recording.now) (Job job) (string_bytes class)) }
-{
-    label_of(alloc, recording, RecordedActor::Job(job))
-}
-
-/// Returns the label of an actor: the class that a job's submit names, or the kind that a round's
-/// begin names. The label is empty if there is no such line.
-///
-/// # Errors
-///
-/// Returns `AllocError` if memory runs out.
-pub(crate) fn label_of(
-    alloc: Global,
-    recording: &[u8],
-    actor: RecordedActor,
-) -> Result<String, AllocError>
-    ensures { IfOk result (λ label. IsLabelOf (lines_of recording.now) actor (string_bytes label)) }
-{
-    match first_line(recording, LineQuery::label_of(actor)) {
-        Some((_, line)) => String::from_str(alloc, label_in(&line)),
-        None => Ok(String::new(alloc)),
     }
 }
