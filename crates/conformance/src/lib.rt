@@ -44,6 +44,7 @@ mod pool_names;
 mod reported;
 mod round_comparison;
 mod round_count;
+mod row;
 mod sizes;
 mod step;
 mod survey;
