@@ -1,5 +1,6 @@
 -- The first deviating step of an actor.
-use Rattle.std.specs.Prelude.{◌≡◌, ℕ, zero, suc, Bool, not, if◌then◌else◌, List, slice_get, string_bytes, option_map, Option, Some, None}
+use Rattle.std.specs.Prelude.{◌≡◌, ℕ, zero, suc, Bool, not, if◌then◌else◌, List, slice_get, string_bytes, option_map, Option, Some, None, [], ◌∷◌, flat_map}
+use Rattle.std.specs.List.{list_any, enumerate_from}
 use Rattle.std.specs.Option.{option_and_then}
 use Rattle.std.specs.declared.alloc.Global.{Global}
 use Rattle.std.specs.declared.string.String.{String}
@@ -8,6 +9,7 @@ use Rattle.recordings.specs.declared.recording_line.RecordedActor.TheVariants.{J
 use Rattle.recordings.specs.declared.recording_line.RecordedActor.{RecordedActor}
 use Rattle.recordings.specs.declared.step.RecordedStep.{RecordedStep}
 use Rattle.recordings.specs.declared.step.RecordedStep.TheVariants as recorded
+use Rattle.recordings.specs.ActorPath.{gets as is_get_of}
 use Rattle.job_bodies.specs.Plan.{Plan}
 use Rattle.conformance.specs.Verdicts.{is_planned_class}
 use Rattle.conformance.specs.declared.actor_label.ActorLabel.{ActorLabel}
@@ -51,6 +53,19 @@ abbrev pub step_before : List RecordedStep → ℕ → Option JobStep
 step_before path zero = None
 step_before path (suc place) = step_at path place
 
+-- ---- open jobs
+-- The job of the entry of a path, if it is a submit and no step gets its job.
+abbrev pub open_job_at : List RecordedStep → ℕ × RecordedStep → List ℕ
+open_job_at path (place, recorded.Submits job) = if list_any (is_get_of place) path then [] else job ∷ []
+open_job_at path (place, recorded.Gets submit) = []
+
+-- The jobs that no step of the path gets, in the order of their submits.
+abbrev pub open_jobs : List RecordedStep → List ℕ
+open_jobs path = flat_map (open_job_at path) (enumerate_from 0 path)
+
+abbrev pub first_open : List RecordedStep → Option ℕ
+first_open path = slice_get (open_jobs path) 0
+
 -- ---- what is reported
 -- The step, with the class that the submit of its job names.
 pub data IsNamedStep (lines : List RecordedLine) : JobStep → NamedStep → Type 0 where
@@ -71,12 +86,17 @@ deviating_submit is_classless is_planned job label =
     if not is_classless then mismatch.Submits label
     else (if is_planned then mismatch.SubmitsMismatched job label else mismatch.SubmitsUnplanned job label)
 
--- The first deviating step: the actor's end, a submit or a get.
-pub data IsDeviatingStep (plan : Plan) (lines : List RecordedLine) (is_classless : ℕ → Bool) : Option JobStep → DeviatingStep → Type 0 where
-  ends : IsDeviatingStep plan lines is_classless None mismatch.Ends
+-- The end of an actor, with the label of its first open job if there is one.
+pub data IsDeviatingEnd (lines : List RecordedLine) : Option ℕ → DeviatingStep → Type 0 where
+  closed : IsDeviatingEnd lines None mismatch.Ends
+  while_open : (job : ℕ) (label : ActorLabel) → IsLabelOfJob lines job label → IsDeviatingEnd lines (Some job) (mismatch.EndsOpen job label)
+
+-- The first deviating step: the actor's end, with its first open job if there is one; a submit; or a get.
+pub data IsDeviatingStep (plan : Plan) (lines : List RecordedLine) (is_classless : ℕ → Bool) (path : List RecordedStep) : Option JobStep → DeviatingStep → Type 0 where
+  ends : (found : DeviatingStep) → IsDeviatingEnd lines (first_open path) found → IsDeviatingStep plan lines is_classless path None found
   submits : (job : ℕ) (label : ActorLabel) → IsLabelOfJob lines job label
-      → IsDeviatingStep plan lines is_classless (Some (step.Submits job)) (deviating_submit (is_classless job) (is_planned_class plan (string_bytes label.name) (string_bytes label.pool)) job label)
-  gets : (job : ℕ) (label : ActorLabel) → IsLabelOfJob lines job label → IsDeviatingStep plan lines is_classless (Some (step.Gets job)) (mismatch.Gets label)
+      → IsDeviatingStep plan lines is_classless path (Some (step.Submits job)) (deviating_submit (is_classless job) (is_planned_class plan (string_bytes label.name) (string_bytes label.pool)) job label)
+  gets : (job : ℕ) (label : ActorLabel) → IsLabelOfJob lines job label → IsDeviatingStep plan lines is_classless path (Some (step.Gets job)) (mismatch.Gets label)
 
 abbrev pub number_seen : Option (ℕ × RecordedLine) → Option ℕ
 number_seen found = option_map (λ (number, line). number) found
@@ -90,5 +110,5 @@ pub record IsDescriptionOf (plan : Plan) (lines : List RecordedLine) (is_classle
   pub line : Option (ℕ × RecordedLine)
   pub first : IsFirstLine lines (line_query_of reported.actor (step_at reported.path.items reported.family.explained)) line
   pub number_is : number ≡ number_seen line
-  pub did : IsDeviatingStep plan lines is_classless (step_at reported.path.items reported.family.explained) found.step
+  pub did : IsDeviatingStep plan lines is_classless reported.path.items (step_at reported.path.items reported.family.explained) found.step
   pub after : IsNamed lines (step_before reported.path.items reported.family.explained) found.after

@@ -34,6 +34,15 @@ missing_text step = codes "; its body has no such " ++ step
 abbrev pub end_text : List ℕ
 end_text = codes " ended; its body has a get before its end"
 
+abbrev pub end_reason : List ℕ
+end_reason = codes "; its body has a get before its end"
+
+abbrev pub without_get_text : ℕ → List ℕ → List ℕ → List ℕ
+without_get_text job class pool = codes " ended without a get of job " ++ (decimal job ++ (codes " of class " ++ (class ++ (codes " in pool " ++ pool))))
+
+abbrev pub open_end_text : ℕ → List ℕ → List ℕ → List ℕ
+open_end_text job class pool = without_get_text job class pool ++ end_reason
+
 abbrev pub cause_text : ℕ → List ℕ
 cause_text job = codes " as job " ++ decimal job ++ codes ", whose own path matches no such class"
 
@@ -51,6 +60,7 @@ deviating_step_text (step.Submits label) after = (submit_text (string_bytes labe
 deviating_step_text (step.Gets label) after = (get_text (string_bytes label.name) (string_bytes label.pool) ++ missing_text (codes "get")) ++ position_text after
 deviating_step_text (step.SubmitsMismatched job label) after = submit_text (string_bytes label.name) (string_bytes label.pool) ++ cause_text job
 deviating_step_text (step.SubmitsUnplanned job label) after = submit_text (string_bytes label.name) (string_bytes label.pool) ++ unplanned_job_text job
+deviating_step_text (step.EndsOpen job label) after = open_end_text job (string_bytes label.name) (string_bytes label.pool)
 deviating_step_text step.Ends after = end_text
 
 abbrev pub mismatch_text : PathMismatch → List ℕ

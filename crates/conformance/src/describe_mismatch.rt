@@ -1,6 +1,9 @@
 //! The first deviating step of an actor, looked up in the text of the recording.
 
 ghost use Rattle.std.specs.Prelude.{◌≡◌, IfOk, string_bytes};
+ghost use Rattle.std.specs.List.{list_any};
+ghost use Rattle.std.specs.Option.{option_to_list};
+ghost use Rattle.recordings.specs.ActorPath.{gets};
 ghost use Rattle.conformance.specs.JobSet.{has_job};
 ghost use Rattle.conformance.specs.Lines.{lines_of};
 ghost use Rattle.conformance.specs.LineQuery.{found_seen};
@@ -44,7 +47,7 @@ pub(crate) fn describe_mismatch(
     let mismatch = PathMismatch {
         actor: reported.actor,
         label: label_of_classified(reported)?,
-        step: deviating_step(alloc, plan, recording, classless, step)?,
+        step: deviating_step(alloc, plan, recording, classless, &reported.path, step)?,
         after,
     };
     Ok((line, mismatch))
@@ -110,13 +113,17 @@ fn deviating_step(
     plan: &Plan,
     recording: &[u8],
     classless: &JobSet,
+    path: &[RecordedStep],
     step: Option<JobStep>,
 ) -> Result<DeviatingStep, AllocError>
     ensures { IfOk result
-        (spec.IsDeviatingStep plan.now (lines_of recording.now) (has_job classless.now) step) }
+        (spec.IsDeviatingStep plan.now (lines_of recording.now) (has_job classless.now) path.now step) }
 {
     match step {
-        None => Ok(DeviatingStep::Ends),
+        None => {
+            let end = deviating_end(alloc, recording, open_job(path))?;
+            Ok(end)
+        }
         Some(JobStep::Submits(job)) => {
             let label = label_of(alloc, recording, RecordedActor::Job(job))?;
             Ok(deviating_submit(plan, classless, job, label))
@@ -126,6 +133,55 @@ fn deviating_step(
             Ok(DeviatingStep::Gets(label))
         }
     }
+}
+
+/// Returns the deviation of an actor that ended, with its first open job if there is one.
+fn deviating_end(
+    alloc: Global,
+    recording: &[u8],
+    first: Option<usize>,
+) -> Result<DeviatingStep, AllocError>
+    ensures { IfOk result (spec.IsDeviatingEnd (lines_of recording.now) first) }
+{
+    match first {
+        None => Ok(DeviatingStep::Ends),
+        Some(job) => {
+            let label = label_of(alloc, recording, RecordedActor::Job(job))?;
+            Ok(DeviatingStep::EndsOpen { job, label })
+        }
+    }
+}
+
+/// Returns the first job of a path that no step of it gets.
+fn open_job(path: &[RecordedStep]) -> Option<usize>
+    ensures { result ≡ spec.first_open path.now }
+{
+    let mut place = 0;
+    let mut rest = path;
+    while let Some((step, after)) = rest.split_first() {
+        if let Some(job) = open_job_at(path, place, *step) {
+            return Some(job);
+        }
+        place += 1;
+        rest = after;
+    }
+    None
+}
+
+/// Returns the job of the step at this index of a path, if it is a submit and no step gets its job.
+fn open_job_at(path: &[RecordedStep], place: usize, step: RecordedStep) -> Option<usize>
+    ensures { option_to_list result ≡ spec.open_job_at path.now (place, step) }
+{
+    match step {
+        RecordedStep::Submits(job) => { if is_got(path, place) { None } else { Some(job) } }
+        RecordedStep::Gets(_) => None,
+    }
+}
+
+fn is_got(path: &[RecordedStep], submit: usize) -> bool
+    ensures { result ≡ list_any (gets submit) path.now }
+{
+    path.iter().any(|step| step.gets(submit))
 }
 
 fn deviating_submit(plan: &Plan, classless: &JobSet, job: usize, label: ActorLabel) -> DeviatingStep

@@ -46,7 +46,7 @@ pub fn push_finding(text: &mut String, plan: &Plan, finding: &Finding) -> Result
         Finding::NotDecided { actor, label } => {
             push_actor(text, *actor, label)?;
             text.push_str(
-                ": not decided, too many jobs that may be of several classes are open at once",
+                ": not decided, it submitted a job that may be of several classes of its body",
             )
         }
         Finding::TooMany(excess) => push_excess(text, plan, *excess),

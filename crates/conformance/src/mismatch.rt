@@ -32,7 +32,10 @@ pub enum DeviatingStep {
     SubmitsMismatched { job: usize, label: ActorLabel },
     /// The actor submitted this job, and the plan has no such class in the pool.
     SubmitsUnplanned { job: usize, label: ActorLabel },
-    /// The actor ended before a get of its body.
+    /// The actor ended before a get of its body, while this job was open: the first of its jobs that
+    /// it did not get.
+    EndsOpen { job: usize, label: ActorLabel },
+    /// The actor ended before a get of its body, and got all its jobs.
     Ends,
 }
 
@@ -80,6 +83,7 @@ fn push_deviation(
             push_submit(text, label)?;
             push_unplanned_job(text, *job)
         }
+        DeviatingStep::EndsOpen { job, label } => push_open_end(text, *job, label),
         DeviatingStep::Ends => push_end(text),
     }
 }
@@ -146,6 +150,34 @@ fn push_end(text: &mut String) -> Result<(), AllocError>
     ensures { Pushes result text.old text.new spec.end_text }
 {
     write!(text, " ended; its body has a get before its end")
+}
+
+fn push_open_end(text: &mut String, job: usize, label: &ActorLabel) -> Result<(), AllocError>
+    ensures { Pushes result text.old text.new
+        (spec.open_end_text job (string_bytes label.now.name) (string_bytes label.now.pool)) }
+{
+    push_without_get(text, job, &label.name, &label.pool)?;
+    push_end_reason(text)
+}
+
+fn push_without_get(
+    text: &mut String,
+    job: usize,
+    class: &str,
+    pool: &str,
+) -> Result<(), AllocError>
+    ensures { Pushes result text.old text.new (spec.without_get_text job class.now pool.now) }
+{
+    write!(
+        text,
+        " ended without a get of job {job} of class {class} in pool {pool}"
+    )
+}
+
+fn push_end_reason(text: &mut String) -> Result<(), AllocError>
+    ensures { Pushes result text.old text.new spec.end_reason }
+{
+    write!(text, "; its body has a get before its end")
 }
 
 fn push_cause(text: &mut String, job: usize) -> Result<(), AllocError>

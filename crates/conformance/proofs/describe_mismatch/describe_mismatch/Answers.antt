@@ -23,7 +23,8 @@ returns c =
       line = found_seen c.first_line.result;
       first = subst (λ (w : LineQuery). IsFirstLine lines w (found_seen c.first_line.result)) (c.line_query_of.ensures ∙ ap (spec.line_query_of reported.actor) did) c.first_line.ensures;
       number_is = c.number_of-line.ensures;
-      did = subst (λ (d : Option JobStep). spec.IsDeviatingStep c.args.plan.now lines (has_job c.args.classless.now) d c.in_ok-deviating_step.field-0) did c.in_ok-deviating_step.ensures;
+      did = subst (λ (d : Option JobStep). spec.IsDeviatingStep c.args.plan.now lines (has_job c.args.classless.now) reported.path.items d c.in_ok-deviating_step.field-0) did
+          (subst (λ (path : List RecordedStep). spec.IsDeviatingStep c.args.plan.now lines (has_job c.args.classless.now) path c.step_at-step.result c.in_ok-deviating_step.field-0) c.deref-2.ensures.value c.in_ok-deviating_step.ensures);
       after = elim c.match-checked_sub.branch [
         | in-None w ↦ after_begin_line lines reported.path.items reported.family.explained _ w.in-None.ensures w.after-is
         | in-Some+in_ok-after-in-Some w ↦
