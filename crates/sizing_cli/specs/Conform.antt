@@ -38,8 +38,8 @@ is_undecided (finding.Pool deviation) = false
 is_undecided (finding.NotPlanned name) = false
 is_undecided (finding.PathMismatch line mismatch) = false
 is_undecided (finding.TooMany excess) = false
-is_undecided (finding.ForeignGet get name) = false
-is_undecided (finding.Invalidation void) = false
+is_undecided (finding.ForeignGet get name job) = false
+is_undecided (finding.Invalidation void name) = false
 
 -- the status: Done if there are no findings, Undecided if all findings are undecided, and otherwise Refused
 abbrev pub status_of : List Finding → Status

@@ -253,7 +253,7 @@ fn is_of_actors(finding: &Finding) -> bool
 {
     !matches!(
         finding,
-        Finding::Pool(_) | Finding::ForeignGet { .. } | Finding::Invalidation(_)
+        Finding::Pool(_) | Finding::ForeignGet { .. } | Finding::Invalidation { .. }
     )
 }
 
