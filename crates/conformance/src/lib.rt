@@ -68,6 +68,7 @@ pub use finding_lines::{push_finding, push_findings};
 pub use laws::{classes_are_determined, settled_actors_stay};
 pub use members::{classes_of_path, kinds_of_path};
 pub use mismatch::{DeviatingStep, NamedStep, PathMismatch};
+pub use open_job::OpenJob;
 pub use path::match_path;
 pub use path_match::PathMatch;
 pub use pool_comparison::{PoolComparison, PoolDeviation};

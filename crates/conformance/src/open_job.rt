@@ -5,10 +5,10 @@ ghost use Rattle.conformance.specs.Path as spec;
 
 /// A job of a path that is submitted and not yet got.
 #[derive(Clone, Copy, PartialEq, Eq)]
-pub(crate) struct OpenJob {
+pub struct OpenJob {
     /// The index of its submit in the path.
-    pub(crate) job: usize,
-    pub(crate) class: usize,
+    pub job: usize,
+    pub class: usize,
 }
 
 /// Returns the number of jobs of the class.
