@@ -1,5 +1,4 @@
-use Rattle.std.proofs.Common.{List, arith}
-use Rattle.conformance.specs.declared.step.PathStep.{PathStep}
+use Rattle.std.proofs.Common.{arith}
 use Rattle.conformance.specs.declared.step.PathState.TheVariants.{Whole}
 use Rattle.conformance.specs.Path.{IsPathOf}
 use Rattle.conformance.specs.PathMatch.{IsUnambiguous}

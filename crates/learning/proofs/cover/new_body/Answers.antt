@@ -1,4 +1,3 @@
-use Rattle.std.proofs.Common.{arith}
 use Rattle.learning.proofs.CoveredPaths.{own_covering}
 use Rattle.learning.proofs.cover.new_body.Goals as goal
 

@@ -1,4 +1,4 @@
-use Rattle.std.proofs.Common.{◌≡◌, [], rules, List, subst, sym, ap, ◌∙◌}
+use Rattle.std.proofs.Common.{rules, List, subst, sym, ap, ◌∙◌}
 use Rattle.job_bodies.specs.declared.action.Action.{Action}
 use Rattle.conformance.specs.declared.step.PathState.TheVariants.{Whole}
 use Rattle.conformance.specs.Path.{IsPathOf}
