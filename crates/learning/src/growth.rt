@@ -91,8 +91,10 @@ impl Entries {
             return Ok(None);
         }
         let number = self.entries.len();
-        self.add(label, pool)?;
-        Ok(self.cover(number, &observed_path.steps)?)
+        match self.add(label, pool) {
+            Ok(()) => Ok(self.cover(number, &observed_path.steps)?),
+            Err(error) => Err(error),
+        }
     }
 
     // Changes the body of the entry with this number so that the path and the entry's paths match
