@@ -18,7 +18,7 @@ use Rattle.learning.specs.Counts.{AreCounted}
 use Rattle.learning.specs.Pools.{recorded_pools}
 use Rattle.learning.specs.Names.{IsNamedClass, IsNamedClient}
 use Rattle.learning.specs.InferenceLimit.{IsReason, inference_limit_text}
-use Rattle.learning.specs.Unfinished.{unfinished_rounds, unfinished_jobs}
+use Rattle.learning.specs.Unfinished.{unfinished_rounds, unfinished_jobs, failed_gets}
 use Rattle.learning.specs.declared.inference_result.InferredPlan.{InferredPlan}
 use Rattle.learning.specs.declared.inference_limit.InferenceLimit.{InferenceLimit}
 use Rattle.learning.specs.declared.inference_limit.InferenceLimit.TheVariants.{Paths, Text}
@@ -42,8 +42,16 @@ unfinished_comment rounds jobs =
     if nat_eq rounds 0 && nat_eq jobs 0 then [] else
     (codes "# Not at their ends yet. Rounds: " ++ (decimal rounds ++ (codes ". Jobs: " ++ (decimal jobs ++ (codes ". What they wait for, and what comes behind it, is not here." ++ 10 ∷ [])))))
 
+-- the number of gets that timed out or were interrupted, if there are any
+abbrev pub failed_gets_comment : ℕ → List ℕ
+failed_gets_comment gets =
+    if nat_eq gets 0 then [] else
+    (codes "# Gets that timed out or were interrupted: " ++ (decimal gets ++ (codes ". A body has only those that returned later." ++ 10 ∷ [])))
+
 abbrev pub head_comment : InferredPlan → List ℕ
-head_comment seen = extent_comment seen.rounds seen.jobs ++ (not_taken_comment ++ unfinished_comment seen.unfinished_rounds seen.unfinished_jobs)
+head_comment seen =
+    extent_comment seen.rounds seen.jobs
+    ++ (not_taken_comment ++ (unfinished_comment seen.unfinished_rounds seen.unfinished_jobs ++ failed_gets_comment seen.failed_gets))
 
 -- the comment for a finding that the recording has and the plan does not contain
 abbrev pub comment_line : Plan → Finding → List ℕ
@@ -53,8 +61,8 @@ abbrev pub comments : Plan → List Finding → List ℕ
 comments plan findings = flat_map (comment_line plan) findings
 
 -- ---- the answers
--- the plan's pools and client counts are those of the lines, and these are the numbers of rounds and jobs, and of the
--- unfinished ones
+-- the plan's pools and client counts are those of the lines, and these are the numbers of rounds and jobs, of the
+-- unfinished ones, and of the gets that failed
 pub record IsSeen (lines : List RecordedLine) (seen : InferredPlan) : Type 0 where
   pub pools : seen.plan.pools ≡ recorded_pools lines
   pub counts : AreCounted lines seen.plan.clients
@@ -64,6 +72,7 @@ pub record IsSeen (lines : List RecordedLine) (seen : InferredPlan) : Type 0 whe
   pub jobs : seen.jobs ≡ submits lines
   pub unfinished_rounds : seen.unfinished_rounds ≡ unfinished_rounds lines
   pub unfinished_jobs : seen.unfinished_jobs ≡ unfinished_jobs lines
+  pub failed_gets : seen.failed_gets ≡ failed_gets lines
 
 -- The text is this plan's. Comments at its head give the extent of the recording and each finding.
 pub record IsTextOf (seen : InferredPlan) (findings : List Finding) (text : List ℕ) : Type 0 where

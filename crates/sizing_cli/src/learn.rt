@@ -154,7 +154,8 @@ fn push_head(text: &mut String, seen: &InferredPlan) -> Result<(), AllocError>
     text.push_str(
         "# What was not taken is not here: another path, class, kind or pool. Each count is what was seen at once.\n",
     )?;
-    push_unfinished(text, seen.unfinished_rounds, seen.unfinished_jobs)
+    push_unfinished(text, seen.unfinished_rounds, seen.unfinished_jobs)?;
+    push_failed_gets(text, seen.failed_gets)
 }
 
 /// Appends the comment with the number of rounds and jobs that the plan was derived from.
@@ -178,6 +179,19 @@ fn push_unfinished(text: &mut String, rounds: usize, jobs: usize) -> Result<(), 
     write!(
         text,
         "# Not at their ends yet. Rounds: {rounds}. Jobs: {jobs}. What they wait for, and what comes behind it, is not here.\n"
+    )
+}
+
+/// Appends the comment with the number of gets that timed out or were interrupted, if there are any.
+fn push_failed_gets(text: &mut String, gets: usize) -> Result<(), AllocError>
+    ensures { Pushes result text.old text.new (spec.failed_gets_comment gets) }
+{
+    if gets == 0 {
+        return Ok(());
+    }
+    write!(
+        text,
+        "# Gets that timed out or were interrupted: {gets}. A body has only those that returned later.\n"
     )
 }
 
