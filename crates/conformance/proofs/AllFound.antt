@@ -3,6 +3,7 @@ use Rattle.std.proofs.Common.{◌≡◌, ℕ, Bool, List, [], ◌∷◌, Option,
 use Rattle.std.specs.List.Sorted.{IsPermutation}
 use Rattle.job_bodies.specs.Plan.{Plan}
 use Rattle.recordings.specs.RecordingLine.{RecordedLine}
+use Rattle.recordings.specs.declared.step.RecordedStep.{RecordedStep}
 use Rattle.conformance.specs.declared.classified_actor.ClassifiedActor.{ClassifiedActor}
 use Rattle.conformance.specs.declared.round_comparison.RoundExcess.{RoundExcess}
 use Rattle.conformance.specs.RoundExcesses.{excesses_by_lines}
@@ -22,11 +23,11 @@ use Rattle.conformance.specs.JobSet.{has_job}
 use Rattle.conformance.specs.Survey.{IsSurveyOf}
 
 -- ---- equal tests describe the same step
-same_step : (plan : Plan) (lines : List RecordedLine) (one other : ℕ → Bool) → ((job : ℕ) → one job ≡ other job) → (did : Option JobStep) (found : DeviatingStep) → IsDeviatingStep plan lines one did found → IsDeviatingStep plan lines other did found
-same_step plan lines one other same _ _ steps.ends = steps.ends
-same_step plan lines one other same _ _ (steps.submits job label so) =
-    subst (λ (is_classless : Bool). IsDeviatingStep plan lines other (Some (step.Submits job)) (steps.deviating_submit is_classless (is_planned_class plan (string_bytes label.name) (string_bytes label.pool)) job label)) (sym (same job)) (steps.submits job label so)
-same_step plan lines one other same _ _ (steps.gets job label so) = steps.gets job label so
+same_step : (plan : Plan) (lines : List RecordedLine) (one other : ℕ → Bool) → ((job : ℕ) → one job ≡ other job) → (path : List RecordedStep) (did : Option JobStep) (found : DeviatingStep) → IsDeviatingStep plan lines one path did found → IsDeviatingStep plan lines other path did found
+same_step plan lines one other same path _ _ (steps.ends found end) = steps.ends found end
+same_step plan lines one other same path _ _ (steps.submits job label so) =
+    subst (λ (is_classless : Bool). IsDeviatingStep plan lines other path (Some (step.Submits job)) (steps.deviating_submit is_classless (is_planned_class plan (string_bytes label.name) (string_bytes label.pool)) job label)) (sym (same job)) (steps.submits job label so)
+same_step plan lines one other same path _ _ (steps.gets job label so) = steps.gets job label so
 
 same_reported : (plan : Plan) (lines : List RecordedLine) (one other : ℕ → Bool) → ((job : ℕ) → one job ≡ other job) → (reported : ClassifiedActor) (found : Finding) → IsMismatchFinding plan lines one reported found → IsMismatchFinding plan lines other reported found
 same_reported plan lines one other same reported _ (made.mismatches number mismatch so) =
@@ -37,7 +38,7 @@ same_reported plan lines one other same reported _ (made.mismatches number misma
       line = so.line;
       first = so.first;
       number_is = so.number_is;
-      did = same_step plan lines one other same _ _ so.did;
+      did = same_step plan lines one other same _ _ _ so.did;
       after = so.after;
     })
 
