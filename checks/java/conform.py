@@ -139,25 +139,6 @@ class Comparison:
         if sort == "round" or body.still_gets(walk.position, number):
             yield Walk(walk.position, tuple(one for one in walk.open if one[0] is not step.job))
 
-    def excess(self, actor, body, explained):
-        """Returns the first class, in the order of the path's open jobs, of which more are open after the step than the body has after any
-        submit of the step's classes. At the end of the path, it is the end of the body."""
-        path = self.paths[actor]
-        done = path[:explained + 1]
-        jobs = [step.job for step in done if step.what == "submit" and not any(other.what == "get" and other.job is step.job for other in done)]
-        if explained == len(path):
-            places = [len(body.actions)]
-        elif path[explained].what == "submit":
-            places = [at + 1 for at, (what, operand) in enumerate(body.actions) if what == "submit" and operand in self.fits(path[explained].job)]
-        else:
-            places = []
-        classes = [self.fits(job)[0] if len(self.fits(job)) == 1 else None for job in jobs]
-        for number in classes:
-            most = max((body.open[place][number] for place in places), default=None)
-            if number is not None and most is not None and classes.count(number) > most:
-                return number, classes.count(number), most
-        return None
-
     def fits(self, job):
         return self.fitting[job]
 
@@ -196,36 +177,27 @@ class Comparison:
             if not self.classes_of(job):
                 self.finds(LABELS, ("class", job.name, job.pool), job.first, f"class {job.name} in pool {job.pool}: not in the plan")
             elif not self.fitting[job]:
-                self.strays(("job", job.name, job.pool), job, self.classes_of(job), self.class_bodies, self.plan.classes)
+                self.strays(("job", job.name, job.pool), job, [self.class_bodies[number] for number in self.classes_of(job)])
 
-    def strays(self, subject, actor, family, bodies, entries):
+    def strays(self, subject, actor, bodies):
         """Reports an actor whose path matches no body, if it is the first of its label, by the body that matches most of the path."""
-        explained = {member: self.walk(actor, bodies[member]) for member in family}
-        best = max(family, key=lambda member: (explained[member], member))
-        most, path = explained[best], self.paths[actor]
-        name = f"the body of {entries[best].name}, which explains {most} of {len(path)} steps," if len(family) > 1 else "its body"
-        text = self.deviation_text(path, most, name, self.excess(actor, bodies[best], most))
-        self.finds(PATHS, subject, path[most].line if most < len(path) else actor.last, described(actor) + text)
-
-    def deviation_text(self, path, explained, body, excess):
-        """Returns what the actor did after the steps that the body explains, and why the body does not cover it."""
-        after = f"after {path[explained - 1].what} {path[explained - 1].job.name}" if explained else "at its begin"
-        number, count, most = excess or (None, 0, 0)
-        name = excess and self.plan.classes[number].name
-        if explained == len(path):
-            return f" ended; {body} " + (f"gets {name} before its end" if excess else "has a get before its end")
-        step = path[explained]
+        path = self.paths[actor]
+        most = max(self.walk(actor, body) for body in bodies)
+        after = f"after {path[most - 1].what} {path[most - 1].job.name}" if most else "at its begin"
+        if most == len(path):
+            self.finds(PATHS, subject, actor.last, f"{described(actor)} ended; its body has a get before its end")
+            return
+        step = path[most]
+        name, pool = step.job.name, step.job.pool
         if step.what == "get":
-            return f" got {step.job.name} of pool {step.job.pool}; {body} has no such get {after}"
-        submitted = f"{step.job.name} to pool {step.job.pool}"
-        if not self.classes_of(step.job):
-            return f" submitted {submitted} as {step.job}, which is of no class of the plan"
-        if not self.fits(step.job):
-            return f" submitted {submitted} as {step.job}, whose own path matches no class {step.job.name}"
-        if excess:
-            jobs = f"{count} job of class {name} is open" if count == 1 else f"{count} jobs of class {name} are open"
-            return f": after submit {submitted}, {jobs}; {body} has at most {most} there"
-        return f" submitted {submitted}; {body} has no such submit {after}"
+            did = f"got {name} of pool {pool}; its body has no such get {after}"
+        elif not self.classes_of(step.job):
+            did = f"submitted {name} to pool {pool} as {step.job}, which is of no class of the plan"
+        elif not self.fits(step.job):
+            did = f"submitted {name} to pool {pool} as {step.job}, whose own path matches no such class"
+        else:
+            did = f"submitted {name} to pool {pool}; its body has no such submit {after}"
+        self.finds(PATHS, subject, step.line, f"{described(actor)} {did}")
 
     def rounds(self):
         """Assigns each round to the first client kind of its family whose body matches the round's path."""
@@ -242,7 +214,7 @@ class Comparison:
             if not family:
                 self.finds(LABELS, ("kind", one.name), one.first, f"kind {one.name}: not in the plan")
             elif not fitting:
-                self.strays(("round", one.name), one, family, self.kind_bodies, self.plan.clients)
+                self.strays(("round", one.name), one, [self.kind_bodies[kind] for kind in family])
             for kind in (fitting or family)[:1]:
                 kinds[one] = kind
                 within[kind] = within.get(kind, 0) + 1
