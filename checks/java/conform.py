@@ -185,7 +185,9 @@ class Comparison:
         most = max(self.walk(actor, body) for body in bodies)
         after = f"after {path[most - 1].what} {path[most - 1].job.name}" if most else "at its begin"
         if most == len(path):
-            self.finds(PATHS, subject, actor.last, f"{described(actor)} ended; its body has a get before its end")
+            got = {step.job for step in path if step.what == "get"}
+            left = next(step.job for step in path if step.what == "submit" and step.job not in got)
+            self.finds(PATHS, subject, actor.last, f"{described(actor)} ended without a get of {described(left)}; its body has a get before its end")
             return
         step = path[most]
         name, pool = step.job.name, step.job.pool
