@@ -43,6 +43,7 @@ pub mod StateAfterLine
 pub mod ReturnedPath
 pub mod ActorSteps
 pub mod ClassifyRemaining
+pub mod NarrowerPaths
 pub mod Determined
 pub mod RemainingNumbers
 pub mod LineByLine

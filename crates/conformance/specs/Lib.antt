@@ -3,6 +3,7 @@ pub mod Path
 pub mod BodyGets
 pub mod Candidate
 pub mod WalkState
+pub mod Narrowing
 pub mod PathMatch
 pub mod Family
 pub mod FamilyMatch

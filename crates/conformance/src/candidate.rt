@@ -57,7 +57,7 @@ fn with_class(found: Candidate, class: usize) -> Candidate
 }
 
 /// Returns true if the body submits jobs of the class.
-fn has_submit_of(body: &[Action], class: usize) -> bool
+pub(crate) fn has_submit_of(body: &[Action], class: usize) -> bool
     ensures { result ≡ spec.has_submit_of body.now class }
 {
     body.iter().any(|action| is_submit_of(class, *action))

@@ -34,6 +34,7 @@ mod laws;
 mod line_query;
 mod members;
 mod mismatch;
+mod narrowing;
 mod numbers;
 mod open_job;
 mod open_rounds;

@@ -1,12 +1,13 @@
 //! Matching of a path against a body.
 
-ghost use Rattle.std.specs.Prelude.{IfOk, length};
+ghost use Rattle.std.specs.Prelude.{IfOk, IsTrue, length};
 ghost use Rattle.conformance.specs.declared.step.ActorKind.{ActorKind};
 ghost use Rattle.conformance.specs.Path.{IsPathOf};
 ghost use Rattle.conformance.specs.PathMatch.{OnFits, OnDeviates, IfDeviates, IsExplained, IsDecided, IsUnambiguous, IsMatch};
 ghost use Rattle.conformance.specs.WalkState.{IsStateAt, IsBegun};
 
 use crate::body_gets::body_gets;
+use crate::narrowing::{Pick, narrowed};
 use crate::path_match::PathMatch;
 use crate::step::{ActorKind, PathState, PathStep};
 use crate::walk_state::{Progress, WalkState};
@@ -22,7 +23,9 @@ use std::alloc::{AllocError, Global};
 /// classes that its body still gets.
 ///
 /// The result is [`PathMatch::Undecided`] only if a job of the path may belong to several classes
-/// that the body submits.
+/// that the body submits, and none of the assignments that were tried matches. Three are tried:
+/// each job has the first of its classes that the body submits, or the last of them, or the class
+/// of the next submit of the body that fits.
 ///
 /// The number of steps is at most proportional to the length of the body times that of the path.
 ///
@@ -30,6 +33,46 @@ use std::alloc::{AllocError, Global};
 ///
 /// Returns [`AllocError`] if memory runs out.
 pub fn match_path(
+    alloc: Global,
+    body: &[Action],
+    path: &[PathStep],
+    kind: ActorKind,
+    path_state: PathState,
+) -> Result<PathMatch, AllocError>
+    ensures fits { IfOk result (λ path_match.
+        OnFits path_match (IsPathOf kind path_state body.now path.now)) }
+    ensures deviates { IfOk result (λ path_match.
+        OnDeviates path_match (¬ IsPathOf kind path_state body.now path.now)) }
+
+    // The number is the length of the longest prefix of the path that begins a path of the body.
+    ensures explained { IfOk result
+        (λ path_match. IfDeviates path_match (IsExplained kind body.now path.now)) }
+
+    // The result is decided if each job of the path has at most one of the body's classes.
+    ensures decided { IfOk result
+        (λ path_match. IsUnambiguous body.now path.now → IsDecided path_match) }
+{
+    let path_match = match_exactly(alloc, body, path, kind, path_state)?;
+    match path_match {
+        PathMatch::Fits => Ok(PathMatch::Fits),
+        PathMatch::Deviates(explained) => Ok(PathMatch::Deviates(explained)),
+        PathMatch::Undecided => {
+            let fits = fits_narrowed(alloc, body, path, kind, path_state)?;
+            Ok(if fits {
+                PathMatch::Fits
+            } else {
+                PathMatch::Undecided
+            })
+        }
+    }
+}
+
+/// Matches the path against the body, without a choice among the classes of a job.
+///
+/// # Errors
+///
+/// Returns [`AllocError`] if memory runs out.
+fn match_exactly(
     alloc: Global,
     body: &[Action],
     path: &[PathStep],
@@ -59,6 +102,55 @@ pub fn match_path(
         }
     }
     Ok(match_at_end(&state, body, path, path_state))
+}
+
+/// Returns true if the path matches with one of the assignments that are tried.
+///
+/// # Errors
+///
+/// Returns [`AllocError`] if memory runs out.
+fn fits_narrowed(
+    alloc: Global,
+    body: &[Action],
+    path: &[PathStep],
+    kind: ActorKind,
+    path_state: PathState,
+) -> Result<bool, AllocError>
+    ensures { IfOk result (λ fits.
+        IsTrue fits → IsPathOf kind path_state body.now path.now) }
+{
+    if fits_with(alloc, body, path, kind, path_state, Pick::First)? {
+        return Ok(true);
+    }
+    if fits_with(alloc, body, path, kind, path_state, Pick::Last)? {
+        return Ok(true);
+    }
+    let fits = fits_with(alloc, body, path, kind, path_state, Pick::InOrder)?;
+    Ok(fits)
+}
+
+/// Returns true if the path matches when each job has the class that the rule picks.
+///
+/// # Errors
+///
+/// Returns [`AllocError`] if memory runs out.
+fn fits_with(
+    alloc: Global,
+    body: &[Action],
+    path: &[PathStep],
+    kind: ActorKind,
+    path_state: PathState,
+    pick: Pick,
+) -> Result<bool, AllocError>
+    ensures { IfOk result (λ fits.
+        IsTrue fits → IsPathOf kind path_state body.now path.now) }
+{
+    let fewer = narrowed(alloc, body, path, pick)?;
+    let path_match = match_exactly(alloc, body, &fewer, kind, path_state)?;
+    match path_match {
+        PathMatch::Fits => Ok(true),
+        PathMatch::Deviates(_) | PathMatch::Undecided => Ok(false),
+    }
 }
 
 /// Returns the result for a path whose steps are all walked.

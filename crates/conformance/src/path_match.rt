@@ -9,6 +9,7 @@ pub enum PathMatch {
     /// begins a path of the body. The step at this index deviates, or the actor ended too early if
     /// it is the length of the path.
     Deviates(usize),
-    /// A job of the path may belong to several classes that the body submits.
+    /// A job of the path may belong to several classes that the body submits, and none of the
+    /// assignments that were tried matches.
     Undecided,
 }

@@ -1,5 +1,5 @@
 use Rattle.conformance.specs.WalkState.{IsStateAt, IsBegun}
-use Rattle.conformance.proofs.path.match_path.Given as goal
+use Rattle.conformance.proofs.path.match_exactly.Given as goal
 
 abbrev pub invariant-loop-place : goal.invariant-loop-place
 invariant-loop-place l = record {

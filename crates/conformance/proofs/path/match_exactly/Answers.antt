@@ -2,7 +2,7 @@ use Rattle.std.proofs.Common.{◌≡◌, length, refl, subst, arith}
 use Rattle.std.proofs.lemmas.Option.{slice_get_read}
 use Rattle.conformance.specs.WalkState.{IsStateAt, IsProgress}
 use Rattle.conformance.proofs.WalkProgress.{result_if_stops, ambiguous, fits_of_match, deviates_of_match, explained_of_match, decided_of_match}
-use Rattle.conformance.proofs.path.match_path.Goals as goal
+use Rattle.conformance.proofs.path.match_exactly.Goals as goal
 
 pub loop-place-init : goal.loop-place-init
 loop-place-init c =
