@@ -33,11 +33,7 @@ pub(crate) struct Line<'a> {
 /// # Errors
 ///
 /// Returns [`AllocError`] if memory runs out.
-pub(crate) fn push_lines(
-    text: &mut String,
-    alloc: Global,
-    turns: &[Turn],
-) -> Result<(), AllocError>
+pub(crate) fn push_lines(text: &mut String, alloc: Global, turns: &[Turn]) -> Result<(), AllocError>
     ensures { Pushes result text.old text.new (spec.lines_text (spec.lines (map turn_seen turns.now))) }
 {
     let lines = lines_of(alloc, turns)?;

@@ -41,9 +41,6 @@ fn push_pool(text: &mut String, pool: &Pool, state: &PoolState) -> Result<(), Al
     let idle = state.idle();
     let queued = state.queued();
     let capacity = state.capacity();
-    write!(
-        text,
-        "pool {name}: threads {threads} of {max}, idle {idle}"
-    )?;
+    write!(text, "pool {name}: threads {threads} of {max}, idle {idle}")?;
     writeln!(text, ", queued {queued} of {capacity}")
 }

@@ -60,12 +60,7 @@ fn push_each(
 }
 
 /// Appends what the job with this number waits for, if it waits.
-fn push_wait(
-    text: &mut String,
-    plan: &Plan,
-    world: &World,
-    number: usize,
-) -> Result<(), AllocError>
+fn push_wait(text: &mut String, plan: &Plan, world: &World, number: usize) -> Result<(), AllocError>
     ensures { Pushes result text.old text.new (seen.wait_seen plan.now world.now.view number) }
 {
     let Some(job) = world.job(number) else {
@@ -152,12 +147,7 @@ fn submitted_in(plan: &Plan, class: usize, submit: usize) -> usize
 }
 
 /// Appends a job with its class, such as `job 0 (report)`.
-fn push_job(
-    text: &mut String,
-    plan: &Plan,
-    number: usize,
-    class: usize,
-) -> Result<(), AllocError>
+fn push_job(text: &mut String, plan: &Plan, number: usize, class: usize) -> Result<(), AllocError>
     ensures { Pushes result text.old text.new (spec.job_text plan.now number class) }
 {
     let name = plan.class_name(class);

@@ -106,9 +106,7 @@ fn tell(rt: &(impl Eprint + Files), fault: &CliError<'_>) -> io::Result<()> {
         CliError::Words(error) => eprint!(rt; "{error}"),
         CliError::NoCommand => eprintln!(rt; "no command"),
         CliError::InputTwice => {
-            eprintln!(rt;
-                "`-` names standard input for both texts: name a file for one of them"
-            )
+            eprintln!(rt; "`-` names standard input for both texts: name a file for one of them")
         }
         CliError::Bundle(name) => {
             eprintln!(rt;

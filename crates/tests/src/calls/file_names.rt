@@ -17,7 +17,11 @@ const NAMES: &[Case] = &[
     ("x/a:b.toml", "x/a:b.toml", "x/a%3Ab.toml"),
     ("//host/a.toml", "/.//host/a.toml", "//host/a.toml"),
     ("é[1].toml", "%C3%A9%5B1%5D.toml", "é[1].toml"),
-    ("-._~!$&'()*+;=@Az09", "-._~!$&'()*+;=@Az09", "-._~!$&'()*+;=@Az09"),
+    (
+        "-._~!$&'()*+;=@Az09",
+        "-._~!$&'()*+;=@Az09",
+        "-._~!$&'()*+;=@Az09",
+    ),
 ];
 
 #[test]
@@ -28,7 +32,8 @@ fn names_of_files(rt: HostRuntime) -> Result<(), Fail> {
         assert!(rt; log.as_str().contains(location.as_str()));
         let command = fault_github(rt.alloc(), name, 31, "100%,\r\nor: more")?;
         let wanted = format!(in rt.alloc();
-            "::error file={property},title=fault-31::100%25,%0D%0Aor: more\n")?;
+            "::error file={property},title=fault-31::100%25,%0D%0Aor: more\n"
+        )?;
         assert_eq!(rt; command.as_str(), wanted.as_str());
     }
     Ok(())

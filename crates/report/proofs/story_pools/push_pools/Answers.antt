@@ -18,7 +18,7 @@ loop-pool-preserved c =
     let view = c.args.world.now.view in
     let left : length c.loop-pool.pools.now ≡ length (c.in-Some.pool.now ∷ c.in-Some.rest.now) = ap length c.in-Some.ensures.cases.0 in (
       pool_appended view _ _ c.loop-pool.number c.in-Some.pool.now c.pool.result.now c.in-Some.rest.now c.pool.ensures (c.in_ok-push_pool.ensures)
-      ∙ sym (ap (λ (pools : List Pool). string_bytes c.loop-pool.text ++ flat_map (pool_line_seen view) (enumerate_from c.loop-pool.number pools)) c.in-Some.ensures.cases.0)
-      ∙ c.loop-pool.invariant.0,
+          ∙ sym (ap (λ (pools : List Pool). string_bytes c.loop-pool.text ++ flat_map (pool_line_seen view) (enumerate_from c.loop-pool.number pools)) c.in-Some.ensures.cases.0)
+          ∙ c.loop-pool.invariant.0,
       omega (arith, left, c.loop-pool.invariant.1),
     )
