@@ -181,7 +181,7 @@ fn answer_with(
     is_stale: bool,
     warnings: &[Warning],
 ) -> Result<Answer, AllocError>
-    requires { spec.AreWarnings plan.now finding.now (option_map (λ lowered. lowered.now) lowered.entry) is_stale warnings.now }
+    requires { spec.AreWarnings plan.now finding.now (option_map (λ lowered. lowered.now) lowered) is_stale warnings.now }
     ensures { IfOk result (spec.AnswersFinding options (spec.source_of file.now text.now) plan.now finding.now
         (option_map (λ lowered. lowered.now) lowered.entry) is_stale) }
 {
