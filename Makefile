@@ -52,7 +52,8 @@ dist:
 release-notes:
 	@tools/version --notes
 
-# Runs every test, every worked row and each program's stored run before any proof: minutes. It proves nothing.
+# Runs every test, every worked row and each program's stored run before any proof: at most 4 minutes on four cores. It
+# proves nothing.
 test:
 	@tools/test
 

@@ -39,9 +39,9 @@ SECONDS = 20
 
 NOT_WRITTEN = (3, b"", b"fault 61 WriteFailed\n")
 NOT_READ = (3, b"", b"fault 60 ReadFailed\n")
-TWICE = (2, b"", b"standard input has one of the two texts, not both: name a file for the other\n")
+TWICE = (2, b"", b"`-` names standard input for both texts: name a file for one of them\n")
 NO_COMMAND = (2, b"", b"no command\n")
-NOT_UTF_8 = (2, b"", b"the words of the command line are to be UTF-8\n")
+NOT_UTF_8 = (2, b"", b"the arguments must be UTF-8\n")
 
 
 def main():
@@ -74,6 +74,9 @@ def cases(program, folder):
     for options in BAD_ROUNDS:
         yield " ".join(["run", *options]), lambda: ends([program, "run", *options], folder / "run"), None
     yield from cases_of_certificates(program, folder)
+    plan = EXAMPLES / "two-clients.toml"
+    missing = b"%s has no line `%%%%`: name a second file with the certificate\n" % bytes(plan)
+    yield "check, the plan alone", lambda: ends([program, "check", plan], folder), (2, b"fault 50 NoSeparator\n", missing)
     given = folder / "check"
     yield "no command", lambda: ends([program], given), NO_COMMAND
     yield "a bad word", lambda: ends([program, "chek"], given), None
@@ -85,9 +88,10 @@ def cases_of_files(title, words, parts, folder):
     """Yields the cases in which a named file cannot be read, or `-` names standard input for both files."""
     files = [EXAMPLES / part for part in parts]
     for number, part in enumerate(parts):
-        for what, path in (("a directory", folder), (f"no file {part}", folder / "none" / part)):
+        missing = folder / "none" / part
+        for what, path, why in (("a directory", folder, b"it is a directory"), (f"no file {part}", missing, b"there is no such file")):
             named = [*files[:number], path, *files[number + 1 :]]
-            told = (3, b"", b"fault 60 ReadFailed at %s\n" % bytes(path))
+            told = (3, b"", b"fault 60 ReadFailed at %s: %s\n" % (bytes(path), why))
             yield f"{title}, {what} as a file", lambda named=named: ends([*words, *named], folder), told
     if len(parts) == 2:
         yield f"{title}, standard input as both files", lambda: ends([*words, "-", "-"], files[0]), TWICE
@@ -96,7 +100,7 @@ def cases_of_files(title, words, parts, folder):
 def cases_of_certificates(program, folder):
     """Yields the cases of `ask --certificate` on a file with some content. The expected end includes the content of the file after it."""
     plan = (EXAMPLES / "two-clients-queue-of-two.toml").read_bytes()
-    occupied = b"%s is there and no certificate, so it stays as it is: name another file for --certificate\n"
+    occupied = b"%s exists and is not a certificate, so it was not changed: name another file for --certificate\n"
     for what, before, is_kept in (
         ("its own plan", plan, True), ("a recording", b"recording 1\n", True), ("a blank", b" {}", True),
         ("nothing", None, False), ("an empty file", b"", False), ("an older certificate", b'{"version":1}\n', False),

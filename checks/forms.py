@@ -31,20 +31,23 @@ import tempfile
 from importlib.machinery import SourceFileLoader
 from importlib.util import module_from_spec, spec_from_loader
 from pathlib import Path
+from urllib.parse import unquote
 
 sys.dont_write_bytecode = True
 
 from asking import built_program
 
 HERE = Path(__file__).resolve().parent
-KEYS = ["answer", "assumptions", "faults", "file", "format", "plan", "pools", "sizes", "version", "warnings", "witness"]
+KEYS = ["answer", "assumptions", "faults", "file", "format", "omitted", "plan", "pools", "sizes", "version", "warnings", "witness"]
 POOL_KEYS = ["blocked", "bound", "core", "max", "name", "prestart", "queue", "waits_for"]
 ANSWERS = {"SAFE", "NOT SAFE", "NOT DECIDED"}
 TOOLS = HERE.parent / "tools"
 # A plan that is not safe, with a warning and with sizes to change.
 PLAN = HERE.parent / "examples" / "two-clients.toml"
-# A name of a file that has each character that a workflow command escapes, except the ends of lines.
-NAME = "50%, a:b %0A.toml"
+# A name of a file that has each character that a workflow command escapes, except the ends of lines, and characters that a URI escapes.
+NAME = "50%, a:b %0A #1?é.toml"
+# A relative reference of RFC 3986 whose first segment has no colon, without a query and a fragment.
+URI = re.compile(r"(?:[\w.~!$&'()*+,;=@-]|%[0-9A-F]{2})*(?:/(?:[\w.~!$&'()*+,;=:@-]|%[0-9A-F]{2})*)*", re.A)
 # A workflow command: its name, its file, its place, its title and its message.
 COMMAND = re.compile(r"::(error|warning|notice) file=([^,]*)(?:,line=(\d+),col=(\d+))?,title=([^,:]*)::(.*)")
 SECONDS = 120
@@ -117,9 +120,15 @@ def differences_of_lines(value, text):
     file = value["file"]
     faults = [f"{place_in(file, it)}{it['text']} (fault {it['fault']})" for it in value["faults"]]
     warnings = [f"{place_in(file, it)}warning: {it['text']}" for it in value["warnings"]]
+    more = [more_faults(value)] if value["omitted"] else []
     is_faulty = value["answer"] == "FAULTS"
-    if [line for line in lines if is_faulty or line.startswith(f"{file}:")] != [*faults, *warnings]:
+    if [line for line in lines if is_faulty or line.startswith(f"{file}:")] != [*faults, *more, *warnings]:
         yield "the faults or the warnings differ"
+
+
+def more_faults(value):
+    """Returns the words for the faults that are left out."""
+    return f"... and {value['omitted']} more fault{'s' if value['omitted'] > 1 else ''}"
 
 
 def place_in(file, it):
@@ -192,6 +201,8 @@ def annotations_of(value):
     """Yields what each annotation must say, from the JSON form: the level, the line, the column, and the message or None."""
     for fault in value["faults"]:
         yield "error", fault["line"], fault["column"], fault["text"]
+    if value["omitted"]:
+        yield "error", None, None, more_faults(value)
     for warning in value["warnings"]:
         yield "warning", warning["line"], warning["column"], warning["text"]
     if value["answer"] == "SAFE":
@@ -229,8 +240,9 @@ def differences_of_annotations(value, github, sarif):
         region = physical.get("region", {})
         level = "notice" if result["level"] == "note" else result["level"]
         results.append((level, region.get("startLine"), region.get("startColumn"), result["message"]["text"]))
-        if physical["artifactLocation"]["uri"] != value["file"]:
-            yield f"the log is for {physical['artifactLocation']['uri']}"
+        uri = physical["artifactLocation"]["uri"]
+        if not URI.fullmatch(uri) or unquote(uri.removeprefix("./")) != value["file"]:
+            yield f"the log is for {uri}"
     if results != told:
         yield f"the log has the results {results}, and the workflow commands {told}"
     rules = [rule["id"] for rule in run["tool"]["driver"]["rules"]]

@@ -7,8 +7,10 @@ Prints `conforms`, or the findings, in the words of `crates/conformance` and in 
 last. The exit status is 0 if the recording conforms, and 1 otherwise.
 """
 
+import math
 import re
 import sys
+from collections import Counter
 from pathlib import Path
 from typing import NamedTuple
 
@@ -21,6 +23,8 @@ from recording import read
 
 # The greatest number in a name NAME_2, NAME_3, and so on, which is that of every number in a recording.
 MAX_NUMBER = 1_000_000_000
+# The sorts of findings, in the order in which those of one line come.
+POOLS, LABELS, PATHS, COUNTS, GETS, VOIDS = range(6)
 
 
 class Step(NamedTuple):
@@ -31,11 +35,46 @@ class Step(NamedTuple):
     job: object
 
 
-class Place(NamedTuple):
-    """A position of a path in a body: the index of the next action, and the positions of the gets of the futures that are still open."""
+class Walk(NamedTuple):
+    """A position of a path and its body, which are walked together: the index of the body's next action, and the path's open jobs, each
+    with the class of the submit of the body that it was submitted with."""
 
     position: int
-    held: frozenset  # pairs of a position and a job
+    open: tuple  # pairs of a job and a class
+
+
+class Body:
+    """A body with the open jobs and the gets to come before each of its actions, and at its end."""
+
+    def __init__(self, actions):
+        self.actions = actions
+        self.open = [Counter()]
+        for what, operand in actions:
+            counts = Counter(self.open[-1])
+            if what == "submit":
+                counts[operand] += 1
+            elif what == "get":
+                counts[actions[operand][1]] -= 1
+            self.open.append(counts)
+
+    def still_gets(self, position, number):
+        return any(what == "get" and self.actions[operand][1] == number for what, operand in self.actions[position:])
+
+    def has_room(self, position, jobs):
+        """Returns whether the path has at most as many of these jobs of each class open as the body has there."""
+        counts = Counter(number for _, number in jobs)
+        return all(count <= self.open[position][number] for number, count in counts.items())
+
+    def moves(self, walks):
+        """Returns the walks, and those in which the body has gone on alone from there."""
+        moved, left = set(), list(walks)
+        while left:
+            walk = left.pop()
+            if walk not in moved:
+                moved.add(walk)
+                if walk.position < len(self.actions) and self.has_room(walk.position + 1, walk.open):
+                    left.append(Walk(walk.position + 1, walk.open))
+        return moved
 
 
 class Comparison:
@@ -45,13 +84,15 @@ class Comparison:
         self.foreign = []  # the gets of futures by actors that did not submit the job, with their lines
         self.paths = {actor: [] for actor in recording.jobs + recording.rounds}
         self.fitting = {}  # for each job, the classes of the plan that it may have
+        self.class_bodies = [Body(one.body) for one in plan.classes]
+        self.kind_bodies = [Body(client.body) for client in plan.clients]
         self.find_paths()
 
-    def finds(self, subject, line, text):
-        """Records a finding, unless its subject already has one."""
+    def finds(self, sort, subject, line, text):
+        """Records a finding, unless its subject already has one. Findings of one line come in the order of their sorts."""
         if subject not in self.told:
             self.told.add(subject)
-            self.findings.append((line, f"line {line}: {text}" if line else text))
+            self.findings.append((line or math.inf, sort, f"line {line}: {text}" if line else text))
 
     # ---- paths
 
@@ -77,32 +118,26 @@ class Comparison:
 
     def walk(self, actor, body):
         """Returns None if the actor's path matches the body, and otherwise how many of its first steps match."""
-        gets = {operand: position for position, (what, operand) in enumerate(body) if what == "get"}
-        path, tried, most = self.paths[actor], set(), 0
-        left = [(0, Place(0, frozenset()))]
-        while left:
-            at, place = left.pop()
-            most = max(most, at)
-            if at == len(path):
-                if actor.last is None or not place.held:
-                    return None
-            elif (at, place) not in tried:
-                tried.add((at, place))
-                left += [(at + 1, new) for new in self.stepped(place, path[at], body, gets)][::-1]
-        return (most,)
+        walks = body.moves([Walk(0, ())])
+        for at, step in enumerate(self.paths[actor]):
+            walks = body.moves(new for walk in walks for new in self.stepped(walk, step, body, actor.sort))
+            if not walks:
+                return at
+        is_whole = actor.last is None or any(walk.position == len(body.actions) for walk in walks)
+        return None if is_whole else len(self.paths[actor])
 
-    def stepped(self, place, step, body, gets):
-        """Yields the places after the step. Each submit that the step passes is skipped together with its get."""
-        due = dict(place.held)
-        for position in range(place.position, len(body)):
-            what, operand = body[position]
-            if what == "get" and position in due:
-                if step.what == "get" and due[position] is step.job:
-                    yield Place(position + 1, place.held - {(position, step.job)})
-                return
-            if what == "submit" and step.what == "submit" and operand in self.fits(step.job):
-                held = {(gets[position], step.job)} if position in gets else set()
-                yield Place(position + 1, place.held | held)
+    def stepped(self, walk, step, body, sort):
+        """Yields the walk after the step, which a submit of the path makes together with the body's next action. A job gets only what its
+        body still gets."""
+        if step.what == "submit":
+            what, operand = body.actions[walk.position] if walk.position < len(body.actions) else ("end", None)
+            new = Walk(walk.position + 1, (*walk.open, (step.job, operand)))
+            if what == "submit" and operand in self.fits(step.job) and body.has_room(new.position, new.open):
+                yield new
+            return
+        number = dict(walk.open)[step.job]
+        if sort == "round" or body.still_gets(walk.position, number):
+            yield Walk(walk.position, tuple(one for one in walk.open if one[0] is not step.job))
 
     def fits(self, job):
         return self.fitting[job]
@@ -115,52 +150,56 @@ class Comparison:
         self.jobs()
         self.rounds()
         for line, actor, job in self.foreign[:1]:
-            self.finds("foreign", line, f"{described(actor)} got {job}, which it did not submit")
+            self.finds(GETS, "foreign", line, f"{described(actor)} got {described(job)}, which it did not submit")
         self.voids()
-        return [text for _, text in sorted(self.findings, key=lambda one: (one[0] == 0, one[0]))]
+        return [text for _, _, text in sorted(self.findings, key=lambda one: one[:2])]
 
     def pools(self):
         planned = {pool.name: pool for pool in self.plan.pools}
         for pool in self.plan.pools if self.recording.closed else []:
             if pool.name not in self.recording.pools:
-                self.finds(("pool", pool.name), 0, f"pool {pool.name}: in the plan and not in the recording")
+                self.finds(POOLS, ("pool", pool.name), None, f"pool {pool.name}: in the plan and not in the recording")
         for name, lines in self.recording.pools.items():
             if name not in planned:
-                self.finds(("pool", name), lines[0].line, f"pool {name}: not in the plan")
+                self.finds(POOLS, ("pool", name), lines[0].line, f"pool {name}: not in the plan")
                 continue
             for sizes in lines:
                 for difference in differences(sizes, planned[name], sizes is lines[0]):
-                    self.finds(("pool", name, difference), sizes.line, f"pool {name}: {difference}")
+                    self.finds(POOLS, ("pool", name, difference), sizes.line, f"pool {name}: {difference}")
 
     def jobs(self):
         """Finds the classes that each job may have, from the last job to the first, since the classes of the jobs that a job submits must
         be known before."""
         for job in reversed(self.recording.jobs):
             candidates = self.classes_of(job)
-            walks = {number: self.walk(job, self.plan.classes[number].body) for number in candidates}
-            self.fitting[job] = [number for number in candidates if walks[number] is None]
+            self.fitting[job] = [number for number in candidates if self.walk(job, self.class_bodies[number]) is None]
         for job in self.recording.jobs:
             if not self.classes_of(job):
-                self.finds(("class", job.name, job.pool), job.first, f"class {job.name} in pool {job.pool}: not in the plan")
+                self.finds(LABELS, ("class", job.name, job.pool), job.first, f"class {job.name} in pool {job.pool}: not in the plan")
             elif not self.fitting[job]:
-                self.strays(("job", job.name, job.pool), job, [self.plan.classes[number].body for number in self.classes_of(job)])
+                self.strays(("job", job.name, job.pool), job, [self.class_bodies[number] for number in self.classes_of(job)])
 
     def strays(self, subject, actor, bodies):
         """Reports an actor whose path matches no body, if it is the first of its label, by the body that matches most of the path."""
         path = self.paths[actor]
-        most = max(self.walk(actor, body)[0] for body in bodies)
-        behind = f"behind {path[most - 1].what} {path[most - 1].job.name}" if most else "at its begin"
+        most = max(self.walk(actor, body) for body in bodies)
+        after = f"after {path[most - 1].what} {path[most - 1].job.name}" if most else "at its begin"
         if most == len(path):
-            self.finds(subject, actor.last, f"{described(actor)} ended; its body has a get before its end")
+            got = {step.job for step in path if step.what == "get"}
+            left = next(step.job for step in path if step.what == "submit" and step.job not in got)
+            self.finds(PATHS, subject, actor.last, f"{described(actor)} ended without a get of {described(left)}; its body has a get before its end")
             return
         step = path[most]
-        if step.what == "submit" and not self.fitting[step.job]:
-            did = f"submitted {step.job.name}, which is {step.job} and of no class of the plan"
-        elif step.what == "submit":
-            did = f"submitted {step.job.name}; its body has no such submit {behind}"
+        name, pool = step.job.name, step.job.pool
+        if step.what == "get":
+            did = f"got {name} of pool {pool}; its body has no such get {after}"
+        elif not self.classes_of(step.job):
+            did = f"submitted {name} to pool {pool} as {step.job}, which is of no class of the plan"
+        elif not self.fits(step.job):
+            did = f"submitted {name} to pool {pool} as {step.job}, whose own path matches no such class"
         else:
-            did = f"got {step.job.name}; its body has no such get {behind}"
-        self.finds(subject, step.line, f"{described(actor)} {did}")
+            did = f"submitted {name} to pool {pool}; its body has no such submit {after}"
+        self.finds(PATHS, subject, step.line, f"{described(actor)} {did}")
 
     def rounds(self):
         """Assigns each round to the first client kind of its family whose body matches the round's path."""
@@ -173,11 +212,11 @@ class Comparison:
                 if ended is not None:
                     within[ended] -= 1
             family = self.family(self.plan.clients, one.name)
-            fitting = [kind for kind in family if self.walk(one, self.plan.clients[kind].body) is None]
+            fitting = [kind for kind in family if self.walk(one, self.kind_bodies[kind]) is None]
             if not family:
-                self.finds(("kind", one.name), one.first, f"kind {one.name}: not in the plan")
+                self.finds(LABELS, ("kind", one.name), one.first, f"kind {one.name}: not in the plan")
             elif not fitting:
-                self.strays(("round", one.name), one, [self.plan.clients[kind].body for kind in family])
+                self.strays(("round", one.name), one, [self.kind_bodies[kind] for kind in family])
             for kind in (fitting or family)[:1]:
                 kinds[one] = kind
                 within[kind] = within.get(kind, 0) + 1
@@ -186,29 +225,39 @@ class Comparison:
 
     def count(self, one, client, within, begun):
         if within > client.count:
-            self.finds(("count", client.name), one.first, f"kind {client.name}: {within} at once, count is {client.count}")
+            self.finds(COUNTS, ("count", client.name), one.first, f"kind {client.name}: {within} at once, count is {client.count}")
         elif not client.repeat and begun > client.count:
-            self.finds(("count", client.name), one.first, f"kind {client.name}: {begun} in all, count is {client.count} and it does not repeat")
+            self.finds(COUNTS, ("count", client.name), one.first, f"kind {client.name}: {begun} in all, count is {client.count} and it does not repeat")
 
     # ---- what invalidates the result, independent of the paths
 
     def voids(self):
         """Reports the first line of each word that invalidates the result. A get that timed out or was interrupted is not reported here,
         since the comparison of the path decides whether it does."""
-        found = [(line, word, what) for line, word, what in self.recording.notes if word != "shutdown"]
+        found = [(line, word, void_text(word, what, self.recording.unseen.get(line))) for line, word, what in self.recording.notes
+                 if word != "shutdown"]
         for actor in self.paths:
-            found += [(act.line, act.word, act.job) for act in actor.acts if act.word in ("refused", "cancel", "any", "threw")]
-        for line, word, what in sorted(found, key=lambda one: one[0]):
-            self.finds(("void", word), line, f"a yes is void from here on: {void_text(word, what, self.recording.unseen.get(line))}")
+            found += [(act.line, "any", f"{actor} of {sort_of(actor)} {actor.name} called invokeAny in pool {act.pool}")
+                      for act in actor.acts if act.word == "any"]
+            found += [(act.line, act.word, void_text(act.word, act.job)) for act in actor.acts if act.word in ("refused", "cancel", "threw")]
+        for line, word, text in sorted(found):
+            self.finds(VOIDS, ("void", word), line, f"a yes is void from here on: {text}")
 
 
-def void_text(word, what, jobs):
-    return {"refused": f"{what} was refused", "cancel": f"{what} was cancelled", "any": "invokeAny was called", "removed": f"{what} was removed from its queue",
-            "threw": f"{what} ended its thread with an exception", "unseen": f"{jobs} jobs were run that no line mentions"}[word]
+def void_text(word, what, jobs=None):
+    """Returns what happened, to a job or, with a number of jobs, to jobs of a pool."""
+    if word == "unseen":
+        return f"{jobs} jobs were run in pool {what} that no line mentions"
+    did = {"refused": "was refused", "cancel": "was cancelled", "removed": "was removed from its queue", "threw": "ended its thread with an exception"}
+    return f"{described(what)} {did[word]}"
+
+
+def sort_of(actor):
+    return "class" if actor.sort == "job" else "kind"
 
 
 def described(actor):
-    return f"{actor} of {'class' if actor.sort == 'job' else 'kind'} {actor.name}"
+    return f"{actor} of {sort_of(actor)} {actor.name}" + (f" in pool {actor.pool}" if actor.pool else "")
 
 
 def differences(sizes, pool, is_first):

@@ -20,6 +20,18 @@ TWO_PATHS = PLAN.replace('class = [', 'class = [{name = "a_2", pool = "p", body 
     '"submit b as y", "get y"]}]', '"submit a_2 as y", "get y"]}]')
 
 
+def plan_with(*kinds):
+    """Returns a plan in which kinds of clients have these bodies: c, c_2, c_3 and so on."""
+    clients = "".join(f'{{name = "c{"" if number == 1 else f"_{number}"}", count = 1, repeat = true, body = {body}}}, ' for number, body in enumerate(kinds, 1))
+    return PLAN[: PLAN.index("client = ")] + f"client = [{clients}]\n"
+
+
+BOTH_THEN_GETS = '["submit b as x", "submit b as y", "get x", "get y"]'
+ONE_AFTER_THE_OTHER = '["submit b as x", "get x", "submit b as y", "get y"]'
+# A job of class a gets the first of two jobs alone.
+ONE_GET_OF_A = PLAN.replace('"get x"]}, {name = "b"', '"get x", "submit b"]}, {name = "b"')
+
+
 def submitted(by, job, name="b"):
     """Returns the lines of a job that does nothing, from its submit to its end."""
     return [f"{by} submit {job} {name} p", f"job {job} start", f"job {job} end"]
@@ -44,25 +56,40 @@ ROWS = [
     ("nothing is left out", PLAN, job_of_a(*got("job 0", 1))[:-1] + got("round 0", 2) + ["round 0 end"], [], []),
     ("all is left out", PLAN, round_of(), [], []),
     ("a submit is left out with its get", PLAN, round_of(*got("round 0", 0)), [], []),
-    ("a get is left out alone", PLAN, job_of_a(*submitted("job 0", 1)), ["line 4: round 0 of kind c submitted a, which is job 0 and of no class of the plan", "line 9: job 0 of class a ended; its body has a get before its end"], []),
+    ("a get is left out alone", PLAN, job_of_a(*submitted("job 0", 1)), ["line 4: round 0 of kind c submitted a to pool p as job 0, whose own path matches no such class", "line 9: job 0 of class a in pool p ended without a get of job 1 of class b in pool p; its body has a get before its end"], []),
     ("the first part of that", PLAN, job_of_a(*submitted("job 0", 1))[:-3], [], []),
     ("another order", PLAN, round_of(*got("round 0", 0), *got("round 0", 1, "a")),
-     ["line 8: round 0 of kind c submitted a; its body has no such submit behind get b"], []),
+     ["line 8: round 0 of kind c submitted a to pool p; its body has no such submit after get b"], []),
     ("one submit too many", PLAN, job_of_a(*got("job 0", 1), *got("job 0", 2)),
-     ["line 4: round 0 of kind c submitted a, which is job 0 and of no class of the plan",
-      "line 10: job 0 of class a submitted b; its body has no such submit behind get b"], []),
-    ("a get behind a later submit", PLAN, round_of(*submitted("round 0", 0, "a"), *submitted("round 0", 1), "round 0 got 0", "round 0 got 1"),
-     ["line 7: round 0 of kind c submitted b; its body has no such submit behind submit a"], []),
+     ["line 4: round 0 of kind c submitted a to pool p as job 0, whose own path matches no such class",
+      "line 10: job 0 of class a in pool p submitted b to pool p; its body has no such submit after get b"], []),
+    ("a get after a later submit", PLAN, round_of(*submitted("round 0", 0, "a"), *submitted("round 0", 1), "round 0 got 0", "round 0 got 1"),
+     ["line 7: round 0 of kind c submitted b to pool p; its body has no such submit after submit a"], []),
+    ("gets in another order", plan_with(BOTH_THEN_GETS), round_of(*submitted("round 0", 0), *submitted("round 0", 1), "round 0 got 1", "round 0 got 0"), [], []),
+    ("a get that comes sooner", plan_with(BOTH_THEN_GETS), round_of(*got("round 0", 0), *got("round 0", 1)), [], []),
+    ("a get that comes later", plan_with(ONE_AFTER_THE_OTHER), round_of(*submitted("round 0", 0), *submitted("round 0", 1), "round 0 got 0", "round 0 got 1"),
+     ["line 7: round 0 of kind c submitted b to pool p; its body has no such submit after submit b"], []),
+    ("the first part of that", plan_with(ONE_AFTER_THE_OTHER), round_of(*submitted("round 0", 0), *submitted("round 0", 1))[:-1],
+     ["line 7: round 0 of kind c submitted b to pool p; its body has no such submit after submit b"], []),
+    ("a get that a round has and its body does not", plan_with('["submit b"]'), round_of(*got("round 0", 0)), [], []),
+    ("a get that a job has and its body does not", ONE_GET_OF_A, job_of_a(*got("job 0", 1), *got("job 0", 2)),
+     ["line 4: round 0 of kind c submitted a to pool p as job 0, whose own path matches no such class",
+      "line 13: job 0 of class a in pool p got b of pool p; its body has no such get after submit b"], []),
+    ("gets of a job in another order, as far as its body has gets", ONE_GET_OF_A, job_of_a(*submitted("job 0", 1), *submitted("job 0", 2), "job 0 got 2"),
+     ["line 4: round 0 of kind c submitted a to pool p as job 0, whose own path matches no such class",
+      "line 9: job 0 of class a in pool p submitted b to pool p; its body has no such submit after submit b"], []),
+    ("the best of two kinds", plan_with(ONE_AFTER_THE_OTHER, BOTH_THEN_GETS), round_of(*(line for job in range(3) for line in submitted("round 0", job))),
+     ["line 10: round 0 of kind c submitted b to pool p; its body has no such submit after submit b"], []),
     ("a get a second time", PLAN, round_of(*got("round 0", 0), "round 0 got 0"), [], []),
     ("another one's future", PLAN.replace("count = 1", "count = 2"),
      round_of(*submitted("round 0", 0, "a"), *round_of("round 1 got 0", number=1), "round 0 got 0"),
-     ["line 8: round 1 of kind c got job 0, which it did not submit"], []),
+     ["line 8: round 1 of kind c got job 0 of class a in pool p, which it did not submit"], []),
     ("a path, and another one's future", PLAN, round_of(*submitted("round 0", 0, "a")) + round_of("round 1 got 0", number=1),
-     ["line 7: round 0 of kind c ended; its body has a get before its end", "line 9: round 1 of kind c got job 0, which it did not submit"], []),
+     ["line 7: round 0 of kind c ended without a get of job 0 of class a in pool p; its body has a get before its end", "line 9: round 1 of kind c got job 0 of class a in pool p, which it did not submit"], []),
     ("of a kind the first path alone", PLAN, round_of(*submitted("round 0", 0, "a")) + round_of(*submitted("round 1", 1, "a"), number=1),
-     ["line 7: round 0 of kind c ended; its body has a get before its end"], []),
+     ["line 7: round 0 of kind c ended without a get of job 0 of class a in pool p; its body has a get before its end"], []),
     ("a class that no plan has", PLAN, round_of(*got("round 0", 0, "z")),
-     ["line 4: class z in pool p: not in the plan", "line 4: round 0 of kind c submitted z, which is job 0 and of no class of the plan"], []),
+     ["line 4: class z in pool p: not in the plan", "line 4: round 0 of kind c submitted z to pool p as job 0, which is of no class of the plan"], []),
     ("a kind that no plan has", PLAN, ["round 0 begin d", "round 0 end"], ["line 3: kind d: not in the plan"], []),
     ("two at once", PLAN, ["round 0 begin c", "round 1 begin c", "round 0 end", "round 1 end"], ["line 4: kind c: 2 at once, count is 1"], []),
     ("two, one after the other", PLAN, round_of() + round_of(number=1), [], []),
@@ -71,22 +98,25 @@ ROWS = [
     ("the second path of two", TWO_PATHS, job_of_a(*submitted("job 0", 1), *submitted("job 0", 2), "job 0 got 2", "job 0 got 1"), [], []),
     ("the second path, where the first is submitted", TWO_PATHS.replace("submit a_2 as y", "submit a as y"),
      job_of_a(*submitted("job 0", 1), *submitted("job 0", 2), "job 0 got 2", "job 0 got 1"),
-     ["line 4: round 0 of kind c submitted a; its body has no such submit at its begin"], []),
-    ("a refused submit", PLAN, round_of("round 0 submit 0 a p", "round 0 refused 0"), [], ["line 5: a yes is void from here on: job 0 was refused"]),
+     ["line 4: round 0 of kind c submitted a to pool p; its body has no such submit at its begin"], []),
+    ("a refused submit", PLAN, round_of("round 0 submit 0 a p", "round 0 refused 0"), [], ["line 5: a yes is void from here on: job 0 of class a in pool p was refused"]),
     ("a timeout, and again", PLAN, round_of("round 0 submit 0 b p", "round 0 timeout 0", "job 0 start", "job 0 end", "round 0 got 0"), [], []),
     ("a timeout, and on", PLAN, round_of("round 0 submit 0 b p", "round 0 timeout 0"),
-     ["line 6: round 0 of kind c ended; its body has a get before its end"], []),
+     ["line 6: round 0 of kind c ended without a get of job 0 of class b in pool p; its body has a get before its end"], []),
     ("a timeout whose path is there", PLAN.replace(', "get y"', ""), round_of("round 0 submit 0 b p", "round 0 timeout 0"), [], []),
-    ("a cancel", PLAN, round_of("round 0 submit 0 b p", "round 0 cancel 0", "round 0 got 0"), [], ["line 5: a yes is void from here on: job 0 was cancelled"]),
+    ("a cancel", PLAN, round_of("round 0 submit 0 b p", "round 0 cancel 0", "round 0 got 0"), [], ["line 5: a yes is void from here on: job 0 of class b in pool p was cancelled"]),
     ("a job that threw", PLAN.replace(', "get y"', ""), round_of("round 0 submit 0 b p", "job 0 start", "job 0 threw"), [],
-     ["line 6: a yes is void from here on: job 0 ended its thread with an exception"]),
-    ("jobs that nobody recorded", PLAN, ["unseen p 3"], [], ["line 3: a yes is void from here on: 3 jobs were run that no line mentions"]),
+     ["line 6: a yes is void from here on: job 0 of class b in pool p ended its thread with an exception"]),
+    ("a call of invokeAny", PLAN, round_of("round 0 any p"), [], ["line 4: a yes is void from here on: round 0 of kind c called invokeAny in pool p"]),
+    ("a job that is removed", PLAN.replace(', "get y"', ""), round_of("round 0 submit 0 b p", "removed 0"), [],
+     ["line 5: a yes is void from here on: job 0 of class b in pool p was removed from its queue"]),
+    ("jobs that nobody recorded", PLAN, ["unseen p 3"], [], ["line 3: a yes is void from here on: 3 jobs were run in pool p that no line mentions"]),
     ("another one's refused job", PLAN.replace("count = 1", "count = 2"),
      ["round 0 begin c", "round 0 submit 0 b p", "round 0 refused 0", "job 0 start", "job 0 end", *round_of("round 1 got 0", number=1), "round 0 end"],
-     ["line 9: round 1 of kind c got job 0, which it did not submit"], ["line 5: a yes is void from here on: job 0 was refused"]),
+     ["line 9: round 1 of kind c got job 0 of class b in pool p, which it did not submit"], ["line 5: a yes is void from here on: job 0 of class b in pool p was refused"]),
     ("a refused job that its submitter got, and then another one", PLAN.replace("count = 1", "count = 2"),
      ["round 0 begin c", "round 0 submit 0 b p", "round 0 refused 0", "job 0 start", "job 0 end", "round 0 got 0", *round_of("round 1 got 0", number=1), "round 0 end"],
-     [], ["line 5: a yes is void from here on: job 0 was refused"]),
+     [], ["line 5: a yes is void from here on: job 0 of class b in pool p was refused"]),
     ("another size", PLAN, [POOL.replace("max 1", "max 2")], ["line 3: pool p: max 2, plan 1"], []),
     ("another size, and one more later", PLAN, [POOL.replace("max 1", max) for max in ("max 2", "max 2", "max 3", "max 2")],
      ["line 3: pool p: max 2, plan 1", "line 5: pool p: max 3, plan 1"], []),

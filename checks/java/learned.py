@@ -17,7 +17,7 @@ from java_text import case
 from read_plans import read_plan
 from recording import read
 from replays import KINDS, on_executors
-from services import VOID, VOIDS, deviations, other_plans, plan_of, put
+from services import IN_BODY, VOID, VOIDS, deviations, other_plans, plan_of, put
 from small_plans import Plan, text_of
 
 SERVICES = [name for name in VOIDS if name != "example"]
@@ -197,7 +197,7 @@ def slips_of_plans(tools, plans, recordings):
             tried += 1
             if not deviations(conformed(tools, text_of(other), recordings[name])):
                 missed.append(f"learned, {name}: conform does not find the error '{what}' in the plan")
-            if "without action" not in what:
+            if f" {IN_BODY} " not in what:
                 told_apart += 1
                 if not list(differences(other, told.plan)):
                     missed.append(f"learned, {name}: the comparison does not find the error '{what}' in the plan")

@@ -33,11 +33,12 @@ class Sizes(NamedTuple):
 
 
 class Act(NamedTuple):
-    """A line of an actor: its word, and the job that it names (None for `any`)."""
+    """A line of an actor: its word, and the job that it names. A line `any` names a pool instead."""
 
     line: int
     word: str
     job: object
+    pool: str | None = None
 
 
 @dataclass(eq=False)
@@ -154,7 +155,7 @@ class Reader:
                 actor.acts.append(Act(self.number, word, actor))
         elif word == "any":
             self.hold(rest[0] in self.recording.pools, "O2")
-            actor.acts.append(Act(self.number, word, None))
+            actor.acts.append(Act(self.number, word, None, rest[0]))
         elif word == "submit":
             self.submit(actor, *rest)
         else:

@@ -2,7 +2,7 @@
 conform to the service's plan.
 
 The check must find deliberate errors: in the service (another path, one more client, a pool with one more thread, or a pool that gets
-one more thread later), in the plan (another size or count, a missing submit or get), and in the recording (a missing line). With one
+one more thread later), in the plan (another size or count, a missing submit, a get that is too early), and in the recording (a missing line). With one
 more client, four users instead of three take all threads of the pool of `reports` and wait forever, so that recording is cut off.
 """
 
@@ -25,16 +25,18 @@ VOIDS = {
     "reports": [],
     "orders": [],
     "importer": [],
-    "hurried-prices": ["job N was cancelled"],
+    "hurried-prices": ["job N of class slow in pool prices was cancelled"],
 }
 VOID = r"^line \d+: a yes is void from here on: "
 RUNS = 4
 FIRST_PARTS = 10
 # The maximum number of lines of a recording from which lines are removed one at a time.
 MOST_LINES = 200
+# How the names of deliberate errors in bodies begin.
+IN_BODY = "body"
 # The expected finding for each deliberate error in a service.
 SLIPS = {
-    "path": r"its body has no such (submit|get) |ended; its body has a get |of no class of the plan$",
+    "path": r"; its body has no such submit |ended without a get of job .*; its body has a get before its end$",
     "count": r"kind .*: [0-9]+ (at once|in all), count is ",
     "size": r"^line 2: pool .*: max ",
     "change": r"pool .*: max ",
@@ -114,23 +116,33 @@ def other_plans(plan):
         yield f"{client.name} count {client.count - 1}", plan._replace(clients=put(plan.clients, at, client._replace(count=client.count - 1)))
         if client.repeat:
             yield f"{client.name} does not repeat", plan._replace(clients=put(plan.clients, at, client._replace(repeat=False)))
-        for position, body in shorter(client.body):
-            yield f"{client.name} without action {position}", plan._replace(clients=put(plan.clients, at, client._replace(body=body)))
+        for change, body in narrower(client.body):
+            yield f"{client.name} {change}", plan._replace(clients=put(plan.clients, at, client._replace(body=body)))
     for at, one in enumerate(plan.classes):
-        for position, body in shorter(one.body):
-            yield f"{one.name} without action {position}", plan._replace(classes=put(plan.classes, at, one._replace(body=body)))
+        for change, body in narrower(one.body):
+            yield f"{one.name} {change}", plan._replace(classes=put(plan.classes, at, one._replace(body=body)))
 
 
 def put(entries, at, entry):
     return [*entries[:at], entry, *entries[at + 1:]]
 
 
-def shorter(body):
-    """Yields, for each action, its position and the body without it. A submit is removed together with its get."""
-    for position, (what, _) in enumerate(body):
-        gone = {position} | ({at for at, action in enumerate(body) if action == ("get", position)} if what == "submit" else set())
-        kept = [at for at in range(len(body)) if at not in gone]
-        yield position, [(what, kept.index(operand) if what == "get" else operand) for what, operand in (body[at] for at in kept)]
+def narrower(body):
+    """Yields bodies that cover less, and how each differs: without a submit and its get, or with a get before the last submit that
+    precedes it."""
+    for position, (what, operand) in enumerate(body):
+        if what == "submit":
+            order = [at for at in range(len(body)) if at != position and body[at] != ("get", position)]
+            yield f"{IN_BODY} without submit {position}", in_order(body, order)
+        last = max((at for at in range(position) if body[at][0] == "submit"), default=None)
+        if what == "get" and last != operand:
+            order = [*range(last), position, *range(last, position), *range(position + 1, len(body))]
+            yield f"{IN_BODY} with get {position} before submit {last}", in_order(body, order)
+
+
+def in_order(body, order):
+    """Returns the body with its actions at these positions, in this order."""
+    return [(what, order.index(operand) if what == "get" else operand) for what, operand in (body[at] for at in order)]
 
 
 def slips_of_recordings(texts):

@@ -14,16 +14,16 @@ final class Importer implements Services.Service {
     @Override
     public void begin(Run run) {
         ExecutorService rows = run.pool("rows", 2, 2, 3);
-        run.clients("importer", 1, 12, (client, round) -> importRows(rows, 1 + round % MOST, run.takesAnotherPath()));
+        // the slip: a window of four
+        run.clients("importer", 1, 12, (client, round) -> importRows(rows, 1 + round % MOST, run.takesAnotherPath() ? WINDOW + 1 : WINDOW));
     }
 
-    private static int importRows(ExecutorService rows, int number, boolean newestFirst) throws Exception {
+    private static int importRows(ExecutorService rows, int number, int open) throws Exception {
         ArrayDeque<Future<Integer>> window = new ArrayDeque<>();
         int sum = 0;
         for (int row = 0; row < number; row++) {
-            if (window.size() == WINDOW) {
-                // the slip: the newest one is got
-                sum += (newestFirst ? window.removeLast() : window.removeFirst()).get();
+            if (window.size() == open) {
+                sum += window.removeFirst().get();
             }
             window.add(rows.submit(label("row", () -> 1)));
         }

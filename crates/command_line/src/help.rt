@@ -277,19 +277,20 @@ RECORDING has a line for each event of the service's pools, as the recorder in `
 (docs/RECORDING.md).
 
 The answer is `conforms` if each pool has the sizes of the plan, each job and each round of a client
-follows its body (it can skip a submit together with its get), and at no time more rounds of a kind
-are open than its `count`. This says nothing of other runs of the service. Otherwise the answer lists
+follows its body (it can skip a submit together with its get, and get alike jobs in any order and
+sooner), and at no time more rounds of a kind are open than its `count`. This says nothing of other runs of the service. Otherwise the answer lists
 the first difference of each class and kind:
-  line 812: job 44 of class order submitted price; its body has no such submit behind get stock
+  line 812: job 44 of class order in pool web submitted price to pool db; its body has no such
+  submit after get stock
   line 903: kind tomcat: 31 at once, count is 30
   line 3: pool db: max 20, plan 10
 and the first line of each kind that invalidates the answer of `ask` for this service:
-  line 40: a yes is void from here on: job 3 was refused
+  line 40: a yes is void from here on: job 3 of class price in pool db was refused
 
 Exit status:
   0  the recording conforms
   1  it does not, or a line invalidates the answer of `ask`
-  4  not decided: a body has too many ways to match a recorded path
+  4  not decided: a job may be of several classes that a body submits
   2 or 3 after an error (see `sizing --help`)",
 };
 

@@ -1,13 +1,15 @@
 -- The findings for a recording are complete.
-use Rattle.std.proofs.Common.{◌≡◌, ℕ, Bool, List, [], ◌∷◌, filter, Option, ap, sym, subst, ◌∙◌}
+use Rattle.std.proofs.Common.{◌≡◌, ℕ, Bool, List, [], ◌∷◌, Option, Some, string_bytes, ap, sym, subst, ◌∙◌}
 use Rattle.std.specs.List.Sorted.{IsPermutation}
 use Rattle.job_bodies.specs.Plan.{Plan}
 use Rattle.recordings.specs.RecordingLine.{RecordedLine}
+use Rattle.recordings.specs.declared.step.RecordedStep.{RecordedStep}
 use Rattle.conformance.specs.declared.classified_actor.ClassifiedActor.{ClassifiedActor}
-use Rattle.recordings.specs.Invalidations.{invalidations_of}
 use Rattle.conformance.specs.declared.round_comparison.RoundExcess.{RoundExcess}
 use Rattle.conformance.specs.RoundExcesses.{excesses_by_lines}
+use Rattle.conformance.specs.Verdicts.{is_planned_class}
 use Rattle.conformance.specs.declared.describe_mismatch.JobStep.{JobStep}
+use Rattle.conformance.specs.declared.describe_mismatch.JobStep.TheVariants as step
 use Rattle.conformance.specs.declared.finding.Finding.{Finding}
 use Rattle.conformance.specs.declared.mismatch.DeviatingStep.{DeviatingStep}
 use Rattle.conformance.specs.declared.survey.Survey.{Survey}
@@ -15,44 +17,45 @@ use Rattle.conformance.specs.Description.{IsDeviatingStep}
 use Rattle.conformance.specs.Description as steps
 use Rattle.conformance.specs.FirstKinds.{AreFirstKinds}
 use Rattle.conformance.specs.Findings.{AreFindingsOf, is_classless_in}
-use Rattle.conformance.specs.CollectedFindings.{AreCollected, AreMismatchesOf, IsMismatchFinding, is_path_independent, all_findings}
+use Rattle.conformance.specs.CollectedFindings.{AreCollected, AreMismatchesOf, IsMismatchFinding, all_findings}
 use Rattle.conformance.specs.CollectedFindings as made
 use Rattle.conformance.specs.JobSet.{has_job}
 use Rattle.conformance.specs.Survey.{IsSurveyOf}
 
 -- ---- equal tests describe the same step
-same_step : (lines : List RecordedLine) (one other : ℕ → Bool) → ((job : ℕ) → one job ≡ other job) → (did : Option JobStep) (found : DeviatingStep) → IsDeviatingStep lines one did found → IsDeviatingStep lines other did found
-same_step lines one other same _ _ steps.ends = steps.ends
-same_step lines one other same _ _ (steps.submits_mismatch job class none label) = steps.submits_mismatch job class (sym (same job) ∙ none) label
-same_step lines one other same _ _ (steps.submits job name some named) = steps.submits job name (sym (same job) ∙ some) named
-same_step lines one other same _ _ (steps.gets job name named) = steps.gets job name named
+same_step : (plan : Plan) (lines : List RecordedLine) (one other : ℕ → Bool) → ((job : ℕ) → one job ≡ other job) → (path : List RecordedStep) (did : Option JobStep) (found : DeviatingStep) → IsDeviatingStep plan lines one path did found → IsDeviatingStep plan lines other path did found
+same_step plan lines one other same path _ _ (steps.ends found end) = steps.ends found end
+same_step plan lines one other same path _ _ (steps.submits job label so) =
+    subst (λ (is_classless : Bool). IsDeviatingStep plan lines other path (Some (step.Submits job)) (steps.deviating_submit is_classless (is_planned_class plan (string_bytes label.name) (string_bytes label.pool)) job label)) (sym (same job)) (steps.submits job label so)
+same_step plan lines one other same path _ _ (steps.gets job label so) = steps.gets job label so
 
-same_reported : (lines : List RecordedLine) (one other : ℕ → Bool) → ((job : ℕ) → one job ≡ other job) → (reported : ClassifiedActor) (found : Finding) → IsMismatchFinding lines one reported found → IsMismatchFinding lines other reported found
-same_reported lines one other same reported _ (made.mismatches number mismatch so) =
+same_reported : (plan : Plan) (lines : List RecordedLine) (one other : ℕ → Bool) → ((job : ℕ) → one job ≡ other job) → (reported : ClassifiedActor) (found : Finding) → IsMismatchFinding plan lines one reported found → IsMismatchFinding plan lines other reported found
+same_reported plan lines one other same reported _ (made.mismatches number mismatch so) =
     made.mismatches number mismatch (record {
       actor_is = so.actor_is;
       label_is = so.label_is;
+      pool_is = so.pool_is;
       line = so.line;
       first = so.first;
       number_is = so.number_is;
-      did = same_step lines one other same _ _ so.did;
+      did = same_step plan lines one other same _ _ _ so.did;
       after = so.after;
     })
 
-same_mismatches : (lines : List RecordedLine) (one other : ℕ → Bool) → ((job : ℕ) → one job ≡ other job) → (reported : List ClassifiedActor) (found : List Finding) → AreMismatchesOf lines one reported found → AreMismatchesOf lines other reported found
-same_mismatches lines one other same [] [] all = all
-same_mismatches lines one other same [] (first ∷ found) all = absurd all
-same_mismatches lines one other same (first ∷ reported) [] all = absurd all
-same_mismatches lines one other same (first ∷ reported) (mismatch ∷ found) all = (same_reported lines one other same first mismatch all.0, same_mismatches lines one other same reported found all.1)
+same_mismatches : (plan : Plan) (lines : List RecordedLine) (one other : ℕ → Bool) → ((job : ℕ) → one job ≡ other job) → (reported : List ClassifiedActor) (found : List Finding) → AreMismatchesOf plan lines one reported found → AreMismatchesOf plan lines other reported found
+same_mismatches plan lines one other same [] [] all = all
+same_mismatches plan lines one other same [] (first ∷ found) all = absurd all
+same_mismatches plan lines one other same (first ∷ reported) [] all = absurd all
+same_mismatches plan lines one other same (first ∷ reported) (mismatch ∷ found) all = (same_reported plan lines one other same first mismatch all.0, same_mismatches plan lines one other same reported found all.1)
 
 -- ---- all findings
-pub all_found : (plan : Plan) (budget : ℕ) (lines : List RecordedLine) (survey : Survey) (kinds : List (Option ℕ)) (excesses : List RoundExcess) (collect_findings findings : List Finding)
-    → (so : IsSurveyOf plan budget lines survey) → AreFirstKinds plan lines so.actor_survey.reported kinds → excesses ≡ excesses_by_lines plan kinds lines → AreCollected lines survey excesses collect_findings → IsPermutation collect_findings findings
-    → AreFindingsOf plan budget lines findings
-all_found plan budget lines survey kinds excesses collect_findings findings so first excess_tracker are moved =
+pub all_found : (plan : Plan) (lines : List RecordedLine) (survey : Survey) (kinds : List (Option ℕ)) (excesses : List RoundExcess) (collect_findings findings : List Finding)
+    → (so : IsSurveyOf plan lines survey) → AreFirstKinds plan lines so.actor_survey.reported kinds → excesses ≡ excesses_by_lines plan kinds lines → AreCollected plan lines survey excesses collect_findings → IsPermutation collect_findings findings
+    → AreFindingsOf plan lines findings
+all_found plan lines survey kinds excesses collect_findings findings so first excess_tracker are moved =
     let verdicts = survey.actor_survey.verdicts in
     let found = survey.line_survey in
-    let as_counted = ap (λ (rounds : List RoundExcess). all_findings found.deviations.items found.unplanned.found.items are.mismatches verdicts.undecided.actors.items rounds are.foreign (filter is_path_independent (invalidations_of lines))) excess_tracker in
+    let as_counted = ap (λ (rounds : List RoundExcess). all_findings found.deviations.items found.unplanned.found.items are.mismatches verdicts.undecided.actors.items rounds are.foreign are.invalidations) excess_tracker in
     record {
       reported = so.actor_survey.reported;
       all_reported = so.actor_survey.all;
@@ -65,10 +68,12 @@ all_found plan budget lines survey kinds excesses collect_findings findings so f
       first_mismatches = verdicts.mismatches.actors.items;
       first_mismatches_so = so.actor_survey.verdicts.mismatches;
       mismatches = are.mismatches;
-      mismatches_so = same_mismatches lines (has_job verdicts.classless) (is_classless_in so.actor_survey.reported) so.actor_survey.verdicts.classless _ _ are.mismatches_so;
+      mismatches_so = same_mismatches plan lines (has_job verdicts.classless) (is_classless_in so.actor_survey.reported) so.actor_survey.verdicts.classless _ _ are.mismatches_so;
       undecided = verdicts.undecided.actors.items;
       undecided_so = so.actor_survey.verdicts.undecided;
       foreign = are.foreign;
       foreign_so = are.foreign_so;
+      invalidations = are.invalidations;
+      invalidations_so = are.invalidations_so;
       all = subst (λ (xs : List Finding). IsPermutation xs findings) (are.all ∙ as_counted) moved;
     }

@@ -38,8 +38,8 @@ can_be_stays : (plan : Plan) (before more : List RecordedLine) (actor : Recorded
 can_be_stays plan before more (Job job) members keeps is can = classes_stay plan before more keeps job members can is
 can_be_stays plan before more (Round round) members keeps is can = kinds_stay plan before more keeps round members can is
 
-reported_stays : (plan : Plan) (budget : ℕ) (before more : List RecordedLine) → KeepsRules (before ++ more) → (reported : ClassifiedActor) → IsSettled before reported.actor → IsCorrectResult plan budget before reported → IsCorrectResult plan budget (before ++ more) reported
-reported_stays plan budget before more keeps reported is t =
+reported_stays : (plan : Plan) (before more : List RecordedLine) → KeepsRules (before ++ more) → (reported : ClassifiedActor) → IsSettled before reported.actor → IsCorrectResult plan before reported → IsCorrectResult plan (before ++ more) reported
+reported_stays plan before more keeps reported is t =
     let s = stays before more reported.actor keeps (through_of before reported.actor is) in
     record {
       label = label_stays_its before more reported.actor _ _ keeps t.label;
@@ -60,9 +60,9 @@ reported_stays plan budget before more keeps reported is t =
 none_settled : (actor : RecordedActor) → IsSettled [] actor → ⊥
 none_settled actor is = apart (has_ended [] actor) (through_of [] actor is) (none_through actor)
 
-pub reported_none : (plan : Plan) (budget : ℕ) → AreResultsSoFarOf plan budget [] []
-reported_none plan budget = record {
-  reported = All-nil (IsCorrectResult plan budget []);
+pub reported_none : (plan : Plan) → AreResultsSoFarOf plan [] []
+reported_none plan = record {
+  reported = All-nil (IsCorrectResult plan []);
   once = λ actor. none_most (is_reported actor);
   settled = λ actor. ((λ h. apart false h refl), (λ is. absurd (none_settled actor is)));
 }
@@ -81,7 +81,7 @@ of_reported P actor (t ∷ more) are h = or_either (is_reported actor t) (list_a
     (λ here. subst P (same_actor t.actor actor here) (All-head (λ (one : ClassifiedActor). P one.actor) t more are))
     (λ rest. of_reported P actor more (All-tail (λ (one : ClassifiedActor). P one.actor) t more are) rest)
 
-module _ (plan : Plan) (budget : ℕ) (before : List RecordedLine) (line : RecordedLine) (keeps : KeepsRules (before ++ line ∷ [])) (all more : List ClassifiedActor) (are : AreResultsSoFarOf plan budget before all) (reported : All (IsCorrectResult plan budget (before ++ line ∷ [])) more) (settled : All (λ (t : ClassifiedActor). IsSettled (before ++ line ∷ []) t.actor) more)
+module _ (plan : Plan) (before : List RecordedLine) (line : RecordedLine) (keeps : KeepsRules (before ++ line ∷ [])) (all more : List ClassifiedActor) (are : AreResultsSoFarOf plan before all) (reported : All (IsCorrectResult plan (before ++ line ∷ [])) more) (settled : All (λ (t : ClassifiedActor). IsSettled (before ++ line ∷ []) t.actor) more)
     (unsettled : All (λ (t : ClassifiedActor). IsSettled before t.actor → ⊥) more) (once : IsOnceEach more)
     (each : (actor : RecordedActor) → IsSettled (before ++ line ∷ []) actor → IsSettled before actor ⊎ (list_any (is_reported actor) more ≡ true)) where
   earlier_or : (actor : RecordedActor) → IsSettled before actor ⊎ (list_any (is_reported actor) more ≡ true) → list_any (is_reported actor) (all ++ more) ≡ true
@@ -93,12 +93,12 @@ module _ (plan : Plan) (budget : ℕ) (before : List RecordedLine) (line : Recor
       let t = slice_index_or all k d in
       (are.settled t.actor).0 (list_any_at (is_reported t.actor) all k d low (same_as_self t.actor))
 
-  still_reported : All (IsCorrectResult plan budget (before ++ line ∷ [])) all
-  still_reported = λ k d low. reported_stays plan budget before (line ∷ []) keeps (slice_index_or all k d) (all_settled k d low) (are.reported k d low)
+  still_reported : All (IsCorrectResult plan (before ++ line ∷ [])) all
+  still_reported = λ k d low. reported_stays plan before (line ∷ []) keeps (slice_index_or all k d) (all_settled k d low) (are.reported k d low)
 
-  pub reported_then : AreResultsSoFarOf plan budget (before ++ line ∷ []) (all ++ more)
+  pub reported_then : AreResultsSoFarOf plan (before ++ line ∷ []) (all ++ more)
   reported_then = record {
-    reported = All-append (IsCorrectResult plan budget (before ++ line ∷ [])) all more still_reported reported;
+    reported = All-append (IsCorrectResult plan (before ++ line ∷ [])) all more still_reported reported;
     once = λ actor. by_bool (list_any (is_reported actor) all)
         (λ earlier. once_left (is_reported actor) all more (are.once actor) (none_unsettled before actor more ((are.settled actor).0 earlier) unsettled))
         (λ none. once_right (is_reported actor) all more none (once actor));
@@ -110,21 +110,21 @@ module _ (plan : Plan) (budget : ℕ) (before : List RecordedLine) (line : Recor
     );
   }
 
-pub reported_more : (plan : Plan) (budget : ℕ) (before : List RecordedLine) (line : RecordedLine) → KeepsRules (before ++ line ∷ []) → (earlier old new : List ClassifiedActor) → AreResultsSoFarOf plan budget before (earlier ++ old) → AddsSettled plan budget before (before ++ line ∷ []) old new → AreResultsSoFarOf plan budget (before ++ line ∷ []) (earlier ++ new)
-reported_more plan budget before line keeps earlier old new are t =
-    subst (λ (all : List ClassifiedActor). AreResultsSoFarOf plan budget (before ++ line ∷ []) all) (append_assoc earlier old t.more ∙ ap (λ (l : List ClassifiedActor). earlier ++ l) (sym t.after))
-    (reported_then plan budget before line keeps (earlier ++ old) t.more are t.reported t.settled t.unsettled t.once t.each)
+pub reported_more : (plan : Plan) (before : List RecordedLine) (line : RecordedLine) → KeepsRules (before ++ line ∷ []) → (earlier old new : List ClassifiedActor) → AreResultsSoFarOf plan before (earlier ++ old) → AddsSettled plan before (before ++ line ∷ []) old new → AreResultsSoFarOf plan (before ++ line ∷ []) (earlier ++ new)
+reported_more plan before line keeps earlier old new are t =
+    subst (λ (all : List ClassifiedActor). AreResultsSoFarOf plan (before ++ line ∷ []) all) (append_assoc earlier old t.more ∙ ap (λ (l : List ClassifiedActor). earlier ++ l) (sym t.after))
+    (reported_then plan before line keeps (earlier ++ old) t.more are t.reported t.settled t.unsettled t.once t.each)
 
 -- ---- the end of the lines
 none_kept : (actors : ActorTable) (actor : RecordedActor) (more : List ClassifiedActor) → in_table actors actor ≡ None → (is_some (in_table actors actor) ≡ true) ⊎ (list_any (is_reported actor) more ≡ true) → list_any (is_reported actor) more ≡ true
 none_kept actors actor more gone (inl h) = none_some (in_table actors actor) gone h
 none_kept actors actor more gone (inr h) = h
 
-module _ (plan : Plan) (budget : ℕ) (lines : List RecordedLine) (keeps : KeepsRules lines) (old new : ActorTable) (known : ClassTable) (kept : AreTablesOf plan lines old known None) (none : (actor : RecordedActor) → in_table new actor ≡ None)
-    (all more : List ClassifiedActor) (are : AreResultsSoFarOf plan budget lines all) (reported : All (IsCorrectResult plan budget lines) more) (of_kept : All (λ (t : ClassifiedActor). is_some (in_table old t.actor) ≡ true) more) (once : IsOnceEach more)
+module _ (plan : Plan) (lines : List RecordedLine) (keeps : KeepsRules lines) (old new : ActorTable) (known : ClassTable) (kept : AreTablesOf plan lines old known None) (none : (actor : RecordedActor) → in_table new actor ≡ None)
+    (all more : List ClassifiedActor) (are : AreResultsSoFarOf plan lines all) (reported : All (IsCorrectResult plan lines) more) (of_kept : All (λ (t : ClassifiedActor). is_some (in_table old t.actor) ≡ true) more) (once : IsOnceEach more)
     (each : (actor : RecordedActor) → is_some (in_table old actor) ≡ true → (is_some (in_table new actor) ≡ true) ⊎ (list_any (is_reported actor) more ≡ true)) where
   all_come : All (λ (t : ClassifiedActor). is_recorded lines t.actor ≡ true) more
-  all_come = All-weaker (IsCorrectResult plan budget lines) (λ (t : ClassifiedActor). is_recorded lines t.actor ≡ true) (λ t h. named_come lines t.actor _ _ h.label) more reported
+  all_come = All-weaker (IsCorrectResult plan lines) (λ (t : ClassifiedActor). is_recorded lines t.actor ≡ true) (λ t h. named_come lines t.actor _ _ h.label) more reported
 
   reported_come : (actor : RecordedActor) → list_any (is_reported actor) (all ++ more) ≡ true → is_recorded lines actor ≡ true
   reported_come actor h = or_either (list_any (is_reported actor) all) (list_any (is_reported actor) more) (sym (list_any-append (is_reported actor) all more) ∙ h)
@@ -145,17 +145,17 @@ module _ (plan : Plan) (budget : ℕ) (lines : List RecordedLine) (keeps : Keeps
   same_reported actor = by_bool (is_recorded lines actor) (λ come. come_reported actor come ∙ sym come)
       (λ fails. by_bool (list_any (is_reported actor) (all ++ more)) (λ h. apart (is_recorded lines actor) (reported_come actor h) fails) (λ h. h ∙ sym fails))
 
-  pub reported_at_end : AreAllResultsOf plan budget lines (all ++ more)
+  pub reported_at_end : AreAllResultsOf plan lines (all ++ more)
   reported_at_end = record {
-    reported = All-append (IsCorrectResult plan budget lines) all more are.reported reported;
+    reported = All-append (IsCorrectResult plan lines) all more are.reported reported;
     once = λ actor. by_bool (list_any (is_reported actor) all)
         (λ earlier. once_left (is_reported actor) all more (are.once actor) (none_of_kept old actor more (ap is_some (settled_gone plan lines old known kept actor ((are.settled actor).0 earlier))) of_kept))
         (λ none_earlier. once_right (is_reported actor) all more none_earlier (once actor));
     each = same_reported;
   }
 
-pub all_reported : (plan : Plan) (budget : ℕ) (lines : List RecordedLine) → KeepsRules lines → (before later : ActorTable) (known : ClassTable) → AreTablesOf plan lines before known None → ((actor : RecordedActor) → in_table later actor ≡ None) → (earlier old new : List ClassifiedActor)
-    → AreResultsSoFarOf plan budget lines (earlier ++ old) → AddsResults (IsCorrectResult plan budget lines) before later old new → AreAllResultsOf plan budget lines (earlier ++ new)
-all_reported plan budget lines keeps before later known kept none earlier old new are t =
-    subst (λ (all : List ClassifiedActor). AreAllResultsOf plan budget lines all) (append_assoc earlier old t.more ∙ ap (λ (l : List ClassifiedActor). earlier ++ l) (sym t.after))
-    (reported_at_end plan budget lines keeps before later known kept none (earlier ++ old) t.more are t.reported t.kept t.once t.each)
+pub all_reported : (plan : Plan) (lines : List RecordedLine) → KeepsRules lines → (before later : ActorTable) (known : ClassTable) → AreTablesOf plan lines before known None → ((actor : RecordedActor) → in_table later actor ≡ None) → (earlier old new : List ClassifiedActor)
+    → AreResultsSoFarOf plan lines (earlier ++ old) → AddsResults (IsCorrectResult plan lines) before later old new → AreAllResultsOf plan lines (earlier ++ new)
+all_reported plan lines keeps before later known kept none earlier old new are t =
+    subst (λ (all : List ClassifiedActor). AreAllResultsOf plan lines all) (append_assoc earlier old t.more ∙ ap (λ (l : List ClassifiedActor). earlier ++ l) (sym t.after))
+    (reported_at_end plan lines keeps before later known kept none (earlier ++ old) t.more are t.reported t.kept t.once t.each)

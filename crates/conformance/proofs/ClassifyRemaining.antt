@@ -16,8 +16,8 @@ use Rattle.conformance.specs.declared.actor_table.EndedPath.{EndedPath}
 use Rattle.conformance.specs.declared.actor_path.ActorPath.{ActorPath}
 use Rattle.conformance.specs.declared.job_classes.ClassTable.{ClassTable}
 use Rattle.conformance.specs.declared.classified_actor.ClassifiedActor.{ClassifiedActor}
-use Rattle.conformance.specs.PlanBudget.{IsEnoughForPlan}
-use Rattle.conformance.specs.ActorTables.{in_table, classes_in, AreDecidedIn, AreAllIn}
+use Rattle.conformance.specs.Family.{HasNoFamilies}
+use Rattle.conformance.specs.ActorTables.{in_table, classes_in, AreUnambiguousIn, AreAllIn}
 use Rattle.conformance.specs.RemainingActors.{IsAt, IsActorPathOf, IsStateAtEnd, AreNoneBelow}
 use Rattle.conformance.specs.ClassifiedActor.{IsCorrectResult}
 use Rattle.conformance.specs.Represents.{AreTablesOf}
@@ -38,8 +38,8 @@ at_end plan lines actors known k one kept there = by_option kept.ended_path
     (λ none.
     subst (λ (o : Option EndedPath). IsAt lines one o) (sym none) (come_live lines one (named_come lines one _ _ (k.named one kept there)) (k.going one kept there none)))
 
-pub left_of : (plan : Plan) (budget : ℕ) (lines : List RecordedLine) (actors : ActorTable) (known : ClassTable) → AreTablesOf plan lines actors known None → (IsEnoughForPlan budget plan → AreDecidedIn known) → IsStateAtEnd plan budget lines actors known
-left_of plan budget lines actors known k decided = record {
+pub left_of : (plan : Plan) (lines : List RecordedLine) (actors : ActorTable) (known : ClassTable) → AreTablesOf plan lines actors known None → (HasNoFamilies plan → AreUnambiguousIn known) → IsStateAtEnd plan lines actors known
+left_of plan lines actors known k decided = record {
   named = k.named;
   at = at_end plan lines actors known k;
   classes = k.classes.classes;
@@ -53,8 +53,8 @@ below_same : (old new : ActorTable) (known : ClassTable) → ((one : RecordedAct
 below_same old new known same job (inl h) = inl (ap is_some (same (Job job)) ∙ h)
 below_same old new known same job (inr h) = inr h
 
-pub left_same : (plan : Plan) (budget : ℕ) (lines : List RecordedLine) (old new : ActorTable) (known : ClassTable) → ((one : RecordedActor) → in_table new one ≡ in_table old one) → IsStateAtEnd plan budget lines old known → IsStateAtEnd plan budget lines new known
-left_same plan budget lines old new known same l = record {
+pub left_same : (plan : Plan) (lines : List RecordedLine) (old new : ActorTable) (known : ClassTable) → ((one : RecordedActor) → in_table new one ≡ in_table old one) → IsStateAtEnd plan lines old known → IsStateAtEnd plan lines new known
+left_same plan lines old new known same l = record {
   named = λ one kept h. l.named one kept (sym (same one) ∙ h);
   at = λ one kept h. l.at one kept (sym (same one) ∙ h);
   classes = l.classes;
@@ -79,8 +79,8 @@ known_or_there : (actors : ActorTable) (known : ClassTable) (job : ℕ) → in_t
 known_or_there actors known job none (inl h) = none_some (in_table actors (Job job)) none h
 known_or_there actors known job none (inr h) = h
 
-module _ (plan : Plan) (budget : ℕ) (lines : List RecordedLine) (keeps : KeepsRules lines) (before later : ActorTable) (known then_known : ClassTable) (actor : RecordedActor) (kept : UnsettledActor) (there : in_table before actor ≡ Some kept) (actor_path : ActorPath) (old new : List ClassifiedActor)
-    (remaining : IsStateAtEnd plan budget lines before known) (none : AreNoneBelow before actor) (by : IsActorPathOf lines actor actor_path) (t : AddsResult plan budget actor kept.submitter kept.label kept.pool actor_path known then_known old new)
+module _ (plan : Plan) (lines : List RecordedLine) (keeps : KeepsRules lines) (before later : ActorTable) (known then_known : ClassTable) (actor : RecordedActor) (kept : UnsettledActor) (there : in_table before actor ≡ Some kept) (actor_path : ActorPath) (old new : List ClassifiedActor)
+    (remaining : IsStateAtEnd plan lines before known) (none : AreNoneBelow before actor) (by : IsActorPathOf lines actor actor_path) (t : AddsResult plan actor kept.submitter kept.label kept.pool actor_path known then_known old new)
     (goes : (one : RecordedActor) → in_table later one ≡ (if is_same_actor actor one then None else in_table before one)) where
   all_in : AreAllIn known actor_path.path.items
   all_in = λ job h.
@@ -88,25 +88,21 @@ module _ (plan : Plan) (budget : ℕ) (lines : List RecordedLine) (keeps : Keeps
       let its = path_submitted lines actor job own in
       known_or_there before known job (none_there lines before actor keeps none job own) (remaining.below actor job (some_of (in_table before actor) kept there) its.0 its.1)
 
-  its_reported : IsCorrectResult plan budget lines (classified_as actor kept.label kept.pool actor_path t.family)
-  its_reported = reported_one plan budget lines actor kept.submitter kept.label kept.pool actor_path known then_known old new t by (remaining.named actor kept there) keeps remaining.classes remaining.decided all_in
+  its_reported : IsCorrectResult plan lines (classified_as actor kept.label kept.pool actor_path t.family)
+  its_reported = reported_one plan lines actor kept.submitter kept.label kept.pool actor_path known then_known old new t by (remaining.named actor kept there) keeps remaining.classes remaining.decided all_in
 
   out : Out lines before later known then_known actor kept actor_path.path.items t.family.members.items t.family.is_decided
   out = record { keeps = keeps; there = there; path_is = by.path; below = remaining.below; submitter = remaining.submitter; goes = goes; puts = t.table }
 
-  pub left_then : IsStateAtEnd plan budget lines later then_known
+  pub left_then : IsStateAtEnd plan lines later then_known
   left_then = record {
     named = λ one its h. remaining.named one its (still before later actor goes one its h).1;
     at = λ one its h. remaining.at one its (still before later actor goes one its h).1;
     classes = classes_then plan lines known then_known actor_path.path.items actor kept.submitter t.family.members.items t.family.is_decided t.table remaining.classes its_reported.members;
-    decided = λ enough. decided_then known then_known actor_path.path.items actor kept.submitter t.family.members.items t.family.is_decided t.table (remaining.decided enough) (its_reported.decided enough);
+    decided = λ enough. decided_then known then_known actor_path.path.items actor kept.submitter t.family.members.items t.family.is_decided t.table (remaining.decided enough) (its_reported.decided enough) (t.few enough);
     below = below_then out;
     submitter = λ one job its h. remaining.submitter one job its (still before later actor goes (Job job) its h).1;
   }
 
-  pub tells_left : AddsResults (IsCorrectResult plan budget lines) before later old new
-  tells_left = tells_one (IsCorrectResult plan budget lines) before later actor kept there goes (classified_as actor kept.label kept.pool actor_path t.family) refl its_reported old new t.after
-
--- The same, for an equal budget.
-pub left_at : (plan : Plan) (given budget : ℕ) (lines : List RecordedLine) (before later : ActorTable) (known : ClassTable) (old new : List ClassifiedActor) → given ≡ budget → IsStateAtEnd plan given lines later known × AddsResults (IsCorrectResult plan given lines) before later old new → IsStateAtEnd plan budget lines later known × AddsResults (IsCorrectResult plan budget lines) before later old new
-left_at plan given budget lines before later known old new is h = subst (λ (b : ℕ). IsStateAtEnd plan b lines later known × AddsResults (IsCorrectResult plan b lines) before later old new) is h
+  pub tells_left : AddsResults (IsCorrectResult plan lines) before later old new
+  tells_left = tells_one (IsCorrectResult plan lines) before later actor kept there goes (classified_as actor kept.label kept.pool actor_path t.family) refl its_reported old new t.after

@@ -1,5 +1,5 @@
 -- If there are no findings, the recording conforms.
-use Rattle.std.proofs.Common.{◌≡◌, ℕ, Bool, true, false, List, [], ◌∷◌, ◌++◌, length, map, Contains, Option, Some, None, refl, ap, sym, subst, ◌∙◌, arith}
+use Rattle.std.proofs.Common.{◌≡◌, ℕ, Bool, true, false, if◌then◌else◌, List, [], ◌∷◌, ◌++◌, length, map, Contains, Option, Some, None, refl, ap, sym, subst, ◌∙◌, arith}
 use Rattle.std.specs.Prelude.{filter}
 use Rattle.std.specs.List.{list_any}
 use Rattle.std.specs.Option.{option_and_then}
@@ -31,7 +31,7 @@ use Rattle.conformance.specs.declared.survey.Survey.{Survey}
 use Rattle.conformance.specs.declared.unplanned.NotPlanned.{NotPlanned}
 use Rattle.conformance.specs.Conforms.{Conforms, DoAsPlanned, HasNoInvalidation, IsOfAClass, IsOfAKind, HasItsKind}
 use Rattle.conformance.specs.Findings.{is_of_actors}
-use Rattle.conformance.specs.FirstKinds.{AreFirstKinds, has_kind, round_and_kind}
+use Rattle.conformance.specs.FirstKinds.{AreFirstKinds, has_kind, has_no_kind, round_and_kind}
 use Rattle.conformance.specs.CollectedFindings.{AreCollected, AreMismatchesOf, AreForeign, not_decided, is_path_independent}
 use Rattle.conformance.specs.CollectedFindings as made
 use Rattle.conformance.specs.JobSet.{has_job}
@@ -61,52 +61,59 @@ some_kind plan lines round (n ∷ more) can_be some = record { kinds = n ∷ mor
 
 -- The round counts as the first kind that it can belong to.
 counted_so : (plan : Plan) (lines : List RecordedLine) (reported : List ClassifiedActor) (kinds : List (Option ℕ)) (one : ClassifiedActor) (round : ℕ) (members : List ℕ) → AreFirstKinds plan lines reported kinds → Contains reported one
-    → one.actor ≡ Round round → one.family.members.items ≡ members → CanBe plan lines (Round round) members → is_empty members ≡ false → HasItsKind plan lines kinds round
-counted_so plan lines reported kinds one round [] are among actor_is members_are can_be some = absurd (grind (arith, some))
-counted_so plan lines reported kinds one round (kind ∷ more) are among actor_is members_are can_be some =
-    let reported_is : round_and_kind one ≡ Some (round, kind) = ap (λ (m : List ℕ). has_kind m one.actor) members_are ∙ ap (λ (a : RecordedActor). has_kind (kind ∷ more) a) actor_is in
+    → one.actor ≡ Round round → one.family.is_decided ≡ true → one.family.members.items ≡ members → CanBe plan lines (Round round) members → is_empty members ≡ false → HasItsKind plan lines kinds round
+counted_so plan lines reported kinds one round [] are among actor_is decided members_are can_be some = absurd (grind (arith, some))
+counted_so plan lines reported kinds one round (kind ∷ more) are among actor_is decided members_are can_be some =
+    let reported_is : round_and_kind one ≡ Some (round, Some kind) =
+    ap (λ (b : Bool). if b then has_kind one.family.members.items one.actor else has_no_kind one.actor) decided
+    ∙ (ap (λ (m : List ℕ). has_kind m one.actor) members_are ∙ ap (λ (a : RecordedActor). has_kind (kind ∷ more) a) actor_is) in
     record {
       kind = kind;
       can_be = kind ∷ more;
       exact = can_be;
       among = here kind more;
-      is = ap (λ (o : Option (Option ℕ)). option_and_then (λ (k : Option ℕ). k) o) (are.reports_of one round kind among reported_is);
+      is = ap (λ (o : Option (Option ℕ)). option_and_then (λ (k : Option ℕ). k) o) (are.reports_of one round (Some kind) among reported_is);
     }
 
 -- ---- all actors
-pub record AreWellFormed (plan : Plan) (budget : ℕ) (lines : List RecordedLine) (reported : List ClassifiedActor) : Type 0 where
-  pub all : AreAllResultsOf plan budget lines reported
+pub record AreWellFormed (plan : Plan) (lines : List RecordedLine) (reported : List ClassifiedActor) : Type 0 where
+  pub all : AreAllResultsOf plan lines reported
   pub good : (one : ClassifiedActor) → Contains reported one → IsWellFormed one
 
-job_so : (plan : Plan) (budget : ℕ) (lines : List RecordedLine) (reported : List ClassifiedActor) (job : ℕ) → AreWellFormed plan budget lines reported → is_submitted lines job ≡ true → IsOfAClass plan lines job
-job_so plan budget lines reported job are come =
+job_so : (plan : Plan) (lines : List RecordedLine) (reported : List ClassifiedActor) (job : ℕ) → AreWellFormed plan lines reported → is_submitted lines job ≡ true → IsOfAClass plan lines job
+job_so plan lines reported job are come =
     let one = passing (is_reported (Job job)) reported (are.all.each (Job job) ∙ come) in
     let good = are.good one.one one.among in
-    let so = All-contains (IsCorrectResult plan budget lines) reported one.one are.all.reported one.among in
+    let so = All-contains (IsCorrectResult plan lines) reported one.one are.all.reported one.among in
     let is = same_job one.one.actor job one.passes in
     some_class plan lines job one.one.family.members.items (subst (λ (a : RecordedActor). CanBe plan lines a one.one.family.members.items) is (so.members good.decided)) good.some
 
-round_so : (plan : Plan) (budget : ℕ) (lines : List RecordedLine) (reported : List ClassifiedActor) (round : ℕ) → AreWellFormed plan budget lines reported → is_begun lines round ≡ true → IsOfAKind plan lines round
-round_so plan budget lines reported round are come =
+round_so : (plan : Plan) (lines : List RecordedLine) (reported : List ClassifiedActor) (round : ℕ) → AreWellFormed plan lines reported → is_begun lines round ≡ true → IsOfAKind plan lines round
+round_so plan lines reported round are come =
     let one = passing (is_reported (Round round)) reported (are.all.each (Round round) ∙ come) in
     let good = are.good one.one one.among in
-    let so = All-contains (IsCorrectResult plan budget lines) reported one.one are.all.reported one.among in
+    let so = All-contains (IsCorrectResult plan lines) reported one.one are.all.reported one.among in
     let is = same_round one.one.actor round one.passes in
     some_kind plan lines round one.one.family.members.items (subst (λ (a : RecordedActor). CanBe plan lines a one.one.family.members.items) is (so.members good.decided)) good.some
 
-kind_so : (plan : Plan) (budget : ℕ) (lines : List RecordedLine) (reported : List ClassifiedActor) (kinds : List (Option ℕ)) (round : ℕ) → AreWellFormed plan budget lines reported → AreFirstKinds plan lines reported kinds
+kind_so : (plan : Plan) (lines : List RecordedLine) (reported : List ClassifiedActor) (kinds : List (Option ℕ)) (round : ℕ) → AreWellFormed plan lines reported → AreFirstKinds plan lines reported kinds
     → is_begun lines round ≡ true → HasItsKind plan lines kinds round
-kind_so plan budget lines reported kinds round are first come =
+kind_so plan lines reported kinds round are first come =
     let one = passing (is_reported (Round round)) reported (are.all.each (Round round) ∙ come) in
     let good = are.good one.one one.among in
-    let so = All-contains (IsCorrectResult plan budget lines) reported one.one are.all.reported one.among in
+    let so = All-contains (IsCorrectResult plan lines) reported one.one are.all.reported one.among in
     let is = same_round one.one.actor round one.passes in
-    counted_so plan lines reported kinds one.one round one.one.family.members.items first one.among is refl (subst (λ (a : RecordedActor). CanBe plan lines a one.one.family.members.items) is (so.members good.decided)) good.some
+    counted_so plan lines reported kinds one.one round one.one.family.members.items first one.among is good.decided refl (subst (λ (a : RecordedActor). CanBe plan lines a one.one.family.members.items) is (so.members good.decided)) good.some
 
 -- ---- the notes
 no_foreign : (lines : List RecordedLine) (get : Option ForeignGet) (found : List Finding) → AreForeign lines get found → found ≡ [] → get ≡ None
 no_foreign lines _ _ made.none none = refl
-no_foreign lines _ _ (made.one get label is) none = absurd (grind (arith, none))
+no_foreign lines _ _ (made.one get label job is job_is) none = absurd (grind (arith, none))
+
+no_events : (lines : List RecordedLine) (invalidations : List Invalidation) (found : List Finding) → made.AreInvalidationsOf lines invalidations found → found ≡ [] → invalidations ≡ []
+no_events lines [] found are none = refl
+no_events lines (one ∷ more) [] are none = absurd are
+no_events lines (one ∷ more) (first ∷ found) are none = absurd (grind (arith, none))
 
 -- ---- no findings about actors
 contra : true ≡ false → ⊥
@@ -125,14 +132,14 @@ record NoActors (labels : List NotPlanned) (mismatched : List Finding) (undecide
   undecided_none : undecided ≡ []
   excesses_none : excesses ≡ []
 
-none_in_parts : (deviations : List PoolDeviation) (labels : List NotPlanned) (mismatched : List Finding) (undecided : List ClassifiedActor) (excesses : List RoundExcess) (gets : List Finding) (invalidations : List Invalidation)
+none_in_parts : (deviations : List PoolDeviation) (labels : List NotPlanned) (mismatched : List Finding) (undecided : List ClassifiedActor) (excesses : List RoundExcess) (gets invalidations : List Finding)
     → list_any is_of_actors (made.all_findings deviations labels mismatched undecided excesses gets invalidations) ≡ false → NoActors labels mismatched undecided excesses
 none_in_parts deviations labels mismatched undecided excesses gets invalidations none =
     let pools = map finding.Pool deviations in
     let named = map finding.NotPlanned labels in
     let not_yet = map not_decided undecided in
     let many = map finding.TooMany excesses in
-    let p6 = none_in_both (pools ++ named ++ mismatched ++ not_yet ++ many ++ gets) (map finding.Invalidation invalidations) none in
+    let p6 = none_in_both (pools ++ named ++ mismatched ++ not_yet ++ many ++ gets) invalidations none in
     let p5 = none_in_both (pools ++ named ++ mismatched ++ not_yet ++ many) gets p6.0 in
     let p4 = none_in_both (pools ++ named ++ mismatched ++ not_yet) many p5.0 in
     let p3 = none_in_both (pools ++ named ++ mismatched) not_yet p4.0 in
@@ -145,14 +152,14 @@ none_in_parts deviations labels mismatched undecided excesses gets invalidations
       excesses_none = none_mapped finding.TooMany excesses (λ excess. refl) p4.1;
     }
 
-of_actors : (lines : List RecordedLine) (is_classless : ℕ → Bool) (reported : ClassifiedActor) (found : Finding) → made.IsMismatchFinding lines is_classless reported found → is_of_actors found ≡ true
-of_actors lines is_classless reported _ (made.mismatches number mismatch so) = refl
+of_actors : (plan : Plan) (lines : List RecordedLine) (is_classless : ℕ → Bool) (reported : ClassifiedActor) (found : Finding) → made.IsMismatchFinding plan lines is_classless reported found → is_of_actors found ≡ true
+of_actors plan lines is_classless reported _ (made.mismatches number mismatch so) = refl
 
-none_reported : (lines : List RecordedLine) (is_classless : ℕ → Bool) (reported : List ClassifiedActor) (found : List Finding) → AreMismatchesOf lines is_classless reported found → list_any is_of_actors found ≡ false → reported ≡ []
-none_reported lines is_classless [] found are none = refl
-none_reported lines is_classless (one ∷ reported) [] are none = absurd are
-none_reported lines is_classless (one ∷ reported) (first ∷ found) are none =
-    absurd (contra (sym (of_actors lines is_classless one first are.0) ∙ (none_of_both (is_of_actors first) (list_any is_of_actors found) none).0))
+none_reported : (plan : Plan) (lines : List RecordedLine) (is_classless : ℕ → Bool) (reported : List ClassifiedActor) (found : List Finding) → AreMismatchesOf plan lines is_classless reported found → list_any is_of_actors found ≡ false → reported ≡ []
+none_reported plan lines is_classless [] found are none = refl
+none_reported plan lines is_classless (one ∷ reported) [] are none = absurd are
+none_reported plan lines is_classless (one ∷ reported) (first ∷ found) are none =
+    absurd (contra (sym (of_actors plan lines is_classless one first are.0) ∙ (none_of_both (is_of_actors first) (list_any is_of_actors found) none).0))
 
 -- ---- permutations
 pub empty_if : {X : Type 0} (xs : List X) → length xs ≡ 0 → xs ≡ []
@@ -164,33 +171,33 @@ none_before xs ys moved none = empty_if xs (sym (length_permutation xs ys moved)
 
 -- ---- all findings
 -- If no finding concerns an actor, the actors behave as planned.
-pub actors_do : (plan : Plan) (budget : ℕ) (lines : List RecordedLine) (survey : Survey) (kinds : List (Option ℕ)) (excesses : List RoundExcess) (found : List Finding)
-    → RoundsAreWithinPlan → (so : IsSurveyOf plan budget lines survey) → AreFirstKinds plan lines so.actor_survey.reported kinds → excesses ≡ excesses_by_lines plan kinds lines → AreCollected lines survey excesses found
+pub actors_do : (plan : Plan) (lines : List RecordedLine) (survey : Survey) (kinds : List (Option ℕ)) (excesses : List RoundExcess) (found : List Finding)
+    → RoundsAreWithinPlan → (so : IsSurveyOf plan lines survey) → AreFirstKinds plan lines so.actor_survey.reported kinds → excesses ≡ excesses_by_lines plan kinds lines → AreCollected plan lines survey excesses found
     → list_any is_of_actors found ≡ false → DoAsPlanned plan lines
-actors_do plan budget lines survey kinds excesses found are_within so first excess_tracker collect_findings none =
-    let parts = none_in_parts survey.line_survey.deviations.items survey.line_survey.unplanned.found.items collect_findings.mismatches survey.actor_survey.verdicts.undecided.actors.items excesses collect_findings.foreign (filter is_path_independent (invalidations_of lines))
+actors_do plan lines survey kinds excesses found are_within so first excess_tracker collect_findings none =
+    let parts = none_in_parts survey.line_survey.deviations.items survey.line_survey.unplanned.found.items collect_findings.mismatches survey.actor_survey.verdicts.undecided.actors.items excesses collect_findings.foreign collect_findings.invalidations
     (ap (list_any is_of_actors) (sym collect_findings.all) ∙ none) in
-    let no_mismatches = none_reported lines (has_job survey.actor_survey.verdicts.classless) survey.actor_survey.verdicts.mismatches.actors.items collect_findings.mismatches collect_findings.mismatches_so parts.astray_none in
+    let no_mismatches = none_reported plan lines (has_job survey.actor_survey.verdicts.classless) survey.actor_survey.verdicts.mismatches.actors.items collect_findings.mismatches collect_findings.mismatches_so parts.astray_none in
     let actor_survey = so.actor_survey in
-    let are : AreWellFormed plan budget lines actor_survey.reported = record {
+    let are : AreWellFormed plan lines actor_survey.reported = record {
       all = actor_survey.all;
-      good = λ one among. all_good plan budget lines actor_survey.reported survey.actor_survey.verdicts survey.line_survey.unplanned one actor_survey.all.reported actor_survey.verdicts so.line_survey.unplanned no_mismatches parts.undecided_none parts.labels_none among;
+      good = λ one among. all_good plan lines actor_survey.reported survey.actor_survey.verdicts survey.line_survey.unplanned one actor_survey.all.reported actor_survey.verdicts so.line_survey.unplanned no_mismatches parts.undecided_none parts.labels_none among;
     } in
     record {
-      jobs = λ job. job_so plan budget lines actor_survey.reported job are;
-      rounds = λ round. round_so plan budget lines actor_survey.reported round are;
+      jobs = λ job. job_so plan lines actor_survey.reported job are;
+      rounds = λ round. round_so plan lines actor_survey.reported round are;
       clients = record {
         kinds = kinds;
-        each = λ round. kind_so plan budget lines actor_survey.reported kinds round are first;
+        each = λ round. kind_so plan lines actor_survey.reported kinds round are first;
         within = λ before after is. are_within plan kinds before after (ap (excesses_by_lines plan kinds) (sym is) ∙ (sym excess_tracker ∙ parts.excesses_none));
       };
     }
 
-pub conforms : (plan : Plan) (budget : ℕ) (lines : List RecordedLine) (survey : Survey) (kinds : List (Option ℕ)) (excesses : List RoundExcess) (found : List Finding)
+pub conforms : (plan : Plan) (lines : List RecordedLine) (survey : Survey) (kinds : List (Option ℕ)) (excesses : List RoundExcess) (found : List Finding)
     → PoolsAreAsPlanned → PoolsAreRecorded → RoundsAreWithinPlan
-    → (so : IsSurveyOf plan budget lines survey) → AreFirstKinds plan lines so.actor_survey.reported kinds → excesses ≡ excesses_by_lines plan kinds lines → AreCollected lines survey excesses found → found ≡ []
+    → (so : IsSurveyOf plan lines survey) → AreFirstKinds plan lines so.actor_survey.reported kinds → excesses ≡ excesses_by_lines plan kinds lines → AreCollected plan lines survey excesses found → found ≡ []
     → Conforms plan lines × HasNoInvalidation lines
-conforms plan budget lines survey kinds excesses found as_planned are_recorded are_within so first excess_tracker collect_findings none =
+conforms plan lines survey kinds excesses found as_planned are_recorded are_within so first excess_tracker collect_findings none =
     let p6 = both_none _ _ (sym collect_findings.all ∙ none) in
     let p5 = both_none _ _ p6.0 in
     let p4 = both_none _ _ p5.0 in
@@ -198,12 +205,12 @@ conforms plan budget lines survey kinds excesses found as_planned are_recorded a
     let p2 = both_none _ _ p3.0 in
     let p1 = both_none _ _ p2.0 in
     let no_deviations = map_none finding.Pool _ p1.0 in
-    let no_invalidations : filter is_path_independent (invalidations_of lines) ≡ [] = map_none finding.Invalidation _ p6.1 in
+    let no_invalidations : filter is_path_independent (invalidations_of lines) ≡ [] = no_events lines _ _ collect_findings.invalidations_so p6.1 in
     let pools = both_none (deviations_by_lines plan lines) (deviations_at_end plan lines) (sym so.line_survey.deviations ∙ ap (map deviation_seen) no_deviations) in (
       record {
         pools = as_planned plan lines pools.0;
         recorded = λ closed. are_recorded plan lines closed pools.1;
-        actors = actors_do plan budget lines survey kinds excesses found are_within so first excess_tracker collect_findings (ap (list_any is_of_actors) none);
+        actors = actors_do plan lines survey kinds excesses found are_within so first excess_tracker collect_findings (ap (list_any is_of_actors) none);
         gets = no_foreign lines _ _ collect_findings.foreign_so p5.1;
       },
       not_invalidation lines no_invalidations,

@@ -101,8 +101,8 @@ not_empty : (b : Bool) → (b ≡ true → ⊥) → not b ≡ true
 not_empty true h = absurd (h refl)
 not_empty false h = refl
 
-pub planned : (plan : Plan) (budget : ℕ) (lines : List RecordedLine) (unplanned : UnplannedLabels) (one : ClassifiedActor) → AreUnplannedLabelsOf plan lines unplanned → unplanned.found.items ≡ [] → IsCorrectResult plan budget lines one → is_planned plan one ≡ true
-planned plan budget lines unplanned one so none reported =
+pub planned : (plan : Plan) (lines : List RecordedLine) (unplanned : UnplannedLabels) (one : ClassifiedActor) → AreUnplannedLabelsOf plan lines unplanned → unplanned.found.items ≡ [] → IsCorrectResult plan lines one → is_planned plan one ≡ true
+planned plan lines unplanned one so none reported =
     not_empty _ (λ empty. planned_if plan lines unplanned one.actor (string_bytes one.label) (string_bytes one.pool) so none reported.label (empty_is _ empty))
 
 -- ---- each classified actor
@@ -131,8 +131,8 @@ good_if plan reported verdicts one so no_mismatches no_undecided among has_label
       ]
     ]
 
-pub all_good : (plan : Plan) (budget : ℕ) (lines : List RecordedLine) (reported : List ClassifiedActor) (verdicts : Verdicts) (unplanned : UnplannedLabels) (one : ClassifiedActor)
-    → All (IsCorrectResult plan budget lines) reported → IsVerdictsOf plan reported verdicts → AreUnplannedLabelsOf plan lines unplanned
+pub all_good : (plan : Plan) (lines : List RecordedLine) (reported : List ClassifiedActor) (verdicts : Verdicts) (unplanned : UnplannedLabels) (one : ClassifiedActor)
+    → All (IsCorrectResult plan lines) reported → IsVerdictsOf plan reported verdicts → AreUnplannedLabelsOf plan lines unplanned
     → verdicts.mismatches.actors.items ≡ [] → verdicts.undecided.actors.items ≡ [] → unplanned.found.items ≡ [] → Contains reported one → IsWellFormed one
-all_good plan budget lines reported verdicts unplanned one all so labels no_mismatches no_undecided no_labels among =
-    good_if plan reported verdicts one so no_mismatches no_undecided among (planned plan budget lines unplanned one labels no_labels (All-contains (IsCorrectResult plan budget lines) reported one all among))
+all_good plan lines reported verdicts unplanned one all so labels no_mismatches no_undecided no_labels among =
+    good_if plan reported verdicts one so no_mismatches no_undecided among (planned plan lines unplanned one labels no_labels (All-contains (IsCorrectResult plan lines) reported one all among))

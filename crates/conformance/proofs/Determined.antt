@@ -1,7 +1,6 @@
 -- The lines determine the classes that a job can belong to.
-use Rattle.std.proofs.Common.{◌≡◌, ◌==◌, ℕ, true, List, [], ◌∷◌, ◌++◌, slice_index_or, Some, refl, ap, sym, subst, ◌∙◌, arith}
-use Rattle.std.specs.Prelude.{Contains, slice_get}
-use Rattle.std.specs.List.{list_any, AllZip}
+use Rattle.std.proofs.Common.{◌≡◌, ◌==◌, ℕ, zero, suc, true, List, [], ◌∷◌, length, slice_index_or, Option, Some, None, refl, ap, sym, subst, ◌∙◌, arith}
+use Rattle.std.specs.Prelude.{Contains, slice_get, ⊤}
 use Rattle.std.specs.declared.alloc.Global.{Global}
 use Rattle.std.specs.declared.vec.Vec.{Vec}
 use Rattle.std.proofs.lemmas.List.Folds.{list_any_at, Any-from_list_any}
@@ -12,73 +11,23 @@ use Rattle.recordings.specs.declared.step.RecordedStep.TheVariants as recorded
 use Rattle.recordings.specs.Path.{path_of}
 use Rattle.recordings.proofs.SubmitIndices.{same_self}
 use Rattle.job_bodies.specs.declared.action.Action.{Action}
-use Rattle.job_bodies.specs.declared.action.Action.TheVariants as action
 use Rattle.job_bodies.specs.Plan.{Plan}
+use Rattle.conformance.specs.declared.step.ActorKind.{ActorKind}
+use Rattle.conformance.specs.declared.step.ActorKind.TheVariants as actor_kind
 use Rattle.conformance.specs.declared.step.PathStep.{PathStep}
 use Rattle.conformance.specs.declared.step.PathStep.TheVariants as step
 use Rattle.conformance.specs.declared.step.PathState.{PathState}
 use Rattle.conformance.specs.declared.step.PathState.TheVariants.{Whole, Prefix}
-use Rattle.conformance.specs.Path.{IsStepOf, IsPathOf, kept_actions}
+use Rattle.conformance.specs.PathStep.{submits}
+use Rattle.conformance.specs.Path.{IsPathOf, Walks, starts, body_moves, both_submit, path_gets}
+use Rattle.conformance.specs.declared.open_job.OpenJob.{OpenJob}
 use Rattle.conformance.specs.FamilyMatch.{IsClassOf, IsKindOf, AreExactly, class_body, client_body}
 use Rattle.conformance.specs.PathState.{path_state_of}
 use Rattle.conformance.specs.Label.{label_of, kind_of}
 use Rattle.conformance.specs.Classes.{AreClassesOf, by_path, AreStepsOf, none, submit, get, AreKindsOf}
+use Rattle.conformance.specs.Narrowing.{IsNarrower}
+use Rattle.conformance.proofs.NarrowerPaths.{path_within}
 use Rattle.conformance.proofs.Words.{one_of}
-
--- ---- steps
--- Each class of the first step is one of the second.
-abbrev IsWithin : PathStep → PathStep → Type 0
-IsWithin (step.Submits one) (step.Submits other) = (class : ℕ) → Contains one.items class → Contains other.items class
-IsWithin (step.Gets one) (step.Gets other) = one ≡ other
-IsWithin _ _ = ⊥
-
-found : (classes : List ℕ) (class : ℕ) → Contains classes class → list_any (λ one. one == class) classes ≡ true
-found classes class c = list_any_at (λ one. one == class) classes c.0 class c.1 (ap (λ one. one == class) c.2 ∙ same_self class)
-
-equal_of : (a b : ℕ) → (a == b) ≡ true → a ≡ b
-equal_of a b h = grind (arith, h)
-
-contained : (classes : List ℕ) (class : ℕ) → list_any (λ one. one == class) classes ≡ true → Contains classes class
-contained classes class h =
-    let a = Any-from_list_any (λ one. one == class) classes h in
-    (a.0, a.2, subst (λ (n : ℕ). slice_index_or classes a.0 n ≡ n) (equal_of a.1 class a.4) a.3)
-
-step_within : (kept : List (ℕ × Action)) (one other : PathStep) (at : ℕ × Action) → IsWithin one other → IsStepOf kept one at → IsStepOf kept other at
-step_within kept (step.Submits one) (step.Submits other) (position, action.Submit class) w h = found other.items class (w class (contained one.items class h))
-step_within kept (step.Gets one) (step.Gets other) (position, action.Get job) w h = (h.0, ap (slice_get kept) (sym w) ∙ h.1)
-step_within kept (step.Submits one) (step.Submits other) (position, action.Work units) w h = absurd h
-step_within kept (step.Submits one) (step.Submits other) (position, action.Get job) w h = absurd h
-step_within kept (step.Gets one) (step.Gets other) (position, action.Work units) w h = absurd h
-step_within kept (step.Gets one) (step.Gets other) (position, action.Submit class) w h = absurd h
-step_within kept (step.Submits one) (step.Gets other) at w h = absurd w
-step_within kept (step.Gets one) (step.Submits other) at w h = absurd w
-
-zip_within : (kept : List (ℕ × Action)) (one other : List PathStep) (actions : List (ℕ × Action)) → AllZip IsWithin one other → AllZip (IsStepOf kept) one actions → AllZip (IsStepOf kept) other actions
-zip_within kept [] [] actions w h = h
-zip_within kept (x ∷ xs) (y ∷ ys) (action ∷ actions) w h = (step_within kept x y action w.0 h.0, zip_within kept xs ys actions w.1 h.1)
-zip_within kept [] (y ∷ ys) actions w h = absurd w
-zip_within kept (x ∷ xs) [] actions w h = absurd w
-zip_within kept (x ∷ xs) (y ∷ ys) [] w h = absurd h
-
-itself : (one : PathStep) → IsWithin one one
-itself (step.Submits classes) = λ class h. h
-itself (step.Gets place) = refl
-
-all_themselves : (steps : List PathStep) → AllZip IsWithin steps steps
-all_themselves [] = tt
-all_themselves (one ∷ steps) = (itself one, all_themselves steps)
-
-with_after : (one other after : List PathStep) → AllZip IsWithin one other → AllZip IsWithin (one ++ after) (other ++ after)
-with_after [] [] after w = all_themselves after
-with_after (x ∷ xs) (y ∷ ys) after w = (w.0, with_after xs ys after w.1)
-with_after [] (y ∷ ys) after w = absurd w
-with_after (x ∷ xs) [] after w = absurd w
-
-path_within : (path_state : PathState) (body : List Action) (one other : List PathStep) → AllZip IsWithin one other → IsPathOf path_state body one → IsPathOf path_state body other
-path_within Whole body one other w h = (h.0, zip_within (kept_actions body h.0) one other (kept_actions body h.0) w h.1)
-path_within Prefix body one other w h =
-    let choice = h.1.0 in
-    (h.0, (choice, zip_within (kept_actions body choice) (one ++ h.0) (other ++ h.0) (kept_actions body choice) (with_after one other h.0 w) h.1.1))
 
 -- ---- a path with classes
 abbrev StandsAs : Plan → List RecordedLine → List RecordedStep → List PathStep → Type 0
@@ -102,10 +51,10 @@ record ClassesBy (plan : Plan) (lines : List RecordedLine) (job : ℕ) (classes 
 classes_by : (plan : Plan) (lines : List RecordedLine) (job : ℕ) (classes : List ℕ) → AreClassesOf plan lines job classes → ClassesBy plan lines job classes
 classes_by plan lines _ _ (by_path job class pool steps classes named path exact) = record { class = class; pool = pool; steps = steps; named = named; path = path; exact = exact }
 
-class_within : (plan : Plan) (class class2 pool pool2 : List ℕ) (path_state : PathState) (steps other : List PathStep) → class ≡ class2 → pool ≡ pool2 → AllZip IsWithin steps other → (n : ℕ) → IsClassOf plan class pool path_state steps n → IsClassOf plan class2 pool2 path_state other n
+class_within : (plan : Plan) (class class2 pool pool2 : List ℕ) (path_state : PathState) (steps other : List PathStep) → class ≡ class2 → pool ≡ pool2 → IsNarrower steps other → (n : ℕ) → IsClassOf plan class pool path_state steps n → IsClassOf plan class2 pool2 path_state other n
 class_within plan class class2 pool pool2 path_state steps other c p w n h =
     subst (λ name. IsClassOf plan name pool2 path_state other n) c (subst (λ name. IsClassOf plan class name path_state other n) p
-    (record { among = h.among; path_of = path_within path_state (class_body plan n) steps other w h.path_of }))
+    (record { among = h.among; path_of = path_within actor_kind.Job path_state (class_body plan n) steps other w h.path_of }))
 
 mutual
   within : (plan : Plan) (lines : List RecordedLine) (job : ℕ) (one other : List ℕ) → AreClassesOf plan lines job one → AreClassesOf plan lines job other → (n : ℕ) → Contains one n → Contains other n
@@ -114,14 +63,14 @@ mutual
       let same : (class, pool) ≡ (b.class, b.pool) = one_of (label_of lines job) (class, pool) (b.class, b.pool) named b.named in
       (b.exact n).1 (class_within plan class b.class pool b.pool (path_state_of lines (Job job)) steps b.steps (ap (λ l. l.0) same) (ap (λ l. l.1) same) (steps_within plan lines (path_of lines (Job job)) steps b.steps path b.path) n ((exact n).0 h))
 
-  steps_within : (plan : Plan) (lines : List RecordedLine) (path : List RecordedStep) (steps other : List PathStep) → AreStepsOf plan lines path steps → AreStepsOf plan lines path other → AllZip IsWithin steps other
-  steps_within plan lines _ _ other none s = subst (λ (d : List PathStep). AllZip IsWithin [] d) (sym (stands_as plan lines [] other s)) tt
+  steps_within : (plan : Plan) (lines : List RecordedLine) (path : List RecordedStep) (steps other : List PathStep) → AreStepsOf plan lines path steps → AreStepsOf plan lines path other → IsNarrower steps other
+  steps_within plan lines _ _ other none s = subst (λ (d : List PathStep). IsNarrower [] d) (sym (stands_as plan lines [] other s)) tt
   steps_within plan lines _ _ other (submit job classes path steps known rest) s =
       let i = stands_as plan lines (recorded.Submits job ∷ path) other s in
-      subst (λ (d : List PathStep). AllZip IsWithin (step.Submits classes ∷ steps) d) (sym i.2) ((λ class h. within plan lines job classes.items i.0.items known i.3 class h), steps_within plan lines path steps i.1 rest i.4)
+      subst (λ (d : List PathStep). IsNarrower (step.Submits classes ∷ steps) d) (sym i.2) ((λ class h. within plan lines job classes.items i.0.items known i.3 class h), steps_within plan lines path steps i.1 rest i.4)
   steps_within plan lines _ _ other (get place path steps rest) s =
       let i = stands_as plan lines (recorded.Gets place ∷ path) other s in
-      subst (λ (d : List PathStep). AllZip IsWithin (step.Gets place ∷ steps) d) (sym i.1) (refl, steps_within plan lines path steps i.0 rest i.2)
+      subst (λ (d : List PathStep). IsNarrower (step.Gets place ∷ steps) d) (sym i.1) (refl, steps_within plan lines path steps i.0 rest i.2)
 
 kinds_within : (plan : Plan) (lines : List RecordedLine) (round : ℕ) (one other : List ℕ) → AreKindsOf plan lines round one → AreKindsOf plan lines round other → (n : ℕ) → Contains one n → Contains other n
 kinds_within plan lines round one other a b n h =
@@ -129,7 +78,7 @@ kinds_within plan lines round one other a b n h =
     let same : a.kind ≡ b.kind = one_of (kind_of lines round) a.kind b.kind a.named b.named in
     let is = (a.exact n).0 h in
     (b.exact n).1 (subst (λ name. IsKindOf plan name path_state b.steps n) same
-    (record { among = is.among; path_of = path_within path_state (client_body plan n) a.steps b.steps (steps_within plan lines (path_of lines (Round round)) a.steps b.steps a.path b.path) is.path_of }))
+    (record { among = is.among; path_of = path_within actor_kind.Round path_state (client_body plan n) a.steps b.steps (steps_within plan lines (path_of lines (Round round)) a.steps b.steps a.path b.path) is.path_of }))
 
 pub classes_determined : (plan : Plan) (lines : List RecordedLine) (job : ℕ) (one other : List ℕ) → AreClassesOf plan lines job one → AreClassesOf plan lines job other → (n : ℕ) → (Contains one n → Contains other n) × (Contains other n → Contains one n)
 classes_determined plan lines job one other a b n = (within plan lines job one other a b n, within plan lines job other one b a n)

@@ -24,12 +24,12 @@ first_before plan before line kinds are = record { each = λ round label named. 
 -- ---- no round belongs to another kind
 first_given : (plan : Plan) (others : OtherKinds) (lines : List RecordedLine) (kinds : List (Option ℕ)) → ((round : ℕ) → value_at others.kinds round ≡ None) → AreOfFirst plan lines kinds → AreKindsBy plan others lines kinds
 first_given plan others lines kinds none are = record {
-  each = λ round label named. are.each round label named ∙ sym (ap (λ (there : Option ℕ). kind_or there (first_of plan label)) (none round));
+  each = λ round label named. are.each round label named ∙ sym (ap (λ (there : Option (Option ℕ)). kind_or there (first_of plan label)) (none round));
 }
 
 pub given_first : (plan : Plan) (others : OtherKinds) (lines : List RecordedLine) (kinds : List (Option ℕ)) → ((round : ℕ) → value_at others.kinds round ≡ None) → AreKindsBy plan others lines kinds → AreOfFirst plan lines kinds
 given_first plan others lines kinds none given = record {
-  each = λ round label named. given.each round label named ∙ ap (λ (there : Option ℕ). kind_or there (first_of plan label)) (none round);
+  each = λ round label named. given.each round label named ∙ ap (λ (there : Option (Option ℕ)). kind_or there (first_of plan label)) (none round);
 }
 
 -- ---- one more line

@@ -84,7 +84,7 @@ after_begin_line plan before reported kinds round label keeps are =
     let here : round ≡ length kinds = round_is before round label keeps ∙ sym are.many in
     record {
       many = length-append kinds (first ∷ []) ∙ (ap (λ (n : ℕ). n + 1) are.many ∙ sym (begins_push before line));
-      reports_of = λ one r kind among is. there_before kinds (first ∷ []) r (Some kind) (are.reports_of one r kind among is);
+      reports_of = λ one r kind among is. there_before kinds (first ∷ []) r kind (are.reports_of one r kind among is);
       others = λ r name named none. elim (kind_cases before line r name named) [
         | inl earlier ↦ there_before kinds (first ∷ []) r _ (are.others r name earlier none)
         | inr now ↦

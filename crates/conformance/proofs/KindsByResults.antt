@@ -1,5 +1,5 @@
 -- The kind that each round counts as, after the classified rounds.
-use Rattle.std.proofs.Common.{◌≡◌, ◌≤◌, ◌<◌, ◌+◌, ℕ, Bool, true, cond, List, [], ◌∷◌, ◌++◌, length, set, All, Contains, Option, Some, None, refl, ap, sym, subst, ◌∙◌, inl, inr, string_bytes, slice_get, slice_set, count_by, append_assoc, arith}
+use Rattle.std.proofs.Common.{◌≡◌, ◌≤◌, ◌<◌, ◌+◌, ℕ, Bool, true, false, cond, if◌then◌else◌, List, [], ◌∷◌, ◌++◌, length, set, All, Contains, Option, Some, None, refl, ap, sym, subst, ◌∙◌, inl, inr, string_bytes, slice_get, slice_set, count_by, append_assoc, arith}
 use Rattle.std.proofs.Math.ListN.{length-set}
 use Rattle.std.proofs.lemmas.Bool.{cases_eq, eq-eqb}
 use Rattle.std.proofs.lemmas.List.Elements.{All-head, All-tail, All-weaker, Contains-push, Contains-push_cases, Contains-append_left}
@@ -15,17 +15,17 @@ use Rattle.job_bodies.specs.Plan.{Plan}
 use Rattle.conformance.specs.declared.classified_actor.ClassifiedActor.{ClassifiedActor}
 use Rattle.conformance.specs.Label.{HasLabel}
 use Rattle.conformance.specs.ClassifiedActor.{IsCorrectResult, IsOnceEach, AreAllResultsOf, is_reported}
-use Rattle.conformance.specs.FirstKinds.{has_kind, round_and_kind, AreFirstKinds}
+use Rattle.conformance.specs.FirstKinds.{has_kind, has_no_kind, round_and_kind, AreFirstKinds}
 use Rattle.conformance.proofs.Among.{head_or_later, is_among_none}
 use Rattle.conformance.proofs.ActorTables.{keeps_front}
 use Rattle.conformance.proofs.KindsAfter.{HasFirstKinds, first_kinds, round_is, written, elsewhere}
 use Rattle.conformance.proofs.ConformingActors.{begun_so}
 
 -- ---- a write
-abbrev with_kind : ℕ → ℕ → List (Option ℕ) → List (Option ℕ)
-with_kind round kind kinds = slice_set kinds round (Some kind)
+abbrev with_kind : ℕ → Option ℕ → List (Option ℕ) → List (Option ℕ)
+with_kind round kind kinds = slice_set kinds round kind
 
-abbrev with_round : Option (ℕ × ℕ) → List (Option ℕ) → List (Option ℕ)
+abbrev with_round : Option (ℕ × Option ℕ) → List (Option ℕ) → List (Option ℕ)
 with_round None kinds = kinds
 with_round (Some (round, kind)) kinds = with_kind round kind kinds
 
@@ -77,24 +77,38 @@ begun_within lines round label keeps among =
     omega (arith, all, some, number)
 
 -- ---- one classified round
-by_members : (members : List ℕ) (actor : RecordedActor) (round kind : ℕ) → has_kind members actor ≡ Some (round, kind) → actor ≡ Round round
+abbrev pub pair_some : ℕ → Option ℕ → Option (ℕ × Option ℕ)
+pair_some a b = Some (a, b)
+
+pub pair_is : (a : ℕ) (b : Option ℕ) (c : ℕ) (d : Option ℕ) → pair_some a b ≡ pair_some c d → (a ≡ c) × (b ≡ d)
+pair_is a b c d is =
+    let one_pair : ℕ × Option ℕ = (a, b) in
+    let other_pair : ℕ × Option ℕ = (c, d) in
+    let pair : one_pair ≡ other_pair = cc in
+    (ap (λ (p : ℕ × Option ℕ). p.0) pair, ap (λ (p : ℕ × Option ℕ). p.1) pair)
+
+by_members : (members : List ℕ) (actor : RecordedActor) (round : ℕ) (kind : Option ℕ) → has_kind members actor ≡ Some (round, kind) → actor ≡ Round round
 by_members [] actor round kind is = absurd (grind (arith, is))
 by_members (k ∷ more) (Job job) round kind is = absurd (grind (arith, is))
-by_members (k ∷ more) (Round r) round kind is =
-    let one_pair : ℕ × ℕ = (r, k) in
-    let other_pair : ℕ × ℕ = (round, kind) in
-    let pair : one_pair ≡ other_pair = cc in
-    ap (λ (p : ℕ × ℕ). Round p.0) pair
+by_members (k ∷ more) (Round r) round kind is = ap Round (pair_is r (Some k) round kind is).0
 
-pub round_of : (one : ClassifiedActor) (round kind : ℕ) → round_and_kind one ≡ Some (round, kind) → one.actor ≡ Round round
-round_of one round kind is = by_members one.family.members.items one.actor round kind is
+without_kind : (actor : RecordedActor) (round : ℕ) (kind : Option ℕ) → has_no_kind actor ≡ Some (round, kind) → actor ≡ Round round
+without_kind (Job job) round kind is = absurd (grind (arith, is))
+without_kind (Round r) round kind is = ap Round (pair_is r None round kind is).0
+
+by_decision : (is_decided : Bool) (members : List ℕ) (actor : RecordedActor) (round : ℕ) (kind : Option ℕ) → (if is_decided then has_kind members actor else has_no_kind actor) ≡ Some (round, kind) → actor ≡ Round round
+by_decision true members actor round kind is = by_members members actor round kind is
+by_decision false members actor round kind is = without_kind actor round kind is
+
+pub round_of : (one : ClassifiedActor) (round : ℕ) (kind : Option ℕ) → round_and_kind one ≡ Some (round, kind) → one.actor ≡ Round round
+round_of one round kind is = by_decision one.family.is_decided one.family.members.items one.actor round kind is
 
 -- The classified round has begun.
 record HasBegun (lines : List RecordedLine) (one : ClassifiedActor) : Type 0 where
-  begun : (round kind : ℕ) → round_and_kind one ≡ Some (round, kind) → round < begins lines
+  begun : (round : ℕ) (kind : Option ℕ) → round_and_kind one ≡ Some (round, kind) → round < begins lines
 
-has_begun : (plan : Plan) (budget : ℕ) (lines : List RecordedLine) (one : ClassifiedActor) → KeepsRules lines → IsCorrectResult plan budget lines one → HasBegun lines one
-has_begun plan budget lines one keeps reported = record {
+has_begun : (plan : Plan) (lines : List RecordedLine) (one : ClassifiedActor) → KeepsRules lines → IsCorrectResult plan lines one → HasBegun lines one
+has_begun plan lines one keeps reported = record {
   begun = λ round kind is.
       let named : HasLabel lines (Round round) (string_bytes one.label) (string_bytes one.pool) = subst (λ (a : RecordedActor). HasLabel lines a (string_bytes one.label) (string_bytes one.pool)) (round_of one round kind is) reported.label in
       begun_within lines round (string_bytes one.label) keeps (begun_so lines round (string_bytes one.label) named.0);
@@ -102,17 +116,7 @@ has_begun plan budget lines one keeps reported = record {
 
 -- No other classified actor is the same round.
 abbrev pub IsNew : List ClassifiedActor → ClassifiedActor → Type 0
-IsNew reported one = (other : ClassifiedActor) (round kind more : ℕ) → Contains reported other → round_and_kind other ≡ Some (round, kind) → round_and_kind one ≡ Some (round, more) → ⊥
-
-abbrev pub pair_some : ℕ → ℕ → Option (ℕ × ℕ)
-pair_some a b = Some (a, b)
-
-pub pair_is : (a b c d : ℕ) → pair_some a b ≡ pair_some c d → (a ≡ c) × (b ≡ d)
-pair_is a b c d is =
-    let one_pair : ℕ × ℕ = (a, b) in
-    let other_pair : ℕ × ℕ = (c, d) in
-    let pair : one_pair ≡ other_pair = cc in
-    (ap (λ (p : ℕ × ℕ). p.0) pair, ap (λ (p : ℕ × ℕ). p.1) pair)
+IsNew reported one = (other : ClassifiedActor) (round : ℕ) (kind more : Option ℕ) → Contains reported other → round_and_kind other ≡ Some (round, kind) → round_and_kind one ≡ Some (round, more) → ⊥
 
 reported_none : (plan : Plan) (lines : List RecordedLine) (reported : List ClassifiedActor) (kinds : List (Option ℕ)) (one : ClassifiedActor) → AreFirstKinds plan lines reported kinds → round_and_kind one ≡ None → AreFirstKinds plan lines (reported ++ one ∷ []) kinds
 reported_none plan lines reported kinds one are none = record {
@@ -124,28 +128,28 @@ reported_none plan lines reported kinds one are none = record {
   others = λ round label named without. are.others round label named (λ other kind among. without other kind (Contains-append_left reported (one ∷ []) other among));
 }
 
-reported_some : (plan : Plan) (lines : List RecordedLine) (reported : List ClassifiedActor) (kinds : List (Option ℕ)) (one : ClassifiedActor) (round kind : ℕ) → AreFirstKinds plan lines reported kinds → IsNew reported one → round < begins lines
-    → round_and_kind one ≡ Some (round, kind) → AreFirstKinds plan lines (reported ++ one ∷ []) (set kinds round (Some kind))
+reported_some : (plan : Plan) (lines : List RecordedLine) (reported : List ClassifiedActor) (kinds : List (Option ℕ)) (one : ClassifiedActor) (round : ℕ) (kind : Option ℕ) → AreFirstKinds plan lines reported kinds → IsNew reported one → round < begins lines
+    → round_and_kind one ≡ Some (round, kind) → AreFirstKinds plan lines (reported ++ one ∷ []) (set kinds round kind)
 reported_some plan lines reported kinds one round kind are new begun is =
     let below : round < length kinds = omega (arith, begun, are.many) in
     record {
-      many = length-set kinds round (Some kind) ∙ are.many;
+      many = length-set kinds round kind ∙ are.many;
       reports_of = λ other r k among reported_is. elim (Contains-push_cases reported one other among) [
         | inl earlier ↦ elim (cases_eq r round) [
           | inl same ↦ absurd (new other round k kind earlier (subst (λ (n : ℕ). round_and_kind other ≡ Some (n, k)) same reported_is) is)
-          | inr other_round ↦ elsewhere kinds round r (Some kind) other_round ∙ are.reports_of other r k earlier reported_is
+          | inr other_round ↦ elsewhere kinds round r kind other_round ∙ are.reports_of other r k earlier reported_is
         ]
         | inr same ↦
             let both = pair_is round kind r k (sym is ∙ (ap round_and_kind same ∙ reported_is)) in
-            subst (λ (n : ℕ). slice_get (set kinds round (Some kind)) n ≡ Some (Some k)) both.0 (subst (λ (x : ℕ). slice_get (set kinds round (Some kind)) round ≡ Some (Some x)) both.1 (written kinds round (Some kind) below))
+            subst (λ (n : ℕ). slice_get (set kinds round kind) n ≡ Some k) both.0 (subst (λ (x : Option ℕ). slice_get (set kinds round kind) round ≡ Some x) both.1 (written kinds round kind below))
       ];
       others = λ r label named without. elim (cases_eq r round) [
         | inl same ↦ absurd (without one kind (Contains-push reported one) (subst (λ (n : ℕ). round_and_kind one ≡ Some (n, kind)) (sym same) is))
-        | inr other_round ↦ elsewhere kinds round r (Some kind) other_round ∙ are.others r label named (λ other k among. without other k (Contains-append_left reported (one ∷ []) other among))
+        | inr other_round ↦ elsewhere kinds round r kind other_round ∙ are.others r label named (λ other k among. without other k (Contains-append_left reported (one ∷ []) other among))
       ];
     }
 
-reported_by : (plan : Plan) (lines : List RecordedLine) (reported : List ClassifiedActor) (kinds : List (Option ℕ)) (one : ClassifiedActor) (given : Option (ℕ × ℕ)) → AreFirstKinds plan lines reported kinds → IsNew reported one → HasBegun lines one → round_and_kind one ≡ given
+reported_by : (plan : Plan) (lines : List RecordedLine) (reported : List ClassifiedActor) (kinds : List (Option ℕ)) (one : ClassifiedActor) (given : Option (ℕ × Option ℕ)) → AreFirstKinds plan lines reported kinds → IsNew reported one → HasBegun lines one → round_and_kind one ≡ given
     → AreFirstKinds plan lines (reported ++ one ∷ []) (with_round given kinds)
 reported_by plan lines reported kinds one None are new begun is = reported_none plan lines reported kinds one are is
 reported_by plan lines reported kinds one (Some (round, kind)) are new begun is = reported_some plan lines reported kinds one round kind are new (begun.begun round kind is) is
@@ -181,8 +185,8 @@ reported_all plan lines reported (one ∷ more) kinds are begun once =
     subst (λ (xs : List ClassifiedActor). AreFirstKinds plan lines xs (with_all more (with_reported one kinds))) same all
 
 -- The kind that each round counts as, once all actors are classified.
-pub all_first_kinds : (plan : Plan) (budget : ℕ) (lines : List RecordedLine) (reported : List ClassifiedActor) → KeepsRules lines → AreAllResultsOf plan budget lines reported → HasFirstKinds plan lines reported
-all_first_kinds plan budget lines reported keeps all =
+pub all_first_kinds : (plan : Plan) (lines : List RecordedLine) (reported : List ClassifiedActor) → KeepsRules lines → AreAllResultsOf plan lines reported → HasFirstKinds plan lines reported
+all_first_kinds plan lines reported keeps all =
     let first = first_kinds plan lines keeps in
-    let begun = All-weaker (IsCorrectResult plan budget lines) (HasBegun lines) (λ one so. has_begun plan budget lines one keeps so) reported all.reported in
+    let begun = All-weaker (IsCorrectResult plan lines) (HasBegun lines) (λ one so. has_begun plan lines one keeps so) reported all.reported in
     record { kinds = with_all reported first.kinds; so = reported_all plan lines [] reported first.kinds first.so begun all.once }

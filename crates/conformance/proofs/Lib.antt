@@ -1,15 +1,17 @@
-pub mod StepAnswers
+pub mod OpenCounts
+pub mod Walks
+pub mod OpenJobs
+pub mod Rows
+pub mod BodyGets
+pub mod Candidates
+pub mod WalkStates
 pub mod WalkSteps
-pub mod SubmitPlaces
-pub mod ChoiceFromWalk
-pub mod WalkFromChoice
-pub mod Prefix
-pub mod SearchResults
-pub mod EnoughSteps
+pub mod WalkProgress
 mod WorkedPaths
 pub mod Names
 pub mod OneByOne
 pub mod Explained
+pub mod OneClassEach
 pub mod MatchedBodies
 pub mod MatchedClasses
 pub mod MatchedKinds
@@ -30,7 +32,7 @@ pub mod BegunActors
 pub mod OtherActors
 pub mod RemovedActor
 pub mod AddsResults
-pub mod Enough
+pub mod AllClauses
 pub mod SubmitsOnce
 pub mod OneResult
 pub mod Progress
@@ -41,6 +43,7 @@ pub mod StateAfterLine
 pub mod ReturnedPath
 pub mod ActorSteps
 pub mod ClassifyRemaining
+pub mod NarrowerPaths
 pub mod Determined
 pub mod RemainingNumbers
 pub mod LineByLine
@@ -74,3 +77,4 @@ pub mod ExcessTrackerAfter
 pub mod CollectedLists
 pub mod Steps
 pub mod AllFound
+pub mod NoneUndecided

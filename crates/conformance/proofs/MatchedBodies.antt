@@ -8,12 +8,14 @@ use Rattle.std.proofs.lemmas.List.Kept.{AllPairs-from_increasing, IsStrictlyIncr
 use Rattle.std.proofs.lemmas.List.Quantifiers.{all_pairs_push}
 use Rattle.std.proofs.lemmas.List.Elements.{All-push, All-weaker, All-contains, Contains-append_left, Contains-push}
 use Rattle.job_bodies.specs.declared.action.Action.{Action}
+use Rattle.conformance.specs.declared.step.ActorKind.{ActorKind}
 use Rattle.conformance.specs.declared.step.PathStep.{PathStep}
 use Rattle.conformance.specs.declared.step.PathState.{PathState}
 use Rattle.conformance.specs.Path.{IsPathOf}
-use Rattle.conformance.specs.PathMatch.{IsExplained}
-use Rattle.conformance.specs.FamilyMatch.{IsMostExplained, IsEnoughFor}
+use Rattle.conformance.specs.PathMatch.{IsExplained, IsUnambiguous}
+use Rattle.conformance.specs.FamilyMatch.{IsMostExplained}
 use Rattle.conformance.specs.FamilyResult.{IsCorrectResult}
+use Rattle.conformance.proofs.OneClassEach.{one_class_each}
 use Rattle.conformance.proofs.Explained.{explained_fits, explained_deviates}
 
 -- ---- a prefix of a list
@@ -37,82 +39,87 @@ below_last xs y m pairs there =
 
 -- ---- body by body
 -- The number was matched, and the path matches its body.
-abbrev pub IsMember : (ℕ → List Action) → PathState → List PathStep → List ℕ → ℕ → Type 0
-IsMember body_of path_state path matched n = Contains matched n × IsPathOf path_state (body_of n) path
+abbrev pub IsMember : ActorKind → (ℕ → List Action) → PathState → List PathStep → List ℕ → ℕ → Type 0
+IsMember kind body_of path_state path matched n = Contains matched n × IsPathOf kind path_state (body_of n) path
+
+-- If each job of the path has one class of the body at most, and the path matches the body, the number is a member.
+abbrev pub IsSure : ActorKind → (ℕ → List Action) → PathState → List PathStep → List ℕ → ℕ → Type 0
+IsSure kind body_of path_state path members n = IsUnambiguous (body_of n) path → IsPathOf kind path_state (body_of n) path → Contains members n
 
 -- Members remain members after one more body.
-members_stay : (body_of : ℕ → List Action) (path_state : PathState) (path : List PathStep) (matched members : List ℕ) (n : ℕ) → All (IsMember body_of path_state path matched) members → All (IsMember body_of path_state path (matched ++ n ∷ [])) members
-members_stay body_of path_state path matched members n sound =
-    All-weaker (IsMember body_of path_state path matched) (IsMember body_of path_state path (matched ++ n ∷ [])) (λ m one. (Contains-append_left matched (n ∷ []) m one.0, one.1)) members sound
+members_stay : (kind : ActorKind) (body_of : ℕ → List Action) (path_state : PathState) (path : List PathStep) (matched members : List ℕ) (n : ℕ) → All (IsMember kind body_of path_state path matched) members → All (IsMember kind body_of path_state path (matched ++ n ∷ [])) members
+members_stay kind body_of path_state path matched members n sound =
+    All-weaker (IsMember kind body_of path_state path matched) (IsMember kind body_of path_state path (matched ++ n ∷ [])) (λ m one. (Contains-append_left matched (n ∷ []) m one.0, one.1)) members sound
 
 -- One more body.
 bodies_more : (body_of : ℕ → List Action) (matched : List ℕ) (n : ℕ) → map body_of (matched ++ n ∷ []) ≡ map body_of matched ++ body_of n ∷ []
 bodies_more body_of matched n = map-append body_of matched (n ∷ [])
 
-enough_front : (body_of : ℕ → List Action) (budget : ℕ) (matched : List ℕ) (n : ℕ) → All (IsEnoughFor budget) (map body_of (matched ++ n ∷ [])) → All (IsEnoughFor budget) (map body_of matched)
-enough_front body_of budget matched n enough = All-front (IsEnoughFor budget) (map body_of matched) (body_of n ∷ []) (subst (All (IsEnoughFor budget)) (bodies_more body_of matched n) enough)
-
-enough_last : (body_of : ℕ → List Action) (budget : ℕ) (matched : List ℕ) (n : ℕ) → All (IsEnoughFor budget) (map body_of (matched ++ n ∷ [])) → IsEnoughFor budget (body_of n)
-enough_last body_of budget matched n enough =
-    All-contains (IsEnoughFor budget) _ (body_of n) (subst (All (IsEnoughFor budget)) (bodies_more body_of matched n) enough) (Contains-push (map body_of matched) (body_of n))
-
 -- The path matches the next body.
-pub reported_fits : (body_of : ℕ → List Action) (path_state : PathState) (path : List PathStep) (budget : ℕ) (matched members : List ℕ) (longest : ℕ) (is_decided : Bool) (n : ℕ) → IsCorrectResult body_of path_state path budget matched members longest is_decided → IsPathOf path_state (body_of n) path
-    → IsCorrectResult body_of path_state path budget (matched ++ n ∷ []) (members ++ n ∷ []) (length path) is_decided
-reported_fits body_of path_state path budget matched members longest is_decided n reported of =
-    let P : ℕ → Type 0 = λ m. IsPathOf path_state (body_of m) path → Contains members m in
-    let Q : ℕ → Type 0 = λ m. IsPathOf path_state (body_of m) path → Contains (members ++ n ∷ []) m in
+pub reported_fits : (kind : ActorKind) (body_of : ℕ → List Action) (path_state : PathState) (path : List PathStep) (matched members : List ℕ) (longest : ℕ) (is_decided : Bool) (n : ℕ) → IsCorrectResult kind body_of path_state path matched members longest is_decided → IsPathOf kind path_state (body_of n) path
+    → IsCorrectResult kind body_of path_state path (matched ++ n ∷ []) (members ++ n ∷ []) (length path) is_decided
+reported_fits kind body_of path_state path matched members longest is_decided n reported of =
+    let P : ℕ → Type 0 = λ m. IsPathOf kind path_state (body_of m) path → Contains members m in
+    let Q : ℕ → Type 0 = λ m. IsPathOf kind path_state (body_of m) path → Contains (members ++ n ∷ []) m in
+    let R : ℕ → Type 0 = λ m. IsUnambiguous (body_of m) path → IsPathOf kind path_state (body_of m) path → Contains members m in
+    let S : ℕ → Type 0 = λ m. IsUnambiguous (body_of m) path → IsPathOf kind path_state (body_of m) path → Contains (members ++ n ∷ []) m in
     record {
-      sound = All-push (IsMember body_of path_state path (matched ++ n ∷ [])) members n (members_stay body_of path_state path matched members n reported.sound) (Contains-push matched n, of);
+      sound = All-push (IsMember kind body_of path_state path (matched ++ n ∷ [])) members n (members_stay kind body_of path_state path matched members n reported.sound) (Contains-push matched n, of);
       complete = λ all. All-push Q matched n (All-weaker P Q (λ m there one. Contains-append_left members (n ∷ []) m (there one)) matched (reported.complete all)) (λ _. Contains-push members n);
-      explained = λ all. subst (λ (bodies : List (List Action)). IsMostExplained bodies path (length path)) (sym (bodies_more body_of matched n)) (explained_fits path_state (map body_of matched) path (body_of n) of);
-      decided = λ enough. reported.decided (enough_front body_of budget matched n enough);
+      sure = All-push S matched n (All-weaker R S (λ m there only one. Contains-append_left members (n ∷ []) m (there only one)) matched reported.sure) (λ _ _. Contains-push members n);
+      explained = λ all. subst (λ (bodies : List (List Action)). IsMostExplained kind bodies path (length path)) (sym (bodies_more body_of matched n)) (explained_fits kind path_state (map body_of matched) path (body_of n) of);
+      decided = reported.decided;
+      few = omega (arith, reported.few, length-append members (n ∷ []), length-append matched (n ∷ []));
       ascending = λ pairs. all_pairs_push (λ l m. l < m) members n (reported.ascending (pairs_front matched n pairs)) (λ k d inside. below_last matched n (get_or members k d) pairs (reported.sound k d inside).0);
     }
 
 -- If the path does not match the next body, no member is missing.
-reported_not : (body_of : ℕ → List Action) (path_state : PathState) (path : List PathStep) (matched members : List ℕ) (n : ℕ) → All (λ m. IsPathOf path_state (body_of m) path → Contains members m) matched → ¬ IsPathOf path_state (body_of n) path
-    → All (λ m. IsPathOf path_state (body_of m) path → Contains members m) (matched ++ n ∷ [])
-reported_not body_of path_state path matched members n complete not_of =
-    All-push (λ m. IsPathOf path_state (body_of m) path → Contains members m) matched n complete (λ of. absurd (not_of of))
+reported_not : (kind : ActorKind) (body_of : ℕ → List Action) (path_state : PathState) (path : List PathStep) (matched members : List ℕ) (n : ℕ) → All (λ m. IsPathOf kind path_state (body_of m) path → Contains members m) matched → ¬ IsPathOf kind path_state (body_of n) path
+    → All (λ m. IsPathOf kind path_state (body_of m) path → Contains members m) (matched ++ n ∷ [])
+reported_not kind body_of path_state path matched members n complete not_of =
+    All-push (λ m. IsPathOf kind path_state (body_of m) path → Contains members m) matched n complete (λ of. absurd (not_of of))
 
 -- The path does not match the next body.
-pub reported_deviates : (body_of : ℕ → List Action) (path_state : PathState) (path : List PathStep) (budget : ℕ) (matched members : List ℕ) (longest : ℕ) (is_decided : Bool) (n explained : ℕ) → IsCorrectResult body_of path_state path budget matched members longest is_decided → ¬ IsPathOf path_state (body_of n) path → IsExplained (body_of n) path explained
-    → IsCorrectResult body_of path_state path budget (matched ++ n ∷ []) members (max longest explained) is_decided
-reported_deviates body_of path_state path budget matched members longest is_decided n explained reported not_of by = record {
-  sound = members_stay body_of path_state path matched members n reported.sound;
-  complete = λ all. reported_not body_of path_state path matched members n (reported.complete all) not_of;
-  explained = λ all. subst (λ (bodies : List (List Action)). IsMostExplained bodies path (max longest explained)) (sym (bodies_more body_of matched n)) (explained_deviates (map body_of matched) path (body_of n) longest explained (reported.explained all) by);
-  decided = λ enough. reported.decided (enough_front body_of budget matched n enough);
+pub reported_deviates : (kind : ActorKind) (body_of : ℕ → List Action) (path_state : PathState) (path : List PathStep) (matched members : List ℕ) (longest : ℕ) (is_decided : Bool) (n explained : ℕ) → IsCorrectResult kind body_of path_state path matched members longest is_decided → ¬ IsPathOf kind path_state (body_of n) path → IsExplained kind (body_of n) path explained
+    → IsCorrectResult kind body_of path_state path (matched ++ n ∷ []) members (max longest explained) is_decided
+reported_deviates kind body_of path_state path matched members longest is_decided n explained reported not_of by = record {
+  sound = members_stay kind body_of path_state path matched members n reported.sound;
+  complete = λ all. reported_not kind body_of path_state path matched members n (reported.complete all) not_of;
+  sure = All-push (IsSure kind body_of path_state path members) matched n reported.sure (λ only of. absurd (not_of of));
+  explained = λ all. subst (λ (bodies : List (List Action)). IsMostExplained kind bodies path (max longest explained)) (sym (bodies_more body_of matched n)) (explained_deviates kind (map body_of matched) path (body_of n) longest explained (reported.explained all) by);
+  decided = reported.decided;
+  few = omega (arith, reported.few, length-append matched (n ∷ []));
   ascending = λ pairs. reported.ascending (pairs_front matched n pairs);
 }
 
 -- It is undecided whether the path matches the next body.
-pub reported_undecided : (body_of : ℕ → List Action) (path_state : PathState) (path : List PathStep) (budget : ℕ) (matched members : List ℕ) (longest : ℕ) (is_decided : Bool) (n : ℕ) → IsCorrectResult body_of path_state path budget matched members longest is_decided → ¬ IsEnoughFor budget (body_of n)
-    → IsCorrectResult body_of path_state path budget (matched ++ n ∷ []) members longest false
-reported_undecided body_of path_state path budget matched members longest is_decided n reported short = record {
-  sound = members_stay body_of path_state path matched members n reported.sound;
+pub reported_undecided : (kind : ActorKind) (body_of : ℕ → List Action) (path_state : PathState) (path : List PathStep) (matched members : List ℕ) (longest : ℕ) (is_decided : Bool) (n : ℕ) → IsCorrectResult kind body_of path_state path matched members longest is_decided → ¬ IsUnambiguous (body_of n) path
+    → IsCorrectResult kind body_of path_state path (matched ++ n ∷ []) members longest false
+reported_undecided kind body_of path_state path matched members longest is_decided n reported several = record {
+  sound = members_stay kind body_of path_state path matched members n reported.sound;
   complete = λ all. cc;
+  sure = All-push (IsSure kind body_of path_state path members) matched n reported.sure (λ only of. absurd (several only));
   explained = λ all. cc;
-  decided = λ enough. absurd (short (enough_last body_of budget matched n enough));
+  decided = λ each. absurd (several (one_class_each (body_of n) path each));
+  few = omega (arith, reported.few, length-append matched (n ∷ []));
   ascending = λ pairs. reported.ascending (pairs_front matched n pairs);
 }
 
 -- ---- the whole family
 -- After the last body, all were matched.
-pub reported_whole : (body_of : ℕ → List Action) (path_state : PathState) (path : List PathStep) (budget : ℕ) (items family : List ℕ) (index : ℕ) (members : List ℕ) (longest : ℕ) (is_decided : Bool) → IsCorrectResult body_of path_state path budget (take index items) members longest is_decided → length items ≤ index → items ≡ family
-    → IsCorrectResult body_of path_state path budget family members longest is_decided
-reported_whole body_of path_state path budget items family index members longest is_decided reported over same =
-    subst (λ (matched : List ℕ). IsCorrectResult body_of path_state path budget matched members longest is_decided) (take_all index items over ∙ same) reported
+pub reported_whole : (kind : ActorKind) (body_of : ℕ → List Action) (path_state : PathState) (path : List PathStep) (items family : List ℕ) (index : ℕ) (members : List ℕ) (longest : ℕ) (is_decided : Bool) → IsCorrectResult kind body_of path_state path (take index items) members longest is_decided → length items ≤ index → items ≡ family
+    → IsCorrectResult kind body_of path_state path family members longest is_decided
+reported_whole kind body_of path_state path items family index members longest is_decided reported over same =
+    subst (λ (matched : List ℕ). IsCorrectResult kind body_of path_state path matched members longest is_decided) (take_all index items over ∙ same) reported
 
 -- Each entry of the family whose body the path matches is a member.
-pub reported_complete : (body_of : ℕ → List Action) (path_state : PathState) (path : List PathStep) (budget : ℕ) (family members : List ℕ) (longest : ℕ) (is_decided : Bool) → IsCorrectResult body_of path_state path budget family members longest is_decided → IsTrue is_decided → (n : ℕ) → Contains family n → IsPathOf path_state (body_of n) path → Contains members n
-reported_complete body_of path_state path budget family members longest is_decided reported all n among of =
-    All-contains (λ m. IsPathOf path_state (body_of m) path → Contains members m) family n (reported.complete all) among of
+pub reported_complete : (kind : ActorKind) (body_of : ℕ → List Action) (path_state : PathState) (path : List PathStep) (family members : List ℕ) (longest : ℕ) (is_decided : Bool) → IsCorrectResult kind body_of path_state path family members longest is_decided → IsTrue is_decided → (n : ℕ) → Contains family n → IsPathOf kind path_state (body_of n) path → Contains members n
+reported_complete kind body_of path_state path family members longest is_decided reported all n among of =
+    All-contains (λ m. IsPathOf kind path_state (body_of m) path → Contains members m) family n (reported.complete all) among of
 
 -- The members of an ascending family are in ascending order.
-pub reported_ascending : (body_of : ℕ → List Action) (path_state : PathState) (path : List PathStep) (budget : ℕ) (family members : List ℕ) (longest : ℕ) (is_decided : Bool) → IsCorrectResult body_of path_state path budget family members longest is_decided → IsStrictlyIncreasing family → IsStrictlyIncreasing members
-reported_ascending body_of path_state path budget family members longest is_decided reported up k inside =
+pub reported_ascending : (kind : ActorKind) (body_of : ℕ → List Action) (path_state : PathState) (path : List PathStep) (family members : List ℕ) (longest : ℕ) (is_decided : Bool) → IsCorrectResult kind body_of path_state path family members longest is_decided → IsStrictlyIncreasing family → IsStrictlyIncreasing members
+reported_ascending kind body_of path_state path family members longest is_decided reported up k inside =
     reported.ascending (AllPairs-from_increasing family up) k (k + 1) 0 (omega arith) inside
 
 -- A filtered range is in ascending order.
@@ -120,3 +127,7 @@ pub range_ascends : (test : ℕ → Bool) (count : ℕ) → IsStrictlyIncreasing
 range_ascends test count = IsStrictlyIncreasing-filter test (range_with_len 0 count) (λ k inside.
     let long : length (range_with_len 0 count) ≡ count = length-range_with_len 0 count in
     omega (arith, get_or-range_with_len 0 count k 0 (omega arith), get_or-range_with_len 0 count (k + 1) 0 (omega arith)))
+
+-- Each entry of the family of which each job of the path has one class at most, and whose body the path matches, is a member.
+pub reported_sure : (kind : ActorKind) (body_of : ℕ → List Action) (path_state : PathState) (path : List PathStep) (family members : List ℕ) (longest : ℕ) (is_decided : Bool) → IsCorrectResult kind body_of path_state path family members longest is_decided → (n : ℕ) → Contains family n → IsSure kind body_of path_state path members n
+reported_sure kind body_of path_state path family members longest is_decided reported n among = All-contains (IsSure kind body_of path_state path members) family n reported.sure among

@@ -16,11 +16,11 @@ use Rattle.conformance.specs.FamilyMatch.{IsClassOf, IsKindOf, AreExactly}
 use Rattle.conformance.specs.declared.actor_path.ActorPath.{ActorPath}
 use Rattle.conformance.specs.declared.job_classes.ClassTable.{ClassTable}
 use Rattle.conformance.specs.declared.classified_actor.ClassifiedActor.{ClassifiedActor}
-use Rattle.conformance.specs.PlanBudget.{IsEnoughForPlan}
+use Rattle.conformance.specs.Family.{HasNoFamilies}
 use Rattle.conformance.specs.PathState.{path_state_of}
 use Rattle.conformance.specs.Label.{HasLabel}
 use Rattle.conformance.specs.Classes.{by_path, AreStepsOf}
-use Rattle.conformance.specs.ActorTables.{AreClassesIn, AreDecidedIn, AreAllIn, AreOnce}
+use Rattle.conformance.specs.ActorTables.{AreClassesIn, AreUnambiguousIn, AreAllIn, AreOnce}
 use Rattle.conformance.specs.RemainingActors.{IsActorPathOf}
 use Rattle.conformance.specs.ClassifiedActor.{CanBe, IsCorrectResult}
 use Rattle.conformance.specs.ClassificationResults.{AreMembersOf, AddsResult, classified_as}
@@ -38,14 +38,14 @@ can_be_by plan lines (Round round) label pool path_state steps members named is 
   exact = subst (λ (c : PathState). AreExactly (IsKindOf plan label c steps) members) is are;
 }
 
-module _ (plan : Plan) (budget : ℕ) (lines : List RecordedLine) (actor : RecordedActor) (submitter : Option RecordedActor) (label pool : String Global) (actor_path : ActorPath) (before later : ClassTable) (old new : List ClassifiedActor)
-    (t : AddsResult plan budget actor submitter label pool actor_path before later old new) (d : IsActorPathOf lines actor actor_path) (named : HasLabel lines actor (string_bytes label) (string_bytes pool)) (keeps : KeepsRules lines) (classes : AreClassesIn plan lines before) where
+module _ (plan : Plan) (lines : List RecordedLine) (actor : RecordedActor) (submitter : Option RecordedActor) (label pool : String Global) (actor_path : ActorPath) (before later : ClassTable) (old new : List ClassifiedActor)
+    (t : AddsResult plan actor submitter label pool actor_path before later old new) (d : IsActorPathOf lines actor actor_path) (named : HasLabel lines actor (string_bytes label) (string_bytes pool)) (keeps : KeepsRules lines) (classes : AreClassesIn plan lines before) where
   pub can_be_reported : t.family.is_decided ≡ true → CanBe plan lines actor t.family.members.items
   can_be_reported decided =
       let f = t.right lines classes decided in
       can_be_by plan lines actor (string_bytes label) (string_bytes pool) actor_path.path_state f.steps t.family.members.items named d.path_state (subst (λ (path : List RecordedStep). AreStepsOf plan lines path f.steps) d.path f.path) f.members
 
-  pub reported_one : (IsEnoughForPlan budget plan → AreDecidedIn before) → AreAllIn before actor_path.path.items → IsCorrectResult plan budget lines (classified_as actor label pool actor_path t.family)
+  pub reported_one : (HasNoFamilies plan → AreUnambiguousIn before) → AreAllIn before actor_path.path.items → IsCorrectResult plan lines (classified_as actor label pool actor_path t.family)
   reported_one decided all = record {
     label = named;
     path = d.path;
@@ -54,5 +54,5 @@ module _ (plan : Plan) (budget : ℕ) (lines : List RecordedLine) (actor : Recor
     explained = λ is.
         let f = t.right lines classes is in
         record { steps = f.steps; path = subst (λ (path : List RecordedStep). AreStepsOf plan lines path f.steps) d.path f.path; most = f.explained };
-    decided = λ enough. t.decided enough (decided enough) all (subst AreOnce (sym d.path) (path_once lines actor keeps));
+    decided = λ enough. t.decided (decided enough) all (subst AreOnce (sym d.path) (path_once lines actor keeps));
   }

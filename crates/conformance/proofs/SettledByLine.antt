@@ -1,5 +1,5 @@
 -- The actors that become settled with a line.
-use Rattle.std.proofs.Common.{◌≡◌, ◌⊎◌, ℕ, true, List, [], ◌∷◌, ◌++◌, is_some, None, sym, ◌∙◌, inl, inr}
+use Rattle.std.proofs.Common.{◌≡◌, ◌⊎◌, true, List, [], ◌∷◌, ◌++◌, is_some, None, sym, ◌∙◌, inl, inr}
 use Rattle.std.specs.List.{list_any}
 use Rattle.std.proofs.lemmas.List.Elements.{All-weaker}
 use Rattle.recordings.specs.declared.recording_line.RecordedActor.{RecordedActor}
@@ -44,13 +44,13 @@ reported_or_kept : (new : ActorTable) (more : List ClassifiedActor) (one : Recor
 reported_or_kept new more one gone (inl h) = none_some (in_table new one) gone h
 reported_or_kept new more one gone (inr h) = inr h
 
-pub tells_settled : (plan : Plan) (budget : ℕ) (before : List RecordedLine) (line : RecordedLine) (waits : EndedPath) (old mid new : ActorTable) (known last : ClassTable) (x y : List ClassifiedActor) → KeepsRules (before ++ line ∷ []) → AreTablesOf plan before old known None → AppliedLine line waits old mid → AreTablesOf plan (before ++ line ∷ []) new last None
-    → AddsResults (IsSettledResult plan budget (before ++ line ∷ [])) mid new x y → AddsSettled plan budget before (before ++ line ∷ []) x y
-tells_settled plan budget before line waits old mid new known last x y keeps kept f then_kept p = record {
+pub tells_settled : (plan : Plan) (before : List RecordedLine) (line : RecordedLine) (waits : EndedPath) (old mid new : ActorTable) (known last : ClassTable) (x y : List ClassifiedActor) → KeepsRules (before ++ line ∷ []) → AreTablesOf plan before old known None → AppliedLine line waits old mid → AreTablesOf plan (before ++ line ∷ []) new last None
+    → AddsResults (IsSettledResult plan (before ++ line ∷ [])) mid new x y → AddsSettled plan before (before ++ line ∷ []) x y
+tells_settled plan before line waits old mid new known last x y keeps kept f then_kept p = record {
   more = p.more;
   after = p.after;
-  reported = All-weaker (IsSettledResult plan budget (before ++ line ∷ [])) (IsCorrectResult plan budget (before ++ line ∷ [])) (λ t h. h.reported) p.more p.reported;
-  settled = All-weaker (IsSettledResult plan budget (before ++ line ∷ [])) (λ (t : ClassifiedActor). IsSettled (before ++ line ∷ []) t.actor) (λ t h. h.settled) p.more p.reported;
+  reported = All-weaker (IsSettledResult plan (before ++ line ∷ [])) (IsCorrectResult plan (before ++ line ∷ [])) (λ t h. h.reported) p.more p.reported;
+  settled = All-weaker (IsSettledResult plan (before ++ line ∷ [])) (λ (t : ClassifiedActor). IsSettled (before ++ line ∷ []) t.actor) (λ t h. h.settled) p.more p.reported;
   unsettled = All-weaker (λ (t : ClassifiedActor). is_some (in_table mid t.actor) ≡ true) (λ (t : ClassifiedActor). IsSettled before t.actor → ⊥) (λ t h. not_before plan before line waits old mid known keeps kept f t.actor h) p.more p.kept;
   once = p.once;
   each = λ one is. by_bool (is_some (in_table mid one))

@@ -1,5 +1,5 @@
 -- The state after a line.
-use Rattle.std.proofs.Common.{◌≡◌, ℕ, true, List, [], ◌∷◌, ◌++◌, Option, Some, None, sym, subst, ◌∙◌}
+use Rattle.std.proofs.Common.{◌≡◌, true, List, [], ◌∷◌, ◌++◌, Option, Some, None, sym, subst, ◌∙◌}
 use Rattle.recordings.specs.declared.recording_line.RecordedActor.{RecordedActor}
 use Rattle.recordings.specs.RecordingLine.{RecordedLine}
 use Rattle.recordings.specs.Path.{path_of}
@@ -12,8 +12,6 @@ use Rattle.conformance.specs.declared.actor_classifier.ActorClassifier.{ActorCla
 use Rattle.conformance.specs.declared.classified_actor.ClassifiedActor.{ClassifiedActor}
 use Rattle.recordings.specs.LastLine.{ended_by}
 use Rattle.conformance.specs.Changes.{ChangesTable}
-use Rattle.conformance.specs.PlanBudget.{IsEnoughForPlan}
-use Rattle.conformance.specs.ActorTables.{AreDecidedIn}
 use Rattle.conformance.specs.ClassifiedActor.{AddsSettled}
 use Rattle.conformance.specs.Represents.{AreTablesOf, IsClassifierOf}
 use Rattle.conformance.specs.ClassificationResults.{IsStep}
@@ -29,16 +27,14 @@ kept_line plan before line waits old new known last ended keeps kept changed sam
     (subst (λ (table : ClassTable). AreTablesOf plan (before ++ line ∷ []) new table (ended_by line)) (sym same)
     (kept_after plan before line waits old new known keeps kept (follows line waits old new changed) (λ one ends. path one (is ∙ ended_is one line ends) (ended_live before line one keeps ends)) begins))
 
-pub represents : (plan : Plan) (budget given : ℕ) (classes : ActorClassifier) (lines : List RecordedLine) (before : ActorTable) (old new : List ClassifiedActor) → classes.budget ≡ budget → given ≡ budget → IsPathsOf classes.paths lines → IsStep plan given lines before classes.actors classes.known None old new → IsClassifierOf plan budget classes lines
-represents plan budget given classes lines before old new has is paths step = record {
-  has_budget = has;
+pub represents : (plan : Plan) (classes : ActorClassifier) (lines : List RecordedLine) (before : ActorTable) (old new : List ClassifiedActor) → IsPathsOf classes.paths lines → IsStep plan lines before classes.actors classes.known None old new → IsClassifierOf plan classes lines
+represents plan classes lines before old new paths step = record {
   paths = paths;
   kept = step.kept;
-  decided = subst (λ (b : ℕ). IsEnoughForPlan b plan → AreDecidedIn classes.known) is step.decided;
+  decided = step.decided;
 }
 
-pub tells_line : (plan : Plan) (budget given : ℕ) (before : List RecordedLine) (line : RecordedLine) (waits : EndedPath) (old mid new : ActorTable) (known last : ClassTable) (x y : List ClassifiedActor) → given ≡ budget → KeepsRules (before ++ line ∷ []) → AreTablesOf plan before old known None → ChangesTable old line waits mid
-    → IsStep plan given (before ++ line ∷ []) mid new last None x y → AddsSettled plan budget before (before ++ line ∷ []) x y
-tells_line plan budget given before line waits old mid new known last x y is keeps kept changed step =
-    let its : IsStep plan budget (before ++ line ∷ []) mid new last None x y = subst (λ (b : ℕ). IsStep plan b (before ++ line ∷ []) mid new last None x y) is step in
-    tells_settled plan budget before line waits old mid new known last x y keeps kept (follows line waits old mid changed) its.kept its.tells
+pub tells_line : (plan : Plan) (before : List RecordedLine) (line : RecordedLine) (waits : EndedPath) (old mid new : ActorTable) (known last : ClassTable) (x y : List ClassifiedActor) → KeepsRules (before ++ line ∷ []) → AreTablesOf plan before old known None → ChangesTable old line waits mid
+    → IsStep plan (before ++ line ∷ []) mid new last None x y → AddsSettled plan before (before ++ line ∷ []) x y
+tells_line plan before line waits old mid new known last x y keeps kept changed step =
+    tells_settled plan before line waits old mid new known last x y keeps kept (follows line waits old mid changed) step.kept step.tells

@@ -1,47 +1,46 @@
 -- The description of a step.
-use Rattle.std.proofs.Common.{◌≡◌, ◌≤◌, ◌-◌, ℕ, zero, suc, Bool, true, false, List, Option, Some, None, ap, sym, subst, ◌∙◌, string_bytes, arith}
-use Rattle.std.specs.declared.alloc.Global.{Global}
-use Rattle.std.specs.declared.string.String.{String}
+use Rattle.std.proofs.Common.{◌≡◌, ◌≤◌, ◌-◌, ℕ, zero, suc, Bool, List, Option, Some, None, ap, sym, subst, ◌∙◌, string_bytes, arith}
+use Rattle.job_bodies.specs.Plan.{Plan}
 use Rattle.recordings.specs.declared.step.RecordedStep.{RecordedStep}
 use Rattle.recordings.specs.RecordingLine.{RecordedLine}
-use Rattle.recordings.specs.declared.recording_line.RecordedActor.TheVariants.{Job}
+use Rattle.conformance.specs.declared.actor_label.ActorLabel.{ActorLabel}
 use Rattle.conformance.specs.declared.describe_mismatch.JobStep.{JobStep}
 use Rattle.conformance.specs.declared.describe_mismatch.JobStep.TheVariants as step
 use Rattle.conformance.specs.declared.mismatch.NamedStep.{NamedStep}
 use Rattle.conformance.specs.declared.mismatch.NamedStep.TheVariants as named
+use Rattle.conformance.specs.declared.mismatch.DeviatingStep.{DeviatingStep}
 use Rattle.conformance.specs.declared.mismatch.DeviatingStep.TheVariants as mismatch
 use Rattle.conformance.specs.Description as spec
-use Rattle.conformance.specs.LineQuery.{IsLabelOf}
+use Rattle.conformance.specs.Verdicts.{is_planned_class}
 
 -- ---- a step with its class
 pub named_none : (lines : List RecordedLine) (did : Option JobStep) → did ≡ None → spec.IsNamed lines did None
 named_none lines did is = subst (λ (d : Option JobStep). spec.IsNamed lines d None) (sym is) spec.nothing
 
-pub named_submit : (lines : List RecordedLine) (did : Option JobStep) (one : JobStep) (job : ℕ) (class : String Global) → did ≡ Some one → one ≡ step.Submits job → IsLabelOf lines (Job job) (string_bytes class) → spec.IsNamed lines did (Some (named.Submits class))
-named_submit lines did one job class is one_is label =
-    subst (λ (d : Option JobStep). spec.IsNamed lines d (Some (named.Submits class))) (sym (is ∙ ap Some one_is)) (spec.something (step.Submits job) (named.Submits class) (spec.submitted job class label))
+pub named_submit : (lines : List RecordedLine) (did : Option JobStep) (one : JobStep) (job : ℕ) (label : ActorLabel) → did ≡ Some one → one ≡ step.Submits job → spec.IsLabelOfJob lines job label → spec.IsNamed lines did (Some (named.Submits label.name))
+named_submit lines did one job label is one_is so =
+    subst (λ (d : Option JobStep). spec.IsNamed lines d (Some (named.Submits label.name))) (sym (is ∙ ap Some one_is)) (spec.something (step.Submits job) (named.Submits label.name) (spec.submitted job label.name (string_bytes label.pool) so))
 
-pub named_get : (lines : List RecordedLine) (did : Option JobStep) (one : JobStep) (job : ℕ) (class : String Global) → did ≡ Some one → one ≡ step.Gets job → IsLabelOf lines (Job job) (string_bytes class) → spec.IsNamed lines did (Some (named.Gets class))
-named_get lines did one job class is one_is label = subst (λ (d : Option JobStep). spec.IsNamed lines d (Some (named.Gets class))) (sym (is ∙ ap Some one_is)) (spec.something (step.Gets job) (named.Gets class) (spec.got job class label))
+pub named_get : (lines : List RecordedLine) (did : Option JobStep) (one : JobStep) (job : ℕ) (label : ActorLabel) → did ≡ Some one → one ≡ step.Gets job → spec.IsLabelOfJob lines job label → spec.IsNamed lines did (Some (named.Gets label.name))
+named_get lines did one job label is one_is so =
+    subst (λ (d : Option JobStep). spec.IsNamed lines d (Some (named.Gets label.name))) (sym (is ∙ ap Some one_is)) (spec.something (step.Gets job) (named.Gets label.name) (spec.got job label.name (string_bytes label.pool) so))
 
 -- ---- the first deviating step
-pub mismatch_end : (lines : List RecordedLine) (is_classless : ℕ → Bool) (did : Option JobStep) → did ≡ None → spec.IsDeviatingStep lines is_classless did mismatch.Ends
-mismatch_end lines is_classless did is = subst (λ (d : Option JobStep). spec.IsDeviatingStep lines is_classless d mismatch.Ends) (sym is) spec.ends
+pub mismatch_end : (plan : Plan) (lines : List RecordedLine) (is_classless : ℕ → Bool) (path : List RecordedStep) (did : Option JobStep) (first : Option ℕ) (found : DeviatingStep) → did ≡ None → first ≡ spec.first_open path → spec.IsDeviatingEnd lines first found
+    → spec.IsDeviatingStep plan lines is_classless path did found
+mismatch_end plan lines is_classless path did first found is is_first so =
+    subst (λ (d : Option JobStep). spec.IsDeviatingStep plan lines is_classless path d found) (sym is) (spec.ends found (subst (λ (job : Option ℕ). spec.IsDeviatingEnd lines job found) is_first so))
 
-pub mismatch_cause : (lines : List RecordedLine) (is_classless : ℕ → Bool) (did : Option JobStep) (one : JobStep) (job : ℕ) (class : String Global) → did ≡ Some one → one ≡ step.Submits job → is_classless job ≡ true → IsLabelOf lines (Job job) (string_bytes class)
-    → spec.IsDeviatingStep lines is_classless did (mismatch.SubmitsMismatched job class)
-mismatch_cause lines is_classless did one job class is one_is none label =
-    subst (λ (d : Option JobStep). spec.IsDeviatingStep lines is_classless d (mismatch.SubmitsMismatched job class)) (sym (is ∙ ap Some one_is)) (spec.submits_mismatch job class none label)
+pub mismatch_submit : (plan : Plan) (lines : List RecordedLine) (is_classless : ℕ → Bool) (path : List RecordedStep) (did : Option JobStep) (one : JobStep) (job : ℕ) (label : ActorLabel) (found : DeviatingStep) → did ≡ Some one → one ≡ step.Submits job → spec.IsLabelOfJob lines job label
+    → found ≡ spec.deviating_submit (is_classless job) (is_planned_class plan (string_bytes label.name) (string_bytes label.pool)) job label → spec.IsDeviatingStep plan lines is_classless path did found
+mismatch_submit plan lines is_classless path did one job label found is one_is so found_is =
+    subst (λ (d : Option JobStep). spec.IsDeviatingStep plan lines is_classless path d found) (sym (is ∙ ap Some one_is))
+    (subst (spec.IsDeviatingStep plan lines is_classless path (Some (step.Submits job))) (sym found_is) (spec.submits job label so))
 
-pub mismatch_submit : (lines : List RecordedLine) (is_classless : ℕ → Bool) (did : Option JobStep) (one : JobStep) (job : ℕ) (class : String Global) → did ≡ Some one → one ≡ step.Submits job → is_classless job ≡ false → IsLabelOf lines (Job job) (string_bytes class)
-    → spec.IsDeviatingStep lines is_classless did (mismatch.PathStep (named.Submits class))
-mismatch_submit lines is_classless did one job class is one_is some label =
-    subst (λ (d : Option JobStep). spec.IsDeviatingStep lines is_classless d (mismatch.PathStep (named.Submits class))) (sym (is ∙ ap Some one_is)) (spec.submits job (named.Submits class) some (spec.submitted job class label))
-
-pub mismatch_get : (lines : List RecordedLine) (is_classless : ℕ → Bool) (did : Option JobStep) (one : JobStep) (job : ℕ) (class : String Global) → did ≡ Some one → one ≡ step.Gets job → IsLabelOf lines (Job job) (string_bytes class)
-    → spec.IsDeviatingStep lines is_classless did (mismatch.PathStep (named.Gets class))
-mismatch_get lines is_classless did one job class is one_is label =
-    subst (λ (d : Option JobStep). spec.IsDeviatingStep lines is_classless d (mismatch.PathStep (named.Gets class))) (sym (is ∙ ap Some one_is)) (spec.gets job (named.Gets class) (spec.got job class label))
+pub mismatch_get : (plan : Plan) (lines : List RecordedLine) (is_classless : ℕ → Bool) (path : List RecordedStep) (did : Option JobStep) (one : JobStep) (job : ℕ) (label : ActorLabel) → did ≡ Some one → one ≡ step.Gets job → spec.IsLabelOfJob lines job label
+    → spec.IsDeviatingStep plan lines is_classless path did (mismatch.Gets label)
+mismatch_get plan lines is_classless path did one job label is one_is so =
+    subst (λ (d : Option JobStep). spec.IsDeviatingStep plan lines is_classless path d (mismatch.Gets label)) (sym (is ∙ ap Some one_is)) (spec.gets job label so)
 
 -- ---- the step before
 pub after_begin_line : (lines : List RecordedLine) (path : List RecordedStep) (place : ℕ) (after : Option NamedStep) → (1 ≤ place → ⊥) → after ≡ None → spec.IsNamed lines (spec.step_before path place) after

@@ -1,5 +1,5 @@
 -- The tables of the unsettled actors, and of the settled jobs whose submitters are not settled.
-use Rattle.std.specs.Prelude.{◌≡◌, ◌<◌, ◌⊎◌, ℕ, not, Bool, true, false, List, length, take, slice_get, slice_index_or, string_bytes, if◌then◌else◌, is_some, IsTrue, Option, Some, None}
+use Rattle.std.specs.Prelude.{◌≡◌, ◌≤◌, ◌<◌, ◌⊎◌, ℕ, not, Bool, true, false, List, length, take, slice_get, slice_index_or, string_bytes, if◌then◌else◌, is_some, IsTrue, Option, Some, None}
 use Rattle.std.specs.List.{list_any}
 use Rattle.std.specs.Option.{option_map}
 use Rattle.support.specs.Numbered.{value_at}
@@ -59,9 +59,9 @@ pub record AreKnown (plan : Plan) (lines : List RecordedLine) (table : ClassTabl
   pub settled : (job : ℕ) (known : JobClasses) → classes_in table job ≡ Some known → IsSettled lines (Job job)
   pub classes : AreClassesIn plan lines table
 
--- The classes of each job of the table are decided.
-abbrev pub AreDecidedIn : ClassTable → Type 0
-AreDecidedIn table = (job : ℕ) (known : JobClasses) → classes_in table job ≡ Some known → IsTrue known.is_decided
+-- Each job of the table can belong to at most one class, and this is decided.
+abbrev pub AreUnambiguousIn : ClassTable → Type 0
+AreUnambiguousIn table = (job : ℕ) (known : JobClasses) → classes_in table job ≡ Some known → IsTrue known.is_decided × (length known.classes.items ≤ 1)
 
 -- Each job that the path submits is in the table.
 abbrev pub AreAllIn : ClassTable → List RecordedStep → Type 0

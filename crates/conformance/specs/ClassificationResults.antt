@@ -13,18 +13,18 @@ use Rattle.job_bodies.specs.Plan.{Plan}
 use Rattle.conformance.specs.declared.step.PathStep.{PathStep}
 use Rattle.conformance.specs.declared.step.PathState.{PathState}
 use Rattle.conformance.specs.declared.family_match.FamilyMatch.{FamilyMatch}
-use Rattle.conformance.specs.FamilyMatch.{IsClassOf, IsKindOf, AreExactly, IsMostExplained}
+use Rattle.conformance.specs.FamilyMatch.{IsClassOf, IsKindOf, AreExactly, IsMostExplained, AreOneClassEach}
 use Rattle.conformance.specs.declared.actor_table.ActorTable.{ActorTable}
 use Rattle.conformance.specs.declared.actor_table.UnsettledActor.{UnsettledActor}
 use Rattle.conformance.specs.declared.actor_table.EndedPath.{EndedPath}
 use Rattle.conformance.specs.declared.job_classes.ClassTable.{ClassTable}
 use Rattle.conformance.specs.declared.classified_actor.ClassifiedActor.{ClassifiedActor}
 use Rattle.conformance.specs.declared.actor_path.ActorPath.{ActorPath}
-use Rattle.conformance.specs.PlanBudget.{IsEnoughForPlan}
+use Rattle.conformance.specs.Family.{HasNoFamilies, class_family}
 use Rattle.conformance.specs.Classes.{AreStepsOf, IsSettled}
 use Rattle.conformance.specs.Represents.{AreTablesOf}
-use Rattle.conformance.specs.ClassifiedActor.{IsCorrectResult, IsOnceEach, bodies_of, is_reported}
-use Rattle.conformance.specs.ActorTables.{in_table, classes_in, AreClassesIn, AreDecidedIn, AreAllIn, AreOnce, ReplacesClasses, AreSettledBefore, IsUnsettledAt}
+use Rattle.conformance.specs.ClassifiedActor.{IsCorrectResult, IsOnceEach, actor_kind_of, bodies_of, is_reported}
+use Rattle.conformance.specs.ActorTables.{in_table, classes_in, AreClassesIn, AreUnambiguousIn, AreAllIn, AreOnce, ReplacesClasses, AreSettledBefore, IsUnsettledAt}
 
 -- The classes of a job or the kinds of a round, by its label and steps.
 abbrev pub AreMembersOf : Plan → RecordedActor → List ℕ → List ℕ → PathState → List PathStep → List ℕ → Type 0
@@ -32,10 +32,11 @@ AreMembersOf plan (Job job) label pool path_state steps members = AreExactly (Is
 AreMembersOf plan (Round round) label pool path_state steps members = AreExactly (IsKindOf plan label path_state steps) members
 
 -- The family is correct for the steps.
-pub record IsFamilyOf (plan : Plan) (budget : ℕ) (actor : RecordedActor) (label pool : List ℕ) (path_state : PathState) (steps : List PathStep) (family : FamilyMatch) : Type 0 where
+pub record IsFamilyOf (plan : Plan) (actor : RecordedActor) (label pool : List ℕ) (path_state : PathState) (steps : List PathStep) (family : FamilyMatch) : Type 0 where
   pub members : IsTrue family.is_decided → AreMembersOf plan actor label pool path_state steps family.members.items
-  pub explained : IsTrue family.is_decided → IsMostExplained (bodies_of plan actor label pool) steps family.explained
-  pub decided : IsEnoughForPlan budget plan → IsTrue family.is_decided
+  pub explained : IsTrue family.is_decided → IsMostExplained (actor_kind_of actor) (bodies_of plan actor label pool) steps family.explained
+  pub decided : AreOneClassEach steps → IsTrue family.is_decided
+  pub few : (job : ℕ) → actor ≡ Job job → length family.members.items ≤ length (class_family plan label pool)
   pub ascending : IsStrictlyIncreasing family.members.items
 
 -- The actor that may become settled next.
@@ -70,18 +71,19 @@ pub record IsFamilyBy (plan : Plan) (lines : List RecordedLine) (actor : Recorde
   pub steps : List PathStep
   pub path : AreStepsOf plan lines actor_path.path.items steps
   pub members : AreMembersOf plan actor label pool actor_path.path_state steps family.members.items
-  pub explained : IsMostExplained (bodies_of plan actor label pool) steps family.explained
+  pub explained : IsMostExplained (actor_kind_of actor) (bodies_of plan actor label pool) steps family.explained
 
 abbrev pub classified_as : RecordedActor → String Global → String Global → ActorPath → FamilyMatch → ClassifiedActor
 classified_as actor label pool actor_path family = record { actor = actor; label = label; pool = pool; path = actor_path.path; family = family }
 
 -- The list is extended by the result for this actor, and the table is updated.
-pub record AddsResult (plan : Plan) (budget : ℕ) (actor : RecordedActor) (submitter : Option RecordedActor) (label pool : String Global) (actor_path : ActorPath) (before later : ClassTable) (old new : List ClassifiedActor) : Type 0 where
+pub record AddsResult (plan : Plan) (actor : RecordedActor) (submitter : Option RecordedActor) (label pool : String Global) (actor_path : ActorPath) (before later : ClassTable) (old new : List ClassifiedActor) : Type 0 where
   pub family : FamilyMatch
   pub after : new ≡ old ++ classified_as actor label pool actor_path family ∷ []
   pub table : ReplacesClasses before actor_path.path.items actor submitter family.members.items family.is_decided later
   pub right : (lines : List RecordedLine) → AreClassesIn plan lines before → IsTrue family.is_decided → IsFamilyBy plan lines actor (string_bytes label) (string_bytes pool) actor_path family
-  pub decided : IsEnoughForPlan budget plan → AreDecidedIn before → AreAllIn before actor_path.path.items → AreOnce actor_path.path.items → IsTrue family.is_decided
+  pub decided : AreUnambiguousIn before → AreAllIn before actor_path.path.items → AreOnce actor_path.path.items → IsTrue family.is_decided
+  pub few : HasNoFamilies plan → (job : ℕ) → actor ≡ Job job → length family.members.items ≤ 1
   pub ascending : IsStrictlyIncreasing family.members.items
 
 -- ---- the results for several actors
@@ -97,12 +99,12 @@ pub record AddsResults (IsSo : ClassifiedActor → Type 0) (before later : Actor
   pub fewer : (actor : RecordedActor) → is_some (in_table later actor) ≡ true → is_some (in_table before actor) ≡ true
 
 -- The result for a settled actor is correct.
-pub record IsSettledResult (plan : Plan) (budget : ℕ) (lines : List RecordedLine) (one : ClassifiedActor) : Type 0 where
-  pub reported : IsCorrectResult plan budget lines one
+pub record IsSettledResult (plan : Plan) (lines : List RecordedLine) (one : ClassifiedActor) : Type 0 where
+  pub reported : IsCorrectResult plan lines one
   pub settled : IsSettled lines one.actor
 
 -- Some actors were classified and removed, and the tables have the others.
-pub record IsStep (plan : Plan) (budget : ℕ) (lines : List RecordedLine) (before later : ActorTable) (known : ClassTable) (next : Option RecordedActor) (old new : List ClassifiedActor) : Type 0 where
+pub record IsStep (plan : Plan) (lines : List RecordedLine) (before later : ActorTable) (known : ClassTable) (next : Option RecordedActor) (old new : List ClassifiedActor) : Type 0 where
   pub kept : AreTablesOf plan lines later known next
-  pub decided : IsEnoughForPlan budget plan → AreDecidedIn known
-  pub tells : AddsResults (IsSettledResult plan budget lines) before later old new
+  pub decided : HasNoFamilies plan → AreUnambiguousIn known
+  pub tells : AddsResults (IsSettledResult plan lines) before later old new

@@ -11,10 +11,12 @@ use Rattle.recordings.specs.LineSteps.{is_submitted}
 use Rattle.recordings.specs.Path.{path_of}
 use Rattle.job_bodies.specs.declared.action.Action.{Action}
 use Rattle.job_bodies.specs.Plan.{Plan}
+use Rattle.conformance.specs.declared.step.ActorKind.{ActorKind}
+use Rattle.conformance.specs.declared.step.ActorKind.TheVariants as actor_kind
 use Rattle.conformance.specs.declared.step.PathStep.{PathStep}
 use Rattle.conformance.specs.FamilyMatch.{IsMostExplained, class_bodies, client_bodies}
 use Rattle.conformance.specs.declared.classified_actor.ClassifiedActor.{ClassifiedActor}
-use Rattle.conformance.specs.PlanBudget.{IsEnoughForPlan}
+use Rattle.conformance.specs.Family.{HasNoFamilies}
 use Rattle.conformance.specs.Label.{HasLabel}
 use Rattle.conformance.specs.Classes.{AreClassesOf, AreStepsOf, AreKindsOf, IsSettled}
 
@@ -23,6 +25,10 @@ use Rattle.conformance.specs.Classes.{AreClassesOf, AreStepsOf, AreKindsOf, IsSe
 abbrev pub CanBe : Plan → List RecordedLine → RecordedActor → List ℕ → Type 0
 CanBe plan lines (Job job) classes = AreClassesOf plan lines job classes
 CanBe plan lines (Round round) kinds = AreKindsOf plan lines round kinds
+
+abbrev pub actor_kind_of : RecordedActor → ActorKind
+actor_kind_of (Job job) = actor_kind.Job
+actor_kind_of (Round round) = actor_kind.Round
 
 -- The bodies of the family of a job or a round.
 abbrev pub bodies_of : Plan → RecordedActor → List ℕ → List ℕ → List (List Action)
@@ -34,16 +40,16 @@ bodies_of plan (Round round) label pool = client_bodies plan label
 pub record IsExplained (plan : Plan) (lines : List RecordedLine) (reported : ClassifiedActor) : Type 0 where
   pub steps : List PathStep
   pub path : AreStepsOf plan lines (path_of lines reported.actor) steps
-  pub most : IsMostExplained (bodies_of plan reported.actor (string_bytes reported.label) (string_bytes reported.pool)) steps reported.family.explained
+  pub most : IsMostExplained (actor_kind_of reported.actor) (bodies_of plan reported.actor (string_bytes reported.label) (string_bytes reported.pool)) steps reported.family.explained
 
 -- The result is correct for these lines, whether the actor is settled or not.
-pub record IsCorrectResult (plan : Plan) (budget : ℕ) (lines : List RecordedLine) (reported : ClassifiedActor) : Type 0 where
+pub record IsCorrectResult (plan : Plan) (lines : List RecordedLine) (reported : ClassifiedActor) : Type 0 where
   pub label : HasLabel lines reported.actor (string_bytes reported.label) (string_bytes reported.pool)
   pub path : reported.path.items ≡ path_of lines reported.actor
   pub members : IsTrue reported.family.is_decided → CanBe plan lines reported.actor reported.family.members.items
   pub ascending : IsStrictlyIncreasing reported.family.members.items
   pub explained : IsTrue reported.family.is_decided → IsExplained plan lines reported
-  pub decided : IsEnoughForPlan budget plan → IsTrue reported.family.is_decided
+  pub decided : HasNoFamilies plan → IsTrue reported.family.is_decided
 
 -- ---- all actors
 abbrev pub is_reported : RecordedActor → ClassifiedActor → Bool
@@ -54,8 +60,8 @@ abbrev pub IsOnceEach : List ClassifiedActor → Type 0
 IsOnceEach reported = (actor : RecordedActor) → count_by (is_reported actor) reported ≤ 1
 
 -- The results for all settled actors, and no others.
-pub record AreResultsSoFarOf (plan : Plan) (budget : ℕ) (lines : List RecordedLine) (all : List ClassifiedActor) : Type 0 where
-  pub reported : All (IsCorrectResult plan budget lines) all
+pub record AreResultsSoFarOf (plan : Plan) (lines : List RecordedLine) (all : List ClassifiedActor) : Type 0 where
+  pub reported : All (IsCorrectResult plan lines) all
   pub once : IsOnceEach all
   pub settled : (actor : RecordedActor) → (list_any (is_reported actor) all ≡ true) ↔ IsSettled lines actor
 
@@ -65,17 +71,17 @@ is_recorded lines (Job job) = is_submitted lines job
 is_recorded lines (Round round) = is_begun lines round
 
 -- The results at the end of the lines: one for each job that was submitted and each round that began, and no others.
-pub record AreAllResultsOf (plan : Plan) (budget : ℕ) (lines : List RecordedLine) (all : List ClassifiedActor) : Type 0 where
-  pub reported : All (IsCorrectResult plan budget lines) all
+pub record AreAllResultsOf (plan : Plan) (lines : List RecordedLine) (all : List ClassifiedActor) : Type 0 where
+  pub reported : All (IsCorrectResult plan lines) all
   pub once : IsOnceEach all
   pub each : (actor : RecordedActor) → list_any (is_reported actor) all ≡ is_recorded lines actor
 
 -- ---- one more line
 -- The list is extended by the results for all actors that become settled with the last line.
-pub record AddsSettled (plan : Plan) (budget : ℕ) (before later : List RecordedLine) (old new : List ClassifiedActor) : Type 0 where
+pub record AddsSettled (plan : Plan) (before later : List RecordedLine) (old new : List ClassifiedActor) : Type 0 where
   pub more : List ClassifiedActor
   pub after : new ≡ old ++ more
-  pub reported : All (IsCorrectResult plan budget later) more
+  pub reported : All (IsCorrectResult plan later) more
   pub settled : All (λ reported. IsSettled later reported.actor) more
   pub unsettled : All (λ reported. ¬ IsSettled before reported.actor) more
   pub once : IsOnceEach more

@@ -1,11 +1,12 @@
 -- All findings, collected from the parts of a survey.
 use Rattle.std.specs.Prelude.{◌≡◌, ◌++◌, ℕ, Bool, true, false, List, [], ◌∷◌, map, filter, string_bytes, Option, Some, None}
 use Rattle.std.specs.List.{AllZip}
-use Rattle.std.specs.declared.alloc.Global.{Global}
-use Rattle.std.specs.declared.string.String.{String}
+use Rattle.job_bodies.specs.Plan.{Plan}
+use Rattle.recordings.specs.declared.recording_line.RecordedActor.TheVariants.{Job}
 use Rattle.recordings.specs.RecordingLine.{RecordedLine}
 use Rattle.conformance.specs.declared.pool_comparison.PoolDeviation.{PoolDeviation}
 use Rattle.conformance.specs.declared.round_comparison.RoundExcess.{RoundExcess}
+use Rattle.conformance.specs.declared.actor_label.ActorLabel.{ActorLabel}
 use Rattle.conformance.specs.declared.classified_actor.ClassifiedActor.{ClassifiedActor}
 use Rattle.recordings.specs.declared.foreign_get.ForeignGet.{ForeignGet}
 use Rattle.recordings.specs.declared.invalidation.Invalidation.{Invalidation}
@@ -19,9 +20,10 @@ use Rattle.conformance.specs.declared.mismatch.PathMismatch.{PathMismatch}
 use Rattle.conformance.specs.declared.survey.Survey.{Survey}
 use Rattle.conformance.specs.declared.unplanned.NotPlanned.{NotPlanned}
 use Rattle.conformance.specs.declared.verdicts.Verdicts.{Verdicts}
-use Rattle.conformance.specs.Description.{IsDescriptionOf}
+use Rattle.conformance.specs.Description.{IsDescriptionOf, IsLabelOfJob}
 use Rattle.conformance.specs.JobSet.{has_job}
-use Rattle.conformance.specs.LineQuery.{IsLabelOf}
+use Rattle.conformance.specs.LineQuery.{IsLabelOf, IsPoolOf}
+use Rattle.conformance.specs.declared.line_query.LineQuery.TheVariants as line_query
 
 -- The list is extended by elements that satisfy `IsSo`.
 pub record Adds (old : List Finding) (IsSo : List Finding → Type 0) (new : List Finding) : Type 0 where
@@ -30,19 +32,20 @@ pub record Adds (old : List Finding) (IsSo : List Finding → Type 0) (new : Lis
   pub so : IsSo more
 
 -- ---- actors
-pub data IsMismatchFinding (lines : List RecordedLine) (is_classless : ℕ → Bool) (reported : ClassifiedActor) : Finding → Type 0 where
-  mismatches : (number : Option ℕ) (mismatch : PathMismatch) → IsDescriptionOf lines is_classless reported number mismatch → IsMismatchFinding lines is_classless reported (finding.PathMismatch number mismatch)
+pub data IsMismatchFinding (plan : Plan) (lines : List RecordedLine) (is_classless : ℕ → Bool) (reported : ClassifiedActor) : Finding → Type 0 where
+  mismatches : (number : Option ℕ) (mismatch : PathMismatch) → IsDescriptionOf plan lines is_classless reported number mismatch → IsMismatchFinding plan lines is_classless reported (finding.PathMismatch number mismatch)
 
-abbrev pub AreMismatchesOf : List RecordedLine → (ℕ → Bool) → List ClassifiedActor → List Finding → Type 0
-AreMismatchesOf lines is_classless reported found = AllZip (IsMismatchFinding lines is_classless) reported found
+abbrev pub AreMismatchesOf : Plan → List RecordedLine → (ℕ → Bool) → List ClassifiedActor → List Finding → Type 0
+AreMismatchesOf plan lines is_classless reported found = AllZip (IsMismatchFinding plan lines is_classless) reported found
 
 abbrev pub not_decided : ClassifiedActor → Finding
-not_decided reported = finding.NotDecided reported.actor reported.label
+not_decided reported = finding.NotDecided reported.actor (record { name = reported.label; pool = reported.pool })
 
 -- ---- notes
 pub data AreForeign (lines : List RecordedLine) : Option ForeignGet → List Finding → Type 0 where
   none : AreForeign lines None []
-  one : (get : ForeignGet) (label : String Global) → IsLabelOf lines get.actor (string_bytes label) → AreForeign lines (Some get) (finding.ForeignGet get label ∷ [])
+  one : (get : ForeignGet) (label job : ActorLabel) → IsLabelOf lines get.actor (string_bytes label.name) (string_bytes label.pool) → IsLabelOfJob lines get.job job
+      → AreForeign lines (Some get) (finding.ForeignGet get label job ∷ [])
 
 -- The event invalidates the result even if the actor's path matches a body.
 abbrev pub is_path_independent_event : InvalidatingEvent → Bool
@@ -53,28 +56,50 @@ is_path_independent_event event = true
 abbrev pub is_path_independent : Invalidation → Bool
 is_path_independent invalidation = is_path_independent_event invalidation.event
 
+-- The class and the pool of the job of the event. For a call of `invokeAny`, the label of the actor and the pool of the call; for
+-- jobs without lines, their pool alone.
+abbrev pub IsSubject : List RecordedLine → InvalidatingEvent → List ℕ → List ℕ → Type 0
+IsSubject lines (event.Refused actor job) name pool = IsLabelOf lines (Job job) name pool
+IsSubject lines (event.TimedOut actor job) name pool = IsLabelOf lines (Job job) name pool
+IsSubject lines (event.Interrupted actor job) name pool = IsLabelOf lines (Job job) name pool
+IsSubject lines (event.Cancelled actor job) name pool = IsLabelOf lines (Job job) name pool
+IsSubject lines (event.Removed job) name pool = IsLabelOf lines (Job job) name pool
+IsSubject lines (event.Threw job) name pool = IsLabelOf lines (Job job) name pool
+IsSubject lines (event.AnyInvoked actor) name pool = (own : List ℕ) × IsLabelOf lines actor name own × IsPoolOf lines line_query.InvokesAny pool
+IsSubject lines (event.Unseen jobs) name pool = (name ≡ []) × IsPoolOf lines line_query.Unseen pool
+
+pub data IsInvalidationFinding (lines : List RecordedLine) (invalidation : Invalidation) : Finding → Type 0 where
+  invalidates : (label : ActorLabel) → IsSubject lines invalidation.event (string_bytes label.name) (string_bytes label.pool) → IsInvalidationFinding lines invalidation (finding.Invalidation invalidation label)
+
+abbrev pub AreInvalidationsOf : List RecordedLine → List Invalidation → List Finding → Type 0
+AreInvalidationsOf lines invalidations found = AllZip (IsInvalidationFinding lines) invalidations found
+
 -- ---- all
 -- The list is extended by the actors whose path matches no body, and by those for which this is undecided.
-pub record AddsActorSurvey (lines : List RecordedLine) (verdicts : Verdicts) (old new : List Finding) : Type 0 where
+pub record AddsActorSurvey (plan : Plan) (lines : List RecordedLine) (verdicts : Verdicts) (old new : List Finding) : Type 0 where
   pub mismatches : List Finding
-  pub mismatches_so : AreMismatchesOf lines (has_job verdicts.classless) verdicts.mismatches.actors.items mismatches
+  pub mismatches_so : AreMismatchesOf plan lines (has_job verdicts.classless) verdicts.mismatches.actors.items mismatches
   pub after : new ≡ old ++ mismatches ++ map not_decided verdicts.undecided.actors.items
 
 -- The list is extended by the first get of another actor's job, and by the first line of each invalidating event type.
 pub record AddsNotes (lines : List RecordedLine) (old new : List Finding) : Type 0 where
   pub foreign : List Finding
   pub foreign_so : AreForeign lines (first_foreign_get lines) foreign
-  pub after : new ≡ old ++ foreign ++ map finding.Invalidation (filter is_path_independent (invalidations_of lines))
+  pub invalidations : List Finding
+  pub invalidations_so : AreInvalidationsOf lines (filter is_path_independent (invalidations_of lines)) invalidations
+  pub after : new ≡ old ++ foreign ++ invalidations
 
 -- All findings, in the order of their types.
-abbrev pub all_findings : List PoolDeviation → List NotPlanned → List Finding → List ClassifiedActor → List RoundExcess → List Finding → List Invalidation → List Finding
+abbrev pub all_findings : List PoolDeviation → List NotPlanned → List Finding → List ClassifiedActor → List RoundExcess → List Finding → List Finding → List Finding
 all_findings deviations labels mismatched undecided excesses gets invalidations =
-    map finding.Pool deviations ++ map finding.NotPlanned labels ++ mismatched ++ map not_decided undecided ++ map finding.TooMany excesses ++ gets ++ map finding.Invalidation invalidations
+    map finding.Pool deviations ++ map finding.NotPlanned labels ++ mismatched ++ map not_decided undecided ++ map finding.TooMany excesses ++ gets ++ invalidations
 
 -- The findings of a survey whose notes are those of `lines`.
-pub record AreCollected (lines : List RecordedLine) (survey : Survey) (excesses : List RoundExcess) (found : List Finding) : Type 0 where
+pub record AreCollected (plan : Plan) (lines : List RecordedLine) (survey : Survey) (excesses : List RoundExcess) (found : List Finding) : Type 0 where
   pub mismatches : List Finding
   pub foreign : List Finding
-  pub mismatches_so : AreMismatchesOf lines (has_job survey.actor_survey.verdicts.classless) survey.actor_survey.verdicts.mismatches.actors.items mismatches
+  pub invalidations : List Finding
+  pub mismatches_so : AreMismatchesOf plan lines (has_job survey.actor_survey.verdicts.classless) survey.actor_survey.verdicts.mismatches.actors.items mismatches
   pub foreign_so : AreForeign lines (first_foreign_get lines) foreign
-  pub all : found ≡ all_findings survey.line_survey.deviations.items survey.line_survey.unplanned.found.items mismatches survey.actor_survey.verdicts.undecided.actors.items excesses foreign (filter is_path_independent (invalidations_of lines))
+  pub invalidations_so : AreInvalidationsOf lines (filter is_path_independent (invalidations_of lines)) invalidations
+  pub all : found ≡ all_findings survey.line_survey.deviations.items survey.line_survey.unplanned.found.items mismatches survey.actor_survey.verdicts.undecided.actors.items excesses foreign invalidations

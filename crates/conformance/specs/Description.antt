@@ -1,5 +1,6 @@
 -- The first deviating step of an actor.
-use Rattle.std.specs.Prelude.{◌≡◌, ℕ, zero, suc, Bool, true, false, List, slice_get, string_bytes, option_map, Option, Some, None}
+use Rattle.std.specs.Prelude.{◌≡◌, ℕ, zero, suc, Bool, not, if◌then◌else◌, List, slice_get, string_bytes, option_map, Option, Some, None, [], ◌∷◌, flat_map}
+use Rattle.std.specs.List.{list_any, enumerate_from}
 use Rattle.std.specs.Option.{option_and_then}
 use Rattle.std.specs.declared.alloc.Global.{Global}
 use Rattle.std.specs.declared.string.String.{String}
@@ -8,6 +9,10 @@ use Rattle.recordings.specs.declared.recording_line.RecordedActor.TheVariants.{J
 use Rattle.recordings.specs.declared.recording_line.RecordedActor.{RecordedActor}
 use Rattle.recordings.specs.declared.step.RecordedStep.{RecordedStep}
 use Rattle.recordings.specs.declared.step.RecordedStep.TheVariants as recorded
+use Rattle.recordings.specs.ActorPath.{gets as is_get_of}
+use Rattle.job_bodies.specs.Plan.{Plan}
+use Rattle.conformance.specs.Verdicts.{is_planned_class}
+use Rattle.conformance.specs.declared.actor_label.ActorLabel.{ActorLabel}
 use Rattle.conformance.specs.declared.classified_actor.ClassifiedActor.{ClassifiedActor}
 use Rattle.conformance.specs.declared.describe_mismatch.JobStep.{JobStep}
 use Rattle.conformance.specs.declared.describe_mismatch.JobStep.TheVariants as step
@@ -48,36 +53,62 @@ abbrev pub step_before : List RecordedStep → ℕ → Option JobStep
 step_before path zero = None
 step_before path (suc place) = step_at path place
 
+-- ---- open jobs
+-- The job of the entry of a path, if it is a submit and no step gets its job.
+abbrev pub open_job_at : List RecordedStep → ℕ × RecordedStep → List ℕ
+open_job_at path (place, recorded.Submits job) = if list_any (is_get_of place) path then [] else job ∷ []
+open_job_at path (place, recorded.Gets submit) = []
+
+-- The jobs that no step of the path gets, in the order of their submits.
+abbrev pub open_jobs : List RecordedStep → List ℕ
+open_jobs path = flat_map (open_job_at path) (enumerate_from 0 path)
+
+abbrev pub first_open : List RecordedStep → Option ℕ
+first_open path = slice_get (open_jobs path) 0
+
 -- ---- what is reported
 -- The step, with the class that the submit of its job names.
 pub data IsNamedStep (lines : List RecordedLine) : JobStep → NamedStep → Type 0 where
-  submitted : (job : ℕ) (class : String Global) → IsLabelOf lines (Job job) (string_bytes class) → IsNamedStep lines (step.Submits job) (named.Submits class)
-  got : (job : ℕ) (class : String Global) → IsLabelOf lines (Job job) (string_bytes class) → IsNamedStep lines (step.Gets job) (named.Gets class)
+  submitted : (job : ℕ) (class : String Global) (pool : List ℕ) → IsLabelOf lines (Job job) (string_bytes class) pool → IsNamedStep lines (step.Submits job) (named.Submits class)
+  got : (job : ℕ) (class : String Global) (pool : List ℕ) → IsLabelOf lines (Job job) (string_bytes class) pool → IsNamedStep lines (step.Gets job) (named.Gets class)
 
 pub data IsNamed (lines : List RecordedLine) : Option JobStep → Option NamedStep → Type 0 where
   nothing : IsNamed lines None None
   something : (did : JobStep) (name : NamedStep) → IsNamedStep lines did name → IsNamed lines (Some did) (Some name)
 
--- The first deviating step: the actor's end, the submit of a job whose own path matches no class, or any other step.
-pub data IsDeviatingStep (lines : List RecordedLine) (is_classless : ℕ → Bool) : Option JobStep → DeviatingStep → Type 0 where
-  ends : IsDeviatingStep lines is_classless None mismatch.Ends
-  submits_mismatch : (job : ℕ) (class : String Global) → is_classless job ≡ true → IsLabelOf lines (Job job) (string_bytes class)
-      → IsDeviatingStep lines is_classless (Some (step.Submits job)) (mismatch.SubmitsMismatched job class)
-  submits : (job : ℕ) (name : NamedStep) → is_classless job ≡ false → IsNamedStep lines (step.Submits job) name
-      → IsDeviatingStep lines is_classless (Some (step.Submits job)) (mismatch.PathStep name)
-  gets : (job : ℕ) (name : NamedStep) → IsNamedStep lines (step.Gets job) name
-      → IsDeviatingStep lines is_classless (Some (step.Gets job)) (mismatch.PathStep name)
+-- The label of the job, by its submit.
+abbrev pub IsLabelOfJob : List RecordedLine → ℕ → ActorLabel → Type 0
+IsLabelOfJob lines job label = IsLabelOf lines (Job job) (string_bytes label.name) (string_bytes label.pool)
+
+-- A submit of a job whose own path matches no class is reported as such: either the plan has classes of its label, or it has none.
+abbrev pub deviating_submit : Bool → Bool → ℕ → ActorLabel → DeviatingStep
+deviating_submit is_classless is_planned job label =
+    if not is_classless then mismatch.Submits label
+    else (if is_planned then mismatch.SubmitsMismatched job label else mismatch.SubmitsUnplanned job label)
+
+-- The end of an actor, with the label of its first open job if there is one.
+pub data IsDeviatingEnd (lines : List RecordedLine) : Option ℕ → DeviatingStep → Type 0 where
+  closed : IsDeviatingEnd lines None mismatch.Ends
+  while_open : (job : ℕ) (label : ActorLabel) → IsLabelOfJob lines job label → IsDeviatingEnd lines (Some job) (mismatch.EndsOpen job label)
+
+-- The first deviating step: the actor's end, with its first open job if there is one; a submit; or a get.
+pub data IsDeviatingStep (plan : Plan) (lines : List RecordedLine) (is_classless : ℕ → Bool) (path : List RecordedStep) : Option JobStep → DeviatingStep → Type 0 where
+  ends : (found : DeviatingStep) → IsDeviatingEnd lines (first_open path) found → IsDeviatingStep plan lines is_classless path None found
+  submits : (job : ℕ) (label : ActorLabel) → IsLabelOfJob lines job label
+      → IsDeviatingStep plan lines is_classless path (Some (step.Submits job)) (deviating_submit (is_classless job) (is_planned_class plan (string_bytes label.name) (string_bytes label.pool)) job label)
+  gets : (job : ℕ) (label : ActorLabel) → IsLabelOfJob lines job label → IsDeviatingStep plan lines is_classless path (Some (step.Gets job)) (mismatch.Gets label)
 
 abbrev pub number_seen : Option (ℕ × RecordedLine) → Option ℕ
 number_seen found = option_map (λ (number, line). number) found
 
 -- The description of an actor: its label, the step after the longest prefix of its path that a body explains, the line of
 -- that step, and the last step of the prefix.
-pub record IsDescriptionOf (lines : List RecordedLine) (is_classless : ℕ → Bool) (reported : ClassifiedActor) (number : Option ℕ) (found : PathMismatch) : Type 0 where
+pub record IsDescriptionOf (plan : Plan) (lines : List RecordedLine) (is_classless : ℕ → Bool) (reported : ClassifiedActor) (number : Option ℕ) (found : PathMismatch) : Type 0 where
   pub actor_is : found.actor ≡ reported.actor
-  pub label_is : string_bytes found.label ≡ string_bytes reported.label
+  pub label_is : string_bytes found.label.name ≡ string_bytes reported.label
+  pub pool_is : string_bytes found.label.pool ≡ string_bytes reported.pool
   pub line : Option (ℕ × RecordedLine)
   pub first : IsFirstLine lines (line_query_of reported.actor (step_at reported.path.items reported.family.explained)) line
   pub number_is : number ≡ number_seen line
-  pub did : IsDeviatingStep lines is_classless (step_at reported.path.items reported.family.explained) found.step
+  pub did : IsDeviatingStep plan lines is_classless reported.path.items (step_at reported.path.items reported.family.explained) found.step
   pub after : IsNamed lines (step_before reported.path.items reported.family.explained) found.after

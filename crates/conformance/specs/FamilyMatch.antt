@@ -1,12 +1,14 @@
 -- The members of a family whose bodies a path matches, and how much of the path the bodies explain.
-use Rattle.std.specs.Prelude.{◌≡◌, ◌≤◌, ◌<◌, ◌↔◌, ℕ, ◌+◌, ◌*◌, ◌^◌, List, length, take, map, All, Any, Contains}
+use Rattle.std.specs.Prelude.{◌≡◌, ◌≤◌, ◌<◌, ◌↔◌, ℕ, List, length, take, map, All, Any, Contains, ⊤}
 use Rattle.job_bodies.specs.declared.action.Action.{Action}
 use Rattle.job_bodies.specs.Plan.{Plan, class_at, client_at}
+use Rattle.conformance.specs.declared.step.ActorKind.{ActorKind}
+use Rattle.conformance.specs.declared.step.ActorKind.TheVariants as actor_kind
 use Rattle.conformance.specs.declared.step.PathStep.{PathStep}
+use Rattle.conformance.specs.declared.step.PathStep.TheVariants as step
 use Rattle.conformance.specs.declared.step.PathState.{PathState}
 use Rattle.conformance.specs.declared.step.PathState.TheVariants.{Prefix}
 use Rattle.conformance.specs.Path.{IsPathOf}
-use Rattle.conformance.specs.StepBudget.{submit_count}
 use Rattle.conformance.specs.Family.{class_family, client_family}
 
 -- ---- one class, or one client kind
@@ -19,12 +21,12 @@ client_body plan client = (client_at plan client).body
 -- The class is of the family, and the path matches its body.
 pub record IsClassOf (plan : Plan) (label pool : List ℕ) (path_state : PathState) (path : List PathStep) (class : ℕ) : Type 0 where
   pub among : Contains (class_family plan label pool) class
-  pub path_of : IsPathOf path_state (class_body plan class) path
+  pub path_of : IsPathOf actor_kind.Job path_state (class_body plan class) path
 
 -- The kind is of the family, and the path matches its body.
 pub record IsKindOf (plan : Plan) (label : List ℕ) (path_state : PathState) (path : List PathStep) (kind : ℕ) : Type 0 where
   pub among : Contains (client_family plan label) kind
-  pub path_of : IsPathOf path_state (client_body plan kind) path
+  pub path_of : IsPathOf actor_kind.Round path_state (client_body plan kind) path
 
 -- The list has exactly the numbers that satisfy `IsOne`.
 abbrev pub AreExactly : (ℕ → Type 0) → List ℕ → Type 0
@@ -39,12 +41,16 @@ client_bodies plan label = map (client_body plan) (client_family plan label)
 
 -- `explained` is the length of the longest prefix of the path that begins a path of one of these bodies, or 0 if there are
 -- no bodies.
-pub record IsMostExplained (bodies : List (List Action)) (path : List PathStep) (explained : ℕ) : Type 0 where
+pub record IsMostExplained (kind : ActorKind) (bodies : List (List Action)) (path : List PathStep) (explained : ℕ) : Type 0 where
   pub within : explained ≤ length path
-  pub front : 0 < length bodies → Any (λ body. IsPathOf Prefix body (take explained path)) bodies
-  pub longest : (more : ℕ) → explained < more → more ≤ length path → All (λ body. ¬ IsPathOf Prefix body (take more path)) bodies
+  pub front : 0 < length bodies → Any (λ body. IsPathOf kind Prefix body (take explained path)) bodies
+  pub longest : (more : ℕ) → explained < more → more ≤ length path → All (λ body. ¬ IsPathOf kind Prefix body (take more path)) bodies
   pub none : length bodies ≡ 0 → explained ≡ 0
 
--- The budget is enough for any path, as for `match_path`.
-abbrev pub IsEnoughFor : ℕ → List Action → Type 0
-IsEnoughFor budget body = (length body + 1) * 2 ^ submit_count body ≤ budget
+-- Each job of the path can belong to at most one class.
+abbrev pub HasAtMostOneClass : PathStep → Type 0
+HasAtMostOneClass (step.Submits classes) = length classes.items ≤ 1
+HasAtMostOneClass (step.Gets place) = ⊤
+
+abbrev pub AreOneClassEach : List PathStep → Type 0
+AreOneClassEach path = All HasAtMostOneClass path

@@ -1,20 +1,24 @@
 -- The result for the first bodies of a family.
-use Rattle.std.specs.Prelude.{◌<◌, ℕ, Bool, List, map, All, AllPairs, Contains, IsTrue}
+use Rattle.std.specs.Prelude.{◌≤◌, ◌<◌, ℕ, Bool, List, length, map, All, AllPairs, Contains, IsTrue}
 use Rattle.job_bodies.specs.declared.action.Action.{Action}
+use Rattle.conformance.specs.declared.step.ActorKind.{ActorKind}
 use Rattle.conformance.specs.declared.step.PathStep.{PathStep}
 use Rattle.conformance.specs.declared.step.PathState.{PathState}
 use Rattle.conformance.specs.Path.{IsPathOf}
+use Rattle.conformance.specs.PathMatch.{IsUnambiguous}
 use Rattle.conformance.specs.declared.family_match.FamilyMatch.{FamilyMatch}
-use Rattle.conformance.specs.FamilyMatch.{IsMostExplained, IsEnoughFor}
+use Rattle.conformance.specs.FamilyMatch.{IsMostExplained, AreOneClassEach}
 
 -- The members, the explained length and the flag are correct after these numbers, each with its body, were matched.
-pub record IsCorrectResult (body_of : ℕ → List Action) (path_state : PathState) (path : List PathStep) (budget : ℕ) (matched : List ℕ) (members : List ℕ) (longest : ℕ) (is_decided : Bool) : Type 0 where
-  pub sound : All (λ n. Contains matched n × IsPathOf path_state (body_of n) path) members
-  pub complete : IsTrue is_decided → All (λ n. IsPathOf path_state (body_of n) path → Contains members n) matched
-  pub explained : IsTrue is_decided → IsMostExplained (map body_of matched) path longest
-  pub decided : All (IsEnoughFor budget) (map body_of matched) → IsTrue is_decided
+pub record IsCorrectResult (kind : ActorKind) (body_of : ℕ → List Action) (path_state : PathState) (path : List PathStep) (matched : List ℕ) (members : List ℕ) (longest : ℕ) (is_decided : Bool) : Type 0 where
+  pub sound : All (λ n. Contains matched n × IsPathOf kind path_state (body_of n) path) members
+  pub complete : IsTrue is_decided → All (λ n. IsPathOf kind path_state (body_of n) path → Contains members n) matched
+  pub sure : All (λ n. IsUnambiguous (body_of n) path → IsPathOf kind path_state (body_of n) path → Contains members n) matched
+  pub explained : IsTrue is_decided → IsMostExplained kind (map body_of matched) path longest
+  pub decided : AreOneClassEach path → IsTrue is_decided
+  pub few : length members ≤ length matched
   pub ascending : AllPairs (λ m n. m < n) matched → AllPairs (λ m n. m < n) members
 
 -- The same for a `FamilyMatch`.
-abbrev pub IsCorrectMatch : FamilyMatch → (ℕ → List Action) → PathState → List PathStep → ℕ → List ℕ → Type 0
-IsCorrectMatch reported body_of path_state path budget matched = IsCorrectResult body_of path_state path budget matched reported.members.items reported.explained reported.is_decided
+abbrev pub IsCorrectMatch : FamilyMatch → ActorKind → (ℕ → List Action) → PathState → List PathStep → List ℕ → Type 0
+IsCorrectMatch reported kind body_of path_state path matched = IsCorrectResult kind body_of path_state path matched reported.members.items reported.explained reported.is_decided

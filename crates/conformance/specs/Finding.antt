@@ -1,7 +1,11 @@
 -- The lines of findings.
-use Rattle.std.specs.Prelude.{ℕ, Option, Some, None}
+use Rattle.std.specs.Prelude.{ℕ, ◌+◌, ◌*◌, min, Option, Some, None}
 use Rattle.conformance.specs.declared.pool_comparison.PoolDeviation.{PoolDeviation}
 use Rattle.conformance.specs.declared.pool_comparison.PoolDeviation.TheVariants as pool
+use Rattle.recordings.specs.declared.recording_line.RecordedActor.{RecordedActor}
+use Rattle.recordings.specs.declared.recording_line.RecordedActor.TheVariants.{Job, Round}
+use Rattle.conformance.specs.declared.difference.Difference.{Difference}
+use Rattle.conformance.specs.declared.difference.Difference.TheVariants as difference
 use Rattle.conformance.specs.declared.finding.Finding.{Finding}
 use Rattle.conformance.specs.declared.finding.Finding.TheVariants as finding
 use Rattle.conformance.specs.declared.unplanned.NotPlanned.{NotPlanned}
@@ -23,8 +27,8 @@ line_of (finding.NotPlanned name) = label_line name
 line_of (finding.PathMismatch line mismatch) = line
 line_of (finding.NotDecided actor name) = None
 line_of (finding.TooMany excess) = Some excess.line
-line_of (finding.ForeignGet get name) = Some get.line
-line_of (finding.Invalidation invalidation) = Some invalidation.line
+line_of (finding.ForeignGet get name job) = Some get.line
+line_of (finding.Invalidation invalidation name) = Some invalidation.line
 
 -- A number above every line number.
 abbrev pub last_place : ℕ
@@ -34,6 +38,53 @@ abbrev pub place : Option ℕ → ℕ
 place None = last_place
 place (Some line) = line
 
--- The sort key of a finding. Those without a line come last.
+-- Findings without a line come last.
 abbrev pub place_of : Finding → ℕ
 place_of found = place (line_of found)
+
+-- ---- the findings of one line
+-- Pools come first, then labels, paths, numbers of rounds, gets and events.
+abbrev pub undecided_rank : RecordedActor → ℕ
+undecided_rank (Job job) = 3
+undecided_rank (Round round) = 4
+
+abbrev pub rank_of : Finding → ℕ
+rank_of (finding.Pool deviation) = 0
+rank_of (finding.NotPlanned name) = 1
+rank_of (finding.PathMismatch line mismatch) = 2
+rank_of (finding.NotDecided actor name) = undecided_rank actor
+rank_of (finding.TooMany excess) = 5
+rank_of (finding.ForeignGet get name job) = 6
+rank_of (finding.Invalidation invalidation name) = 7
+
+abbrev pub difference_number : Difference → ℕ
+difference_number (difference.Core recorded planned) = 0
+difference_number (difference.Max recorded planned) = 1
+difference_number (difference.KindOfQueue kind) = 2
+difference_number (difference.Capacity recorded planned) = 3
+difference_number difference.CoreTimeout = 4
+difference_number (difference.Prestarted recorded planned) = 5
+
+abbrev pub pool_number : PoolDeviation → ℕ
+pool_number (pool.NotPlanned line name) = 0
+pool_number (pool.Differs line number one) = difference_number one
+pool_number (pool.NotRecorded number) = number
+
+abbrev pub actor_number : RecordedActor → ℕ
+actor_number (Job job) = job
+actor_number (Round round) = round
+
+-- The differences of one pool are in the order of its line, missing pools and kinds in the order of the plan, and actors for
+-- which something is undecided in the order of their numbers.
+abbrev pub number_of : Finding → ℕ
+number_of (finding.Pool deviation) = pool_number deviation
+number_of (finding.NotPlanned name) = 0
+number_of (finding.PathMismatch line mismatch) = 0
+number_of (finding.NotDecided actor name) = actor_number actor
+number_of (finding.TooMany excess) = excess.kind
+number_of (finding.ForeignGet get name job) = 0
+number_of (finding.Invalidation invalidation name) = 0
+
+-- The sort key of a finding: its line, then its rank below 8, then its number below 2 ^ 60.
+abbrev pub sort_key : Finding → ℕ
+sort_key found = place_of found * 18446744073709551616 + rank_of found * 1152921504606846976 + min (number_of found) 1152921504606846975

@@ -9,13 +9,17 @@ use Rattle.conformance.specs.Difference.{difference_text}
 use Rattle.conformance.specs.Excess.{excess_text}
 use Rattle.recordings.specs.declared.foreign_get.ForeignGet.{ForeignGet}
 use Rattle.recordings.specs.declared.invalidation.Invalidation.{Invalidation}
-use Rattle.recordings.specs.EventText.{event_text}
+use Rattle.recordings.specs.declared.invalidation.InvalidatingEvent.{InvalidatingEvent}
+use Rattle.recordings.specs.declared.invalidation.InvalidatingEvent.TheVariants as event
+use Rattle.recordings.specs.declared.recording_line.RecordedActor.{RecordedActor}
+use Rattle.recordings.specs.declared.recording_line.RecordedActor.TheVariants.{Job, Round}
+use Rattle.conformance.specs.declared.actor_label.ActorLabel.{ActorLabel}
 use Rattle.conformance.specs.declared.finding.Finding.{Finding}
 use Rattle.conformance.specs.declared.finding.Finding.TheVariants as finding
 use Rattle.conformance.specs.declared.unplanned.NotPlanned.{NotPlanned}
 use Rattle.conformance.specs.declared.unplanned.NotPlanned.TheVariants as label
 use Rattle.conformance.specs.Finding.{line_of}
-use Rattle.conformance.specs.PathMismatch.{actor_text, mismatch_text}
+use Rattle.conformance.specs.PathMismatch.{actor_text, job_text, mismatch_text}
 
 -- The line number, if there is one.
 abbrev pub line_text : Option ℕ → List ℕ
@@ -50,20 +54,39 @@ not_planned_text (label.Kind line kind) = unplanned_text (codes "kind") (string_
 abbrev pub kind_excess_text : Plan → RoundExcess → List ℕ
 kind_excess_text plan found = codes "kind " ++ (client_at plan found.kind).name ++ codes ": " ++ excess_text found.excess
 
-abbrev pub foreign_get_text : ForeignGet → List ℕ → List ℕ
-foreign_get_text get name = actor_text get.actor name ++ (codes " got job " ++ decimal get.job ++ codes ", which it did not submit")
+abbrev pub label_text : RecordedActor → ActorLabel → List ℕ
+label_text actor name = actor_text actor (string_bytes name.name) (string_bytes name.pool)
 
-abbrev pub invalidation_text : Invalidation → List ℕ
-invalidation_text invalidation = codes "a yes is void from here on: " ++ event_text invalidation.event
+abbrev pub foreign_get_text : ForeignGet → ActorLabel → ActorLabel → List ℕ
+foreign_get_text get name job = ((label_text get.actor name ++ codes " got ") ++ job_text get.job (string_bytes job.name) (string_bytes job.pool)) ++ codes ", which it did not submit"
+
+-- An actor with its class or kind alone.
+abbrev pub short_actor_text : RecordedActor → List ℕ → List ℕ
+short_actor_text (Job job) name = codes "job " ++ decimal job ++ codes " of class " ++ name
+short_actor_text (Round round) name = codes "round " ++ decimal round ++ codes " of kind " ++ name
+
+-- The text of an event, with the class and the pool of its job.
+abbrev pub event_text : InvalidatingEvent → List ℕ → List ℕ → List ℕ
+event_text (event.Refused actor job) name pool = job_text job name pool ++ codes " was refused"
+event_text (event.TimedOut actor job) name pool = (codes "a get of " ++ job_text job name pool) ++ codes " timed out"
+event_text (event.Interrupted actor job) name pool = (codes "a get of " ++ job_text job name pool) ++ codes " was interrupted"
+event_text (event.Cancelled actor job) name pool = job_text job name pool ++ codes " was cancelled"
+event_text (event.Removed job) name pool = job_text job name pool ++ codes " was removed from its queue"
+event_text (event.Threw job) name pool = job_text job name pool ++ codes " ended its thread with an exception"
+event_text (event.AnyInvoked actor) name pool = short_actor_text actor name ++ (codes " called invokeAny in pool " ++ pool)
+event_text (event.Unseen jobs) name pool = decimal jobs ++ codes " jobs were run in pool " ++ pool ++ codes " that no line mentions"
+
+abbrev pub invalidation_text : Invalidation → ActorLabel → List ℕ
+invalidation_text invalidation name = codes "a yes is void from here on: " ++ event_text invalidation.event (string_bytes name.name) (string_bytes name.pool)
 
 abbrev pub found_text : Plan → Finding → List ℕ
 found_text plan (finding.Pool deviation) = deviation_text plan deviation
 found_text plan (finding.NotPlanned name) = not_planned_text name
 found_text plan (finding.PathMismatch line mismatch) = mismatch_text mismatch
-found_text plan (finding.NotDecided actor name) = actor_text actor (string_bytes name) ++ codes ": not decided, its body has too many alike submits"
+found_text plan (finding.NotDecided actor name) = label_text actor name ++ codes ": not decided, it submitted a job that may be of several classes of its body"
 found_text plan (finding.TooMany excess) = kind_excess_text plan excess
-found_text plan (finding.ForeignGet get name) = foreign_get_text get (string_bytes name)
-found_text plan (finding.Invalidation invalidation) = invalidation_text invalidation
+found_text plan (finding.ForeignGet get name job) = foreign_get_text get name job
+found_text plan (finding.Invalidation invalidation name) = invalidation_text invalidation name
 
 -- ---- lines
 -- The text of a finding, without a newline.

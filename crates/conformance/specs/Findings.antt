@@ -16,7 +16,7 @@ use Rattle.conformance.specs.declared.finding.Finding.TheVariants as finding
 use Rattle.conformance.specs.declared.unplanned.NotPlanned.{NotPlanned}
 use Rattle.conformance.specs.FirstKinds.{AreFirstKinds}
 use Rattle.conformance.specs.FirstActors.{AreFirstActorsOf}
-use Rattle.conformance.specs.CollectedFindings.{AreMismatchesOf, AreForeign, is_path_independent, all_findings}
+use Rattle.conformance.specs.CollectedFindings.{AreMismatchesOf, AreForeign, AreInvalidationsOf, is_path_independent, all_findings}
 use Rattle.conformance.specs.UnplannedLabels.{AreNotPlanned}
 use Rattle.conformance.specs.Verdicts.{is_mismatch, is_undecided, is_classless_job}
 
@@ -27,8 +27,18 @@ is_of_actors (finding.PathMismatch line mismatch) = true
 is_of_actors (finding.NotDecided actor label) = true
 is_of_actors (finding.TooMany excess) = true
 is_of_actors (finding.Pool deviation) = false
-is_of_actors (finding.ForeignGet get label) = false
-is_of_actors (finding.Invalidation invalidation) = false
+is_of_actors (finding.ForeignGet get label job) = false
+is_of_actors (finding.Invalidation invalidation label) = false
+
+-- It is undecided whether the path of an actor matches a body.
+abbrev pub is_not_decided : Finding → Bool
+is_not_decided (finding.NotDecided actor label) = true
+is_not_decided (finding.NotPlanned label) = false
+is_not_decided (finding.PathMismatch line mismatch) = false
+is_not_decided (finding.TooMany excess) = false
+is_not_decided (finding.Pool deviation) = false
+is_not_decided (finding.ForeignGet get label job) = false
+is_not_decided (finding.Invalidation invalidation label) = false
 
 -- The job is one of the classified jobs whose path matches no class.
 abbrev pub is_classless_in : List ClassifiedActor → ℕ → Bool
@@ -39,9 +49,9 @@ is_classless_in reported job = list_any (is_classless_job job) reported
 -- each label of the plan, the first actor whose path matches no body and the first one for which this is undecided; the
 -- first line at which each kind has too many rounds; the first get of another actor's job; and the first line of each event
 -- type that invalidates a SAFE answer.
-pub record AreFindingsOf (plan : Plan) (budget : ℕ) (lines : List RecordedLine) (findings : List Finding) : Type 0 where
+pub record AreFindingsOf (plan : Plan) (lines : List RecordedLine) (findings : List Finding) : Type 0 where
   pub reported : List ClassifiedActor
-  pub all_reported : AreAllResultsOf plan budget lines reported
+  pub all_reported : AreAllResultsOf plan lines reported
   pub kinds : List (Option ℕ)
   pub kinds_so : AreFirstKinds plan lines reported kinds
   pub deviations : List PoolDeviation
@@ -51,9 +61,11 @@ pub record AreFindingsOf (plan : Plan) (budget : ℕ) (lines : List RecordedLine
   pub first_mismatches : List ClassifiedActor
   pub first_mismatches_so : AreFirstActorsOf (filter (is_mismatch plan) reported) first_mismatches
   pub mismatches : List Finding
-  pub mismatches_so : AreMismatchesOf lines (is_classless_in reported) first_mismatches mismatches
+  pub mismatches_so : AreMismatchesOf plan lines (is_classless_in reported) first_mismatches mismatches
   pub undecided : List ClassifiedActor
   pub undecided_so : AreFirstActorsOf (filter (is_undecided plan) reported) undecided
   pub foreign : List Finding
   pub foreign_so : AreForeign lines (first_foreign_get lines) foreign
-  pub all : IsPermutation (all_findings deviations labels mismatches undecided (excesses_by_lines plan kinds lines) foreign (filter is_path_independent (invalidations_of lines))) findings
+  pub invalidations : List Finding
+  pub invalidations_so : AreInvalidationsOf lines (filter is_path_independent (invalidations_of lines)) invalidations
+  pub all : IsPermutation (all_findings deviations labels mismatches undecided (excesses_by_lines plan kinds lines) foreign invalidations) findings

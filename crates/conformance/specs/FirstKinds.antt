@@ -1,5 +1,5 @@
 -- The kind that each round counts as.
-use Rattle.std.specs.Prelude.{◌≡◌, ℕ, List, [], ◌∷◌, length, slice_get, Contains, Option, Some, None}
+use Rattle.std.specs.Prelude.{◌≡◌, ℕ, if◌then◌else◌, List, [], ◌∷◌, length, slice_get, Contains, Option, Some, None}
 use Rattle.recordings.specs.declared.recording_line.RecordedActor.{RecordedActor}
 use Rattle.recordings.specs.declared.recording_line.RecordedActor.TheVariants.{Job, Round}
 use Rattle.recordings.specs.RecordingLine.{RecordedLine}
@@ -10,19 +10,24 @@ use Rattle.conformance.specs.declared.classified_actor.ClassifiedActor.{Classifi
 use Rattle.conformance.specs.Label.{kind_of}
 
 -- A round, with the first of the kinds that it can belong to.
-abbrev pub has_kind : List ℕ → RecordedActor → Option (ℕ × ℕ)
+abbrev pub has_kind : List ℕ → RecordedActor → Option (ℕ × Option ℕ)
 has_kind [] actor = None
 has_kind (kind ∷ more) (Job job) = None
-has_kind (kind ∷ more) (Round round) = Some (round, kind)
+has_kind (kind ∷ more) (Round round) = Some (round, Some kind)
 
--- The round of a classified actor, with the first kind that it can belong to.
-abbrev pub round_and_kind : ClassifiedActor → Option (ℕ × ℕ)
-round_and_kind reported = has_kind reported.family.members.items reported.actor
+-- A round without a kind.
+abbrev pub has_no_kind : RecordedActor → Option (ℕ × Option ℕ)
+has_no_kind (Job job) = None
+has_no_kind (Round round) = Some (round, None)
 
--- A kind or none for each round. A classified round that can belong to some kind has the first of these. Any other round has
--- the first kind of its label, if there is one.
+-- The round of a classified actor, with the first kind that it can belong to, or with none if this is undecided.
+abbrev pub round_and_kind : ClassifiedActor → Option (ℕ × Option ℕ)
+round_and_kind reported = if reported.family.is_decided then has_kind reported.family.members.items reported.actor else has_no_kind reported.actor
+
+-- A kind or none for each round. A classified round that can belong to some kind has the first of these. A round for which
+-- this is undecided has none. Any other round has the first kind of its label, if there is one.
 pub record AreFirstKinds (plan : Plan) (lines : List RecordedLine) (reported : List ClassifiedActor) (kinds : List (Option ℕ)) : Type 0 where
   pub many : length kinds ≡ begins lines
-  pub reports_of : (one : ClassifiedActor) (round kind : ℕ) → Contains reported one → round_and_kind one ≡ Some (round, kind) → slice_get kinds round ≡ Some (Some kind)
-  pub others : (round : ℕ) (label : List ℕ) → kind_of lines round ≡ Some label → ((one : ClassifiedActor) (kind : ℕ) → Contains reported one → ¬ (round_and_kind one ≡ Some (round, kind)))
+  pub reports_of : (one : ClassifiedActor) (round : ℕ) (kind : Option ℕ) → Contains reported one → round_and_kind one ≡ Some (round, kind) → slice_get kinds round ≡ Some kind
+  pub others : (round : ℕ) (label : List ℕ) → kind_of lines round ≡ Some label → ((one : ClassifiedActor) (kind : Option ℕ) → Contains reported one → ¬ (round_and_kind one ≡ Some (round, kind)))
       → slice_get kinds round ≡ Some (slice_get (client_family plan label) 0)

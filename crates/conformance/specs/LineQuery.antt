@@ -4,7 +4,7 @@ use Rattle.std.specs.List.{list_any}
 use Rattle.recordings.specs.declared.recording_line.RecordedActor.{RecordedActor}
 use Rattle.recordings.specs.declared.recording_line.RecordedActor.TheVariants.{Job, Round}
 use Rattle.recordings.specs.declared.recording_line.Line.{Line}
-use Rattle.recordings.specs.RecordingLine.{RecordedLine, Submits, RoundBegins, line_view}
+use Rattle.recordings.specs.RecordingLine.{RecordedLine, Submits, RoundBegins, InvokesAny, Unseen, line_view}
 use Rattle.recordings.specs.LineParts as parts
 use Rattle.recordings.specs.LineParts.{submits_job, begins_round, ends_round, finishes_job}
 use Rattle.recordings.specs.LineSteps.{gets_by}
@@ -19,11 +19,21 @@ abbrev pub is_last : RecordedActor → RecordedLine → Bool
 is_last (Job job) line = finishes_job job line
 is_last (Round round) line = ends_round round line
 
+abbrev pub is_any : RecordedLine → Bool
+is_any (InvokesAny actor pool) = true
+is_any line = false
+
+abbrev pub is_unseen : RecordedLine → Bool
+is_unseen (Unseen pool jobs) = true
+is_unseen line = false
+
 abbrev pub is_match : LineQuery → RecordedLine → Bool
 is_match (line_query.Submit job) line = submits_job job line
 is_match (line_query.Begin round) line = begins_round round line
 is_match (line_query.Got actor job) line = gets_by actor job line
 is_match (line_query.Last actor) line = is_last actor line
+is_match line_query.InvokesAny line = is_any line
+is_match line_query.Unseen line = is_unseen line
 
 -- The condition for the line that gives the actor its label.
 abbrev pub label_line : RecordedActor → LineQuery
@@ -35,6 +45,13 @@ abbrev pub label_in : RecordedLine → List ℕ
 label_in (Submits actor job class pool) = class
 label_in (RoundBegins round kind) = kind
 label_in line = []
+
+-- The pool that a line names, if it submits a job, calls `invokeAny` or reports jobs without lines.
+abbrev pub pool_in : RecordedLine → List ℕ
+pool_in (Submits actor job class pool) = pool
+pool_in (InvokesAny actor pool) = pool
+pool_in (Unseen pool jobs) = pool
+pool_in line = []
 
 -- A line with its number.
 abbrev pub found_seen : Option (ℕ × Line) → Option (ℕ × RecordedLine)
@@ -63,8 +80,21 @@ abbrev pub label_seen : Option (ℕ × RecordedLine) → List ℕ
 label_seen None = []
 label_seen (Some (number, line)) = label_in line
 
--- The label of the actor, by its submit or its begin. It is empty if there is no such line.
-pub record IsLabelOf (lines : List RecordedLine) (actor : RecordedActor) (label : List ℕ) : Type 0 where
+-- The pool that a line names, if there is a line.
+abbrev pub pool_seen : Option (ℕ × RecordedLine) → List ℕ
+pool_seen None = []
+pool_seen (Some (number, line)) = pool_in line
+
+-- The label of the actor, by its submit or its begin: the class and the pool of a job, or the kind of a round. Both are empty
+-- if there is no such line.
+pub record IsLabelOf (lines : List RecordedLine) (actor : RecordedActor) (label pool : List ℕ) : Type 0 where
   pub found : Option (ℕ × RecordedLine)
   pub first : IsFirstLine lines (label_line actor) found
   pub label_is : label ≡ label_seen found
+  pub pool_is : pool ≡ pool_seen found
+
+-- The pool that the first line which meets the condition names. It is empty if there is no such line.
+pub record IsPoolOf (lines : List RecordedLine) (query : LineQuery) (pool : List ℕ) : Type 0 where
+  pub found : Option (ℕ × RecordedLine)
+  pub first : IsFirstLine lines query found
+  pub pool_is : pool ≡ pool_seen found

@@ -1,5 +1,5 @@
--- The rounds that belong to another kind than the first of their label.
-use Rattle.std.specs.Prelude.{◌≡◌, ℕ, true, false, if◌then◌else◌, List, slice_get, string_bytes, Contains, is_some, Option, Some, None}
+-- The rounds that count as another kind than the first of their label, or as none.
+use Rattle.std.specs.Prelude.{◌≡◌, ◌==◌, ℕ, Bool, true, false, if◌then◌else◌, List, slice_get, string_bytes, Contains, is_some, Option, Some, None}
 use Rattle.support.specs.Numbered.{value_at}
 use Rattle.recordings.specs.RecordingLine.{RecordedLine}
 use Rattle.job_bodies.specs.Plan.{Plan}
@@ -15,29 +15,34 @@ use Rattle.conformance.specs.FirstKinds.{round_and_kind}
 abbrev pub first_of : Plan → List ℕ → Option ℕ
 first_of plan label = slice_get (client_family plan label) 0
 
-abbrev pub unless_first : Option ℕ → Option (ℕ × ℕ) → Option (ℕ × ℕ)
-unless_first first None = None
-unless_first first (Some (round, kind)) = if rounds.is_kind kind first then None else Some (round, kind)
+abbrev pub is_same_kind : Option ℕ → Option ℕ → Bool
+is_same_kind None None = true
+is_same_kind (Some kind) (Some other) = kind == other
+is_same_kind one other = false
 
--- The round of a classified actor and the first kind that it can belong to, if that is not the first kind of its label.
-abbrev pub other_kind_of : Plan → ClassifiedActor → Option (ℕ × ℕ)
+abbrev pub unless_first : Option ℕ → Option (ℕ × Option ℕ) → Option (ℕ × Option ℕ)
+unless_first first None = None
+unless_first first (Some (round, kind)) = if is_same_kind first kind then None else Some (round, kind)
+
+-- The round of a classified actor and the kind that it counts as, if that is not the first kind of its label.
+abbrev pub other_kind_of : Plan → ClassifiedActor → Option (ℕ × Option ℕ)
 other_kind_of plan reported = unless_first (first_of plan (string_bytes reported.label)) (round_and_kind reported)
 
--- One of the classified actors is this round, and belongs to this other kind.
-pub record HasOtherKind (plan : Plan) (reported : List ClassifiedActor) (round kind : ℕ) : Type 0 where
+-- One of the classified actors is this round, and counts as this other kind, or as none.
+pub record HasOtherKind (plan : Plan) (reported : List ClassifiedActor) (round : ℕ) (kind : Option ℕ) : Type 0 where
   pub one : ClassifiedActor
   pub among : Contains reported one
   pub is : other_kind_of plan one ≡ Some (round, kind)
 
--- The table has the rounds that belong to another kind than the first of their label, and no others.
+-- The table has the rounds that count as another kind than the first of their label, or as none, and no others.
 pub record AreOtherKinds (plan : Plan) (reported : List ClassifiedActor) (others : OtherKinds) : Type 0 where
-  pub sound : (round kind : ℕ) → value_at others.kinds round ≡ Some kind → HasOtherKind plan reported round kind
-  pub complete : (round kind : ℕ) → HasOtherKind plan reported round kind → is_some (value_at others.kinds round) ≡ true
+  pub sound : (round : ℕ) (kind : Option ℕ) → value_at others.kinds round ≡ Some kind → HasOtherKind plan reported round kind
+  pub complete : (round : ℕ) (kind : Option ℕ) → HasOtherKind plan reported round kind → is_some (value_at others.kinds round) ≡ true
   pub none : others.has_any ≡ false → (round : ℕ) → value_at others.kinds round ≡ None
 
 -- ---- the kinds by which rounds are counted
-abbrev pub kind_or : Option ℕ → Option ℕ → Option ℕ
-kind_or (Some kind) first = Some kind
+abbrev pub kind_or : Option (Option ℕ) → Option ℕ → Option ℕ
+kind_or (Some kind) first = kind
 kind_or None first = first
 
 -- The recorded kind of a round or, if there is none, the first kind of its label.

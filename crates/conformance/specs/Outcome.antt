@@ -5,7 +5,7 @@ use Rattle.recordings.specs.declared.fault.RecordingFault.{RecordingFault}
 use Rattle.conformance.specs.declared.comparison.Conformance.{Conformance}
 use Rattle.conformance.specs.declared.comparison.Conformance.TheVariants.{Invalid, Compared}
 use Rattle.conformance.specs.declared.finding.Finding.{Finding}
-use Rattle.conformance.specs.Finding.{place_of}
+use Rattle.conformance.specs.Finding.{sort_key}
 
 -- The fault of the first invalid line, if there is one.
 abbrev pub fault_of : Conformance → Option RecordingFault
@@ -17,6 +17,7 @@ abbrev pub IfCompared : Conformance → (List Finding → Type 0) → Type 0
 IfCompared (Invalid fault) P = ⊤
 IfCompared (Compared findings) P = P findings.items
 
--- The findings are in the order of their lines, those without a line last.
+-- The findings are in the order of their lines, those without a line last. Those of one line are in the order of their types,
+-- and those of one type in the order of their numbers.
 abbrev pub AreInOrder : List Finding → Type 0
-AreInOrder findings = IsNonDecreasingBy place_of findings
+AreInOrder findings = IsNonDecreasingBy sort_key findings

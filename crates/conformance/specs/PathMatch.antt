@@ -1,11 +1,13 @@
 -- Results of matching.
-use Rattle.std.specs.Prelude.{◌≤◌, ◌<◌, ℕ, List, ⊤, length, take, max}
+use Rattle.std.specs.Prelude.{◌≤◌, ◌<◌, ℕ, List, ⊤, length, take, All}
 use Rattle.job_bodies.specs.declared.action.Action.{Action}
+use Rattle.conformance.specs.declared.step.ActorKind.{ActorKind}
 use Rattle.conformance.specs.declared.step.PathStep.{PathStep}
+use Rattle.conformance.specs.declared.step.PathState.{PathState}
 use Rattle.conformance.specs.declared.step.PathState.TheVariants.{Prefix}
 use Rattle.conformance.specs.declared.path_match.PathMatch.{PathMatch}
 use Rattle.conformance.specs.declared.path_match.PathMatch.TheVariants.{Fits, Deviates, Undecided}
-use Rattle.conformance.specs.Path.{IsPathOf}
+use Rattle.conformance.specs.Path.{IsPathOf, HasOneClass}
 
 -- `P` holds if the path matches.
 abbrev pub OnFits : PathMatch → Type 0 → Type 0
@@ -24,19 +26,23 @@ abbrev pub OnDeviates : PathMatch → Type 0 → Type 0
 OnDeviates path_match P = IfDeviates path_match (λ explained. P)
 
 -- `explained` is the length of the longest prefix of the path that begins a path of the body.
-pub record IsExplained (body : List Action) (path : List PathStep) (explained : ℕ) : Type 0 where
+pub record IsExplained (kind : ActorKind) (body : List Action) (path : List PathStep) (explained : ℕ) : Type 0 where
   pub within : explained ≤ length path
-  pub front : IsPathOf Prefix body (take explained path)
-  pub longest : (more : ℕ) → explained < more → more ≤ length path → ¬ IsPathOf Prefix body (take more path)
-
--- The same result, with the longer of two explained prefixes.
-abbrev pub with_explained : PathMatch → ℕ → PathMatch
-with_explained Fits other = Fits
-with_explained (Deviates explained) other = Deviates (max explained other)
-with_explained Undecided other = Undecided
+  pub front : IsPathOf kind Prefix body (take explained path)
+  pub longest : (more : ℕ) → explained < more → more ≤ length path → ¬ IsPathOf kind Prefix body (take more path)
 
 -- The result says whether the path matches the body.
 abbrev pub IsDecided : PathMatch → Type 0
 IsDecided Fits = ⊤
 IsDecided (Deviates explained) = ⊤
 IsDecided Undecided = ⊥
+
+-- Each job of the path can have at most one of the classes that the body submits.
+abbrev pub IsUnambiguous : List Action → List PathStep → Type 0
+IsUnambiguous body path = All (HasOneClass body) path
+
+-- The result is correct for the path and the body.
+abbrev pub IsMatch : ActorKind → PathState → List Action → List PathStep → PathMatch → Type 0
+IsMatch kind path_state body path Fits = IsPathOf kind path_state body path
+IsMatch kind path_state body path (Deviates explained) = (¬ IsPathOf kind path_state body path) × IsExplained kind body path explained
+IsMatch kind path_state body path Undecided = ¬ IsUnambiguous body path

@@ -4,35 +4,64 @@ use Rattle.recordings.specs.declared.recording_line.RecordedActor.{RecordedActor
 use Rattle.recordings.specs.declared.recording_line.RecordedActor.TheVariants.{Job, Round}
 use Rattle.conformance.specs.declared.mismatch.PathMismatch.{PathMismatch}
 use Rattle.conformance.specs.declared.mismatch.DeviatingStep.{DeviatingStep}
-use Rattle.conformance.specs.declared.mismatch.DeviatingStep.TheVariants.{PathStep, SubmitsMismatched, Ends}
+use Rattle.conformance.specs.declared.mismatch.DeviatingStep.TheVariants as step
 use Rattle.conformance.specs.declared.mismatch.NamedStep.{NamedStep}
 use Rattle.conformance.specs.declared.mismatch.NamedStep.TheVariants.{Submits, Gets}
 
--- A job with its class, or a round with its kind.
-abbrev pub actor_text : RecordedActor → List ℕ → List ℕ
-actor_text (Job job) label = codes "job " ++ decimal job ++ codes " of class " ++ label
-actor_text (Round round) label = codes "round " ++ decimal round ++ codes " of kind " ++ label
+-- A job with its class and pool.
+abbrev pub job_text : ℕ → List ℕ → List ℕ → List ℕ
+job_text job class pool = codes "job " ++ decimal job ++ codes " of class " ++ class ++ codes " in pool " ++ pool
+
+abbrev pub round_text : ℕ → List ℕ → List ℕ
+round_text round kind = codes "round " ++ decimal round ++ codes " of kind " ++ kind
+
+-- An actor with its label.
+abbrev pub actor_text : RecordedActor → List ℕ → List ℕ → List ℕ
+actor_text (Job job) label pool = job_text job label pool
+actor_text (Round round) label pool = round_text round label
+
+-- ---- what it did
+abbrev pub submit_text : List ℕ → List ℕ → List ℕ
+submit_text class pool = codes " submitted " ++ class ++ codes " to pool " ++ pool
+
+abbrev pub get_text : List ℕ → List ℕ → List ℕ
+get_text class pool = codes " got " ++ class ++ codes " of pool " ++ pool
+
+-- ---- why it deviates
+abbrev pub missing_text : List ℕ → List ℕ
+missing_text step = codes "; its body has no such " ++ step
 
 abbrev pub end_text : List ℕ
 end_text = codes " ended; its body has a get before its end"
 
-abbrev pub cause_text : ℕ → List ℕ → List ℕ
-cause_text job class = codes " submitted " ++ class ++ codes ", which is job " ++ decimal job ++ codes " and of no class of the plan"
+abbrev pub end_reason : List ℕ
+end_reason = codes "; its body has a get before its end"
 
-abbrev pub step_text : NamedStep → List ℕ
-step_text (Submits class) = codes " submitted " ++ string_bytes class ++ codes "; its body has no such submit"
-step_text (Gets class) = codes " got " ++ string_bytes class ++ codes "; its body has no such get"
+abbrev pub without_get_text : ℕ → List ℕ → List ℕ → List ℕ
+without_get_text job class pool = codes " ended without a get of job " ++ (decimal job ++ (codes " of class " ++ (class ++ (codes " in pool " ++ pool))))
+
+abbrev pub open_end_text : ℕ → List ℕ → List ℕ → List ℕ
+open_end_text job class pool = without_get_text job class pool ++ end_reason
+
+abbrev pub cause_text : ℕ → List ℕ
+cause_text job = codes " as job " ++ decimal job ++ codes ", whose own path matches no such class"
+
+abbrev pub unplanned_job_text : ℕ → List ℕ
+unplanned_job_text job = codes " as job " ++ decimal job ++ codes ", which is of no class of the plan"
 
 abbrev pub position_text : Option NamedStep → List ℕ
 position_text None = codes " at its begin"
-position_text (Some (Submits class)) = codes " behind submit " ++ string_bytes class
-position_text (Some (Gets class)) = codes " behind get " ++ string_bytes class
+position_text (Some (Submits class)) = codes " after submit " ++ string_bytes class
+position_text (Some (Gets class)) = codes " after get " ++ string_bytes class
 
 -- The first deviating step.
 abbrev pub deviating_step_text : DeviatingStep → Option NamedStep → List ℕ
-deviating_step_text Ends after = end_text
-deviating_step_text (SubmitsMismatched job class) after = cause_text job (string_bytes class)
-deviating_step_text (PathStep step) after = step_text step ++ position_text after
+deviating_step_text (step.Submits label) after = (submit_text (string_bytes label.name) (string_bytes label.pool) ++ missing_text (codes "submit")) ++ position_text after
+deviating_step_text (step.Gets label) after = (get_text (string_bytes label.name) (string_bytes label.pool) ++ missing_text (codes "get")) ++ position_text after
+deviating_step_text (step.SubmitsMismatched job label) after = submit_text (string_bytes label.name) (string_bytes label.pool) ++ cause_text job
+deviating_step_text (step.SubmitsUnplanned job label) after = submit_text (string_bytes label.name) (string_bytes label.pool) ++ unplanned_job_text job
+deviating_step_text (step.EndsOpen job label) after = open_end_text job (string_bytes label.name) (string_bytes label.pool)
+deviating_step_text step.Ends after = end_text
 
 abbrev pub mismatch_text : PathMismatch → List ℕ
-mismatch_text mismatch = actor_text mismatch.actor (string_bytes mismatch.label) ++ deviating_step_text mismatch.step mismatch.after
+mismatch_text mismatch = actor_text mismatch.actor (string_bytes mismatch.label.name) (string_bytes mismatch.label.pool) ++ deviating_step_text mismatch.step mismatch.after

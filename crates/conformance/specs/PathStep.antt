@@ -8,8 +8,3 @@ use Rattle.conformance.specs.declared.step.PathStep.TheVariants.{Submits, Gets}
 abbrev pub submits : PathStep → ℕ → Bool
 submits (Submits classes) class = list_any (λ one. one == class) classes.items
 submits (Gets place) class = false
-
--- The step gets the job that the submit at this index of the path made.
-abbrev pub gets : PathStep → ℕ → Bool
-gets (Gets got) place = got == place
-gets (Submits classes) place = false

@@ -13,9 +13,9 @@ use Rattle.conformance.specs.declared.actor_table.UnsettledActor.{UnsettledActor
 use Rattle.conformance.specs.declared.actor_table.EndedPath.{EndedPath}
 use Rattle.conformance.specs.declared.actor_path.ActorPath.{ActorPath}
 use Rattle.conformance.specs.declared.job_classes.ClassTable.{ClassTable}
-use Rattle.conformance.specs.PlanBudget.{IsEnoughForPlan}
+use Rattle.conformance.specs.Family.{HasNoFamilies}
 use Rattle.conformance.specs.PathState.{has_ended, path_state_of}
-use Rattle.conformance.specs.ActorTables.{in_table, classes_in, AreClassesIn, AreDecidedIn}
+use Rattle.conformance.specs.ActorTables.{in_table, classes_in, AreClassesIn, AreUnambiguousIn}
 use Rattle.conformance.specs.Represents.{IsNamed}
 
 -- The actor has ended with this path, or it is open.
@@ -30,11 +30,11 @@ pub record IsActorPathOf (lines : List RecordedLine) (actor : RecordedActor) (ac
 
 -- The actors that are not yet classified are in the table. Of the classified jobs, the classes of those whose submitters are
 -- in the table are stored.
-pub record IsStateAtEnd (plan : Plan) (budget : ℕ) (lines : List RecordedLine) (actors : ActorTable) (known : ClassTable) : Type 0 where
+pub record IsStateAtEnd (plan : Plan) (lines : List RecordedLine) (actors : ActorTable) (known : ClassTable) : Type 0 where
   pub named : (actor : RecordedActor) (kept : UnsettledActor) → in_table actors actor ≡ Some kept → IsNamed lines actor kept
   pub at : (actor : RecordedActor) (kept : UnsettledActor) → in_table actors actor ≡ Some kept → IsAt lines actor kept.ended_path
   pub classes : AreClassesIn plan lines known
-  pub decided : IsEnoughForPlan budget plan → AreDecidedIn known
+  pub decided : HasNoFamilies plan → AreUnambiguousIn known
   pub below : (actor : RecordedActor) (job : ℕ) → is_some (in_table actors actor) ≡ true → has_submitted lines actor job ≡ true → is_refused lines job ≡ false
       → (is_some (in_table actors (Job job)) ≡ true) ⊎ (is_some (classes_in known job) ≡ true)
   pub submitter : (actor : RecordedActor) (job : ℕ) (kept : UnsettledActor) → in_table actors (Job job) ≡ Some kept → has_submitted lines actor job ≡ true → is_refused lines job ≡ false → kept.submitter ≡ Some actor

@@ -14,11 +14,11 @@ use Rattle.conformance.specs.declared.actor_table.UnsettledActor.{UnsettledActor
 use Rattle.conformance.specs.declared.actor_table.EndedPath.{EndedPath}
 use Rattle.conformance.specs.declared.job_classes.ClassTable.{ClassTable}
 use Rattle.conformance.specs.declared.actor_classifier.ActorClassifier.{ActorClassifier}
-use Rattle.conformance.specs.PlanBudget.{IsEnoughForPlan}
+use Rattle.conformance.specs.Family.{HasNoFamilies}
 use Rattle.conformance.specs.PathState.{has_ended}
 use Rattle.conformance.specs.Label.{HasLabel}
 use Rattle.conformance.specs.Classes.{IsSettled}
-use Rattle.conformance.specs.ActorTables.{in_table, classes_in, AreKnown, AreDecidedIn, AreSettledBefore}
+use Rattle.conformance.specs.ActorTables.{in_table, classes_in, AreKnown, AreUnambiguousIn, AreSettledBefore}
 
 -- The entry has the label of the actor in the lines.
 abbrev pub IsNamed : List RecordedLine → RecordedActor → UnsettledActor → Type 0
@@ -51,9 +51,8 @@ pub record AreTablesOf (plan : Plan) (lines : List RecordedLine) (actors : Actor
       → (is_some (in_table actors (Job job)) ≡ true) ⊎ (is_some (classes_in known job) ≡ true)
   pub submitter : (actor : RecordedActor) (job : ℕ) (kept : UnsettledActor) → in_table actors (Job job) ≡ Some kept → has_submitted lines actor job ≡ true → is_refused lines job ≡ false → kept.submitter ≡ Some actor
 
--- The classifier has this budget, and its state is that of the lines read.
-pub record IsClassifierOf (plan : Plan) (budget : ℕ) (classes : ActorClassifier) (lines : List RecordedLine) : Type 0 where
-  pub has_budget : classes.budget ≡ budget
+-- The state of the classifier is that of the lines read.
+pub record IsClassifierOf (plan : Plan) (classes : ActorClassifier) (lines : List RecordedLine) : Type 0 where
   pub paths : IsPathsOf classes.paths lines
   pub kept : AreTablesOf plan lines classes.actors classes.known None
-  pub decided : IsEnoughForPlan budget plan → AreDecidedIn classes.known
+  pub decided : HasNoFamilies plan → AreUnambiguousIn classes.known

@@ -37,44 +37,44 @@ pub record IsLineSurveyAtEnd (plan : Plan) (lines : List RecordedLine) (line_sur
 
 -- ---- the part that each classified actor updates
 -- These actors have been classified and recorded.
-pub record IsActorSurveyOf (plan : Plan) (budget : ℕ) (lines : List RecordedLine) (reported : List ClassifiedActor) (actor_survey : ActorSurvey) : Type 0 where
-  pub reported_so : AreResultsSoFarOf plan budget lines reported
+pub record IsActorSurveyOf (plan : Plan) (lines : List RecordedLine) (reported : List ClassifiedActor) (actor_survey : ActorSurvey) : Type 0 where
+  pub reported_so : AreResultsSoFarOf plan lines reported
   pub verdicts : IsVerdictsOf plan reported actor_survey.verdicts
   pub others : AreOtherKinds plan reported actor_survey.others
 
 -- All actors that the lines classify have been recorded.
-pub record IsCurrent (plan : Plan) (budget : ℕ) (lines : List RecordedLine) (classes : ActorClassifier) (actor_survey : ActorSurvey) : Type 0 where
+pub record IsCurrent (plan : Plan) (lines : List RecordedLine) (classes : ActorClassifier) (actor_survey : ActorSurvey) : Type 0 where
   pub reported : List ClassifiedActor
-  pub classes_represent : IsClassifierOf plan budget classes lines
-  pub actor_survey_so : IsActorSurveyOf plan budget lines reported actor_survey
+  pub classes_represent : IsClassifierOf plan classes lines
+  pub actor_survey_so : IsActorSurveyOf plan lines reported actor_survey
 
 -- All actors have been recorded.
-pub record IsActorSurveyAtEnd (plan : Plan) (budget : ℕ) (lines : List RecordedLine) (actor_survey : ActorSurvey) : Type 0 where
+pub record IsActorSurveyAtEnd (plan : Plan) (lines : List RecordedLine) (actor_survey : ActorSurvey) : Type 0 where
   pub reported : List ClassifiedActor
-  pub all : AreAllResultsOf plan budget lines reported
+  pub all : AreAllResultsOf plan lines reported
   pub verdicts : IsVerdictsOf plan reported actor_survey.verdicts
   pub others : AreOtherKinds plan reported actor_survey.others
 
-pub record IsSurveyOf (plan : Plan) (budget : ℕ) (lines : List RecordedLine) (survey : Survey) : Type 0 where
+pub record IsSurveyOf (plan : Plan) (lines : List RecordedLine) (survey : Survey) : Type 0 where
   pub line_survey : IsLineSurveyAtEnd plan lines survey.line_survey
-  pub actor_survey : IsActorSurveyAtEnd plan budget lines survey.actor_survey
+  pub actor_survey : IsActorSurveyAtEnd plan lines survey.actor_survey
   pub excess_tracker : CountsFirstKinds plan survey.actor_survey.others lines survey.excess_tracker
 
 -- A survey under construction, before the end of the recording.
-pub record IsSurveyBuilderOf (plan : Plan) (budget : ℕ) (lines : List RecordedLine) (builder : SurveyBuilder) : Type 0 where
+pub record IsSurveyBuilderOf (plan : Plan) (lines : List RecordedLine) (builder : SurveyBuilder) : Type 0 where
   pub line_survey : IsLineSurveyOf plan lines builder.survey.line_survey
-  pub actor_survey : IsCurrent plan budget lines builder.classes builder.survey.actor_survey
+  pub actor_survey : IsCurrent plan lines builder.classes builder.survey.actor_survey
   pub excess_tracker : CountsFirstKinds plan builder.survey.actor_survey.others lines builder.survey.excess_tracker
   pub nothing : builder.reported.items ≡ []
 
 -- ---- a text
 -- All lines were read, or the first invalid one is returned.
-abbrev pub ReadsAllLines : Plan → ℕ → List ℕ → SurveyBuilder → Option RecordingFault → Type 0
-ReadsAllLines plan budget text builder None =
-    IsFirstFault (lines_read text) None × KeepsRules (lines_of text) × IsSurveyBuilderOf plan budget (lines_of text) builder
-ReadsAllLines plan budget text builder (Some fault) = IsFirstFault (lines_read text) (Some fault)
+abbrev pub ReadsAllLines : Plan → List ℕ → SurveyBuilder → Option RecordingFault → Type 0
+ReadsAllLines plan text builder None =
+    IsFirstFault (lines_read text) None × KeepsRules (lines_of text) × IsSurveyBuilderOf plan (lines_of text) builder
+ReadsAllLines plan text builder (Some fault) = IsFirstFault (lines_read text) (Some fault)
 
 -- A survey of the lines of a text if all are valid; otherwise the fault of the first invalid one.
-abbrev pub IsSurveyResult : Plan → ℕ → List ℕ → Result Survey RecordingFault → Type 0
-IsSurveyResult plan budget text (Ok survey) = IsFirstFault (lines_read text) None × IsSurveyOf plan budget (lines_of text) survey
-IsSurveyResult plan budget text (Err fault) = IsFirstFault (lines_read text) (Some fault)
+abbrev pub IsSurveyResult : Plan → List ℕ → Result Survey RecordingFault → Type 0
+IsSurveyResult plan text (Ok survey) = IsFirstFault (lines_read text) None × IsSurveyOf plan (lines_of text) survey
+IsSurveyResult plan text (Err fault) = IsFirstFault (lines_read text) (Some fault)

@@ -20,6 +20,10 @@ abbrev pub family_of : Plan → RecordedActor → List ℕ → List ℕ → List
 family_of plan (Job job) label pool = class_family plan label pool
 family_of plan (Round round) label pool = client_family plan label
 
+-- The plan has such a class in the pool.
+abbrev pub is_planned_class : Plan → List ℕ → List ℕ → Bool
+is_planned_class plan class pool = not (is_empty (class_family plan class pool))
+
 -- The plan has the label of the actor.
 abbrev pub is_planned : Plan → ClassifiedActor → Bool
 is_planned plan reported = not (is_empty (family_of plan reported.actor (string_bytes reported.label) (string_bytes reported.pool)))

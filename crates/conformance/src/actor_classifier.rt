@@ -6,9 +6,9 @@ ghost use Rattle.recordings.specs.RecordingLine.{RecordedLine, line_view};
 ghost use Rattle.recordings.specs.PathsOfLines.{KeepsRules};
 ghost use Rattle.job_bodies.specs.Plan as plans;
 ghost use Rattle.conformance.specs.declared.classified_actor.ClassifiedActor.{ClassifiedActor};
-ghost use Rattle.conformance.specs.PlanBudget.{IsEnoughForPlan};
+ghost use Rattle.conformance.specs.Family.{HasNoFamilies};
 ghost use Rattle.conformance.specs.Changes.{ChangesTable};
-ghost use Rattle.conformance.specs.ActorTables.{AreDecidedIn};
+ghost use Rattle.conformance.specs.ActorTables.{AreUnambiguousIn};
 ghost use Rattle.conformance.specs.ClassifiedActor.{AreResultsSoFarOf, AddsSettled};
 ghost use Rattle.conformance.specs.Represents.{IsClassifierOf, AreTablesOf};
 ghost use Rattle.conformance.specs.ClassificationResults.{IsProgressOf, IsReady, IsStep, ended_path_of, submitter_of as spec_submitter_of};
@@ -36,24 +36,21 @@ pub struct ActorClassifier {
     pub(crate) paths: Paths,
     pub(crate) actors: ActorTable,
     pub(crate) known: ClassTable,
-    pub(crate) budget: u64,
     // The path that was classified last. Kept to reuse its allocation.
     pub(crate) steps: Vec<PathStep>,
     pub(crate) alloc: Global,
 }
 
 impl ActorClassifier {
-    /// Creates a classifier, before the first line. `budget` limits the steps of each check of one
-    /// path against one body.
-    pub fn new(alloc: Global, budget: u64) -> ActorClassifier
-        ensures represents { (plan : plans.Plan) → IsClassifierOf plan budget result [] }
-        ensures reported { (plan : plans.Plan) → AreResultsSoFarOf plan budget [] [] }
+    /// Creates a classifier, before the first line.
+    pub fn new(alloc: Global) -> ActorClassifier
+        ensures represents { (plan : plans.Plan) → IsClassifierOf plan result [] }
+        ensures reported { (plan : plans.Plan) → AreResultsSoFarOf plan [] [] }
     {
         ActorClassifier {
             paths: Paths::new(alloc),
             actors: ActorTable::new(alloc),
             known: ClassTable::new(alloc),
-            budget,
             steps: Vec::new(alloc),
             alloc,
         }
@@ -71,25 +68,25 @@ impl ActorClassifier {
         line: &Line<'_>,
         reported: &mut Vec<ClassifiedActor>,
     ) -> Result<(), AllocError>
-        ensures taken { (budget : ℕ) (before : List RecordedLine)
+        ensures taken { (before : List RecordedLine)
             → KeepsRules (before ++ line_view line.now ∷ [])
-            → IsClassifierOf plan.now budget self.old before
+            → IsClassifierOf plan.now self.old before
             → OnOk result
-            (IsClassifierOf plan.now budget self.new (before ++ line_view line.now ∷ [])) }
-        ensures reported { (budget : ℕ) (before : List RecordedLine)
+            (IsClassifierOf plan.now self.new (before ++ line_view line.now ∷ [])) }
+        ensures reported { (before : List RecordedLine)
             → KeepsRules (before ++ line_view line.now ∷ [])
-            → IsClassifierOf plan.now budget self.old before
+            → IsClassifierOf plan.now self.old before
             → OnOk result
-            (AddsSettled plan.now budget before (before ++ line_view line.now ∷ []) reported.old.items
+            (AddsSettled plan.now before (before ++ line_view line.now ∷ []) reported.old.items
             reported.new.items) }
 
         // The caller may have removed actors from the list.
-        ensures all { (budget : ℕ) (before : List RecordedLine) (earlier : List ClassifiedActor)
+        ensures all { (before : List RecordedLine) (earlier : List ClassifiedActor)
             → KeepsRules (before ++ line_view line.now ∷ [])
-            → IsClassifierOf plan.now budget self.old before
-            → AreResultsSoFarOf plan.now budget before (earlier ++ reported.old.items)
+            → IsClassifierOf plan.now self.old before
+            → AreResultsSoFarOf plan.now before (earlier ++ reported.old.items)
             → OnOk result
-            (AreResultsSoFarOf plan.now budget (before ++ line_view line.now ∷ [])
+            (AreResultsSoFarOf plan.now (before ++ line_view line.now ∷ [])
             (earlier ++ reported.new.items)) }
     {
         self.take_line(plan, line, reported)
@@ -101,16 +98,16 @@ impl ActorClassifier {
         line: &Line<'_>,
         reported: &mut Vec<ClassifiedActor>,
     ) -> Result<(), AllocError>
-        ensures taken { (budget : ℕ) (before : List RecordedLine)
+        ensures taken { (before : List RecordedLine)
             → KeepsRules (before ++ line_view line.now ∷ [])
-            → IsClassifierOf plan.now budget self.old before
+            → IsClassifierOf plan.now self.old before
             → OnOk result
-            (IsClassifierOf plan.now budget self.new (before ++ line_view line.now ∷ [])) }
-        ensures reported { (budget : ℕ) (before : List RecordedLine)
+            (IsClassifierOf plan.now self.new (before ++ line_view line.now ∷ [])) }
+        ensures reported { (before : List RecordedLine)
             → KeepsRules (before ++ line_view line.now ∷ [])
-            → IsClassifierOf plan.now budget self.old before
+            → IsClassifierOf plan.now self.old before
             → OnOk result
-            (AddsSettled plan.now budget before (before ++ line_view line.now ∷ []) reported.old.items
+            (AddsSettled plan.now before (before ++ line_view line.now ∷ []) reported.old.items
             reported.new.items) }
     {
         let given = self.paths.take_last_path(line)?;
@@ -128,7 +125,6 @@ impl ActorClassifier {
             (ChangesTable self.old.actors (line_view line.now) ended_path self.new.actors) }
         ensures known { self.new.known ≡ self.old.known }
         ensures paths { self.new.paths ≡ self.old.paths }
-        ensures budget { self.new.budget ≡ self.old.budget }
     {
         let alloc = self.alloc;
         match *line {
@@ -186,16 +182,15 @@ impl ActorClassifier {
     ) -> Result<Option<RecordedActor>, AllocError>
         ensures reported { (lines : List RecordedLine)
             → AreTablesOf plan.now lines self.old.actors self.old.known (Some actor)
-            → (IsEnoughForPlan self.old.budget plan.now → AreDecidedIn self.old.known)
+            → (HasNoFamilies plan.now → AreUnambiguousIn self.old.known)
             → IsReady self.old.actors self.old.known actor
             → KeepsRules lines
             → IfOk result (λ next.
-            IsStep plan.now self.old.budget lines self.old.actors self.new.actors self.new.known
+            IsStep plan.now lines self.old.actors self.new.actors self.new.known
             next reported.old.items reported.new.items) }
         ensures fewer { IfOk result (λ next.
             is_some next ≡ true → count_of self.new.actors.jobs < count_of self.old.actors.jobs) }
         ensures paths { self.new.paths ≡ self.old.paths }
-        ensures budget { self.new.budget ≡ self.old.budget }
     {
         let Some(kept) = self.actors.remove(actor) else {
             return Ok(None);
@@ -227,15 +222,14 @@ impl ActorClassifier {
     ) -> Result<Option<RecordedActor>, AllocError>
         ensures reported { (lines : List RecordedLine)
             → AreTablesOf plan.now lines self.old.actors self.old.known (Some actor)
-            → (IsEnoughForPlan self.old.budget plan.now → AreDecidedIn self.old.known)
+            → (HasNoFamilies plan.now → AreUnambiguousIn self.old.known)
             → KeepsRules lines
             → IfOk result (λ next.
-            IsStep plan.now self.old.budget lines self.old.actors self.new.actors self.new.known
+            IsStep plan.now lines self.old.actors self.new.actors self.new.known
             next reported.old.items reported.new.items) }
         ensures fewer { IfOk result (λ next.
             is_some next ≡ true → count_of self.new.actors.jobs < count_of self.old.actors.jobs) }
         ensures paths { self.new.paths ≡ self.old.paths }
-        ensures budget { self.new.budget ≡ self.old.budget }
     {
         match self.progress(actor) {
             None => Ok(None),
@@ -260,13 +254,12 @@ impl ActorClassifier {
     ) -> Result<(), AllocError>
         ensures reported { (lines : List RecordedLine)
             → AreTablesOf plan.now lines self.old.actors self.old.known (Some actor)
-            → (IsEnoughForPlan self.old.budget plan.now → AreDecidedIn self.old.known)
+            → (HasNoFamilies plan.now → AreUnambiguousIn self.old.known)
             → KeepsRules lines
             → OnOk result
-            (IsStep plan.now self.old.budget lines self.old.actors self.new.actors self.new.known
+            (IsStep plan.now lines self.old.actors self.new.actors self.new.known
             None reported.old.items reported.new.items) }
         ensures paths { self.new.paths ≡ self.old.paths }
-        ensures budget { self.new.budget ≡ self.old.budget }
     {
         let mut one = actor;
         loop {

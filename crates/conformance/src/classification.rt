@@ -35,11 +35,10 @@ impl ActorClassifier {
         reported: &mut Vec<ClassifiedActor>,
     ) -> Result<(), AllocError>
         ensures reported { OnOk result
-            (AddsResult plan.now self.old.budget actor submitter label pool actor_path self.old.known
+            (AddsResult plan.now actor submitter label pool actor_path self.old.known
             self.new.known reported.old.items reported.new.items) }
         ensures actors { self.new.actors ≡ self.old.actors }
         ensures paths { self.new.paths ≡ self.old.paths }
-        ensures budget { self.new.budget ≡ self.old.budget }
     {
         let is_decided = self.known.take_path(&actor_path.path, &mut self.steps)?;
         let mut family = members_of(
@@ -50,7 +49,6 @@ impl ActorClassifier {
             &pool,
             &self.steps,
             actor_path.path_state,
-            self.budget,
         )?;
         family.is_decided = both_hold(family.is_decided, is_decided);
         self.known.keep(actor, submitter, &family)?;
@@ -121,14 +119,11 @@ fn members_of(
     pool: &str,
     steps: &[PathStep],
     path_state: PathState,
-    budget: u64,
 ) -> Result<FamilyMatch, AllocError>
-    ensures { IfOk result (IsFamilyOf plan.now budget actor label.now pool.now path_state steps.now) }
+    ensures { IfOk result (IsFamilyOf plan.now actor label.now pool.now path_state steps.now) }
 {
     match actor {
-        RecordedActor::Job(_) => classes_of_path(
-            alloc, plan, label, pool, steps, path_state, budget,
-        ),
-        RecordedActor::Round(_) => kinds_of_path(alloc, plan, label, steps, path_state, budget),
+        RecordedActor::Job(_) => classes_of_path(alloc, plan, label, pool, steps, path_state),
+        RecordedActor::Round(_) => kinds_of_path(alloc, plan, label, steps, path_state),
     }
 }

@@ -1,7 +1,6 @@
 //! All findings, collected from the parts of a survey.
 
-ghost use Rattle.std.specs.Prelude.{◌≡◌, ◌++◌, ◌∷◌, [], ℕ, List, All, map, filter, OnOk, IfOk};
-ghost use Rattle.recordings.specs.RecordingLine.{RecordedLine};
+ghost use Rattle.std.specs.Prelude.{◌≡◌, ◌++◌, ◌∷◌, [], map, filter, OnOk, IfOk, string_bytes};
 ghost use Rattle.recordings.specs.NotesOfLines.{IsNotesOf};
 ghost use Rattle.recordings.specs.ForeignGets.{first_foreign_get};
 ghost use Rattle.recordings.specs.Invalidations.{invalidations_of};
@@ -10,14 +9,17 @@ ghost use Rattle.conformance.specs.JobSet.{has_job};
 ghost use Rattle.conformance.specs.Lines.{lines_of};
 ghost use Rattle.conformance.specs.declared.finding.Finding.TheVariants as kinds;
 
-use crate::describe_mismatch::{describe_mismatch, label_of};
+use crate::actor_label::{ActorLabel, label_of, pool_of_first};
+use crate::describe_mismatch::describe_mismatch;
 use crate::finding::Finding;
 use crate::job_set::JobSet;
+use crate::line_query::LineQuery;
 use crate::survey::{ActorSurvey, LineSurvey, Survey};
 use crate::unplanned::{NotPlanned, UnplannedLabels};
 use crate::verdicts::Verdicts;
 use crate::{ClassifiedActor, PoolDeviation, RoundExcess};
-use recordings::{InvalidatingEvent, Invalidation, RecordedNotes};
+use job_bodies::Plan;
+use recordings::{InvalidatingEvent, Invalidation, RecordedActor, RecordedNotes};
 use std::alloc::{AllocError, Global};
 
 /// Returns all findings, unsorted.
@@ -27,13 +29,14 @@ use std::alloc::{AllocError, Global};
 /// Returns `AllocError` if memory runs out.
 pub(crate) fn collect_findings(
     alloc: Global,
+    plan: &Plan,
     recording: &[u8],
     survey: Survey,
     excesses: Vec<RoundExcess>,
 ) -> Result<Vec<Finding>, AllocError>
     ensures { IsNotesOf survey.line_survey.notes (lines_of recording.now)
         → IfOk result
-        (λ found. spec.AreCollected (lines_of recording.now) survey excesses.items found.items) }
+        (λ found. spec.AreCollected plan.now (lines_of recording.now) survey excesses.items found.items) }
 {
     let Survey {
         line_survey,
@@ -48,7 +51,7 @@ pub(crate) fn collect_findings(
     } = line_survey;
     let mut findings = Vec::new(alloc);
     push_plan_differences(&mut findings, deviations, unplanned)?;
-    push_actor_survey(&mut findings, alloc, recording, actor_survey)?;
+    push_actor_survey(&mut findings, alloc, plan, recording, actor_survey)?;
     push_excesses(&mut findings, &excesses)?;
     push_notes(&mut findings, alloc, recording, &notes)?;
     Ok(findings)
@@ -73,11 +76,12 @@ fn push_plan_differences(
 fn push_actor_survey(
     findings: &mut Vec<Finding>,
     alloc: Global,
+    plan: &Plan,
     recording: &[u8],
     actor_survey: ActorSurvey,
 ) -> Result<(), AllocError>
     ensures { OnOk result
-        (spec.AddsActorSurvey (lines_of recording.now) actor_survey.verdicts findings.old.items
+        (spec.AddsActorSurvey plan.now (lines_of recording.now) actor_survey.verdicts findings.old.items
         findings.new.items) }
 {
     let ActorSurvey { verdicts, .. } = actor_survey;
@@ -87,7 +91,14 @@ fn push_actor_survey(
         classless,
         ..
     } = verdicts;
-    push_mismatches(findings, alloc, recording, &classless, &mismatches.actors)?;
+    push_mismatches(
+        findings,
+        alloc,
+        plan,
+        recording,
+        &classless,
+        &mismatches.actors,
+    )?;
     push_undecided(findings, undecided.actors)
 }
 
@@ -103,7 +114,7 @@ fn push_notes(
         (spec.AddsNotes (lines_of recording.now) findings.old.items findings.new.items) }
 {
     push_foreign_get(findings, alloc, recording, notes)?;
-    push_invalidations(findings, alloc, notes)
+    push_invalidations(findings, alloc, recording, notes)
 }
 
 fn push_pools(findings: &mut Vec<Finding>, deviations: Vec<PoolDeviation>) -> Result<(), AllocError>
@@ -129,17 +140,18 @@ fn push_labels(findings: &mut Vec<Finding>, labels: Vec<NotPlanned>) -> Result<(
 fn push_mismatches(
     findings: &mut Vec<Finding>,
     alloc: Global,
+    plan: &Plan,
     recording: &[u8],
     classless: &JobSet,
     mismatches: &[ClassifiedActor],
 ) -> Result<(), AllocError>
     ensures { OnOk result
         (spec.Adds findings.old.items
-        (spec.AreMismatchesOf (lines_of recording.now) (has_job classless.now) mismatches.now)
+        (spec.AreMismatchesOf plan.now (lines_of recording.now) (has_job classless.now) mismatches.now)
         findings.new.items) }
 {
     for reported in mismatches {
-        let (line, mismatch) = describe_mismatch(alloc, recording, classless, reported)?;
+        let (line, mismatch) = describe_mismatch(alloc, plan, recording, classless, reported)?;
         findings.push(Finding::PathMismatch { line, mismatch })?;
     }
     Ok(())
@@ -153,7 +165,13 @@ fn push_undecided(
         (findings.new.items ≡ findings.old.items ++ map spec.not_decided undecided.items) }
 {
     for reported in undecided {
-        let ClassifiedActor { actor, label, .. } = reported;
+        let ClassifiedActor {
+            actor,
+            label,
+            pool,
+            ..
+        } = reported;
+        let label = ActorLabel { name: label, pool };
         findings.push(Finding::NotDecided { actor, label })?;
     }
     Ok(())
@@ -183,7 +201,8 @@ fn push_foreign_get(
 {
     if let Some(get) = notes.foreign_get() {
         let label = label_of(alloc, recording, get.actor)?;
-        findings.push(Finding::ForeignGet { get, label })?;
+        let job = label_of(alloc, recording, RecordedActor::Job(get.job))?;
+        findings.push(Finding::ForeignGet { get, label, job })?;
     }
     Ok(())
 }
@@ -191,32 +210,92 @@ fn push_foreign_get(
 fn push_invalidations(
     findings: &mut Vec<Finding>,
     alloc: Global,
+    recording: &[u8],
     notes: &RecordedNotes,
 ) -> Result<(), AllocError>
-    ensures { (lines : List RecordedLine)
-        → IsNotesOf notes.now lines
+    ensures { IsNotesOf notes.now (lines_of recording.now)
         → OnOk result
-        (findings.new.items
-        ≡ findings.old.items ++ map kinds.Invalidation (filter spec.is_path_independent (invalidations_of lines))) }
+        (spec.Adds findings.old.items
+        (spec.AreInvalidationsOf (lines_of recording.now)
+        (filter spec.is_path_independent (invalidations_of (lines_of recording.now))))
+        findings.new.items) }
 {
     let invalidations = notes.invalidations(alloc)?;
-    push_path_independent(findings, &invalidations)
+    push_path_independent(findings, alloc, recording, &invalidations)
 }
 
 fn push_path_independent(
     findings: &mut Vec<Finding>,
+    alloc: Global,
+    recording: &[u8],
     invalidations: &[Invalidation],
 ) -> Result<(), AllocError>
     ensures { OnOk result
-        (findings.new.items
-        ≡ findings.old.items ++ map kinds.Invalidation (filter spec.is_path_independent invalidations.now)) }
+        (spec.Adds findings.old.items
+        (spec.AreInvalidationsOf (lines_of recording.now)
+        (filter spec.is_path_independent invalidations.now))
+        findings.new.items) }
 {
     for invalidation in invalidations {
-        if is_path_independent(*invalidation) {
-            findings.push(Finding::Invalidation(*invalidation))?;
-        }
+        push_invalidation(findings, alloc, recording, *invalidation)?;
     }
     Ok(())
+}
+
+// Appends the finding for the event, unless it depends on the actor's path.
+fn push_invalidation(
+    findings: &mut Vec<Finding>,
+    alloc: Global,
+    recording: &[u8],
+    invalidation: Invalidation,
+) -> Result<(), AllocError>
+    ensures { OnOk result
+        (spec.Adds findings.old.items
+        (spec.AreInvalidationsOf (lines_of recording.now)
+        (filter spec.is_path_independent (invalidation ∷ [])))
+        findings.new.items) }
+{
+    if is_path_independent(invalidation) {
+        let label = subject_of(alloc, recording, invalidation.event)?;
+        findings.push(Finding::Invalidation {
+            invalidation,
+            label,
+        })?;
+    }
+    Ok(())
+}
+
+/// Returns the class and the pool of the job of an event. For a call of `invokeAny`, returns the
+/// label of the actor and the pool of the first call; for jobs without lines, the first pool that
+/// reports some.
+fn subject_of(
+    alloc: Global,
+    recording: &[u8],
+    event: InvalidatingEvent,
+) -> Result<ActorLabel, AllocError>
+    ensures { IfOk result
+        (λ label. spec.IsSubject (lines_of recording.now) event (string_bytes label.name) (string_bytes label.pool)) }
+{
+    match event {
+        InvalidatingEvent::Refused { job, .. }
+        | InvalidatingEvent::TimedOut { job, .. }
+        | InvalidatingEvent::Interrupted { job, .. }
+        | InvalidatingEvent::Cancelled { job, .. }
+        | InvalidatingEvent::Removed { job }
+        | InvalidatingEvent::Threw { job } => label_of(alloc, recording, RecordedActor::Job(job)),
+        InvalidatingEvent::AnyInvoked { actor } => {
+            let ActorLabel { name, .. } = label_of(alloc, recording, actor)?;
+            let pool = pool_of_first(alloc, recording, LineQuery::InvokesAny)?;
+            Ok(ActorLabel { name, pool })
+        }
+        InvalidatingEvent::Unseen { .. } => {
+            let pool = pool_of_first(alloc, recording, LineQuery::Unseen)?;
+            Ok(ActorLabel {
+                name: String::new(alloc),
+                pool,
+            })
+        }
+    }
 }
 
 /// Returns true if the event invalidates a SAFE answer even if the actor's path matches a body.

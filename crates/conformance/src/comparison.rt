@@ -8,7 +8,8 @@ ghost use Rattle.recordings.specs.PathsOfLines.{KeepsRules};
 ghost use Rattle.conformance.specs.RoundExcesses.{excesses_by_lines};
 ghost use Rattle.conformance.specs.Lines.{lines_of};
 ghost use Rattle.conformance.specs.Conforms.{Conforms, DoAsPlanned, HasNoInvalidation};
-ghost use Rattle.conformance.specs.Findings.{AreFindingsOf, is_of_actors};
+ghost use Rattle.conformance.specs.Findings.{AreFindingsOf, is_of_actors, is_not_decided};
+ghost use Rattle.conformance.specs.Family.{HasNoFamilies};
 ghost use Rattle.conformance.specs.FirstKinds.{AreFirstKinds};
 ghost use Rattle.conformance.specs.Survey.{IsSurveyOf};
 ghost use Rattle.conformance.specs.Outcome as spec;
@@ -28,14 +29,12 @@ pub enum Conformance {
     /// The first invalid line of the recording. No comparison was made.
     Invalid(RecordingFault),
     /// Every difference from the plan and every event that invalidates a SAFE answer, each listed
-    /// once. Findings are ordered by line; those without a line come last. The recording conforms
-    /// if the list is empty.
+    /// once. Findings are ordered by line, then by type; those without a line come last. The
+    /// recording conforms if the list is empty.
     Compared(Vec<Finding>),
 }
 
 /// Compares the recording of a service with a plan.
-///
-/// `budget` limits the steps of each check of one path against one body of the plan.
 ///
 /// The findings are exactly these, each listed once:
 ///
@@ -44,10 +43,11 @@ pub enum Conformance {
 /// - every label that is not in the plan, with the first line that has it;
 /// - for each label of the plan, the actor with the smallest number whose path matches no body,
 ///   with its first step that no body explains and the line of that step;
-/// - for each label of the plan, the actor with the smallest number for which the budget was too
-///   small to decide this. If the budget is large enough for the plan, there is none;
+/// - for each label of the plan, the actor with the smallest number for which this is undecided. If
+///   each label is one class in each pool, there is none;
 /// - for each client kind, the first line at which it has more rounds than the plan allows. Each
-///   round counts as the first kind that it can belong to;
+///   round counts as the first kind that it can belong to. A round for which this is undecided
+///   counts in no kind;
 /// - the first get of a job by an actor that did not submit it;
 /// - for each event type that invalidates a SAFE answer, its first line.
 ///
@@ -60,12 +60,7 @@ pub enum Conformance {
 /// # Errors
 ///
 /// Returns [`AllocError`] if memory runs out.
-pub fn conform(
-    alloc: Global,
-    plan: &Plan,
-    recording: &[u8],
-    budget: u64,
-) -> Result<Conformance, AllocError>
+pub fn conform(alloc: Global, plan: &Plan, recording: &[u8]) -> Result<Conformance, AllocError>
     ensures bad { IfOk result
         (λ reported. IsFirstFault (lines_read recording.now) (spec.fault_of reported)) }
     ensures conforms { IfOk result (λ reported.
@@ -76,10 +71,13 @@ pub fn conform(
         spec.IfCompared reported (λ findings.
         list_any is_of_actors findings ≡ false → DoAsPlanned plan.now (lines_of recording.now))) }
     ensures found { IfOk result
-        (λ reported. spec.IfCompared reported (AreFindingsOf plan.now budget (lines_of recording.now))) }
+        (λ reported. spec.IfCompared reported (AreFindingsOf plan.now (lines_of recording.now))) }
+    ensures decided { IfOk result (λ reported.
+        spec.IfCompared reported (λ findings.
+        HasNoFamilies plan.now → list_any is_not_decided findings ≡ false)) }
     ensures ascending { IfOk result (λ reported. spec.IfCompared reported spec.AreInOrder) }
 {
-    match survey_recording(alloc, plan, recording, budget)? {
+    match survey_recording(alloc, plan, recording)? {
         Ok(survey) => Ok(Conformance::Compared(findings_of_survey(
             alloc, plan, recording, survey,
         )?)),
@@ -94,30 +92,31 @@ fn findings_of_survey(
     recording: &[u8],
     survey: Survey,
 ) -> Result<Vec<Finding>, AllocError>
-    ensures conforms { (budget : ℕ)
-        → KeepsRules (lines_of recording.now)
-        → IsSurveyOf plan.now budget (lines_of recording.now) survey
+    ensures conforms { KeepsRules (lines_of recording.now)
+        → IsSurveyOf plan.now (lines_of recording.now) survey
         → IfOk result (λ findings.
         findings.items ≡ []
         → Conforms plan.now (lines_of recording.now) × HasNoInvalidation (lines_of recording.now)) }
-    ensures actors { (budget : ℕ)
-        → KeepsRules (lines_of recording.now)
-        → IsSurveyOf plan.now budget (lines_of recording.now) survey
+    ensures actors { KeepsRules (lines_of recording.now)
+        → IsSurveyOf plan.now (lines_of recording.now) survey
         → IfOk result (λ findings.
         list_any is_of_actors findings.items ≡ false
         → DoAsPlanned plan.now (lines_of recording.now)) }
-    ensures found { (budget : ℕ)
-        → KeepsRules (lines_of recording.now)
-        → IsSurveyOf plan.now budget (lines_of recording.now) survey
+    ensures found { KeepsRules (lines_of recording.now)
+        → IsSurveyOf plan.now (lines_of recording.now) survey
         → IfOk result
-        (λ findings. AreFindingsOf plan.now budget (lines_of recording.now) findings.items) }
+        (λ findings. AreFindingsOf plan.now (lines_of recording.now) findings.items) }
+    ensures decided { KeepsRules (lines_of recording.now)
+        → IsSurveyOf plan.now (lines_of recording.now) survey
+        → IfOk result (λ findings.
+        HasNoFamilies plan.now → list_any is_not_decided findings.items ≡ false) }
     ensures ascending { IfOk result (λ findings. spec.AreInOrder findings.items) }
 {
     pools_are_as_planned();
     rounds_are_within_plan();
     let excesses = round_excesses(alloc, plan, recording, &survey)?;
-    let mut findings = collect_findings(alloc, recording, survey, excesses)?;
-    findings.sort_by_key(Finding::place)?;
+    let mut findings = collect_findings(alloc, plan, recording, survey, excesses)?;
+    findings.sort_by_key(Finding::sort_key)?;
     Ok(findings)
 }
 
@@ -130,9 +129,9 @@ fn round_excesses(
     recording: &[u8],
     survey: &Survey,
 ) -> Result<Vec<RoundExcess>, AllocError>
-    ensures { (budget : ℕ) (kinds : List (Option ℕ))
+    ensures { (kinds : List (Option ℕ))
         → KeepsRules (lines_of recording.now)
-        → (so : IsSurveyOf plan.now budget (lines_of recording.now) survey.now)
+        → (so : IsSurveyOf plan.now (lines_of recording.now) survey.now)
         → AreFirstKinds plan.now (lines_of recording.now) so.actor_survey.reported kinds
         → IfOk result
         (λ found. found.items ≡ excesses_by_lines plan.now kinds (lines_of recording.now)) }

@@ -1,16 +1,21 @@
 //! The first deviating step of an actor, looked up in the text of the recording.
 
 ghost use Rattle.std.specs.Prelude.{◌≡◌, IfOk, string_bytes};
-ghost use Rattle.recordings.specs.declared.recording_line.RecordedActor.TheVariants.{Job};
+ghost use Rattle.std.specs.List.{list_any};
+ghost use Rattle.std.specs.Option.{option_to_list};
+ghost use Rattle.recordings.specs.ActorPath.{gets};
 ghost use Rattle.conformance.specs.JobSet.{has_job};
 ghost use Rattle.conformance.specs.Lines.{lines_of};
-ghost use Rattle.conformance.specs.LineQuery.{IsLabelOf, found_seen};
+ghost use Rattle.conformance.specs.LineQuery.{found_seen};
+ghost use Rattle.conformance.specs.Verdicts.{is_planned_class};
 ghost use Rattle.conformance.specs.Description as spec;
 
-use crate::ClassifiedActor;
+use crate::actor_label::{ActorLabel, label_of};
 use crate::job_set::JobSet;
-use crate::line_query::{LineQuery, first_line, label_in};
+use crate::line_query::{LineQuery, first_line};
 use crate::mismatch::{DeviatingStep, NamedStep, PathMismatch};
+use crate::{ClassifiedActor, first_class};
+use job_bodies::Plan;
 use recordings::{Line, RecordedActor, RecordedStep};
 use std::alloc::{AllocError, Global};
 
@@ -23,13 +28,14 @@ use std::alloc::{AllocError, Global};
 /// Returns `AllocError` if memory runs out.
 pub(crate) fn describe_mismatch(
     alloc: Global,
+    plan: &Plan,
     recording: &[u8],
     classless: &JobSet,
     reported: &ClassifiedActor,
 ) -> Result<(Option<usize>, PathMismatch), AllocError>
     ensures { IfOk result (λ found.
-        spec.IsDescriptionOf (lines_of recording.now) (has_job classless.now) reported.now found.0
-        found.1) }
+        spec.IsDescriptionOf plan.now (lines_of recording.now) (has_job classless.now) reported.now
+        found.0 found.1) }
 {
     let explained = reported.family.explained;
     let step = step_at(&reported.path, explained);
@@ -40,8 +46,8 @@ pub(crate) fn describe_mismatch(
     };
     let mismatch = PathMismatch {
         actor: reported.actor,
-        label: reported.label.clone()?,
-        step: deviating_step(alloc, recording, classless, step)?,
+        label: label_of_classified(reported)?,
+        step: deviating_step(alloc, plan, recording, classless, &reported.path, step)?,
         after,
     };
     Ok((line, mismatch))
@@ -92,29 +98,112 @@ fn line_query_of(actor: RecordedActor, step: Option<JobStep>) -> LineQuery
     }
 }
 
+/// Returns the label of a classified actor.
+fn label_of_classified(reported: &ClassifiedActor) -> Result<ActorLabel, AllocError>
+    ensures name { IfOk result (λ label. string_bytes label.name ≡ string_bytes reported.now.label) }
+    ensures pool { IfOk result (λ label. string_bytes label.pool ≡ string_bytes reported.now.pool) }
+{
+    let name = reported.label.clone()?;
+    let pool = reported.pool.clone()?;
+    Ok(ActorLabel { name, pool })
+}
+
 fn deviating_step(
     alloc: Global,
+    plan: &Plan,
     recording: &[u8],
     classless: &JobSet,
+    path: &[RecordedStep],
     step: Option<JobStep>,
 ) -> Result<DeviatingStep, AllocError>
-    ensures { IfOk result (spec.IsDeviatingStep (lines_of recording.now) (has_job classless.now) step) }
+    ensures { IfOk result
+        (spec.IsDeviatingStep plan.now (lines_of recording.now) (has_job classless.now) path.now step) }
 {
     match step {
-        None => Ok(DeviatingStep::Ends),
+        None => {
+            let end = deviating_end(alloc, recording, open_job(path))?;
+            Ok(end)
+        }
         Some(JobStep::Submits(job)) => {
-            let class = class_of(alloc, recording, job)?;
-            if classless.contains(job) {
-                Ok(DeviatingStep::SubmitsMismatched { job, class })
-            } else {
-                Ok(DeviatingStep::PathStep(NamedStep::Submits(class)))
-            }
+            let label = label_of(alloc, recording, RecordedActor::Job(job))?;
+            Ok(deviating_submit(plan, classless, job, label))
         }
         Some(JobStep::Gets(job)) => {
-            let class = class_of(alloc, recording, job)?;
-            Ok(DeviatingStep::PathStep(NamedStep::Gets(class)))
+            let label = label_of(alloc, recording, RecordedActor::Job(job))?;
+            Ok(DeviatingStep::Gets(label))
         }
     }
+}
+
+/// Returns the deviation of an actor that ended, with its first open job if there is one.
+fn deviating_end(
+    alloc: Global,
+    recording: &[u8],
+    first: Option<usize>,
+) -> Result<DeviatingStep, AllocError>
+    ensures { IfOk result (spec.IsDeviatingEnd (lines_of recording.now) first) }
+{
+    match first {
+        None => Ok(DeviatingStep::Ends),
+        Some(job) => {
+            let label = label_of(alloc, recording, RecordedActor::Job(job))?;
+            Ok(DeviatingStep::EndsOpen { job, label })
+        }
+    }
+}
+
+/// Returns the first job of a path that no step of it gets.
+fn open_job(path: &[RecordedStep]) -> Option<usize>
+    ensures { result ≡ spec.first_open path.now }
+{
+    let mut place = 0;
+    let mut rest = path;
+    while let Some((step, after)) = rest.split_first() {
+        if let Some(job) = open_job_at(path, place, *step) {
+            return Some(job);
+        }
+        place += 1;
+        rest = after;
+    }
+    None
+}
+
+/// Returns the job of the step at this index of a path, if it is a submit and no step gets its job.
+fn open_job_at(path: &[RecordedStep], place: usize, step: RecordedStep) -> Option<usize>
+    ensures { option_to_list result ≡ spec.open_job_at path.now (place, step) }
+{
+    match step {
+        RecordedStep::Submits(job) => { if is_got(path, place) { None } else { Some(job) } }
+        RecordedStep::Gets(_) => None,
+    }
+}
+
+fn is_got(path: &[RecordedStep], submit: usize) -> bool
+    ensures { result ≡ list_any (gets submit) path.now }
+{
+    path.iter().any(|step| step.gets(submit))
+}
+
+fn deviating_submit(plan: &Plan, classless: &JobSet, job: usize, label: ActorLabel) -> DeviatingStep
+    ensures { result
+        ≡ spec.deviating_submit (has_job classless.now job)
+        (is_planned_class plan.now (string_bytes label.name) (string_bytes label.pool)) job label }
+{
+    if !classless.contains(job) {
+        DeviatingStep::Submits(label)
+    } else if is_planned_class(plan, &label.name, &label.pool) {
+        DeviatingStep::SubmitsMismatched { job, label }
+    } else {
+        DeviatingStep::SubmitsUnplanned { job, label }
+    }
+}
+
+/// Returns true if the plan has such a class in the pool.
+#[tactic(auto, using(crate::proofs::UnplannedAfter::is_filled))]
+fn is_planned_class(plan: &Plan, class: &str, pool: &str) -> bool
+    ensures { result ≡ is_planned_class plan.now class.now pool.now }
+{
+    first_class(plan, class, pool).is_some()
 }
 
 fn named_step(
@@ -127,39 +216,12 @@ fn named_step(
     match step {
         None => Ok(None),
         Some(JobStep::Submits(job)) => {
-            let class = class_of(alloc, recording, job)?;
-            Ok(Some(NamedStep::Submits(class)))
+            let label = label_of(alloc, recording, RecordedActor::Job(job))?;
+            Ok(Some(NamedStep::Submits(label.name)))
         }
         Some(JobStep::Gets(job)) => {
-            let class = class_of(alloc, recording, job)?;
-            Ok(Some(NamedStep::Gets(class)))
+            let label = label_of(alloc, recording, RecordedActor::Job(job))?;
+            Ok(Some(NamedStep::Gets(label.name)))
         }
-    }
-}
-
-/// Returns the class that the job's submit names.
-fn class_of(alloc: Global, recording: &[u8], job: usize) -> Result<String, AllocError>
-    ensures { IfOk result
-        (λ class. IsLabelOf (lines_of recording.now) (Job job) (string_bytes class)) }
-{
-    label_of(alloc, recording, RecordedActor::Job(job))
-}
-
-/// Returns the label of an actor: the class that a job's submit names, or the kind that a round's
-/// begin names. The label is empty if there is no such line.
-///
-/// # Errors
-///
-/// Returns `AllocError` if memory runs out.
-pub(crate) fn label_of(
-    alloc: Global,
-    recording: &[u8],
-    actor: RecordedActor,
-) -> Result<String, AllocError>
-    ensures { IfOk result (λ label. IsLabelOf (lines_of recording.now) actor (string_bytes label)) }
-{
-    match first_line(recording, LineQuery::label_of(actor)) {
-        Some((_, line)) => String::from_str(alloc, label_in(&line)),
-        None => Ok(String::new(alloc)),
     }
 }

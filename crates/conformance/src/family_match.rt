@@ -1,13 +1,13 @@
 //! The result of matching a path against the bodies of a family.
 
-ghost use Rattle.std.specs.Prelude.{◌≡◌, ◌≤◌, ℕ, List, [], ◌∷◌, ◌++◌, length, OnOk};
+ghost use Rattle.std.specs.Prelude.{◌≡◌, ℕ, List, [], ◌∷◌, ◌++◌, OnOk};
 ghost use Rattle.job_bodies.specs.declared.action.Action.{Action};
-ghost use Rattle.job_bodies.specs.declared.limits.TheConstants.{MAX_ACTIONS};
+ghost use Rattle.conformance.specs.declared.step.ActorKind.{ActorKind};
 ghost use Rattle.conformance.specs.declared.step.PathStep.{PathStep};
 ghost use Rattle.conformance.specs.declared.step.PathState.{PathState};
 ghost use Rattle.conformance.specs.FamilyResult.{IsCorrectMatch};
 
-use crate::{PathMatch, PathState, PathStep, match_path};
+use crate::{ActorKind, PathMatch, PathState, PathStep, match_path};
 use job_bodies::Action;
 use std::alloc::{AllocError, Global};
 
@@ -19,16 +19,16 @@ pub struct FamilyMatch {
     /// The length of the longest prefix of the path that a body of the family explains. It is the
     /// length of the path if there is a member, and 0 if the family is empty.
     pub explained: usize,
-    /// True if each body of the family was decided within the budget. Otherwise there may be more
-    /// members, and a longer prefix may be explained.
+    /// True if it was decided for each body of the family. Otherwise there may be more members, and
+    /// a longer prefix may be explained.
     pub is_decided: bool,
 }
 
 impl FamilyMatch {
     /// Creates the result for an empty family.
     pub(crate) fn new(alloc: Global) -> FamilyMatch
-        ensures { (body_of : ℕ → List Action) (path_state : PathState) (path : List PathStep) (budget : ℕ)
-            → IsCorrectMatch result body_of path_state path budget [] }
+        ensures { (kind : ActorKind) (body_of : ℕ → List Action) (path_state : PathState) (path : List PathStep)
+            → IsCorrectMatch result kind body_of path_state path [] }
     {
         FamilyMatch {
             members: Vec::new(alloc),
@@ -40,19 +40,20 @@ impl FamilyMatch {
     /// Matches the path against one more body, that of the entry `number`.
     pub(crate) fn match_body(
         &mut self,
+        alloc: Global,
         number: usize,
         body: &[Action],
         path: &[PathStep],
+        kind: ActorKind,
         path_state: PathState,
-        budget: u64,
     ) -> Result<(), AllocError>
-        requires { length body.now ≤ MAX_ACTIONS }
         ensures { (body_of : ℕ → List Action) (matched : List ℕ)
             → body_of number ≡ body.now
-            → IsCorrectMatch self.old body_of path_state path.now budget matched
-            → OnOk result (IsCorrectMatch self.new body_of path_state path.now budget (matched ++ number ∷ [])) }
+            → IsCorrectMatch self.old kind body_of path_state path.now matched
+            → OnOk result (IsCorrectMatch self.new kind body_of path_state path.now (matched ++ number ∷ [])) }
     {
-        match match_path(body, path, path_state, budget) {
+        let path_match = match_path(alloc, body, path, kind, path_state)?;
+        match path_match {
             PathMatch::Fits => {
                 self.explained = path.len();
                 self.members.push(number)?;

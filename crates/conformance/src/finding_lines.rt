@@ -1,15 +1,17 @@
 //! The findings as text.
 
-ghost use Rattle.std.specs.Prelude.{◌≡◌, ◌++◌};
+ghost use Rattle.std.specs.Prelude.{◌≡◌, ◌++◌, codes};
 ghost use Rattle.support.specs.Pushed.{Pushes};
 ghost use Rattle.conformance.specs.FindingText as spec;
+ghost use Rattle.conformance.specs.PathMismatch.{job_text};
 
+use crate::actor_label::ActorLabel;
 use crate::finding::Finding;
-use crate::mismatch::{push_actor, push_mismatch};
+use crate::mismatch::{push_actor, push_job, push_mismatch};
 use crate::unplanned::NotPlanned;
 use crate::{Difference, PoolDeviation, RoundExcess};
 use job_bodies::Plan;
-use recordings::{ForeignGet, Invalidation};
+use recordings::{ForeignGet, InvalidatingEvent, Invalidation, RecordedActor};
 use std::alloc::AllocError;
 
 /// Appends each finding as a line, such as `line 3: pool db: max 20, plan 10`. Appends nothing if
@@ -43,11 +45,16 @@ pub fn push_finding(text: &mut String, plan: &Plan, finding: &Finding) -> Result
         Finding::PathMismatch { mismatch, .. } => push_mismatch(text, mismatch),
         Finding::NotDecided { actor, label } => {
             push_actor(text, *actor, label)?;
-            text.push_str(": not decided, its body has too many alike submits")
+            text.push_str(
+                ": not decided, it submitted a job that may be of several classes of its body",
+            )
         }
         Finding::TooMany(excess) => push_excess(text, plan, *excess),
-        Finding::ForeignGet { get, label } => push_foreign_get(text, *get, label),
-        Finding::Invalidation(invalidation) => push_invalidation(text, *invalidation),
+        Finding::ForeignGet { get, label, job } => push_foreign_get(text, *get, label, job),
+        Finding::Invalidation {
+            invalidation,
+            label,
+        } => push_invalidation(text, *invalidation, label),
     }
 }
 
@@ -126,17 +133,91 @@ fn push_excess(text: &mut String, plan: &Plan, found: RoundExcess) -> Result<(),
     write!(text, "kind {kind}: {excess}")
 }
 
-fn push_foreign_get(text: &mut String, get: ForeignGet, label: &str) -> Result<(), AllocError>
-    ensures { Pushes result text.old text.new (spec.foreign_get_text get label.now) }
+fn push_foreign_get(
+    text: &mut String,
+    get: ForeignGet,
+    label: &ActorLabel,
+    job: &ActorLabel,
+) -> Result<(), AllocError>
+    ensures { Pushes result text.old text.new (spec.foreign_get_text get label.now job.now) }
 {
     push_actor(text, get.actor, label)?;
-    let job = get.job;
-    write!(text, " got job {job}, which it did not submit")
+    text.push_str(" got ")?;
+    push_job(text, get.job, &job.name, &job.pool)?;
+    text.push_str(", which it did not submit")
 }
 
-fn push_invalidation(text: &mut String, invalidation: Invalidation) -> Result<(), AllocError>
-    ensures { Pushes result text.old text.new (spec.invalidation_text invalidation) }
+fn push_invalidation(
+    text: &mut String,
+    invalidation: Invalidation,
+    label: &ActorLabel,
+) -> Result<(), AllocError>
+    ensures { Pushes result text.old text.new (spec.invalidation_text invalidation label.now) }
 {
-    let event = invalidation.event;
-    write!(text, "a yes is void from here on: {event}")
+    text.push_str("a yes is void from here on: ")?;
+    push_event(text, invalidation.event, &label.name, &label.pool)
+}
+
+/// Appends an event with the class and the pool of its job.
+fn push_event(
+    text: &mut String,
+    event: InvalidatingEvent,
+    name: &str,
+    pool: &str,
+) -> Result<(), AllocError>
+    ensures { Pushes result text.old text.new (spec.event_text event name.now pool.now) }
+{
+    match event {
+        InvalidatingEvent::Refused { job, .. } => {
+            push_job(text, job, name, pool)?;
+            text.push_str(" was refused")
+        }
+        InvalidatingEvent::TimedOut { job, .. } => {
+            push_get_of(text, job, name, pool)?;
+            text.push_str(" timed out")
+        }
+        InvalidatingEvent::Interrupted { job, .. } => {
+            push_get_of(text, job, name, pool)?;
+            text.push_str(" was interrupted")
+        }
+        InvalidatingEvent::Cancelled { job, .. } => {
+            push_job(text, job, name, pool)?;
+            text.push_str(" was cancelled")
+        }
+        InvalidatingEvent::Removed { job } => {
+            push_job(text, job, name, pool)?;
+            text.push_str(" was removed from its queue")
+        }
+        InvalidatingEvent::Threw { job } => {
+            push_job(text, job, name, pool)?;
+            text.push_str(" ended its thread with an exception")
+        }
+        InvalidatingEvent::AnyInvoked { actor } => {
+            push_short_actor(text, actor, name)?;
+            write!(text, " called invokeAny in pool {pool}")
+        }
+        InvalidatingEvent::Unseen { jobs } => {
+            write!(
+                text,
+                "{jobs} jobs were run in pool {pool} that no line mentions"
+            )
+        }
+    }
+}
+
+fn push_get_of(text: &mut String, job: usize, class: &str, pool: &str) -> Result<(), AllocError>
+    ensures { Pushes result text.old text.new (codes "a get of " ++ job_text job class.now pool.now) }
+{
+    text.push_str("a get of ")?;
+    push_job(text, job, class, pool)
+}
+
+/// Appends an actor with its class or kind, without a pool.
+fn push_short_actor(text: &mut String, actor: RecordedActor, name: &str) -> Result<(), AllocError>
+    ensures { Pushes result text.old text.new (spec.short_actor_text actor name.now) }
+{
+    match actor {
+        RecordedActor::Job(job) => write!(text, "job {job} of class {name}"),
+        RecordedActor::Round(round) => write!(text, "round {round} of kind {name}"),
+    }
 }

@@ -32,11 +32,11 @@ impl ActorClassifier {
         plan: &Plan,
         reported: &mut Vec<ClassifiedActor>,
     ) -> Result<(), AllocError>
-        ensures { (budget : ℕ) (lines : List RecordedLine) (earlier : List ClassifiedActor)
+        ensures { (lines : List RecordedLine) (earlier : List ClassifiedActor)
             → KeepsRules lines
-            → IsClassifierOf plan.now budget self lines
-            → AreResultsSoFarOf plan.now budget lines (earlier ++ reported.old.items)
-            → OnOk result (AreAllResultsOf plan.now budget lines (earlier ++ reported.new.items)) }
+            → IsClassifierOf plan.now self lines
+            → AreResultsSoFarOf plan.now lines (earlier ++ reported.old.items)
+            → OnOk result (AreAllResultsOf plan.now lines (earlier ++ reported.new.items)) }
     {
         self.classify_remaining_actors(plan, reported)
     }
@@ -49,9 +49,9 @@ impl ActorClassifier {
         ensures remaining { (lines : List RecordedLine)
             → KeepsRules lines
             → IsPathsOf self.old.paths lines
-            → IsStateAtEnd plan.now self.old.budget lines self.old.actors self.old.known
+            → IsStateAtEnd plan.now lines self.old.actors self.old.known
             → OnOk result
-            (AddsResults (IsCorrectResult plan.now self.old.budget lines) self.old.actors self.new.actors
+            (AddsResults (IsCorrectResult plan.now lines) self.old.actors self.new.actors
             reported.old.items reported.new.items) }
         ensures none { OnOk result
             ((actor : actors.RecordedActor) → in_table self.new.actors actor ≡ None) }
@@ -73,17 +73,16 @@ impl ActorClassifier {
         ensures remaining { (lines : List RecordedLine)
             → KeepsRules lines
             → IsPathsOf self.old.paths lines
-            → IsStateAtEnd plan.now self.old.budget lines self.old.actors self.old.known
+            → IsStateAtEnd plan.now lines self.old.actors self.old.known
             → AreJobsAmong self.old.actors jobs.items
             → IsNonDecreasing jobs.items
             → OnOk result
-            (IsStateAtEnd plan.now self.old.budget lines self.new.actors self.new.known
-            × AddsResults (IsCorrectResult plan.now self.old.budget lines) self.old.actors self.new.actors
+            (IsStateAtEnd plan.now lines self.new.actors self.new.known
+            × AddsResults (IsCorrectResult plan.now lines) self.old.actors self.new.actors
             reported.old.items reported.new.items) }
         ensures none { AreJobsAmong self.old.actors jobs.items
             → OnOk result (HasNoJobs self.new.actors) }
         ensures paths { self.new.paths ≡ self.old.paths }
-        ensures budget { self.new.budget ≡ self.old.budget }
     {
         while let Some(job) = jobs.pop() {
             self.classify_remaining(plan, RecordedActor::Job(job), reported)?;
@@ -101,11 +100,11 @@ impl ActorClassifier {
         ensures remaining { (lines : List RecordedLine)
             → KeepsRules lines
             → IsPathsOf self.old.paths lines
-            → IsStateAtEnd plan.now self.old.budget lines self.old.actors self.old.known
+            → IsStateAtEnd plan.now lines self.old.actors self.old.known
             → HasNoJobs self.old.actors
             → OnOk result
-            (IsStateAtEnd plan.now self.old.budget lines self.new.actors self.new.known
-            × AddsResults (IsCorrectResult plan.now self.old.budget lines) self.old.actors self.new.actors
+            (IsStateAtEnd plan.now lines self.new.actors self.new.known
+            × AddsResults (IsCorrectResult plan.now lines) self.old.actors self.new.actors
             reported.old.items reported.new.items) }
         ensures none { AreRoundsAmong self.old.actors rounds.items
             → OnOk result (HasNoRounds self.new.actors) }
@@ -128,17 +127,16 @@ impl ActorClassifier {
         ensures remaining { (lines : List RecordedLine)
             → KeepsRules lines
             → IsPathsOf self.old.paths lines
-            → IsStateAtEnd plan.now self.old.budget lines self.old.actors self.old.known
+            → IsStateAtEnd plan.now lines self.old.actors self.old.known
             → AreNoneBelow self.old.actors actor
             → OnOk result
-            (IsStateAtEnd plan.now self.old.budget lines self.new.actors self.new.known
-            × AddsResults (IsCorrectResult plan.now self.old.budget lines) self.old.actors self.new.actors
+            (IsStateAtEnd plan.now lines self.new.actors self.new.known
+            × AddsResults (IsCorrectResult plan.now lines) self.old.actors self.new.actors
             reported.old.items reported.new.items) }
         ensures goes { (one : actors.RecordedActor)
             → in_table self.new.actors one
             ≡ (if is_same_actor actor one then None else in_table self.old.actors one) }
         ensures paths { self.new.paths ≡ self.old.paths }
-        ensures budget { self.new.budget ≡ self.old.budget }
     {
         let Some(kept) = self.actors.remove(actor) else {
             return Ok(());

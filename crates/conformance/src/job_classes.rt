@@ -6,7 +6,8 @@ ghost use Rattle.recordings.specs.declared.step.RecordedStep.{RecordedStep};
 ghost use Rattle.recordings.specs.ActorPath.{submits};
 ghost use Rattle.job_bodies.specs.Plan.{Plan};
 ghost use Rattle.conformance.specs.Classes.{AreClassesOf, AreStepsOf};
-ghost use Rattle.conformance.specs.ActorTables.{Keeps, AreRemoved, classes_in, is_settled_step, AreClassesIn, AreDecidedIn, AreAllIn, AreOnce, AreSettledBefore, IsUnsettledAt};
+ghost use Rattle.conformance.specs.FamilyMatch.{AreOneClassEach};
+ghost use Rattle.conformance.specs.ActorTables.{Keeps, AreRemoved, classes_in, is_settled_step, AreClassesIn, AreUnambiguousIn, AreAllIn, AreOnce, AreSettledBefore, IsUnsettledAt};
 
 use crate::{FamilyMatch, PathStep};
 use recordings::{RecordedActor, RecordedStep};
@@ -114,10 +115,11 @@ impl ClassTable {
             → AreClassesIn plan lines self.old
             → IfOk result
             (λ is_decided. IsTrue is_decided → AreStepsOf plan lines path.now steps.new.items) }
-        ensures decided { AreDecidedIn self.old
+        ensures decided { AreUnambiguousIn self.old
             → AreAllIn self.old path.now
             → AreOnce path.now
             → IfOk result (λ is_decided. IsTrue is_decided) }
+        ensures plain { AreUnambiguousIn self.old → OnOk result (AreOneClassEach steps.new.items) }
         ensures gone { OnOk result (AreRemoved self.old path.now self.new) }
     {
         steps.clear();
@@ -141,9 +143,12 @@ impl ClassTable {
             → AreStepsOf plan lines path steps.old.items
             → IfOk result (λ is_step_decided.
             IsTrue is_step_decided → AreStepsOf plan lines (path ++ step ∷ []) steps.new.items) }
-        ensures decided { AreDecidedIn self.old
+        ensures decided { AreUnambiguousIn self.old
             → IsTrue (is_settled_step self.old step)
             → IfOk result (λ is_step_decided. IsTrue is_step_decided) }
+        ensures plain { AreUnambiguousIn self.old
+            → AreOneClassEach steps.old.items
+            → OnOk result (AreOneClassEach steps.new.items) }
         ensures gone { OnOk result
             ((one : ℕ)
             → classes_in self.new one
@@ -169,9 +174,10 @@ impl ClassTable {
             → AreClassesIn plan lines self.old
             → IsTrue result.is_decided
             → AreClassesOf plan lines job result.classes.items }
-        ensures decided { AreDecidedIn self.old
+        ensures decided { AreUnambiguousIn self.old
             → IsTrue (is_some (classes_in self.old job))
             → IsTrue result.is_decided }
+        ensures plain { AreUnambiguousIn self.old → length result.classes.items ≤ 1 }
         ensures gone { (one : ℕ)
             → classes_in self.new one ≡ (if job == one then None else classes_in self.old one) }
     {

@@ -1,19 +1,21 @@
 //! The comparison of a recording with a plan.
 //!
-//! Each recorded job and client is matched with the bodies of the plan, within a budget of steps. [`conform`] returns every
-//! difference, in the order of the lines.
+//! Each recorded job and client is matched with the bodies of the plan. [`conform`] returns every difference, in the order of
+//! the lines.
 #![tactic(auto)]
 
 mod actor_classifier;
+mod actor_label;
 mod actor_path;
 mod actor_table;
 mod bodies;
+mod body_gets;
+mod candidate;
 mod classification;
 mod classified_actor;
 mod collect_findings;
 mod comparison;
 mod comparison_laws;
-mod continuation;
 mod describe_mismatch;
 mod difference;
 mod ended_actor;
@@ -32,7 +34,9 @@ mod laws;
 mod line_query;
 mod members;
 mod mismatch;
+mod narrowing;
 mod numbers;
+mod open_job;
 mod open_rounds;
 mod other_kinds;
 mod path;
@@ -42,15 +46,17 @@ mod pool_names;
 mod reported;
 mod round_comparison;
 mod round_count;
+mod row;
 mod sizes;
 mod step;
 mod survey;
 mod unplanned;
 mod verdicts;
-mod walk;
+mod walk_state;
 mod well_formed_lines;
 
 pub use actor_classifier::ActorClassifier;
+pub use actor_label::ActorLabel;
 pub use classified_actor::ClassifiedActor;
 pub use comparison::{Conformance, conform};
 pub use comparison_laws::{pools_are_as_planned, rounds_are_within_plan};
@@ -63,11 +69,12 @@ pub use finding_lines::{push_finding, push_findings};
 pub use laws::{classes_are_determined, settled_actors_stay};
 pub use members::{classes_of_path, kinds_of_path};
 pub use mismatch::{DeviatingStep, NamedStep, PathMismatch};
+pub use open_job::OpenJob;
 pub use path::match_path;
 pub use path_match::PathMatch;
 pub use pool_comparison::{PoolComparison, PoolDeviation};
 pub use round_comparison::{RoundComparison, RoundExcess};
 pub use round_count::RoundCount;
 pub use sizes::differences;
-pub use step::{PathState, PathStep};
+pub use step::{ActorKind, PathState, PathStep};
 pub use unplanned::NotPlanned;

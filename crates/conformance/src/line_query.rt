@@ -19,6 +19,10 @@ pub(crate) enum LineQuery {
     Got { actor: RecordedActor, job: usize },
     /// The last line of the actor.
     Last(RecordedActor),
+    /// A call of `invokeAny`.
+    InvokesAny,
+    /// A line that reports jobs without lines.
+    Unseen,
 }
 
 impl LineQuery {
@@ -51,6 +55,8 @@ impl LineQuery {
             (LineQuery::Last(actor), Line::JobEnds { job } | Line::JobThrew { job }) => {
                 is_same_actor(RecordedActor::Job(job), actor)
             }
+            (LineQuery::InvokesAny, Line::InvokesAny { .. }) => true,
+            (LineQuery::Unseen, Line::Unseen { .. }) => true,
             _ => false,
         }
     }
@@ -89,6 +95,19 @@ pub(crate) fn label_in<'a>(line: &Line<'a>) -> &'a str
     match *line {
         Line::Submits { class, .. } => class,
         Line::RoundBegins { kind, .. } => kind,
+        _ => "",
+    }
+}
+
+/// Returns the pool of a submit line, of a call of `invokeAny` or of jobs without lines, and an
+/// empty name for any other line.
+pub(crate) fn pool_in<'a>(line: &Line<'a>) -> &'a str
+    ensures { result.now ≡ spec.pool_in (line_view line.now) }
+{
+    match *line {
+        Line::Submits { pool, .. } | Line::InvokesAny { pool, .. } | Line::Unseen { pool, .. } => {
+            pool
+        }
         _ => "",
     }
 }

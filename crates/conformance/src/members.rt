@@ -1,18 +1,20 @@
 //! The classes and client kinds whose bodies a path matches.
 
-ghost use Rattle.std.specs.Prelude.{All, IsTrue, IfOk};
+ghost use Rattle.std.specs.Prelude.{◌≤◌, ℕ, All, Contains, IsTrue, IfOk, length};
 ghost use Rattle.std.specs.List.Sorted.{IsStrictlyIncreasing};
-ghost use Rattle.conformance.specs.FamilyMatch.{IsClassOf, IsKindOf, AreExactly, IsMostExplained, IsEnoughFor, class_bodies, client_bodies};
+ghost use Rattle.conformance.specs.declared.step.ActorKind.TheVariants as actor_kind;
+ghost use Rattle.conformance.specs.Family.{class_family, client_family};
+ghost use Rattle.conformance.specs.FamilyMatch.{IsClassOf, IsKindOf, AreExactly, IsMostExplained, AreOneClassEach, class_body, client_body, class_bodies, client_bodies};
+ghost use Rattle.conformance.specs.PathMatch.{IsUnambiguous};
 
 use crate::bodies::{class_body, client_body};
 use crate::family::{is_class_in_family, is_client_in_family};
 use crate::family_match::FamilyMatch;
-use crate::{PathState, PathStep};
+use crate::{ActorKind, PathState, PathStep};
 use job_bodies::Plan;
 use std::alloc::{AllocError, Global};
 
-/// Returns the classes that a job of this label in this pool may belong to, by its path. `budget`
-/// limits the steps of [`match_path`](crate::match_path) for each body of the family.
+/// Returns the classes that a job of this label in this pool may belong to, by its path.
 ///
 /// # Errors
 ///
@@ -24,7 +26,6 @@ pub fn classes_of_path(
     pool: &str,
     path: &[PathStep],
     path_state: PathState,
-    budget: u64,
 ) -> Result<FamilyMatch, AllocError>
     ensures sound { IfOk result
         (λ reported. All (IsClassOf plan.now label.now pool.now path_state path.now) reported.members.items) }
@@ -32,24 +33,29 @@ pub fn classes_of_path(
     ensures exact { IfOk result (λ reported.
         IsTrue reported.is_decided
         → AreExactly (IsClassOf plan.now label.now pool.now path_state path.now) reported.members.items) }
+    ensures sure { IfOk result (λ reported. (class : ℕ)
+        → IsClassOf plan.now label.now pool.now path_state path.now class
+        → IsUnambiguous (class_body plan.now class) path.now
+        → Contains reported.members.items class) }
     ensures explained { IfOk result (λ reported.
         IsTrue reported.is_decided
-        → IsMostExplained (class_bodies plan.now label.now pool.now) path.now reported.explained) }
+        → IsMostExplained actor_kind.Job (class_bodies plan.now label.now pool.now) path.now reported.explained) }
     ensures decided { IfOk result (λ reported.
-        All (IsEnoughFor budget) (class_bodies plan.now label.now pool.now)
-        → IsTrue reported.is_decided) }
+        AreOneClassEach path.now → IsTrue reported.is_decided) }
+    ensures few { IfOk result (λ reported.
+        length reported.members.items ≤ length (class_family plan.now label.now pool.now)) }
 {
     let mut reported = FamilyMatch::new(alloc);
     for class in 0..plan.classes().len() {
         if is_class_in_family(plan, label, pool, class) {
-            reported.match_body(class, class_body(plan, class), path, path_state, budget)?;
+            let body = class_body(plan, class);
+            reported.match_body(alloc, class, body, path, ActorKind::Job, path_state)?;
         }
     }
     Ok(reported)
 }
 
-/// Returns the client kinds that a round of this label may belong to, by its path. `budget` limits
-/// the steps of [`match_path`](crate::match_path) for each body of the family.
+/// Returns the client kinds that a round of this label may belong to, by its path.
 ///
 /// # Errors
 ///
@@ -60,7 +66,6 @@ pub fn kinds_of_path(
     label: &str,
     path: &[PathStep],
     path_state: PathState,
-    budget: u64,
 ) -> Result<FamilyMatch, AllocError>
     ensures sound { IfOk result
         (λ reported. All (IsKindOf plan.now label.now path_state path.now) reported.members.items) }
@@ -68,16 +73,23 @@ pub fn kinds_of_path(
     ensures exact { IfOk result (λ reported.
         IsTrue reported.is_decided
         → AreExactly (IsKindOf plan.now label.now path_state path.now) reported.members.items) }
+    ensures sure { IfOk result (λ reported. (kind : ℕ)
+        → IsKindOf plan.now label.now path_state path.now kind
+        → IsUnambiguous (client_body plan.now kind) path.now
+        → Contains reported.members.items kind) }
     ensures explained { IfOk result (λ reported.
         IsTrue reported.is_decided
-        → IsMostExplained (client_bodies plan.now label.now) path.now reported.explained) }
+        → IsMostExplained actor_kind.Round (client_bodies plan.now label.now) path.now reported.explained) }
     ensures decided { IfOk result (λ reported.
-        All (IsEnoughFor budget) (client_bodies plan.now label.now) → IsTrue reported.is_decided) }
+        AreOneClassEach path.now → IsTrue reported.is_decided) }
+    ensures few { IfOk result (λ reported.
+        length reported.members.items ≤ length (client_family plan.now label.now)) }
 {
     let mut reported = FamilyMatch::new(alloc);
     for kind in 0..plan.clients().len() {
         if is_client_in_family(plan, label, kind) {
-            reported.match_body(kind, client_body(plan, kind), path, path_state, budget)?;
+            let body = client_body(plan, kind);
+            reported.match_body(alloc, kind, body, path, ActorKind::Round, path_state)?;
         }
     }
     Ok(reported)

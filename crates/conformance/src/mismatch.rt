@@ -1,8 +1,10 @@
 //! An actor whose path matches no body of the plan, and its description as text.
 
+ghost use Rattle.std.specs.Prelude.{string_bytes};
 ghost use Rattle.support.specs.Pushed.{Pushes};
 ghost use Rattle.conformance.specs.PathMismatch as spec;
 
+use crate::actor_label::ActorLabel;
 use recordings::RecordedActor;
 use std::alloc::AllocError;
 use support::push_number;
@@ -11,8 +13,7 @@ use support::push_number;
 #[derive(Drop)]
 pub struct PathMismatch {
     pub actor: RecordedActor,
-    /// The class of a job, or the kind of a round.
-    pub label: String,
+    pub label: ActorLabel,
     /// The step after the longest prefix of its path that a body explains.
     pub step: DeviatingStep,
     /// The last step of that prefix, or `None` if the prefix is empty.
@@ -22,11 +23,19 @@ pub struct PathMismatch {
 /// The first deviating step of an actor.
 #[derive(Drop)]
 pub enum DeviatingStep {
-    /// The actor submitted or got a job.
-    PathStep(NamedStep),
-    /// The actor submitted this job, whose own path matches no class of the plan.
-    SubmitsMismatched { job: usize, class: String },
-    /// The actor ended before a get of its body.
+    /// The actor submitted a job of this class to this pool.
+    Submits(ActorLabel),
+    /// The actor got a job of this class and pool.
+    Gets(ActorLabel),
+    /// The actor submitted this job, whose own path matches no class of its label. The plan has such
+    /// a class in the pool.
+    SubmitsMismatched { job: usize, label: ActorLabel },
+    /// The actor submitted this job, and the plan has no such class in the pool.
+    SubmitsUnplanned { job: usize, label: ActorLabel },
+    /// The actor ended before a get of its body, while this job was open: the first of its jobs that
+    /// it did not get.
+    EndsOpen { job: usize, label: ActorLabel },
+    /// The actor ended before a get of its body, and got all its jobs.
     Ends,
 }
 
@@ -39,34 +48,102 @@ pub enum NamedStep {
     Gets(String),
 }
 
-/// Appends a description of the mismatch, such as `job 44 of class order submitted price; its body
-/// has no such submit at its begin`.
+/// Appends a description of the mismatch, such as `job 44 of class order in pool web submitted price
+/// to pool database; its body has no such submit after get stock`.
 pub(crate) fn push_mismatch(text: &mut String, mismatch: &PathMismatch) -> Result<(), AllocError>
     ensures { Pushes result text.old text.new (spec.mismatch_text mismatch.now) }
 {
     push_actor(text, mismatch.actor, &mismatch.label)?;
-    match &mismatch.step {
-        DeviatingStep::Ends => push_end(text),
-        DeviatingStep::SubmitsMismatched { job, class } => push_cause(text, *job, class),
-        DeviatingStep::PathStep(step) => {
-            push_step(text, step)?;
-            push_position(text, &mismatch.after)
+    push_deviation(text, &mismatch.step, &mismatch.after)
+}
+
+fn push_deviation(
+    text: &mut String,
+    step: &DeviatingStep,
+    after: &Option<NamedStep>,
+) -> Result<(), AllocError>
+    ensures { Pushes result text.old text.new (spec.deviating_step_text step.now after.now) }
+{
+    match step {
+        DeviatingStep::Submits(label) => {
+            push_submit(text, label)?;
+            push_missing(text, "submit")?;
+            push_position(text, after)
         }
+        DeviatingStep::Gets(label) => {
+            push_get(text, label)?;
+            push_missing(text, "get")?;
+            push_position(text, after)
+        }
+        DeviatingStep::SubmitsMismatched { job, label } => {
+            push_submit(text, label)?;
+            push_cause(text, *job)
+        }
+        DeviatingStep::SubmitsUnplanned { job, label } => {
+            push_submit(text, label)?;
+            push_unplanned_job(text, *job)
+        }
+        DeviatingStep::EndsOpen { job, label } => push_open_end(text, *job, label),
+        DeviatingStep::Ends => push_end(text),
     }
 }
 
-/// Appends the name of an actor, such as `job 44 of class order`.
+/// Appends the name of an actor with its label, such as `job 44 of class order in pool web` or
+/// `round 3 of kind visitor`.
 pub(crate) fn push_actor(
     text: &mut String,
     actor: RecordedActor,
-    label: &str,
+    label: &ActorLabel,
 ) -> Result<(), AllocError>
-    ensures { Pushes result text.old text.new (spec.actor_text actor label.now) }
+    ensures { Pushes result text.old text.new
+        (spec.actor_text actor (string_bytes label.now.name) (string_bytes label.now.pool)) }
 {
     match actor {
-        RecordedActor::Job(job) => write!(text, "job {job} of class {label}"),
-        RecordedActor::Round(round) => write!(text, "round {round} of kind {label}"),
+        RecordedActor::Job(job) => push_job(text, job, &label.name, &label.pool),
+        RecordedActor::Round(round) => push_round(text, round, &label.name),
     }
+}
+
+/// Appends a job with its class and pool, such as `job 44 of class order in pool web`.
+pub(crate) fn push_job(
+    text: &mut String,
+    job: usize,
+    class: &str,
+    pool: &str,
+) -> Result<(), AllocError>
+    ensures { Pushes result text.old text.new (spec.job_text job class.now pool.now) }
+{
+    write!(text, "job {job} of class {class} in pool {pool}")
+}
+
+fn push_round(text: &mut String, round: usize, kind: &str) -> Result<(), AllocError>
+    ensures { Pushes result text.old text.new (spec.round_text round kind.now) }
+{
+    write!(text, "round {round} of kind {kind}")
+}
+
+fn push_submit(text: &mut String, label: &ActorLabel) -> Result<(), AllocError>
+    ensures { Pushes result text.old text.new
+        (spec.submit_text (string_bytes label.now.name) (string_bytes label.now.pool)) }
+{
+    let class = label.name.as_str();
+    let pool = label.pool.as_str();
+    write!(text, " submitted {class} to pool {pool}")
+}
+
+fn push_get(text: &mut String, label: &ActorLabel) -> Result<(), AllocError>
+    ensures { Pushes result text.old text.new
+        (spec.get_text (string_bytes label.now.name) (string_bytes label.now.pool)) }
+{
+    let class = label.name.as_str();
+    let pool = label.pool.as_str();
+    write!(text, " got {class} of pool {pool}")
+}
+
+fn push_missing(text: &mut String, step: &str) -> Result<(), AllocError>
+    ensures { Pushes result text.old text.new (spec.missing_text step.now) }
+{
+    write!(text, "; its body has no such {step}")
 }
 
 fn push_end(text: &mut String) -> Result<(), AllocError>
@@ -75,24 +152,44 @@ fn push_end(text: &mut String) -> Result<(), AllocError>
     write!(text, " ended; its body has a get before its end")
 }
 
-fn push_cause(text: &mut String, job: usize, class: &str) -> Result<(), AllocError>
-    ensures { Pushes result text.old text.new (spec.cause_text job class.now) }
+fn push_open_end(text: &mut String, job: usize, label: &ActorLabel) -> Result<(), AllocError>
+    ensures { Pushes result text.old text.new
+        (spec.open_end_text job (string_bytes label.now.name) (string_bytes label.now.pool)) }
+{
+    push_without_get(text, job, &label.name, &label.pool)?;
+    push_end_reason(text)
+}
+
+fn push_without_get(
+    text: &mut String,
+    job: usize,
+    class: &str,
+    pool: &str,
+) -> Result<(), AllocError>
+    ensures { Pushes result text.old text.new (spec.without_get_text job class.now pool.now) }
 {
     write!(
         text,
-        " submitted {class}, which is job {job} and of no class of the plan"
+        " ended without a get of job {job} of class {class} in pool {pool}"
     )
 }
 
-fn push_step(text: &mut String, step: &NamedStep) -> Result<(), AllocError>
-    ensures { Pushes result text.old text.new (spec.step_text step.now) }
+fn push_end_reason(text: &mut String) -> Result<(), AllocError>
+    ensures { Pushes result text.old text.new spec.end_reason }
 {
-    match step {
-        NamedStep::Submits(class) => {
-            write!(text, " submitted {class}; its body has no such submit")
-        }
-        NamedStep::Gets(class) => write!(text, " got {class}; its body has no such get"),
-    }
+    write!(text, "; its body has a get before its end")
+}
+
+fn push_cause(text: &mut String, job: usize) -> Result<(), AllocError>
+    ensures { Pushes result text.old text.new (spec.cause_text job) }
+{
+    write!(text, " as job {job}, whose own path matches no such class")
+}
+
+fn push_unplanned_job(text: &mut String, job: usize) -> Result<(), AllocError>
+    ensures { Pushes result text.old text.new (spec.unplanned_job_text job) }
+{
+    write!(text, " as job {job}, which is of no class of the plan")
 }
 
 fn push_position(text: &mut String, after: &Option<NamedStep>) -> Result<(), AllocError>
@@ -100,7 +197,7 @@ fn push_position(text: &mut String, after: &Option<NamedStep>) -> Result<(), All
 {
     match after {
         None => text.push_str(" at its begin"),
-        Some(NamedStep::Submits(class)) => write!(text, " behind submit {class}"),
-        Some(NamedStep::Gets(class)) => write!(text, " behind get {class}"),
+        Some(NamedStep::Submits(class)) => write!(text, " after submit {class}"),
+        Some(NamedStep::Gets(class)) => write!(text, " after get {class}"),
     }
 }

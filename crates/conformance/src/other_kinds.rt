@@ -1,4 +1,4 @@
-//! The rounds that belong to another kind than the first of their label.
+//! The rounds that count as another kind than the first of their label, or as none.
 
 ghost use Rattle.std.specs.Prelude.{◌≡◌, ◌++◌, ◌∷◌, [], List, OnOk, false};
 ghost use Rattle.job_bodies.specs.Plan as plans;
@@ -12,10 +12,11 @@ use recordings::RecordedActor;
 use std::alloc::{AllocError, Global};
 use support::IdMap;
 
-/// The kinds of the rounds that belong to another kind than the first of their label.
+/// The kinds of the rounds that count as another kind than the first of their label. A round for
+/// which it is undecided which kinds it can belong to counts as none.
 #[derive(Drop)]
 pub(crate) struct OtherKinds {
-    kinds: IdMap<usize>,
+    kinds: IdMap<Option<usize>>,
     /// True if there is such a round.
     pub(crate) has_any: bool,
 }
@@ -31,7 +32,8 @@ impl OtherKinds {
         }
     }
 
-    /// Records an actor if it is a round of another kind than the first of its label.
+    /// Records an actor if it is a round that counts as another kind than the first of its label, or
+    /// as none.
     ///
     /// # Errors
     ///
@@ -55,31 +57,61 @@ impl OtherKinds {
         ensures { result ≡ spec.kind_by plan.now self.now round label.now }
     {
         match self.kinds.get(round) {
-            Some(kind) => Some(*kind),
+            Some(kind) => *kind,
             None => first_client(plan, label),
         }
     }
 }
 
-// Returns the round and the first kind that it can belong to, if that is not the first kind of its
-// label.
-fn other_kind(plan: &Plan, settled: &ClassifiedActor) -> Option<(usize, usize)>
+// Returns the round and the kind that it counts as, if that is not the first kind of its label.
+fn other_kind(plan: &Plan, settled: &ClassifiedActor) -> Option<(usize, Option<usize>)>
     ensures { result ≡ spec.other_kind_of plan.now settled.now }
 {
-    let (round, kind) = first_kind(settled)?;
-    if first_client(plan, &settled.label) == Some(kind) {
+    let (round, kind) = counted_kind(settled)?;
+    if is_same_kind(first_client(plan, &settled.label), kind) {
         return None;
     }
     Some((round, kind))
 }
 
-// Returns the round and the first kind that it can belong to.
-fn first_kind(settled: &ClassifiedActor) -> Option<(usize, usize)>
+fn is_same_kind(one: Option<usize>, other: Option<usize>) -> bool
+    ensures { result ≡ spec.is_same_kind one other }
+{
+    match (one, other) {
+        (None, None) => true,
+        (Some(kind), Some(other)) => kind == other,
+        _ => false,
+    }
+}
+
+// Returns the round and the first kind that it can belong to, or none if this is undecided.
+fn counted_kind(settled: &ClassifiedActor) -> Option<(usize, Option<usize>)>
     ensures { result ≡ first.round_and_kind settled.now }
+{
+    if settled.family.is_decided {
+        first_kind(settled)
+    } else {
+        undecided_kind(settled.actor)
+    }
+}
+
+// Returns the round and the first kind that it can belong to.
+fn first_kind(settled: &ClassifiedActor) -> Option<(usize, Option<usize>)>
+    ensures { result ≡ first.has_kind settled.now.family.members.items settled.now.actor }
 {
     let kind = *settled.family.members.first()?;
     match settled.actor {
-        RecordedActor::Round(round) => Some((round, kind)),
+        RecordedActor::Round(round) => Some((round, Some(kind))),
+        RecordedActor::Job(_) => None,
+    }
+}
+
+// Returns the round, without a kind.
+fn undecided_kind(actor: RecordedActor) -> Option<(usize, Option<usize>)>
+    ensures { result ≡ first.has_no_kind actor }
+{
+    match actor {
+        RecordedActor::Round(round) => Some((round, None)),
         RecordedActor::Job(_) => None,
     }
 }

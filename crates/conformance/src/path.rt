@@ -1,65 +1,178 @@
 //! Matching of a path against a body.
 
-ghost use Rattle.std.specs.Prelude.{◌≤◌, ◌+◌, ◌*◌, ◌^◌, length};
-ghost use Rattle.job_bodies.specs.declared.limits.TheConstants.{MAX_ACTIONS};
+ghost use Rattle.std.specs.Prelude.{IfOk, IsTrue, length};
+ghost use Rattle.conformance.specs.declared.step.ActorKind.{ActorKind};
 ghost use Rattle.conformance.specs.Path.{IsPathOf};
-ghost use Rattle.conformance.specs.PathMatch.{OnFits, OnDeviates, IfDeviates, IsExplained, IsDecided};
-ghost use Rattle.conformance.specs.StepBudget.{submit_count};
+ghost use Rattle.conformance.specs.PathMatch.{OnFits, OnDeviates, IfDeviates, IsExplained, IsDecided, IsUnambiguous, IsMatch};
+ghost use Rattle.conformance.specs.WalkState.{IsStateAt, IsBegun};
 
+use crate::body_gets::body_gets;
+use crate::narrowing::{Pick, narrowed};
 use crate::path_match::PathMatch;
-use crate::step::{PathState, PathStep};
-use crate::walk::walk;
-use job_bodies::{Action, MAX_ACTIONS};
+use crate::step::{ActorKind, PathState, PathStep};
+use crate::walk_state::{Progress, WalkState};
+use job_bodies::Action;
+use std::alloc::{AllocError, Global};
 
-/// The length of a body up to which a small buffer is enough. Most bodies are not longer.
-const FEW_ACTIONS: usize = 16;
-
-/// Matches the path of an actor against a body. Submits that the actor did not make are skipped,
-/// each with its get.
+/// Matches the path of an actor against a body.
 ///
-/// The search goes through the body along the path, with one search step for each action. If a job
-/// may come from several submits of the body, the first one is tried, and the next one only if that
-/// fails. So the search usually takes at most one step more than the body has actions. In the worst
-/// case each submit doubles the number of steps.
+/// The path matches if it and the body can be walked together, each in its own order, so that at
+/// each moment, for each class, at most as many jobs are open in the path as in the body. A submit
+/// of the path goes together with a submit of the same class of the body. The body may submit more.
+/// The path may get its jobs in any order, and sooner than the body. A job gets only jobs of
+/// classes that its body still gets.
+///
+/// The result is [`PathMatch::Undecided`] only if a job of the path may belong to several classes
+/// that the body submits, and none of the assignments that were tried matches. Three are tried:
+/// each job has the first of its classes that the body submits, or the last of them, or the class
+/// of the next submit of the body that fits.
+///
+/// The number of steps is at most proportional to the length of the body times that of the path.
+///
+/// # Errors
+///
+/// Returns [`AllocError`] if memory runs out.
 pub fn match_path(
+    alloc: Global,
     body: &[Action],
     path: &[PathStep],
+    kind: ActorKind,
     path_state: PathState,
-    budget: u64,
-) -> PathMatch
-    requires { length body.now ≤ MAX_ACTIONS }
-    ensures fits { OnFits result (IsPathOf path_state body.now path.now) }
-    ensures deviates { OnDeviates result (¬ IsPathOf path_state body.now path.now) }
+) -> Result<PathMatch, AllocError>
+    ensures fits { IfOk result (λ path_match.
+        OnFits path_match (IsPathOf kind path_state body.now path.now)) }
+    ensures deviates { IfOk result (λ path_match.
+        OnDeviates path_match (¬ IsPathOf kind path_state body.now path.now)) }
 
     // The number is the length of the longest prefix of the path that begins a path of the body.
-    ensures explained { IfDeviates result (IsExplained body.now path.now) }
+    ensures explained { IfOk result
+        (λ path_match. IfDeviates path_match (IsExplained kind body.now path.now)) }
 
-    // Enough is one step for each action and one for the end, doubled for each submit.
-    ensures decided { (length body.now + 1) * 2 ^ submit_count body.now ≤ budget
-        → IsDecided result }
+    // The result is decided if each job of the path has at most one of the body's classes.
+    ensures decided { IfOk result
+        (λ path_match. IsUnambiguous body.now path.now → IsDecided path_match) }
 {
-    if body.len() <= FEW_ACTIONS {
-        walk_with_buffer(body, path, path_state, &mut [None; FEW_ACTIONS], budget)
-    } else {
-        walk_with_buffer(body, path, path_state, &mut [None; MAX_ACTIONS], budget)
+    let path_match = match_exactly(alloc, body, path, kind, path_state)?;
+    match path_match {
+        PathMatch::Fits => Ok(PathMatch::Fits),
+        PathMatch::Deviates(explained) => Ok(PathMatch::Deviates(explained)),
+        PathMatch::Undecided => {
+            let fits = fits_narrowed(alloc, body, path, kind, path_state)?;
+            Ok(if fits {
+                PathMatch::Fits
+            } else {
+                PathMatch::Undecided
+            })
+        }
     }
 }
 
-/// Matches the path, with a buffer for the index of each submit.
-fn walk_with_buffer(
+/// Matches the path against the body, without a choice among the classes of a job.
+///
+/// # Errors
+///
+/// Returns [`AllocError`] if memory runs out.
+fn match_exactly(
+    alloc: Global,
+    body: &[Action],
+    path: &[PathStep],
+    kind: ActorKind,
+    path_state: PathState,
+) -> Result<PathMatch, AllocError>
+    ensures fits { IfOk result (λ path_match.
+        OnFits path_match (IsPathOf kind path_state body.now path.now)) }
+    ensures deviates { IfOk result (λ path_match.
+        OnDeviates path_match (¬ IsPathOf kind path_state body.now path.now)) }
+
+    // The number is the length of the longest prefix of the path that begins a path of the body.
+    ensures explained { IfOk result
+        (λ path_match. IfDeviates path_match (IsExplained kind body.now path.now)) }
+
+    // The result is decided if each job of the path has at most one of the body's classes.
+    ensures decided { IfOk result
+        (λ path_match. IsUnambiguous body.now path.now → IsDecided path_match) }
+{
+    let gets = body_gets(alloc, body)?;
+    let mut state = WalkState::new(alloc, body)?;
+    for (place, step) in path.iter().enumerate() {
+        match state.take_step(kind, body, &gets, place, step)? {
+            Progress::Walked => {}
+            Progress::Stops => return Ok(PathMatch::Deviates(place)),
+            Progress::Undecided => return Ok(PathMatch::Undecided),
+        }
+    }
+    Ok(match_at_end(&state, body, path, path_state))
+}
+
+/// Returns true if the path matches with one of the assignments that are tried.
+///
+/// # Errors
+///
+/// Returns [`AllocError`] if memory runs out.
+fn fits_narrowed(
+    alloc: Global,
+    body: &[Action],
+    path: &[PathStep],
+    kind: ActorKind,
+    path_state: PathState,
+) -> Result<bool, AllocError>
+    ensures { IfOk result (λ fits.
+        IsTrue fits → IsPathOf kind path_state body.now path.now) }
+{
+    if fits_with(alloc, body, path, kind, path_state, Pick::First)? {
+        return Ok(true);
+    }
+    if fits_with(alloc, body, path, kind, path_state, Pick::Last)? {
+        return Ok(true);
+    }
+    let fits = fits_with(alloc, body, path, kind, path_state, Pick::InOrder)?;
+    Ok(fits)
+}
+
+/// Returns true if the path matches when each job has the class that the rule picks.
+///
+/// # Errors
+///
+/// Returns [`AllocError`] if memory runs out.
+fn fits_with(
+    alloc: Global,
+    body: &[Action],
+    path: &[PathStep],
+    kind: ActorKind,
+    path_state: PathState,
+    pick: Pick,
+) -> Result<bool, AllocError>
+    ensures { IfOk result (λ fits.
+        IsTrue fits → IsPathOf kind path_state body.now path.now) }
+{
+    let fewer = narrowed(alloc, body, path, pick)?;
+    let path_match = match_exactly(alloc, body, &fewer, kind, path_state)?;
+    match path_match {
+        PathMatch::Fits => Ok(true),
+        PathMatch::Deviates(_) | PathMatch::Undecided => Ok(false),
+    }
+}
+
+/// Returns the result for a path whose steps are all walked.
+fn match_at_end(
+    state: &WalkState,
     body: &[Action],
     path: &[PathStep],
     path_state: PathState,
-    places: &mut [Option<usize>],
-    budget: u64,
 ) -> PathMatch
-    requires { length body.now ≤ length places.old }
-    ensures fits { OnFits result (IsPathOf path_state body.now path.now) }
-    ensures deviates { OnDeviates result (¬ IsPathOf path_state body.now path.now) }
-    ensures explained { IfDeviates result (IsExplained body.now path.now) }
-    ensures decided { (length body.now + 1) * 2 ^ submit_count body.now ≤ budget
-        → IsDecided result }
+    ensures { (kind : ActorKind)
+        → IsStateAt kind body.now path.now (length path.now) state.now
+        → IsBegun state.now
+        → IsMatch kind path_state body.now path.now result }
 {
-    let mut steps_left = budget;
-    walk(body, path, path_state, places, 0, 0, &mut steps_left)
+    match path_state {
+        PathState::Prefix => PathMatch::Fits,
+        PathState::Whole => {
+            if state.is_at(body.len()) {
+                PathMatch::Fits
+            } else {
+                PathMatch::Deviates(path.len())
+            }
+        }
+    }
 }

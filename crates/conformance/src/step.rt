@@ -12,6 +12,15 @@ pub enum PathStep {
     Gets(usize),
 }
 
+/// The kind of an actor, which decides which jobs it may get sooner than its body does.
+#[derive(Clone, Copy, PartialEq, Eq)]
+pub enum ActorKind {
+    /// A job gets only jobs of classes that its body still gets.
+    Job,
+    /// A round of a client gets any of its jobs.
+    Round,
+}
+
 /// The state of a path: whole, or only begun.
 #[derive(Clone, Copy, PartialEq, Eq)]
 pub enum PathState {
@@ -29,16 +38,6 @@ impl PathStep {
         match self {
             PathStep::Submits(classes) => classes.contains(&class),
             PathStep::Gets(_) => false,
-        }
-    }
-
-    /// Returns true if it gets the job that the submit at this index of its path made.
-    pub fn gets(&self, place: usize) -> bool
-        ensures { result ≡ spec.gets self.now place }
-    {
-        match self {
-            PathStep::Gets(got) => *got == place,
-            PathStep::Submits(_) => false,
         }
     }
 }

@@ -96,9 +96,9 @@ pub(crate) struct ActorSurvey {
 impl ActorSurvey {
     /// Creates the state before the first line.
     pub(crate) fn new(alloc: Global) -> ActorSurvey
-        ensures { (plan : plans.Plan) (budget : ℕ)
-            → AreResultsSoFarOf plan budget [] []
-            → spec.IsActorSurveyOf plan budget [] [] result }
+        ensures { (plan : plans.Plan)
+            → AreResultsSoFarOf plan [] []
+            → spec.IsActorSurveyOf plan [] [] result }
     {
         let verdicts = Verdicts::new(alloc);
         let others = OtherKinds::new(alloc);
@@ -153,12 +153,12 @@ impl Survey {
         plan: &Plan,
         classes: ActorClassifier,
     ) -> Result<(), AllocError>
-        ensures { (budget : ℕ) (lines : List RecordedLine)
+        ensures { (lines : List RecordedLine)
             → KeepsRules lines
             → spec.IsLineSurveyOf plan.now lines self.old.line_survey
-            → spec.IsCurrent plan.now budget lines classes self.old.actor_survey
+            → spec.IsCurrent plan.now lines classes self.old.actor_survey
             → CountsFirstKinds plan.now self.old.actor_survey.others lines self.old.excess_tracker
-            → OnOk result (spec.IsSurveyOf plan.now budget lines self.new) }
+            → OnOk result (spec.IsSurveyOf plan.now lines self.new) }
     {
         self.line_survey.finish(plan)?;
         finish(alloc, plan, classes, &mut self.actor_survey)?;
@@ -175,12 +175,11 @@ pub(crate) fn survey_recording(
     alloc: Global,
     plan: &Plan,
     recording: &[u8],
-    budget: u64,
 ) -> Result<Result<Survey, RecordingFault>, AllocError>
-    ensures { IfOk result (spec.IsSurveyResult plan.now budget recording.now) }
+    ensures { IfOk result (spec.IsSurveyResult plan.now recording.now) }
 {
     let excess_tracker = ExcessTracker::new(alloc, plan)?;
-    let mut builder = SurveyBuilder::new(alloc, budget, excess_tracker);
+    let mut builder = SurveyBuilder::new(alloc, excess_tracker);
     match builder.take_all(alloc, plan, recording)? {
         Some(fault) => Ok(Err(fault)),
         None => Ok(Ok(builder.finish(alloc, plan)?)),
@@ -197,14 +196,14 @@ pub(crate) struct SurveyBuilder {
 
 impl SurveyBuilder {
     // Creates the state before the first line.
-    fn new(alloc: Global, budget: u64, excess_tracker: ExcessTracker) -> SurveyBuilder
+    fn new(alloc: Global, excess_tracker: ExcessTracker) -> SurveyBuilder
         ensures { (plan : plans.Plan)
             → ((kinds : List (Option ℕ)) → IsExcessTrackerOf plan kinds [] excess_tracker)
-            → spec.IsSurveyBuilderOf plan budget [] result }
+            → spec.IsSurveyBuilderOf plan [] result }
     {
         let line_survey = LineSurvey::new(alloc);
         let actor_survey = ActorSurvey::new(alloc);
-        let classes = ActorClassifier::new(alloc, budget);
+        let classes = ActorClassifier::new(alloc);
         let reported = Vec::new(alloc);
         SurveyBuilder {
             survey: Survey {
@@ -224,9 +223,8 @@ impl SurveyBuilder {
         plan: &Plan,
         recording: &[u8],
     ) -> Result<Option<RecordingFault>, AllocError>
-        ensures { (budget : ℕ)
-            → spec.IsSurveyBuilderOf plan.now budget [] self.old
-            → IfOk result (spec.ReadsAllLines plan.now budget recording.now self.new) }
+        ensures { spec.IsSurveyBuilderOf plan.now [] self.old
+            → IfOk result (spec.ReadsAllLines plan.now recording.now self.new) }
     {
         let mut lines = CheckedLines::new(alloc, recording);
         while let Some(line) = lines.next()? {
@@ -241,12 +239,12 @@ impl SurveyBuilder {
 
     // Reads line `number` of a valid recording.
     fn take(&mut self, plan: &Plan, number: usize, line: &Line<'_>) -> Result<(), AllocError>
-        ensures { (budget : ℕ) (before : List RecordedLine)
+        ensures { (before : List RecordedLine)
             → KeepsRules (before ++ line_view line.now ∷ [])
             → IsNext number before
-            → spec.IsSurveyBuilderOf plan.now budget before self.old
+            → spec.IsSurveyBuilderOf plan.now before self.old
             → OnOk result
-            (spec.IsSurveyBuilderOf plan.now budget (before ++ line_view line.now ∷ []) self.new) }
+            (spec.IsSurveyBuilderOf plan.now (before ++ line_view line.now ∷ []) self.new) }
     {
         self.survey.line_survey.take(plan, number, line)?;
         take_line(
@@ -265,10 +263,10 @@ impl SurveyBuilder {
 
     // Completes the survey at the end of the recording.
     fn finish(self, alloc: Global, plan: &Plan) -> Result<Survey, AllocError>
-        ensures { (budget : ℕ) (lines : List RecordedLine)
+        ensures { (lines : List RecordedLine)
             → KeepsRules lines
-            → spec.IsSurveyBuilderOf plan.now budget lines self
-            → IfOk result (spec.IsSurveyOf plan.now budget lines) }
+            → spec.IsSurveyBuilderOf plan.now lines self
+            → IfOk result (spec.IsSurveyOf plan.now lines) }
     {
         let SurveyBuilder {
             mut survey,
@@ -292,12 +290,12 @@ fn take_line(
     ensures emptied { OnOk result (reported.new.items ≡ []) }
     ensures had { OnOk result
         (actor_survey.new.others.has_any ≡ false → actor_survey.old.others.has_any ≡ false) }
-    ensures current { (budget : ℕ) (before : List RecordedLine)
+    ensures current { (before : List RecordedLine)
         → KeepsRules (before ++ line_view line.now ∷ [])
         → reported.old.items ≡ []
-        → spec.IsCurrent plan.now budget before classes.old actor_survey.old
+        → spec.IsCurrent plan.now before classes.old actor_survey.old
         → OnOk result
-        (spec.IsCurrent plan.now budget (before ++ line_view line.now ∷ []) classes.new actor_survey.new) }
+        (spec.IsCurrent plan.now (before ++ line_view line.now ∷ []) classes.new actor_survey.new) }
 {
     classes.take(plan, line, reported)?;
     actor_survey.note_all(plan, reported)
@@ -312,10 +310,10 @@ fn finish(
 ) -> Result<(), AllocError>
     ensures had { OnOk result
         (actor_survey.new.others.has_any ≡ false → actor_survey.old.others.has_any ≡ false) }
-    ensures all { (budget : ℕ) (lines : List RecordedLine)
+    ensures all { (lines : List RecordedLine)
         → KeepsRules lines
-        → spec.IsCurrent plan.now budget lines classes actor_survey.old
-        → OnOk result (spec.IsActorSurveyAtEnd plan.now budget lines actor_survey.new) }
+        → spec.IsCurrent plan.now lines classes actor_survey.old
+        → OnOk result (spec.IsActorSurveyAtEnd plan.now lines actor_survey.new) }
 {
     let mut reported = Vec::new(alloc);
     classes.finish(plan, &mut reported)?;

@@ -5,4 +5,3 @@ pub mod ReplayResult
 pub mod NoThreadStarts
 pub mod Confirmed
 pub mod EventLines
-pub mod Description

@@ -1,15 +1,14 @@
-//! Counterexamples to a plan: the search for one, its confirmation on the machine, and its text.
+//! Counterexamples to a plan: the search for one, its confirmation on the machine, and its event
+//! lines.
 //!
 //! A [`Witness`] is a list of events that ends in a refused submit, or after which jobs wait only
 //! for each other. The search is not trusted: [`confirmed`] replays the events that it finds.
 #![tactic(auto)]
 
-mod active_clients;
 mod best_first;
 mod branches;
 mod choices;
 mod confirmation;
-mod description;
 mod ending;
 mod event_texts;
 mod fingerprints;
@@ -18,7 +17,6 @@ mod losses;
 mod machine;
 mod no_thread_starts;
 mod orders;
-mod pool_lines;
 mod pools;
 mod replaying;
 mod replays;
@@ -26,17 +24,12 @@ mod rising;
 mod scripts;
 mod search;
 mod shorten;
-mod steps;
-mod stories;
-mod turns;
 mod vectors;
-mod waiting_lines;
 mod waiting_sets;
 mod walks;
 mod witness;
 
 pub use confirmation::confirmed;
-pub use description::describe;
 pub use ending::{Ending, Reason};
 pub use event_texts::push_event_lines;
 pub use interleaving::Event;

@@ -1,3 +1,4 @@
+mod AtCore
 mod EntryPlaces
 mod InOrder
 mod Lines

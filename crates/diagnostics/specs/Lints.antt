@@ -1,5 +1,5 @@
 -- The lints of a plan, in the order in which they are reported.
-use Rattle.std.specs.Prelude.{◌≡◌, ℕ, ◌/◌, max, Bool, true, false, not, ◌&&◌, ◌||◌, ◌==◌, nat_lt, nat_le, if◌then◌else◌, List, [], ◌∷◌, ◌++◌, map, length, slice_index_or, Option, Some, None}
+use Rattle.std.specs.Prelude.{◌≡◌, ℕ, ◌/◌, max, Bool, true, false, not, ◌&&◌, ◌||◌, ◌==◌, nat_lt, nat_le, if◌then◌else◌, List, [], ◌∷◌, ◌++◌, map, length, slice_index_or, Option, Some, None, IfSome, IfNone}
 use Rattle.std.specs.List.{list_any, list_all, flat_map, enumerate_from}
 use Rattle.job_bodies.specs.declared.action.Action.{Action}
 use Rattle.job_bodies.specs.declared.action.Action.TheVariants.{Work, Submit}
@@ -7,8 +7,12 @@ use Rattle.job_bodies.specs.declared.fault.Part.{Part}
 use Rattle.job_bodies.specs.declared.fault.Part.TheVariants as part
 use Rattle.job_bodies.specs.Plan.{Pool, Class, Client, Plan, pool_at, class_at}
 use Rattle.size_search.specs.ByClients.{MarksSubmitted}
+use Rattle.size_search.specs.declared.cause.Cause.{Cause}
+use Rattle.size_search.specs.declared.cause.Cause.TheVariants.{Circle, ClientNeverGets, ClassNeverGets}
+use Rattle.size_search.specs.Causes.{IsCause}
+use Rattle.size_search.specs.Submitted.{IsWithoutCause}
 use Rattle.diagnostics.specs.declared.lint.Lint.{Lint}
-use Rattle.diagnostics.specs.declared.lint.Lint.TheVariants.{NothingToAsk, NoClients, NothingSubmitted, PoolWithoutJobs, UselessMax, QueueFarAbove, ClassWithoutJobs, GoesOnce, Crowd, WorkLikeASize}
+use Rattle.diagnostics.specs.declared.lint.Lint.TheVariants.{SafeAtCore, SubmitsItself, NeverGot, NothingToAsk, NoClients, NothingSubmitted, PoolWithoutJobs, UselessMax, QueueFarAbove, ClassWithoutJobs, GoesOnce, Crowd, WorkLikeASize}
 use Rattle.diagnostics.specs.declared.warnings.Warning.{Warning}
 
 -- the lint alone if the condition is true, and otherwise no lint
@@ -59,9 +63,13 @@ may_grow pool = nat_lt pool.core pool.max
 abbrev pub is_far_above : Pool → ℕ → Bool
 is_far_above pool most = nat_lt (max most 1) (pool.queue / 10)
 
+-- the pool's maximum is above its core size, and its queue holds the `most` jobs that can be in it at once
+abbrev pub has_useless_max : Pool → ℕ → Bool
+has_useless_max pool most = may_grow pool && nat_le most pool.queue
+
 -- the lints of the pool's sizes that are larger than needed, if at most `most` jobs are in the queue at once
 abbrev pub lints_of_known_sizes : ℕ → Pool → ℕ → List Lint
-lints_of_known_sizes p pool most = only_if (may_grow pool) (UselessMax p) ++ only_if (is_far_above pool most) (QueueFarAbove p most)
+lints_of_known_sizes p pool most = only_if (has_useless_max pool most) (UselessMax p) ++ only_if (is_far_above pool most) (QueueFarAbove p most)
 
 -- the lints of the pool's sizes that are larger than needed; none if the maximum number of jobs in the queue is not known
 abbrev pub lints_of_sizes : ℕ → Pool → Option ℕ → List Lint
@@ -124,11 +132,32 @@ lints plan needed marks =
     if length plan.clients == 0 then without_clients plan ∷ [] else
     (if list_any (λ (mark : Bool). mark) marks then lints_of_parts plan needed marks else NothingSubmitted ∷ [])
 
--- the list has the lints of the plan, if the marked classes are those that clients submit, directly or through other jobs
-pub record AreLints (plan : Plan) (needed : List (Option ℕ)) (found : List Lint) : Type 0 where
+-- ---- causes for which no sizes are enough
+
+abbrev pub lint_of_cause : Cause → Lint
+lint_of_cause (Circle k) = SubmitsItself k
+lint_of_cause (ClientNeverGets c i) = NeverGot part.Client c i
+lint_of_cause (ClassNeverGets k i) = NeverGot part.Class k i
+
+abbrev pub lints_of_cause : Option Cause → List Lint
+lints_of_cause None = []
+lints_of_cause (Some cause) = lint_of_cause cause ∷ []
+
+-- ---- all
+
+-- whether the plan is safe with each maximum lowered to its core, then the cause if there is one, and then the other lints
+abbrev pub all_lints : Plan → List (Option ℕ) → Bool → Option Cause → List Bool → List Lint
+all_lints plan needed safe_at_core cause marks = only_if safe_at_core SafeAtCore ++ lints_of_cause cause ++ lints plan needed marks
+
+-- the list has the lints of the plan, if the marked classes are those that clients submit, directly or through other jobs, and the cause
+-- is one of the plan. There is none only if the plan has no cause
+pub record AreLints (plan : Plan) (needed : List (Option ℕ)) (safe_at_core : Bool) (found : List Lint) : Type 0 where
   pub marks : List Bool
   pub submitted : MarksSubmitted plan marks
-  pub comma_list : found ≡ lints plan needed marks
+  pub cause : Option Cause
+  pub is_cause : IfSome cause (IsCause plan)
+  pub none : IfNone cause (IsWithoutCause plan)
+  pub is : found ≡ all_lints plan needed safe_at_core cause marks
 
 -- the lints of the warnings, in the same order
 abbrev pub lints_in : List Warning → List Lint

@@ -15,21 +15,32 @@ pub(crate) enum ParsedAction<'a> {
     Get(&'a str),
 }
 
-/// The first four words of a text, and the number of all its words.
+/// The first four words of a text, and the number of all its words. A word that the text lacks is
+/// empty.
 #[derive(Clone, Copy)]
 struct Words<'a> {
-    words: [&'a str; 4],
+    verb: &'a str,
+    first: &'a str,
+    mark: &'a str,
+    slot: &'a str,
     count: usize,
 }
 
 fn words_of(text: &str) -> Words<'_> {
     let mut found = Words {
-        words: [""; 4],
+        verb: "",
+        first: "",
+        mark: "",
+        slot: "",
         count: 0,
     };
     for word in text.split(' ') {
-        if found.count < 4 {
-            found.words[found.count] = word;
+        match found.count {
+            0 => found.verb = word,
+            1 => found.first = word,
+            2 => found.mark = word,
+            3 => found.slot = word,
+            _ => {}
         }
         found.count = found.count.saturating_add(1);
     }
@@ -38,18 +49,41 @@ fn words_of(text: &str) -> Words<'_> {
 
 /// Parses an action. Returns `None` if the text is not an action.
 pub(crate) fn parse_action(text: &str) -> Option<ParsedAction<'_>> {
-    let Words {
-        words: [verb, first, word, slot],
-        count,
-    } = words_of(text);
-    match (verb, count) {
-        ("work", 2) if is_length(first) => Some(ParsedAction::Work),
-        ("submit", 2) if is_valid_name(first) => Some(ParsedAction::Submit(first)),
-        ("submit", 4) if word == "as" && is_valid_name(first) && is_valid_name(slot) => {
-            Some(ParsedAction::SubmitAs(first, slot))
-        }
-        ("get", 2) if is_valid_name(first) => Some(ParsedAction::Get(first)),
+    let words = words_of(text);
+    match words.verb {
+        "work" => parse_work(words),
+        "submit" => parse_submit(words),
+        "get" => parse_get(words),
         _ => None,
+    }
+}
+
+fn parse_work(words: Words<'_>) -> Option<ParsedAction<'_>> {
+    if words.count == 2 && is_length(words.first) {
+        Some(ParsedAction::Work)
+    } else {
+        None
+    }
+}
+
+fn parse_submit(words: Words<'_>) -> Option<ParsedAction<'_>> {
+    if !is_valid_name(words.first) {
+        return None;
+    }
+    if words.count == 2 {
+        return Some(ParsedAction::Submit(words.first));
+    }
+    if words.count == 4 && words.mark == "as" && is_valid_name(words.slot) {
+        return Some(ParsedAction::SubmitAs(words.first, words.slot));
+    }
+    None
+}
+
+fn parse_get(words: Words<'_>) -> Option<ParsedAction<'_>> {
+    if words.count == 2 && is_valid_name(words.first) {
+        Some(ParsedAction::Get(words.first))
+    } else {
+        None
     }
 }
 
@@ -68,11 +102,8 @@ fn is_length(text: &str) -> bool {
 
 /// Returns the range of the length of a `work`, if the text is a `work` with another length.
 pub(crate) fn range_of_work(text: &str) -> Option<NumberRange> {
-    let Words {
-        words: [verb, ..],
-        count,
-    } = words_of(text);
-    if verb == "work" && count > 1 && !is_spaced(text) {
+    let words = words_of(text);
+    if words.verb == "work" && words.count > 1 && !is_spaced(text) {
         Some(NumberRange {
             low: 1,
             high: MAX_WORK,
@@ -88,13 +119,12 @@ pub(crate) fn action_error(alloc: Global, text: &str) -> Result<String, AllocErr
         let words = "write one space between words, and none before the first or after the last";
         return String::from_str(alloc, words);
     }
-    let Words { words, count } = words_of(text);
-    let [verb, first, word, slot] = words;
-    match verb {
+    let words = words_of(text);
+    match words.verb {
         "work" => work_error(alloc, text),
-        "get" => get_error(alloc, first, count),
-        "submit" => submit_error(alloc, first, word, slot, count),
-        _ => verb_error(alloc, verb, first),
+        "get" => get_error(alloc, words.first, words.count),
+        "submit" => submit_error(alloc, words),
+        _ => verb_error(alloc, words.verb, words.first),
     }
 }
 
@@ -125,61 +155,64 @@ fn work_error(alloc: Global, text: &str) -> Result<String, AllocError> {
 
 fn get_error(alloc: Global, slot: &str, count: usize) -> Result<String, AllocError> {
     if count > 2 {
-        return format!(in alloc;
-            "a get has no timeout: write get {slot} if the service needs the result, or see docs/PERMITS.md for a get that can give up"
-        );
+        return no_timeout(alloc, slot);
     }
     if count < 2 {
-        return String::from_str(
-            alloc,
-            "get needs a name: write get NAME after a submit CLASS as NAME",
-        );
+        let error = "get needs a name: write get NAME after a submit CLASS as NAME";
+        return String::from_str(alloc, error);
     }
     name_rule(alloc, slot)
 }
 
-fn submit_error(
-    alloc: Global,
-    class: &str,
-    word: &str,
-    slot: &str,
-    count: usize,
-) -> Result<String, AllocError> {
-    if count < 2 {
-        return String::from_str(
-            alloc,
-            "submit needs a class: write submit CLASS, or submit CLASS as NAME",
-        );
+fn no_timeout(alloc: Global, slot: &str) -> Result<String, AllocError> {
+    format!(in alloc;
+        "a get has no timeout: write get {slot} if the service needs the result, or see docs/PERMITS.md for a get that can give up"
+    )
+}
+
+fn submit_error(alloc: Global, words: Words<'_>) -> Result<String, AllocError> {
+    if words.count < 2 {
+        let error = "submit needs a class: write submit CLASS, or submit CLASS as NAME";
+        return String::from_str(alloc, error);
     }
-    if class == "as" && count == 3 {
-        return format!(in alloc; "the class is missing before as: write submit CLASS as {word}");
+    if words.first == "as" && words.count == 3 {
+        return class_missing(alloc, words.mark);
     }
-    if !is_valid_name(class) {
-        return name_rule(alloc, class);
+    if !is_valid_name(words.first) {
+        return name_rule(alloc, words.first);
     }
-    if count == 4 && word == "as" {
-        return name_rule(alloc, slot);
+    if words.count == 4 && words.mark == "as" {
+        return name_rule(alloc, words.slot);
     }
+    submit_form(alloc, words.first)
+}
+
+fn class_missing(alloc: Global, slot: &str) -> Result<String, AllocError> {
+    format!(in alloc; "the class is missing before as: write submit CLASS as {slot}")
+}
+
+fn submit_form(alloc: Global, class: &str) -> Result<String, AllocError> {
     format!(in alloc; "write submit {class}, or submit {class} as NAME if its result is needed")
 }
 
+/// Returns the message for a text that begins with another word than those of actions.
 fn verb_error(alloc: Global, verb: &str, first: &str) -> Result<String, AllocError> {
     match verb {
-        "execute" | "invoke" | "start" | "schedule" => {
-            format!(in alloc;
-                "write submit {first}, or submit {first} as NAME if its result is needed"
-            )
-        }
-        "wait" | "join" | "await" => {
-            format!(in alloc;
-                "write get {first} if {first} was submitted before, or work 1 if it waits for something outside the plan"
-            )
-        }
+        "execute" | "invoke" | "start" | "schedule" => submit_form(alloc, first),
+        "wait" | "join" | "await" => wait_form(alloc, first),
         "sleep" | "run" | "compute" => String::from_str(alloc, "write work 5"),
-        _ => {
-            let forms = ": an action is work N, submit CLASS, submit CLASS as NAME, or get NAME";
-            let right = suggestion(alloc, verb, &["work", "submit", "get"], forms)?;
-            format!(in alloc; "unknown action {verb}{right}")
-        }
+        _ => unknown_verb(alloc, verb),
     }
+}
+
+fn wait_form(alloc: Global, slot: &str) -> Result<String, AllocError> {
+    format!(in alloc;
+        "write get {slot} if {slot} was submitted before, or work 1 if it waits for something outside the plan"
+    )
+}
+
+fn unknown_verb(alloc: Global, verb: &str) -> Result<String, AllocError> {
+    let forms = ": an action is work N, submit CLASS, submit CLASS as NAME, or get NAME";
+    let right = suggestion(alloc, verb, &["work", "submit", "get"], forms)?;
+    format!(in alloc; "unknown action {verb}{right}")
 }

@@ -21,6 +21,17 @@ struct Slot<'a> {
     got: Option<usize>,
 }
 
+/// The result of marking a job as got.
+#[derive(Clone, Copy)]
+enum Marked {
+    /// It is marked now.
+    Now,
+    /// The action with this index got it before.
+    Before(usize),
+    /// No job was submitted under the name.
+    Missing,
+}
+
 /// An action that is being checked.
 #[derive(Clone, Copy)]
 struct CheckedAction<'a> {
@@ -67,15 +78,25 @@ pub(crate) fn body(
         return Ok(());
     };
     let mut slots = Vec::new(collector.alloc);
+    check_actions(collector, entry, actions, classes, &mut slots)
+}
+
+fn check_actions<'a>(
+    collector: &mut FaultCollector,
+    entry: &'a PlacedEntry<'a>,
+    actions: &'a [Value],
+    classes: &[&str],
+    slots: &mut Vec<Slot<'a>>,
+) -> Result<(), AllocError> {
     for (action, value) in actions.iter().enumerate() {
         if let Some(text) = value.as_str() {
             let checked = CheckedAction {
-                entry: &*entry,
+                entry,
                 action,
                 text,
                 actions,
             };
-            check_action(collector, checked, classes, &mut slots)?;
+            check_action(collector, checked, classes, slots)?;
         }
     }
     Ok(())
@@ -88,11 +109,7 @@ fn check_action<'a>(
     slots: &mut Vec<Slot<'a>>,
 ) -> Result<(), AllocError> {
     match parse_action(checked.text) {
-        None => {
-            let words = action_error(collector.alloc, checked.text)?;
-            let range = range_of_work(checked.text);
-            checked.report_with_range(collector, BAD_ACTION, &words, range)
-        }
+        None => report_bad_action(collector, checked),
         Some(ParsedAction::Work) => Ok(()),
         Some(ParsedAction::Submit(class)) => check_submit(collector, checked, class, classes),
         Some(ParsedAction::SubmitAs(class, slot)) => {
@@ -101,6 +118,16 @@ fn check_action<'a>(
         }
         Some(ParsedAction::Get(slot)) => check_get(collector, checked, slot, slots),
     }
+}
+
+/// Reports a text that is not an action.
+fn report_bad_action(
+    collector: &mut FaultCollector,
+    checked: CheckedAction<'_>,
+) -> Result<(), AllocError> {
+    let words = action_error(collector.alloc, checked.text)?;
+    let range = range_of_work(checked.text);
+    checked.report_with_range(collector, BAD_ACTION, &words, range)
 }
 
 fn check_submit(
@@ -112,19 +139,25 @@ fn check_submit(
     if classes.contains(&class) {
         return Ok(());
     }
-    let alloc = collector.alloc;
-    let otherwise = if classes.is_empty() {
-        String::from_str(
-            alloc,
-            "; the plan has no classes: add a [[class]] with this name",
-        )?
-    } else {
-        let all = comma_list(alloc, classes)?;
-        format!(in alloc; "; the classes are {all}")?
-    };
-    let right = suggestion(alloc, class, classes, &otherwise)?;
-    let words = format!(in alloc; "unknown class {class}{right}")?;
+    let words = unknown_class(collector.alloc, class, classes)?;
     checked.report(collector, NO_SUCH_CLASS, &words)
+}
+
+/// Returns the message for a submit of a class that the plan does not have.
+fn unknown_class(alloc: Global, class: &str, classes: &[&str]) -> Result<String, AllocError> {
+    let otherwise = known_classes(alloc, classes)?;
+    let right = suggestion(alloc, class, classes, &otherwise)?;
+    format!(in alloc; "unknown class {class}{right}")
+}
+
+/// Returns the end of such a message, with the plan's classes.
+fn known_classes(alloc: Global, classes: &[&str]) -> Result<String, AllocError> {
+    if classes.is_empty() {
+        let words = "; the plan has no classes: add a [[class]] with this name";
+        return String::from_str(alloc, words);
+    }
+    let all = comma_list(alloc, classes)?;
+    format!(in alloc; "; the classes are {all}")
 }
 
 /// Reports the action if a job was submitted under the name and not got yet. Otherwise adds the
@@ -135,14 +168,8 @@ fn check_slot_is_free<'a>(
     name: &'a str,
     slots: &mut Vec<Slot<'a>>,
 ) -> Result<(), AllocError> {
-    for slot in slots.iter() {
-        if slot.name == name && slot.got.is_none() {
-            let submit = slot.submit;
-            let words = format!(in collector.alloc;
-                "{name} is still in use by action {submit}: get it first, or use another name"
-            )?;
-            return checked.report(collector, SLOT_OPEN, &words);
-        }
+    if let Some(submit) = submit_in_use(slots, name) {
+        return report_in_use(collector, checked, name, submit);
     }
     slots.push(Slot {
         name,
@@ -150,6 +177,28 @@ fn check_slot_is_free<'a>(
         got: None,
     })?;
     Ok(())
+}
+
+/// Returns the action that submitted a job under this name, if no action got the job yet.
+fn submit_in_use(slots: &[Slot<'_>], name: &str) -> Option<usize> {
+    for slot in slots {
+        if slot.name == name && slot.got.is_none() {
+            return Some(slot.submit);
+        }
+    }
+    None
+}
+
+fn report_in_use(
+    collector: &mut FaultCollector,
+    checked: CheckedAction<'_>,
+    name: &str,
+    submit: usize,
+) -> Result<(), AllocError> {
+    let words = format!(in collector.alloc;
+        "{name} is still in use by action {submit}: get it first, or use another name"
+    )?;
+    checked.report(collector, SLOT_OPEN, &words)
 }
 
 /// Marks the job that was submitted under this name as got. Reports the action if there is no such
@@ -160,26 +209,51 @@ fn check_get<'a>(
     name: &str,
     slots: &mut Vec<Slot<'a>>,
 ) -> Result<(), AllocError> {
-    let mut before = None;
+    match mark_as_got(slots, name, checked.action) {
+        Marked::Now => Ok(()),
+        Marked::Before(action) => report_got(collector, checked, name, action),
+        Marked::Missing => report_missing(collector, checked, name, slots),
+    }
+}
+
+/// Marks the job that was submitted under this name as got by the action, if it was not got before.
+fn mark_as_got(slots: &mut [Slot<'_>], name: &str, action: usize) -> Marked {
+    let mut marked = Marked::Missing;
     for slot in slots.iter_mut() {
         if slot.name == name {
             match slot.got {
                 None => {
-                    slot.got = Some(checked.action);
-                    return Ok(());
+                    slot.got = Some(action);
+                    return Marked::Now;
                 }
-                Some(action) => before = Some(action),
+                Some(before) => marked = Marked::Before(before),
             }
         }
     }
-    let words = match before {
-        Some(action) => {
-            format!(in collector.alloc;
-                "action {action} has already got {name}; a result can be got once"
-            )?
-        }
-        None => no_such_slot(collector.alloc, checked, name, slots)?,
-    };
+    marked
+}
+
+/// Reports a get of a job that an earlier action got.
+fn report_got(
+    collector: &mut FaultCollector,
+    checked: CheckedAction<'_>,
+    name: &str,
+    action: usize,
+) -> Result<(), AllocError> {
+    let words = format!(in collector.alloc;
+        "action {action} has already got {name}; a result can be got once"
+    )?;
+    checked.report(collector, SLOT_EMPTY, &words)
+}
+
+/// Reports a get of a name under which no job was submitted before.
+fn report_missing(
+    collector: &mut FaultCollector,
+    checked: CheckedAction<'_>,
+    name: &str,
+    slots: &[Slot<'_>],
+) -> Result<(), AllocError> {
+    let words = no_such_slot(collector.alloc, checked, name, slots)?;
     checked.report(collector, SLOT_EMPTY, &words)
 }
 
@@ -190,9 +264,14 @@ fn no_such_slot(
     name: &str,
     slots: &[Slot<'_>],
 ) -> Result<String, AllocError> {
+    let names = names_of(alloc, slots)?;
+    missing_submit(alloc, checked.actions, checked.action, name, &names)
+}
+
+fn names_of<'a>(alloc: Global, slots: &[Slot<'a>]) -> Result<Vec<&'a str>, AllocError> {
     let mut names = Vec::new(alloc);
     for slot in slots {
         names.push(slot.name)?;
     }
-    missing_submit(alloc, checked.actions, checked.action, name, &names)
+    Ok(names)
 }

@@ -6,6 +6,15 @@ use job_bodies::Part;
 /// actions are numbered from 0.
 #[derive(Clone, Copy, PartialEq, Eq)]
 pub enum Lint {
+    /// A certificate accepts the plan with each maximum lowered to the core size of its pool. The
+    /// caller that searched for the certificate provides this fact.
+    SafeAtCore,
+    /// This class submits itself, directly or through other classes.
+    SubmitsItself(usize),
+    /// The body of a class or client kind has a submit without a get, and repeating clients cause
+    /// such submits without limit. The fields are: whether it is a class or a client kind, its
+    /// number, and the number of the action.
+    NeverGot(Part, usize, usize),
     /// The plan has no pools and no clients.
     NothingToAsk,
     /// The plan has pools, but no clients.

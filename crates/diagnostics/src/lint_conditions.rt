@@ -63,6 +63,14 @@ pub(crate) fn may_grow(pool: &Pool) -> bool
     pool.core < pool.max
 }
 
+/// Returns whether the pool's maximum is above its core size, and its queue holds the `most` jobs
+/// that can be in it at once.
+pub(crate) fn has_useless_max(pool: &Pool, most: u64) -> bool
+    ensures { result ≡ spec.has_useless_max pool.now most }
+{
+    may_grow(pool) && most <= pool.queue
+}
+
 /// Returns whether a tenth of the queue's capacity is more than `most` jobs and more than 1.
 pub(crate) fn is_far_above(pool: &Pool, most: u64) -> bool
     ensures { result ≡ spec.is_far_above pool.now most }

@@ -1,55 +1,106 @@
 //! The lints of a plan, in order.
 
-ghost use Rattle.std.specs.Prelude.{◌≡◌, [], ◌∷◌, ◌++◌, IfOk, OnOk};
+ghost use Rattle.std.specs.Prelude.{◌≡◌, ◌++◌, IfOk, OnOk};
 ghost use Rattle.diagnostics.specs.Lints as spec;
 
 use crate::lint::Lint;
 use crate::lint_conditions::{
-    are_a_crowd, gets_a_job, is_any_submitted, is_far_above, is_submitted, looks_like_a_size,
-    may_grow, most_at,
+    are_a_crowd, gets_a_job, has_useless_max, is_any_submitted, is_far_above, is_submitted,
+    looks_like_a_size, most_at,
 };
 use job_bodies::{Action, Class, Client, Part, Plan, Pool};
-use size_search::submitted_by_clients;
+use size_search::{Cause, cause_of, submitted_by_clients};
 use std::alloc::{AllocError, Global};
 
 /// Returns the lints of the plan. `needed` has, for each pool, the maximum number of jobs in its
-/// queue at once, or `None` if no standing vector bounds this number.
+/// queue at once, or `None` if no standing vector bounds this number. `is_safe_at_core` says that a
+/// certificate accepts the plan with each maximum lowered to the core size of its pool.
 pub(crate) fn lints_of(
     alloc: Global,
     plan: &Plan,
     needed: &[Option<u64>],
+    is_safe_at_core: bool,
 ) -> Result<Vec<Lint>, AllocError>
-    ensures { IfOk result (λ found. spec.AreLints plan.now needed.now found.items) }
+    ensures { IfOk result
+        (λ found. spec.AreLints plan.now needed.now is_safe_at_core found.items) }
 {
+    let cause = cause_of(alloc, plan)?;
     let marks = submitted_by_clients(alloc, plan)?;
-    lints_with_marks(alloc, plan, needed, &marks)
+    lints_with(alloc, plan, needed, is_safe_at_core, cause, &marks)
 }
 
-/// Returns the lints of the plan. `marks` has, for each class, whether clients submit it, directly
-/// or through other jobs.
-fn lints_with_marks(
+/// Returns the lints of the plan. `cause` is a cause for which no sizes are enough, if there is one.
+/// `marks` has, for each class, whether clients submit it, directly or through other jobs.
+fn lints_with(
     alloc: Global,
     plan: &Plan,
     needed: &[Option<u64>],
+    is_safe_at_core: bool,
+    cause: Option<Cause>,
     marks: &[bool],
 ) -> Result<Vec<Lint>, AllocError>
-    ensures { IfOk result (λ found. found.items ≡ spec.lints plan.now needed.now marks.now) }
-{
-    if plan.clients().is_empty() {
-        return single_lint(alloc, without_clients(plan));
-    }
-    if !is_any_submitted(marks) {
-        return single_lint(alloc, Lint::NothingSubmitted);
-    }
-    lints_of_parts(alloc, plan, needed, marks)
-}
-
-fn single_lint(alloc: Global, lint: Lint) -> Result<Vec<Lint>, AllocError>
-    ensures { IfOk result (λ found. found.items ≡ lint ∷ []) }
+    ensures { IfOk result (λ found.
+        found.items ≡ spec.all_lints plan.now needed.now is_safe_at_core cause marks.now) }
 {
     let mut found = Vec::new(alloc);
-    found.push(lint)?;
+    push_all(&mut found, plan, needed, is_safe_at_core, cause, marks)?;
     Ok(found)
+}
+
+fn push_all(
+    found: &mut Vec<Lint>,
+    plan: &Plan,
+    needed: &[Option<u64>],
+    is_safe_at_core: bool,
+    cause: Option<Cause>,
+    marks: &[bool],
+) -> Result<(), AllocError>
+    ensures { OnOk result
+        (found.new.items
+        ≡ found.old.items ++ spec.all_lints plan.now needed.now is_safe_at_core cause marks.now) }
+{
+    push_if(found, is_safe_at_core, Lint::SafeAtCore)?;
+    push_cause(found, cause)?;
+    push_plan(found, plan, needed, marks)
+}
+
+/// Appends the lint of a cause for which no sizes are enough.
+fn push_cause(found: &mut Vec<Lint>, cause: Option<Cause>) -> Result<(), AllocError>
+    ensures { OnOk result (found.new.items ≡ found.old.items ++ spec.lints_of_cause cause) }
+{
+    match cause {
+        None => Ok(()),
+        Some(cause) => push_if(found, true, lint_of_cause(cause)),
+    }
+}
+
+fn lint_of_cause(cause: Cause) -> Lint
+    ensures { result ≡ spec.lint_of_cause cause }
+{
+    match cause {
+        Cause::Circle(class) => Lint::SubmitsItself(class),
+        Cause::ClientNeverGets(client, action) => Lint::NeverGot(Part::Client, client, action),
+        Cause::ClassNeverGets(class, action) => Lint::NeverGot(Part::Class, class, action),
+    }
+}
+
+/// Appends one lint of the whole plan if such a lint applies, and otherwise the lints of its parts.
+fn push_plan(
+    found: &mut Vec<Lint>,
+    plan: &Plan,
+    needed: &[Option<u64>],
+    marks: &[bool],
+) -> Result<(), AllocError>
+    ensures { OnOk result
+        (found.new.items ≡ found.old.items ++ spec.lints plan.now needed.now marks.now) }
+{
+    if plan.clients().is_empty() {
+        push_if(found, true, without_clients(plan))
+    } else if is_any_submitted(marks) {
+        push_parts(found, plan, needed, marks)
+    } else {
+        push_if(found, true, Lint::NothingSubmitted)
+    }
 }
 
 /// Returns the lint of a plan without clients.
@@ -63,21 +114,20 @@ fn without_clients(plan: &Plan) -> Lint
     }
 }
 
-/// Returns the lints of the pools, then of the classes, and then of the client kinds.
-fn lints_of_parts(
-    alloc: Global,
+/// Appends the lints of the pools, then of the classes, and then of the client kinds.
+fn push_parts(
+    found: &mut Vec<Lint>,
     plan: &Plan,
     needed: &[Option<u64>],
     marks: &[bool],
-) -> Result<Vec<Lint>, AllocError>
-    ensures { IfOk result
-        (λ found. found.items ≡ spec.lints_of_parts plan.now needed.now marks.now) }
+) -> Result<(), AllocError>
+    ensures { OnOk result
+        (found.new.items
+        ≡ found.old.items ++ spec.lints_of_parts plan.now needed.now marks.now) }
 {
-    let mut found = Vec::new(alloc);
-    push_pools(&mut found, plan, needed, marks)?;
-    push_classes(&mut found, plan, marks)?;
-    push_clients(&mut found, plan)?;
-    Ok(found)
+    push_pools(found, plan, needed, marks)?;
+    push_classes(found, plan, marks)?;
+    push_clients(found, plan)
 }
 
 fn push_pools(
@@ -143,7 +193,7 @@ fn push_known_sizes(
     ensures { OnOk result
         (found.new.items ≡ found.old.items ++ spec.lints_of_known_sizes number pool.now most) }
 {
-    push_if(found, may_grow(pool), Lint::UselessMax(number))?;
+    push_if(found, has_useless_max(pool, most), Lint::UselessMax(number))?;
     push_if(
         found,
         is_far_above(pool, most),

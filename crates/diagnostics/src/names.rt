@@ -15,20 +15,33 @@ pub(crate) fn name(
     let Some(name) = entry.text("name") else {
         return Ok(());
     };
-    let place = entry.value_place("name");
     if !is_valid_name(name) {
-        let rule = name_rule(collector.alloc, name)?;
-        return entry.report(collector, BAD_NAME, place, &rule);
+        return malformed_name(collector, entry, name);
     }
-    for other in before {
-        if other.text("name") == Some(name) {
-            let line = other.value_place("name").line;
-            let list = list_of(entry.part);
-            let words = format!(in collector.alloc; "line {line} has a {list} with this name")?;
-            return entry.report(collector, DOUBLE_NAME, place, &words);
-        }
+    match before.iter().find(|other| other.text("name") == Some(name)) {
+        Some(other) => duplicate_name(collector, entry, other.value_place("name").line),
+        None => Ok(()),
     }
-    Ok(())
+}
+
+fn malformed_name(
+    collector: &mut FaultCollector,
+    entry: &PlacedEntry<'_>,
+    name: &str,
+) -> Result<(), AllocError> {
+    let rule = name_rule(collector.alloc, name)?;
+    entry.report(collector, BAD_NAME, entry.value_place("name"), &rule)
+}
+
+/// Reports a name that an earlier entry of the list has, at this line.
+fn duplicate_name(
+    collector: &mut FaultCollector,
+    entry: &PlacedEntry<'_>,
+    line: usize,
+) -> Result<(), AllocError> {
+    let list = list_of(entry.part);
+    let words = format!(in collector.alloc; "line {line} has a {list} with this name")?;
+    entry.report(collector, DOUBLE_NAME, entry.value_place("name"), &words)
 }
 
 /// Returns the message that states the rule for names. It ends with a similar well-formed name, if

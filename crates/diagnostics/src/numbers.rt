@@ -26,23 +26,25 @@ fn out_of_range(
             && !is_in_range(number)
         {
             any = true;
-            let words = format!(in collector.alloc;
-                "{key} is {number}, but must be from 1 to {MOST}"
-            )?;
-            let range = NumberRange {
-                low: 1,
-                high: MAX_SIZE,
-            };
-            entry.report_with_range(
-                collector,
-                BAD_NUMBER,
-                entry.value_place(key),
-                &words,
-                Some(range),
-            )?;
+            report_number(collector, entry, key, number)?;
         }
     }
     Ok(any)
+}
+
+fn report_number(
+    collector: &mut FaultCollector,
+    entry: &PlacedEntry<'_>,
+    key: &str,
+    number: i64,
+) -> Result<(), AllocError> {
+    let words = format!(in collector.alloc; "{key} is {number}, but must be from 1 to {MOST}")?;
+    let range = NumberRange {
+        low: 1,
+        high: MAX_SIZE,
+    };
+    let place = entry.value_place(key);
+    entry.report_with_range(collector, BAD_NUMBER, place, &words, Some(range))
 }
 
 /// Reports the sizes of a pool that are out of range, or its maximum if it is less than its core

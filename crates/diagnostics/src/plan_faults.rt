@@ -14,6 +14,7 @@ use crate::tables::document;
 use job_bodies::PlanFault;
 use plan_text::{Places, TextPlace};
 use std::alloc::{AllocError, Global};
+use toml::Table;
 
 /// Returns the faults of a plan's text that the parser rejects with `fault`: first `fault`, and
 /// then the other faults that can be found. There are at most 100, `fault` included, and each
@@ -95,28 +96,45 @@ fn all_faults(
     wanted: PlanFault,
 ) -> Result<FaultCollector, AllocError> {
     let mut collector = FaultCollector::new(alloc, wanted);
+    check_bytes(&mut collector, bytes)?;
+    Ok(collector)
+}
+
+fn check_bytes(collector: &mut FaultCollector, bytes: &[u8]) -> Result<(), AllocError> {
     match std::str::from_utf8(bytes) {
-        Ok(text) => check_text(&mut collector, text)?,
+        Ok(text) => check_text(collector, text),
         Err(error) => {
-            let diagnostic = not_text(alloc, bytes, error.valid_up_to())?;
-            collector.push(diagnostic)?;
+            let diagnostic = not_text(collector.alloc, bytes, error.valid_up_to())?;
+            collector.push(diagnostic)
         }
     }
-    Ok(collector)
 }
 
 fn check_text(collector: &mut FaultCollector, text: &str) -> Result<(), AllocError> {
     match toml::table_from_str(collector.alloc, text) {
-        Ok(table) => {
-            let places = Places::of(collector.alloc, text.as_bytes())?;
-            document(collector, &table, &places)
-        }
-        Err(error) => match error.span() {
-            None => Err(AllocError),
-            Some(span) => {
-                let diagnostic = not_toml(collector.alloc, text, span.start, error.message())?;
-                collector.push(diagnostic)
-            }
-        },
+        Ok(table) => check_table(collector, text, &table),
+        Err(error) => check_error(collector, text, &error),
     }
+}
+
+fn check_table(
+    collector: &mut FaultCollector,
+    text: &str,
+    table: &Table,
+) -> Result<(), AllocError> {
+    let places = Places::of(collector.alloc, text.as_bytes())?;
+    document(collector, table, &places)
+}
+
+/// Reports the error of the TOML parser. An error without a place means that memory ran out.
+fn check_error(
+    collector: &mut FaultCollector,
+    text: &str,
+    error: &toml::de::Error,
+) -> Result<(), AllocError> {
+    let Some(span) = error.span() else {
+        return Err(AllocError);
+    };
+    let diagnostic = not_toml(collector.alloc, text, span.start, error.message())?;
+    collector.push(diagnostic)
 }

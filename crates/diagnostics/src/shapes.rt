@@ -2,9 +2,9 @@
 
 use crate::collector::FaultCollector;
 use crate::entry::{PlacedEntry, list_of};
-use crate::suggestions::suggestion;
+use crate::suggestions::{comma_list, suggestion};
 use job_bodies::{MAX_ACTIONS, Part};
-use std::alloc::AllocError;
+use std::alloc::{AllocError, Global};
 use support::number::{MISSING_KEY, TOO_MANY, UNKNOWN_KEY, WRONG_TYPE};
 use toml::Value;
 
@@ -124,19 +124,24 @@ fn unknown_key(
     entry: &PlacedEntry<'_>,
     key: &str,
 ) -> Result<(), AllocError> {
-    let alloc = collector.alloc;
     let list = list_of(entry.part);
-    let keys = keys_of(entry.part);
-    let right = match plan_key_for(key) {
-        Some(name) if has_key(entry.part, name) => format!(in alloc; "; use {name}")?,
-        _ => {
-            let all = crate::suggestions::comma_list(alloc, keys)?;
-            let otherwise = format!(in alloc; "; the keys are {all}")?;
-            suggestion(alloc, key, keys, &otherwise)?
-        }
-    };
-    let words = format!(in alloc; "unknown key {key} in [[{list}]]{right}")?;
+    let right = key_suggestion(collector.alloc, entry.part, key)?;
+    let words = format!(in collector.alloc; "unknown key {key} in [[{list}]]{right}")?;
     entry.report(collector, UNKNOWN_KEY, entry.key_place(key), &words)
+}
+
+/// Returns the end of the message for an unknown key of an entry of this kind.
+fn key_suggestion(alloc: Global, part: Part, key: &str) -> Result<String, AllocError> {
+    match plan_key_for(key) {
+        Some(name) if has_key(part, name) => format!(in alloc; "; use {name}"),
+        _ => similar_key(alloc, key, keys_of(part)),
+    }
+}
+
+fn similar_key(alloc: Global, key: &str, keys: &[&str]) -> Result<String, AllocError> {
+    let all = comma_list(alloc, keys)?;
+    let otherwise = format!(in alloc; "; the keys are {all}")?;
+    suggestion(alloc, key, keys, &otherwise)
 }
 
 /// Reports the required keys that the entry lacks, and its values of the wrong type.
@@ -157,14 +162,8 @@ fn value(
     entry: &PlacedEntry<'_>,
     rule: KeyRule,
 ) -> Result<(), AllocError> {
-    let key = rule.key;
-    let Some(value) = entry.value(key) else {
-        if rule.hint.is_empty() {
-            return Ok(());
-        }
-        let hint = rule.hint;
-        let words = format!(in collector.alloc; "{key} is missing: {hint}")?;
-        return entry.report(collector, MISSING_KEY, entry.place(), &words);
+    let Some(value) = entry.value(rule.key) else {
+        return missing_key(collector, entry, rule);
     };
     if rule.wanted == ValueKind::Body {
         return body(collector, entry, value);
@@ -172,8 +171,32 @@ fn value(
     if is_of(rule.wanted, value) {
         return Ok(());
     }
+    wrong_type(collector, entry, rule, value.type_str())
+}
+
+/// Reports the key as missing if it is required.
+fn missing_key(
+    collector: &mut FaultCollector,
+    entry: &PlacedEntry<'_>,
+    rule: KeyRule,
+) -> Result<(), AllocError> {
+    let KeyRule { key, hint, .. } = rule;
+    if hint.is_empty() {
+        return Ok(());
+    }
+    let words = format!(in collector.alloc; "{key} is missing: {hint}")?;
+    entry.report(collector, MISSING_KEY, entry.place(), &words)
+}
+
+/// Reports a value whose type is `found`, and not that of the rule.
+fn wrong_type(
+    collector: &mut FaultCollector,
+    entry: &PlacedEntry<'_>,
+    rule: KeyRule,
+    found: &str,
+) -> Result<(), AllocError> {
+    let key = rule.key;
     let rule = rule_of(rule.wanted);
-    let found = value.type_str();
     let words = format!(in collector.alloc; "{key} is a {found}, but must be {rule}")?;
     entry.report(collector, WRONG_TYPE, entry.value_place(key), &words)
 }
@@ -214,10 +237,19 @@ fn body(
     }
     for (number, action) in actions.iter().enumerate() {
         if !action.is_str() {
-            let found = action.type_str();
-            let words = format!(in collector.alloc; "it is a {found}, but must be a string")?;
-            entry.report_action(collector, number, WRONG_TYPE, "..", &words, None)?;
+            wrong_element(collector, entry, number, action.type_str())?;
         }
     }
     Ok(())
+}
+
+/// Reports an element of a body whose type is `found`, and not that of a string.
+fn wrong_element(
+    collector: &mut FaultCollector,
+    entry: &PlacedEntry<'_>,
+    number: usize,
+    found: &str,
+) -> Result<(), AllocError> {
+    let words = format!(in collector.alloc; "it is a {found}, but must be a string")?;
+    entry.report_action(collector, number, WRONG_TYPE, "..", &words, None)
 }

@@ -67,7 +67,8 @@ fn message_at(
     }
 }
 
-fn line_of(text: &str, place: TextPlace) -> &str {
+/// Returns the line of this place, or an empty line if the text has fewer lines.
+pub(crate) fn line_of(text: &str, place: TextPlace) -> &str {
     let mut number = 1usize;
     for line in text.lines() {
         if number == place.line {

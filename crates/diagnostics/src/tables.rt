@@ -26,12 +26,27 @@ pub(crate) fn document(
     document: &Table,
     places: &Places<'_>,
 ) -> Result<(), AllocError> {
+    unknown_lists(collector, document, places)?;
+    let lists = lists_of(collector, document, places)?;
+    faults_of_lists(collector, &lists)
+}
+
+/// Reports the unknown keys at the top level.
+fn unknown_lists(
+    collector: &mut FaultCollector,
+    document: &Table,
+    places: &Places<'_>,
+) -> Result<(), AllocError> {
     for key in document.keys() {
         unknown_list(collector, key.as_str(), places)?;
     }
-    let lists = lists_of(collector, document, places)?;
-    numbers_and_pools(collector, &lists)?;
-    all_bodies(collector, &lists)
+    Ok(())
+}
+
+/// Reports the faults of the entries' values.
+fn faults_of_lists(collector: &mut FaultCollector, lists: &Lists<'_>) -> Result<(), AllocError> {
+    numbers_and_pools(collector, lists)?;
+    all_bodies(collector, lists)
 }
 
 /// Returns the entries of the three lists, and reports the faults of their keys and names.
@@ -52,14 +67,34 @@ fn lists_of<'a>(
 
 /// Reports invalid sizes and counts, and classes whose pool does not exist.
 fn numbers_and_pools(collector: &mut FaultCollector, lists: &Lists<'_>) -> Result<(), AllocError> {
-    let pool_names = names_of(collector.alloc, &lists.pools)?;
-    for pool in &lists.pools {
+    sizes_of_pools(collector, &lists.pools)?;
+    pools_of_classes(collector, lists)?;
+    counts_of_clients(collector, &lists.clients)
+}
+
+fn sizes_of_pools(
+    collector: &mut FaultCollector,
+    pools: &[PlacedEntry<'_>],
+) -> Result<(), AllocError> {
+    for pool in pools {
         numbers::sizes(collector, pool)?;
     }
+    Ok(())
+}
+
+fn pools_of_classes(collector: &mut FaultCollector, lists: &Lists<'_>) -> Result<(), AllocError> {
+    let pool_names = names_of(collector.alloc, &lists.pools)?;
     for class in &lists.classes {
         pool_of(collector, class, &pool_names)?;
     }
-    for client in &lists.clients {
+    Ok(())
+}
+
+fn counts_of_clients(
+    collector: &mut FaultCollector,
+    clients: &[PlacedEntry<'_>],
+) -> Result<(), AllocError> {
+    for client in clients {
         numbers::count(collector, client)?;
     }
     Ok(())
@@ -68,11 +103,17 @@ fn numbers_and_pools(collector: &mut FaultCollector, lists: &Lists<'_>) -> Resul
 /// Reports the faults of the bodies of classes and client kinds.
 fn all_bodies(collector: &mut FaultCollector, lists: &Lists<'_>) -> Result<(), AllocError> {
     let class_names = names_of(collector.alloc, &lists.classes)?;
-    for class in &lists.classes {
-        bodies::body(collector, class, &class_names)?;
-    }
-    for client in &lists.clients {
-        bodies::body(collector, client, &class_names)?;
+    bodies_of(collector, &lists.classes, &class_names)?;
+    bodies_of(collector, &lists.clients, &class_names)
+}
+
+fn bodies_of(
+    collector: &mut FaultCollector,
+    entries: &[PlacedEntry<'_>],
+    classes: &[&str],
+) -> Result<(), AllocError> {
+    for entry in entries {
+        bodies::body(collector, entry, classes)?;
     }
     Ok(())
 }
@@ -83,18 +124,11 @@ fn unknown_list(
     key: &str,
     places: &Places<'_>,
 ) -> Result<(), AllocError> {
-    let alloc = collector.alloc;
     if has_key(Part::Text, key) {
         return Ok(());
     }
-    let otherwise = "; a plan has [[pool]], [[class]] and [[client]]";
-    let right = match key {
-        "pools" => String::from_str(alloc, "; did you mean [[pool]]?")?,
-        "classes" => String::from_str(alloc, "; did you mean [[class]]?")?,
-        "clients" => String::from_str(alloc, "; did you mean [[client]]?")?,
-        _ => suggestion(alloc, key, keys_of(Part::Text), otherwise)?,
-    };
-    let what = format!(in alloc; "unknown key {key}{right}")?;
+    let right = list_suggestion(collector.alloc, key)?;
+    let what = format!(in collector.alloc; "unknown key {key}{right}")?;
     let place = places.top(key).unwrap_or(BEGINNING);
     collector.push(Diagnostic {
         fault: PlanFault::at_text(UNKNOWN_KEY),
@@ -102,6 +136,19 @@ fn unknown_list(
         what,
         range: None,
     })
+}
+
+/// Returns the end of the message for an unknown key at the top level.
+fn list_suggestion(alloc: Global, key: &str) -> Result<String, AllocError> {
+    match key {
+        "pools" => String::from_str(alloc, "; did you mean [[pool]]?"),
+        "classes" => String::from_str(alloc, "; did you mean [[class]]?"),
+        "clients" => String::from_str(alloc, "; did you mean [[client]]?"),
+        _ => {
+            let otherwise = "; a plan has [[pool]], [[class]] and [[client]]";
+            suggestion(alloc, key, keys_of(Part::Text), otherwise)
+        }
+    }
 }
 
 /// Returns the entries of a list, and reports the faults of their keys and names.
@@ -115,17 +162,28 @@ fn entries<'a>(
     let Some(value) = document.get(list_of(part)) else {
         return Ok(found);
     };
-    let Some(values) = value.as_array() else {
-        no_list(collector, part, places)?;
-        return Ok(found);
-    };
+    match value.as_array() {
+        Some(values) => push_entries(collector, &mut found, part, values, places)?,
+        None => no_list(collector, part, places)?,
+    }
+    Ok(found)
+}
+
+/// Appends the entries of a list, and reports the faults of their keys and names.
+fn push_entries<'a>(
+    collector: &mut FaultCollector,
+    found: &mut Vec<PlacedEntry<'a>>,
+    part: Part,
+    values: &'a [Value],
+    places: &'a Places<'a>,
+) -> Result<(), AllocError> {
     for (index, value) in values.iter().enumerate() {
         if let Some(entry) = entry_of(collector, part, index, value, places)? {
-            shape_and_name(collector, &entry, &found)?;
+            shape_and_name(collector, &entry, found)?;
             found.push(entry)?;
         }
     }
-    Ok(found)
+    Ok(())
 }
 
 /// Reports that the value at the key of this list is not an array.
@@ -174,21 +232,31 @@ fn entry_of<'a>(
             places,
         })),
         None => {
-            let list = list_of(part);
-            let found = value.type_str();
-            let what = format!(in collector.alloc;
-                "{list} must be a table, not a {found}: write [[{list}]]"
-            )?;
-            let place = places.top(list).unwrap_or(BEGINNING);
-            collector.push(Diagnostic {
-                fault: PlanFault::at_entry(part, index, WRONG_TYPE),
-                place,
-                what,
-                range: None,
-            })?;
+            no_table(collector, part, index, value.type_str(), places)?;
             Ok(None)
         }
     }
+}
+
+/// Reports an entry that is a value of this type, and not a table.
+fn no_table(
+    collector: &mut FaultCollector,
+    part: Part,
+    index: usize,
+    found: &str,
+    places: &Places<'_>,
+) -> Result<(), AllocError> {
+    let list = list_of(part);
+    let what = format!(in collector.alloc;
+        "{list} must be a table, not a {found}: write [[{list}]]"
+    )?;
+    let place = places.top(list).unwrap_or(BEGINNING);
+    collector.push(Diagnostic {
+        fault: PlanFault::at_entry(part, index, WRONG_TYPE),
+        place,
+        what,
+        range: None,
+    })
 }
 
 /// Returns the names of the entries that have one.
@@ -214,17 +282,23 @@ fn pool_of(
     if pools.contains(&pool) {
         return Ok(());
     }
-    let alloc = collector.alloc;
-    let otherwise = if pools.is_empty() {
-        String::from_str(
-            alloc,
-            "; the plan has no pools: add a [[pool]] with this name",
-        )?
-    } else {
-        let all = comma_list(alloc, pools)?;
-        format!(in alloc; "; the pools are {all}")?
-    };
-    let right = suggestion(alloc, pool, pools, &otherwise)?;
-    let words = format!(in alloc; "unknown pool {pool}{right}")?;
+    let words = unknown_pool(collector.alloc, pool, pools)?;
     class.report(collector, NO_SUCH_POOL, class.value_place("pool"), &words)
+}
+
+/// Returns the message for a pool that the plan does not have.
+fn unknown_pool(alloc: Global, pool: &str, pools: &[&str]) -> Result<String, AllocError> {
+    let otherwise = known_pools(alloc, pools)?;
+    let right = suggestion(alloc, pool, pools, &otherwise)?;
+    format!(in alloc; "unknown pool {pool}{right}")
+}
+
+/// Returns the end of such a message, with the plan's pools.
+fn known_pools(alloc: Global, pools: &[&str]) -> Result<String, AllocError> {
+    if pools.is_empty() {
+        let words = "; the plan has no pools: add a [[pool]] with this name";
+        return String::from_str(alloc, words);
+    }
+    let all = comma_list(alloc, pools)?;
+    format!(in alloc; "; the pools are {all}")
 }

@@ -2,15 +2,19 @@
 
 use crate::entry::{BEGINNING, list_of};
 use crate::lint::Lint;
-use job_bodies::Part;
+use crate::lint_conditions::may_grow;
+use job_bodies::{Part, Plan};
 use plan_text::{Places, TextPlace};
 
 /// Returns the place in the plan's text to which the lint refers. It is the beginning of the text
 /// for a lint of the whole plan.
-pub(crate) fn place_of(places: &Places<'_>, lint: Lint) -> TextPlace {
+pub(crate) fn place_of(places: &Places<'_>, plan: &Plan, lint: Lint) -> TextPlace {
     match lint {
         Lint::NothingToAsk | Lint::NoClients | Lint::NothingSubmitted | Lint::StaleCertificate =>
             BEGINNING,
+        Lint::SafeAtCore => first_max_place(places, plan),
+        Lint::SubmitsItself(class) => value_place(places, Part::Class, class, "name"),
+        Lint::NeverGot(part, number, action) => action_place(places, part, number, action),
         Lint::PoolWithoutJobs(pool) => entry_place(places, Part::Pool, pool),
         Lint::UselessMax(pool) => value_place(places, Part::Pool, pool, "max"),
         Lint::QueueFarAbove(pool, _) => value_place(places, Part::Pool, pool, "queue"),
@@ -20,6 +24,14 @@ pub(crate) fn place_of(places: &Places<'_>, lint: Lint) -> TextPlace {
         Lint::WorkLikeASize(part, number, action, _) => {
             action_place(places, part, number, action)
         }
+    }
+}
+
+/// Returns the place of the first maximum that is above the core size of its pool.
+fn first_max_place(places: &Places<'_>, plan: &Plan) -> TextPlace {
+    match plan.pools().iter().position(|pool| may_grow(pool)) {
+        Some(pool) => value_place(places, Part::Pool, pool, "max"),
+        None => BEGINNING,
     }
 }
 

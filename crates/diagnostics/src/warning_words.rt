@@ -1,13 +1,34 @@
 //! The messages of lints.
 
+ghost use Rattle.std.specs.Prelude.{IfOk, string_bytes};
+ghost use Rattle.diagnostics.specs.WarningWords as spec;
+
+use crate::circle_words::words_of_circle;
 use crate::lint::Lint;
-use job_bodies::Plan;
+use crate::lint_conditions::may_grow;
+use crate::strings::string_at;
+use job_bodies::{Action, Part, Plan, Pool};
+use plan_text::TextPlace;
 use std::alloc::{AllocError, Global};
 
 /// Returns the lint's message: what was found in the plan, and what it means for the answer. The
 /// message is empty if the plan does not have the pool, class or client kind that the lint names.
-pub(crate) fn words_of(alloc: Global, plan: &Plan, lint: Lint) -> Result<String, AllocError> {
+/// `place` is the lint's place in the plan's text.
+pub(crate) fn words_of(
+    alloc: Global,
+    text: &[u8],
+    place: TextPlace,
+    plan: &Plan,
+    lint: Lint,
+) -> Result<String, AllocError>
+    ensures { IfOk result (λ words. spec.TellsLint plan.now lint (string_bytes words)) }
+{
     match lint {
+        Lint::SafeAtCore => words_of_core(alloc, plan),
+        Lint::SubmitsItself(class) => words_of_circle(alloc, plan, class),
+        Lint::NeverGot(part, number, action) => {
+            words_of_submit(alloc, text, place, plan, part, number, action)
+        }
         Lint::NothingToAsk => String::from_str(
             alloc,
             "the plan has no pools and no clients, so there is nothing to decide",
@@ -30,6 +51,85 @@ pub(crate) fn words_of(alloc: Global, plan: &Plan, lint: Lint) -> Result<String,
         ),
         Lint::StaleCertificate => String::from_str(alloc, "the certificate is stale"),
     }
+}
+
+fn words_of_core(alloc: Global, plan: &Plan) -> Result<String, AllocError> {
+    let count = plan.pools().iter().filter(|pool| may_grow(pool)).count();
+    let noun = if count == 1 { "pool" } else { "pools" };
+    let mut words = format!(in alloc; "with max = core in {noun} ")?;
+    push_maxes(&mut words, plan, count)?;
+    words.push_str(", this plan is SAFE")?;
+    Ok(words)
+}
+
+/// Appends the names and maximums of the `count` pools whose maximum is above their core size.
+fn push_maxes(words: &mut String, plan: &Plan, count: usize) -> Result<(), AllocError> {
+    let mut number = 0usize;
+    for pool in plan.pools() {
+        if may_grow(pool) {
+            number = number.saturating_add(1);
+            push_max(words, number, count, pool)?;
+        }
+    }
+    Ok(())
+}
+
+fn push_max(
+    words: &mut String,
+    number: usize,
+    count: usize,
+    pool: &Pool,
+) -> Result<(), AllocError> {
+    let name = pool.name.as_str();
+    let max = pool.max;
+    if number > 1 {
+        words.push_str(if number == count { " and " } else { ", " })?;
+    }
+    write!(words, "{name} (now {max})")
+}
+
+fn words_of_submit(
+    alloc: Global,
+    text: &[u8],
+    place: TextPlace,
+    plan: &Plan,
+    part: Part,
+    number: usize,
+    action: usize,
+) -> Result<String, AllocError> {
+    let (kind, name, body) = match part {
+        Part::Client => match plan.client_at(number) {
+            Some(client) => ("client", client.name.as_str(), client.body.as_slice()),
+            None => return Ok(String::new(alloc)),
+        },
+        _ => match plan.class_at(number) {
+            Some(class) => ("class", class.name.as_str(), class.body.as_slice()),
+            None => return Ok(String::new(alloc)),
+        },
+    };
+    let submit = submit_text(alloc, text, place, plan, body, action)?;
+    format!(in alloc;
+        "{kind} {name}, action {action} \"{submit}\": no get waits for this job, so the number of these jobs has no limit"
+    )
+}
+
+/// Returns the text of a submit, as it is written at this place of the plan's text.
+fn submit_text(
+    alloc: Global,
+    text: &[u8],
+    place: TextPlace,
+    plan: &Plan,
+    body: &[Action],
+    action: usize,
+) -> Result<String, AllocError> {
+    if let Some(written) = string_at(text, place) {
+        return String::from_str(alloc, written);
+    }
+    let class = match body.get(action) {
+        Some(Action::Submit(class)) => plan.class_name(*class),
+        _ => "",
+    };
+    format!(in alloc; "submit {class}")
 }
 
 fn words_of_idle_pool(alloc: Global, plan: &Plan, number: usize) -> Result<String, AllocError> {

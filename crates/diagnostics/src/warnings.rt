@@ -1,9 +1,11 @@
 //! Warnings: lints with their places and messages.
 
 ghost use Rattle.std.specs.Prelude.{◌≡◌, IfOk, string_bytes};
+ghost use Rattle.std.specs.List.{All};
 ghost use Rattle.diagnostics.specs.Diagnostic.{WarnInSingleLines};
 ghost use Rattle.diagnostics.specs.Lines.{HasNoNewline};
 ghost use Rattle.diagnostics.specs.Lints as spec;
+ghost use Rattle.diagnostics.specs.WarningWords.{TellsWarning};
 
 use crate::control_characters::one_line;
 use crate::lint::Lint;
@@ -27,8 +29,11 @@ pub struct Warning {
 
 /// Returns a warning for each lint of the plan, in order. `text` is the plan's text. `needed` has,
 /// for each pool, the maximum number of jobs in its queue at once, or `None` if no standing vector
-/// bounds this number. Each message is a single line. The contract promises nothing else about
-/// places and messages.
+/// bounds this number. `is_safe_at_core` says that a certificate accepts the plan that [`at_core`]
+/// returns. Each message is a single line, and if it has a circle of submits, so does the plan. The
+/// contract promises nothing else about places and messages.
+///
+/// [`at_core`]: crate::at_core
 ///
 /// # Errors
 ///
@@ -38,29 +43,33 @@ pub fn warnings_of(
     text: &[u8],
     plan: &Plan,
     needed: &[Option<u64>],
+    is_safe_at_core: bool,
 ) -> Result<Vec<Warning>, AllocError>
     ensures lints { IfOk result
-        (λ warnings. spec.AreLints plan.now needed.now (spec.lints_in warnings.items)) }
+        (λ warnings. spec.AreLints plan.now needed.now is_safe_at_core (spec.lints_in warnings.items)) }
     ensures single_lines { IfOk result (λ warnings. WarnInSingleLines warnings.items) }
+    ensures told { IfOk result (λ warnings. All (TellsWarning plan.now) warnings.items) }
 {
-    let lints = lints_of(alloc, plan, needed)?;
+    let lints = lints_of(alloc, plan, needed, is_safe_at_core)?;
     let places = Places::of(alloc, text)?;
-    warnings_about(alloc, &places, plan, &lints)
+    warnings_about(alloc, text, &places, plan, &lints)
 }
 
 /// Returns a warning for each lint.
 fn warnings_about(
     alloc: Global,
+    text: &[u8],
     places: &Places<'_>,
     plan: &Plan,
     lints: &[Lint],
 ) -> Result<Vec<Warning>, AllocError>
     ensures lints { IfOk result (λ warnings. spec.lints_in warnings.items ≡ lints.now) }
     ensures single_lines { IfOk result (λ warnings. WarnInSingleLines warnings.items) }
+    ensures told { IfOk result (λ warnings. All (TellsWarning plan.now) warnings.items) }
 {
     let mut warnings = Vec::new(alloc);
     for lint in lints {
-        let warning = warning_about(alloc, places, plan, *lint)?;
+        let warning = warning_about(alloc, text, places, plan, *lint)?;
         warnings.push(warning)?;
     }
     Ok(warnings)
@@ -68,15 +77,17 @@ fn warnings_about(
 
 fn warning_about(
     alloc: Global,
+    text: &[u8],
     places: &Places<'_>,
     plan: &Plan,
     lint: Lint,
 ) -> Result<Warning, AllocError>
     ensures same_lint { IfOk result (λ warning. warning.lint ≡ lint) }
     ensures single_line { IfOk result (λ warning. HasNoNewline (string_bytes warning.what)) }
+    ensures told { IfOk result (TellsWarning plan.now) }
 {
-    let words = words_of(alloc, plan, lint)?;
+    let place = place_of(places, plan, lint);
+    let words = words_of(alloc, text, place, plan, lint)?;
     let what = one_line(alloc, &words)?;
-    let place = place_of(places, lint);
     Ok(Warning { lint, place, what })
 }

@@ -6,7 +6,7 @@ use Rattle.job_bodies.specs.Plan.{Pool}
 use Rattle.recordings.specs.RecordingLine.{RecordedLine}
 use Rattle.recordings.specs.LineParts.{is_begin, is_submit}
 use Rattle.recordings.specs.Before.{begins, submits}
-use Rattle.learning.specs.Unfinished.{is_round_end, is_job_start, is_job_end, round_ends, job_starts, job_ends}
+use Rattle.learning.specs.Unfinished.{is_round_end, is_job_start, is_job_end, is_failed_get, round_ends, job_starts, job_ends, failed_gets}
 use Rattle.learning.specs.declared.recorded_names.RecordedNames.{RecordedNames}
 use Rattle.learning.specs.Pools.{pool_of_line, recorded_pools, with_first_of}
 use Rattle.learning.specs.LearningState.{AreNamesOf}
@@ -32,18 +32,22 @@ job_ends_more : (before : List RecordedLine) (line : RecordedLine) → job_ends 
 unfolding job_ends
 job_ends_more before line = sum_by_push (λ x. if is_job_end x then 1 else 0) before line
 
+failed_gets_more : (before : List RecordedLine) (line : RecordedLine) → failed_gets (before ++ line ∷ []) ≡ failed_gets before + (if is_failed_get line then 1 else 0)
+unfolding failed_gets
+failed_gets_more before line = sum_by_push (λ x. if is_failed_get x then 1 else 0) before line
+
 few_none : (pools : List Pool) → pools ≡ [] → length pools ≤ MAX_POOLS
 few_none pools none = omega (arith, ap (λ (ps : List Pool). length ps) none)
 
-pub none_named : (names : RecordedNames) → names.pools.items ≡ [] → names.rounds ≡ 0 → names.jobs ≡ 0 → names.ended_rounds ≡ 0 → names.started_jobs ≡ 0 → names.ended_jobs ≡ 0 → AreNamesOf names []
-unfolding recorded_pools begins submits round_ends job_starts job_ends
-none_named names pools rounds jobs ended_rounds started_jobs ended_jobs =
-    record { pools = pools; few_pools = few_none names.pools.items pools; rounds = rounds; jobs = jobs; ended_rounds = ended_rounds; started_jobs = started_jobs; ended_jobs = ended_jobs }
+pub none_named : (names : RecordedNames) → names.pools.items ≡ [] → names.rounds ≡ 0 → names.jobs ≡ 0 → names.ended_rounds ≡ 0 → names.started_jobs ≡ 0 → names.ended_jobs ≡ 0 → names.failed_gets ≡ 0 → AreNamesOf names []
+unfolding recorded_pools begins submits round_ends job_starts job_ends failed_gets
+none_named names pools rounds jobs ended_rounds started_jobs ended_jobs failed_gets =
+    record { pools = pools; few_pools = few_none names.pools.items pools; rounds = rounds; jobs = jobs; ended_rounds = ended_rounds; started_jobs = started_jobs; ended_jobs = ended_jobs; failed_gets = failed_gets }
 
 pub named_after : (old new : RecordedNames) (before : List RecordedLine) (line : RecordedLine) → AreNamesOf old before → new.pools.items ≡ with_first_of (pool_of_line line) old.pools.items → (length old.pools.items ≤ MAX_POOLS → length new.pools.items ≤ MAX_POOLS)
     → new.rounds ≡ old.rounds + (if is_begin line then 1 else 0) → new.jobs ≡ old.jobs + (if is_submit line then 1 else 0) → new.ended_rounds ≡ old.ended_rounds + (if is_round_end line then 1 else 0)
-    → new.started_jobs ≡ old.started_jobs + (if is_job_start line then 1 else 0) → new.ended_jobs ≡ old.ended_jobs + (if is_job_end line then 1 else 0) → AreNamesOf new (before ++ line ∷ [])
-named_after old new before line names pools few rounds jobs ended_rounds started_jobs ended_jobs = record {
+    → new.started_jobs ≡ old.started_jobs + (if is_job_start line then 1 else 0) → new.ended_jobs ≡ old.ended_jobs + (if is_job_end line then 1 else 0) → new.failed_gets ≡ old.failed_gets + (if is_failed_get line then 1 else 0) → AreNamesOf new (before ++ line ∷ [])
+named_after old new before line names pools few rounds jobs ended_rounds started_jobs ended_jobs failed_gets = record {
   pools = pools ∙ ap (with_first_of (pool_of_line line)) names.pools ∙ sym (pools_more before line);
   few_pools = few names.few_pools;
   rounds = grind (arith, rounds, names.rounds, begins_more before line);
@@ -51,10 +55,11 @@ named_after old new before line names pools few rounds jobs ended_rounds started
   ended_rounds = grind (arith, ended_rounds, names.ended_rounds, round_ends_more before line);
   started_jobs = grind (arith, started_jobs, names.started_jobs, job_starts_more before line);
   ended_jobs = grind (arith, ended_jobs, names.ended_jobs, job_ends_more before line);
+  failed_gets = grind (arith, failed_gets, names.failed_gets, failed_gets_more before line);
 }
 
 -- A change of the draft does not affect the pools and the counts.
 pub same_names : (old new : RecordedNames) (lines : List RecordedLine) → new ≡ record old { draft = new.draft } → AreNamesOf old lines → AreNamesOf new lines
 same_names old new lines same named =
     subst (λ (names : RecordedNames). AreNamesOf names lines) (sym same)
-    (record { pools = named.pools; few_pools = named.few_pools; rounds = named.rounds; jobs = named.jobs; ended_rounds = named.ended_rounds; started_jobs = named.started_jobs; ended_jobs = named.ended_jobs })
+    (record { pools = named.pools; few_pools = named.few_pools; rounds = named.rounds; jobs = named.jobs; ended_rounds = named.ended_rounds; started_jobs = named.started_jobs; ended_jobs = named.ended_jobs; failed_gets = named.failed_gets })

@@ -1,10 +1,6 @@
-mod ShiftedIndices
-mod InsertedActions
-mod ExtendedBodies
-mod OptionalResults
-mod MatchedSteps
 mod ValidGetsByIndex
 mod OwnBody
+mod CoveredPaths
 pub mod LoopState
 pub mod Firsts
 pub mod FirstPass

@@ -18,7 +18,7 @@ use Rattle.learning.specs.Counts.{AreCounted}
 use Rattle.learning.specs.InferenceResult.{lines_of}
 use Rattle.learning.specs.Names.{IsNamedClass, IsNamedClient}
 use Rattle.learning.specs.Pools.{recorded_pools}
-use Rattle.learning.specs.Unfinished.{is_round_end, is_job_start, is_job_end, unfinished_rounds, unfinished_jobs}
+use Rattle.learning.specs.Unfinished.{is_round_end, is_job_start, is_job_end, is_failed_get, unfinished_rounds, unfinished_jobs, failed_gets}
 
 -- The well-formed lines, in order.
 abbrev pub well_formed : List (Option RecordedLine) → List RecordedLine
@@ -52,6 +52,7 @@ pub record Counts (old : RecordedNames) (line : RecordedLine) (new : RecordedNam
   pub ended_rounds : new.ended_rounds ≡ old.ended_rounds + (if is_round_end line then 1 else 0)
   pub started_jobs : new.started_jobs ≡ old.started_jobs + (if is_job_start line then 1 else 0)
   pub ended_jobs : new.ended_jobs ≡ old.ended_jobs + (if is_job_end line then 1 else 0)
+  pub failed_gets : new.failed_gets ≡ old.failed_gets + (if is_failed_get line then 1 else 0)
 
 -- ---- the result
 -- What the contract of `learn` promises about a learned plan.
@@ -64,6 +65,7 @@ pub record IsInferredFrom (lines : List RecordedLine) (inferred : InferredPlan) 
   pub jobs : inferred.jobs ≡ submits lines
   pub unfinished_rounds : inferred.unfinished_rounds ≡ unfinished_rounds lines
   pub unfinished_jobs : inferred.unfinished_jobs ≡ unfinished_jobs lines
+  pub failed_gets : inferred.failed_gets ≡ failed_gets lines
 
 -- The result is the first invalid line, or a learned plan if no line is invalid. It is never an `InferenceLimit`, which is returned as an
 -- error.

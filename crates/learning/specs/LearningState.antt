@@ -20,7 +20,7 @@ use Rattle.learning.specs.declared.draft.PlanDraft.{PlanDraft}
 use Rattle.learning.specs.Names.{HasBegun, WasSubmitted, IsLong}
 use Rattle.learning.specs.Pools.{recorded_pools}
 use Rattle.learning.specs.InferenceLimit.{IsReason}
-use Rattle.learning.specs.Unfinished.{round_ends, job_starts, job_ends}
+use Rattle.learning.specs.Unfinished.{round_ends, job_starts, job_ends, failed_gets}
 
 -- ---- the names in the lines
 -- `names` has the pools of the lines, and the counts of their rounds and jobs.
@@ -32,6 +32,7 @@ pub record AreNamesOf (names : RecordedNames) (lines : List RecordedLine) : Type
   pub ended_rounds : names.ended_rounds ≡ round_ends lines
   pub started_jobs : names.started_jobs ≡ job_starts lines
   pub ended_jobs : names.ended_jobs ≡ job_ends lines
+  pub failed_gets : names.failed_gets ≡ failed_gets lines
 
 -- ---- the rounds of each kind
 -- The client kind of each round: the element of the list whose index is the round's number.

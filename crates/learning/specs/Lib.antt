@@ -1,8 +1,6 @@
-pub mod Covers
 pub mod ValidGets
+pub mod Covers
 pub mod PathBody
-pub mod Insertion
-pub mod MatchCheck
 pub mod Pools
 pub mod Counts
 pub mod Names

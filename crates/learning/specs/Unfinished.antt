@@ -1,6 +1,6 @@
--- The number of rounds and jobs that have not ended at the end of the lines.
+-- The number of rounds and jobs that have not ended at the end of the lines, and of the gets that returned nothing.
 use Rattle.std.specs.Prelude.{ℕ, ◌-◌, Bool, true, false, List, count_by}
-use Rattle.recordings.specs.RecordingLine.{RecordedLine, RoundEnds, JobStarts, JobEnds, JobThrew}
+use Rattle.recordings.specs.RecordingLine.{RecordedLine, RoundEnds, JobStarts, JobEnds, JobThrew, TimedOut, Interrupted}
 use Rattle.recordings.specs.Before.{begins}
 
 -- ---- the type of a line
@@ -17,6 +17,11 @@ is_job_end (JobEnds job) = true
 is_job_end (JobThrew job) = true
 is_job_end line = false
 
+abbrev pub is_failed_get : RecordedLine → Bool
+is_failed_get (TimedOut actor job) = true
+is_failed_get (Interrupted actor job) = true
+is_failed_get line = false
+
 -- ---- all lines
 -- The number of lines that end a round.
 unfoldable pub round_ends : List RecordedLine → ℕ
@@ -29,6 +34,10 @@ job_starts lines = count_by is_job_start lines
 -- The number of lines that end a job, with a value or with an exception.
 unfoldable pub job_ends : List RecordedLine → ℕ
 job_ends lines = count_by is_job_end lines
+
+-- The number of lines that end a get because its time was over or its thread was interrupted.
+unfoldable pub failed_gets : List RecordedLine → ℕ
+failed_gets lines = count_by is_failed_get lines
 
 -- The number of rounds that began and have not ended.
 abbrev pub unfinished_rounds : List RecordedLine → ℕ

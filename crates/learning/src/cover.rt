@@ -1,126 +1,190 @@
-//! The extension of a body so that it covers one more path.
+//! Bodies that cover several paths.
 
-ghost use Rattle.std.specs.Prelude.{◌≡◌, ◌≤◌, length, IfOk, IfSome, IsSome, IsSomeAnd, IsTrue};
+ghost use Rattle.std.specs.Prelude.{◌≡◌, ◌≤◌, ◌∷◌, [], length, IfOk, IfSome, IsSomeAnd, IsTrue};
+ghost use Rattle.std.specs.List.{list_any};
+ghost use Rattle.std.specs.declared.alloc.Global.{Global as GlobalAlloc};
+ghost use Rattle.std.specs.declared.vec.Vec.{Vec as PathVec};
 ghost use Rattle.job_bodies.specs.declared.limits.TheConstants.{MAX_ACTIONS};
+ghost use Rattle.conformance.specs.declared.step.PathStep.{PathStep as Step};
 ghost use Rattle.conformance.specs.declared.step.PathState.TheVariants.{Whole};
 ghost use Rattle.conformance.specs.Path.{IsPathOf};
-ghost use Rattle.learning.specs.Covers.{Covers, Extends, IsSurelyOf, work_of};
+ghost use Rattle.conformance.specs.PathMatch.{IsUnambiguous};
+ghost use Rattle.learning.specs.Covers as spec;
+ghost use Rattle.learning.specs.PathBody.{HasBody};
 ghost use Rattle.learning.specs.ValidGets.{HasValidGets};
 
-use crate::common::partners_of;
-use crate::match_check::matches_at;
-use crate::merge::with_missing_steps;
+use crate::body_cost::is_preferred;
+use crate::candidates::{CANDIDATES, Choices, candidate};
+use crate::path_body::body_of_path;
 use crate::valid_gets::has_valid_gets;
-use conformance::{PathMatch, PathState, PathStep, match_path};
-use job_bodies::{Action, MAX_ACTIONS, MAX_PATH_STEPS};
+use conformance::{ActorKind, PathMatch, PathState, PathStep, match_path};
+use job_bodies::{Action, MAX_ACTIONS};
 use std::alloc::{AllocError, Global};
 
-/// Returns a body that the path matches, and that every path of the given body matches too. The
-/// result is the given body, into which the submits and gets of the path are inserted that it lacks
-/// in this order. If the path already matches the given body, the result is the given body.
+/// Returns a body that each of the paths matches. They are paths of actors of this kind.
 ///
-/// Returns `None` if no such body was found. The reasons are a result longer than a plan allows, a
-/// get of the body or path that names no earlier submit, a second get of one submit, or a submit of
-/// the path whose job cannot belong to any class.
+/// The result is the given body if all paths match it, and for a single path the body of its own
+/// steps. Otherwise several candidates are made. Each has a common supersequence of the submits of
+/// the paths, and gets each job as soon as the paths allow. The result is the candidate with the
+/// fewest open jobs, and among these the shortest one.
+///
+/// Returns `None` if no candidate has at most [`MAX_ACTIONS`] actions. Other reasons are a submit
+/// whose job cannot belong to any class, a get that names no earlier submit, a second get of one
+/// submit, or a given body with `work` that a path does not match.
 ///
 /// # Errors
 ///
 /// Returns [`AllocError`] if memory runs out.
 pub fn covering_body(
     alloc: Global,
+    kind: ActorKind,
     body: &[Action],
-    path: &[PathStep],
+    paths: &[Vec<PathStep>],
 ) -> Result<Option<Vec<Action>>, AllocError>
-    ensures fits { IfOk result (λ found. IfSome found (λ new. IsPathOf Whole new.items path.now)) }
-    ensures covers { IfOk result (λ found. IfSome found (λ new. Covers body.now new.items)) }
+    ensures covers { IfOk result
+        (λ found. IfSome found (λ new. spec.Covers kind new.items paths.now)) }
     ensures work { IfOk result
-        (λ found. IfSome found (λ new. work_of new.items ≡ work_of body.now)) }
+        (λ found. IfSome found (λ new. spec.work_of new.items ≡ spec.work_of body.now)) }
     ensures short { IfOk result (λ found. IfSome found (λ new. length new.items ≤ MAX_ACTIONS)) }
     ensures valid_gets { IfOk result (λ found. IfSome found (λ new. HasValidGets new.items)) }
 
-    // The result is the given body if the path matches it, it is valid in a plan, and it has so few
-    // submits that the search for a match is always decided.
-    ensures same { IsSurelyOf body.now path.now
+    // A body that covers the paths is not changed.
+    ensures same { spec.IsSurelyCovering kind body.now paths.now
         → IfOk result (λ found. IsSomeAnd found (λ new. new.items ≡ body.now)) }
+
+    // A single path that has a body gets one that is not longer than the path.
+    ensures single { (path : PathVec Step GlobalAlloc)
+        → body.now ≡ []
+        → paths.now ≡ path ∷ []
+        → HasBody path.items
+        → IfOk result (λ found. IsSomeAnd found (λ new. length new.items ≤ length path.items)) }
 {
-    if body.len() > MAX_ACTIONS {
+    if is_valid(body) && covers(alloc, kind, body, paths)? {
+        return Ok(Some(Vec::from_slice(alloc, body)?));
+    }
+    if has_work(body) {
         return Ok(None);
     }
-    match extend_body(alloc, body, path)? {
-        Some(new) => Ok(if_valid(new)),
-        None => Ok(None),
+    new_body(alloc, kind, paths)
+}
+
+/// Returns a body without `work` that each of the paths matches.
+fn new_body(
+    alloc: Global,
+    kind: ActorKind,
+    paths: &[Vec<PathStep>],
+) -> Result<Option<Vec<Action>>, AllocError>
+    ensures covering { IfOk result
+        (λ found. IfSome found (λ new. spec.IsCovering kind new.items paths.now)) }
+    ensures single { (path : PathVec Step GlobalAlloc)
+        → paths.now ≡ path ∷ []
+        → HasBody path.items
+        → IfOk result (λ found. IsSomeAnd found (λ new. length new.items ≤ length path.items)) }
+{
+    match paths {
+        [path] => body_of_path(alloc, path),
+        _ => best_candidate(alloc, kind, paths),
     }
 }
 
-/// Returns the body if the path matches it, and otherwise the body extended by the steps of the
-/// path that it lacks.
-fn extend_body(
+/// Returns the best of the candidates that each of the paths matches.
+fn best_candidate(
     alloc: Global,
-    body: &[Action],
-    path: &[PathStep],
+    kind: ActorKind,
+    paths: &[Vec<PathStep>],
 ) -> Result<Option<Vec<Action>>, AllocError>
-    requires { length body.now ≤ MAX_ACTIONS }
-    ensures fits { IfOk result (λ found. IfSome found (λ new. IsPathOf Whole new.items path.now)) }
-    ensures extends { IfOk result (λ found. IfSome found (λ new. Extends body.now new.items)) }
-    ensures same { IsSurelyOf body.now path.now
-        → IfOk result (λ found. IsSomeAnd found (λ new. new.items ≡ body.now)) }
+    ensures { IfOk result (λ found. IfSome found (λ new. spec.IsCovering kind new.items paths.now)) }
 {
-    if is_path_of(body, path) {
-        Ok(Some(Vec::from_slice(alloc, body)?))
-    } else {
-        with_path(alloc, body, path)
+    let mut best = None;
+    for number in 0..CANDIDATES {
+        if let Some(body) = candidate(alloc, paths, Choices::with_number(number))? {
+            if is_better(&body, &best) && is_covering(alloc, kind, &body, paths)? {
+                best = Some(body);
+            }
+        }
     }
+    Ok(best)
+}
+
+fn is_better(body: &[Action], best: &Option<Vec<Action>>) -> bool {
+    match best {
+        Some(best) => is_preferred(body, best),
+        None => true,
+    }
+}
+
+/// Returns true if the body has no `work`, is valid in a plan, and each of the paths matches it.
+fn is_covering(
+    alloc: Global,
+    kind: ActorKind,
+    body: &[Action],
+    paths: &[Vec<PathStep>],
+) -> Result<bool, AllocError>
+    ensures { IfOk result (λ yes. IsTrue yes → spec.IsCovering kind body.now paths.now) }
+{
+    if has_work(body) || !is_valid(body) {
+        return Ok(false);
+    }
+    covers(alloc, kind, body, paths)
+}
+
+fn has_work(body: &[Action]) -> bool
+    ensures { result ≡ list_any spec.is_work body.now }
+{
+    body.iter().any(|action| is_work(*action))
+}
+
+fn is_work(action: Action) -> bool
+    ensures { result ≡ spec.is_work action }
+{
+    match action {
+        Action::Work(_) => true,
+        Action::Submit(_) | Action::Get(_) => false,
+    }
+}
+
+/// Returns true if the body is valid in a plan that has its classes.
+fn is_valid(body: &[Action]) -> bool
+    ensures short { IsTrue result → length body.now ≤ MAX_ACTIONS }
+    ensures valid_gets { IsTrue result → HasValidGets body.now }
+    ensures always { length body.now ≤ MAX_ACTIONS → HasValidGets body.now → IsTrue result }
+{
+    body.len() <= MAX_ACTIONS && has_valid_gets(body)
+}
+
+/// Returns true if each of the paths matches the body.
+fn covers(
+    alloc: Global,
+    kind: ActorKind,
+    body: &[Action],
+    paths: &[Vec<PathStep>],
+) -> Result<bool, AllocError>
+    ensures yes { IfOk result (λ yes. IsTrue yes → spec.Covers kind body.now paths.now) }
+    ensures sure { spec.IsSurelyCovering kind body.now paths.now → IfOk result (λ yes. IsTrue yes) }
+{
+    for path in paths {
+        if !is_path_of(alloc, kind, body, path)? {
+            return Ok(false);
+        }
+    }
+    Ok(true)
 }
 
 /// Returns true if the path matches the body. Returns false if it does not match, or if the search
 /// for a match ended without a decision.
-fn is_path_of(body: &[Action], path: &[PathStep]) -> bool
-    requires { length body.now ≤ MAX_ACTIONS }
-    ensures yes { IsTrue result → IsPathOf Whole body.now path.now }
-    ensures sure { IsSurelyOf body.now path.now → IsTrue result }
-{
-    match match_path(body, path, PathState::Whole, MAX_PATH_STEPS) {
-        PathMatch::Fits => true,
-        PathMatch::Deviates(_) | PathMatch::Undecided => false,
-    }
-}
-
-/// Returns the body extended by the steps of the path that it lacks, or `None` if no such body that
-/// the path matches was found.
-fn with_path(
+fn is_path_of(
     alloc: Global,
+    kind: ActorKind,
     body: &[Action],
     path: &[PathStep],
-) -> Result<Option<Vec<Action>>, AllocError>
-    ensures fits { IfOk result (λ found. IfSome found (λ new. IsPathOf Whole new.items path.now)) }
-    ensures extends { IfOk result (λ found. IfSome found (λ new. Extends body.now new.items)) }
+) -> Result<bool, AllocError>
+    ensures yes { IfOk result (λ yes. IsTrue yes → IsPathOf kind Whole body.now path.now) }
+    ensures sure { IsUnambiguous body.now path.now
+        → IsPathOf kind Whole body.now path.now
+        → IfOk result (λ yes. IsTrue yes) }
 {
-    if path.len() > MAX_ACTIONS {
-        return Ok(None);
-    }
-    let mut places = partners_of(alloc, body, path)?;
-    match with_missing_steps(alloc, body, path, &mut places)? {
-        Some(new) => {
-            if matches_at(alloc, &new, path, &places)? {
-                Ok(Some(new))
-            } else {
-                Ok(None)
-            }
-        }
-        None => Ok(None),
-    }
-}
-
-/// Returns the body if it is valid in a plan, and `None` otherwise.
-fn if_valid(body: Vec<Action>) -> Option<Vec<Action>>
-    ensures same { IfSome result (λ found. found ≡ body) }
-    ensures short { IfSome result (λ found. length found.items ≤ MAX_ACTIONS) }
-    ensures valid_gets { IfSome result (λ found. HasValidGets found.items) }
-    ensures always { length body.items ≤ MAX_ACTIONS → HasValidGets body.items → IsSome result }
-{
-    if body.len() <= MAX_ACTIONS && has_valid_gets(&body) {
-        Some(body)
-    } else {
-        None
+    match match_path(alloc, body, path, kind, PathState::Whole)? {
+        PathMatch::Fits => Ok(true),
+        PathMatch::Deviates(_) | PathMatch::Undecided => Ok(false),
     }
 }

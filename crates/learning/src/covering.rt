@@ -14,11 +14,11 @@ use crate::pass::run_pass;
 use job_bodies::Pool;
 use std::alloc::Global;
 
-/// The maximum number of passes. Two are typical: all bodies grow in the first pass, and every
+/// The maximum number of passes. Two are typical: bodies change in the first pass, and every
 /// actor matches a body in the second one.
 const MAX_PASSES: usize = 600;
 
-/// Extends the bodies until every actor of the part matches one. Returns the client kind of each
+/// Changes the bodies until every actor of the part matches one. Returns the client kind of each
 /// round, by round number.
 ///
 /// # Errors
@@ -31,7 +31,6 @@ pub(crate) fn cover_all(
     alloc: Global,
     part: RecordingPart<'_>,
     pools: &[Pool],
-    budget: u64,
     draft: &mut PlanDraft,
 ) -> Result<Vec<Option<usize>>, LearnError>
     ensures ok { (lines : List RecordedLine)
@@ -44,7 +43,7 @@ pub(crate) fn cover_all(
 {
     for _ in 0..MAX_PASSES {
         let plan = draft.plan(pools)?;
-        let pass = run_pass(alloc, part, pools, &plan, budget, draft)?;
+        let pass = run_pass(alloc, part, pools, &plan, draft)?;
         if pass.is_explained {
             return Ok(pass.kinds);
         }

@@ -13,6 +13,7 @@ use crate::growth::{Assignment, ObservedPath, reachable_classes};
 use crate::inference_limit::InferenceLimit;
 use crate::learn_error::LearnError;
 use crate::pools::pool_number;
+use conformance::ActorKind;
 use job_bodies::{Class, Client, MAX_CLASSES, MAX_CLIENT_KINDS, Plan, Pool};
 use recordings::Line;
 use std::alloc::{AllocError, Global};
@@ -31,8 +32,13 @@ impl PlanDraft {
         ensures { (lines : List RecordedLine) → IsDraftOf lines result }
     {
         PlanDraft {
-            classes: Entries::new(alloc, MAX_CLASSES, InferenceLimit::Classes),
-            kinds: Entries::new(alloc, MAX_CLIENT_KINDS, InferenceLimit::Kinds),
+            classes: Entries::new(alloc, ActorKind::Job, MAX_CLASSES, InferenceLimit::Classes),
+            kinds: Entries::new(
+                alloc,
+                ActorKind::Round,
+                MAX_CLIENT_KINDS,
+                InferenceLimit::Kinds,
+            ),
             alloc,
         }
     }
@@ -116,7 +122,7 @@ impl PlanDraft {
     }
 
     /// Returns the class of a job with this label, pool and path. If the path matches no body of
-    /// the label's classes, extends one of these bodies or adds a class. Returns `None` if no body
+    /// the label's classes, replaces one of these bodies or adds a class. Returns `None` if no body
     /// was found that covers the path.
     ///
     /// # Errors
@@ -137,7 +143,7 @@ impl PlanDraft {
             → IsDraftOf lines self.old
             → IfErr result (IsLearnError lines) }
     {
-        if let Some(assignment) = self.classes.matching_entry(label, pool, observed_path) {
+        if let Some(assignment) = self.classes.matching_entry(label, pool, observed_path)? {
             return Ok(Some(assignment));
         }
         let reachable = reachable_classes(self.alloc, &self.classes, &observed_path.steps)?;
@@ -145,7 +151,7 @@ impl PlanDraft {
     }
 
     /// Returns the client kind of a round with this label and path. If the path matches no body of
-    /// the label's kinds, extends one of these bodies or adds a kind. Returns `None` if no body was
+    /// the label's kinds, replaces one of these bodies or adds a kind. Returns `None` if no body was
     /// found that covers the path.
     ///
     /// # Errors
@@ -165,7 +171,7 @@ impl PlanDraft {
             → IsDraftOf lines self.old
             → IfErr result (IsLearnError lines) }
     {
-        if let Some(assignment) = self.kinds.matching_entry(label, 0, observed_path) {
+        if let Some(assignment) = self.kinds.matching_entry(label, 0, observed_path)? {
             return Ok(Some(assignment));
         }
         self.kinds.grow(label, 0, observed_path, &[])

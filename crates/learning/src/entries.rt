@@ -11,6 +11,7 @@ ghost use Rattle.learning.specs.LearningState.{AreEntriesOf, IsGiven, IsLearnErr
 use crate::inference_limit::InferenceLimit;
 use crate::learn_error::LearnError;
 use crate::names::free_name;
+use conformance::{ActorKind, PathStep};
 use job_bodies::Action;
 use std::alloc::{AllocError, Global};
 
@@ -24,12 +25,16 @@ pub(crate) struct Entry {
     /// The name in the plan: the label, or the label followed by `_` and a number.
     pub(crate) name: String,
     pub(crate) body: Vec<Action>,
+    /// The paths that changed the body, which all match it.
+    pub(crate) paths: Vec<Vec<PathStep>>,
 }
 
 /// The classes or the client kinds, in the order of the plan.
 #[derive(Drop)]
 pub(crate) struct Entries {
     pub(crate) entries: Vec<Entry>,
+    /// The kind of the actors whose bodies these are.
+    pub(crate) kind: ActorKind,
     /// The maximum number of entries in a plan. `beyond` is the reason to report if there are more.
     limit: usize,
     beyond: InferenceLimit,
@@ -38,13 +43,19 @@ pub(crate) struct Entries {
 
 impl Entries {
     /// Creates an empty list.
-    pub(crate) fn new(alloc: Global, limit: usize, beyond: InferenceLimit) -> Entries
+    pub(crate) fn new(
+        alloc: Global,
+        kind: ActorKind,
+        limit: usize,
+        beyond: InferenceLimit,
+    ) -> Entries
         ensures { (lines : List RecordedLine)
             → limit ≤ MAX_CLASSES
             → AreEntriesOf lines beyond result }
     {
         Entries {
             entries: Vec::new(alloc),
+            kind,
             limit,
             beyond,
             alloc,
@@ -69,7 +80,7 @@ impl Entries {
         if self.has(label, pool) {
             return Ok(());
         }
-        self.add(label, pool, Vec::new(self.alloc))
+        self.add(label, pool)
     }
 
     /// Returns true if an entry has this label and pool.
@@ -82,19 +93,14 @@ impl Entries {
         self.entries.iter().any(|entry| entry.is_of(label, pool))
     }
 
-    /// Adds an entry with this body. Its name is the first of LABEL, LABEL_2, LABEL_3 and so on
+    /// Adds an entry with an empty body. Its name is the first of LABEL, LABEL_2, LABEL_3 and so on
     /// that no entry has.
     ///
     /// # Errors
     ///
     /// - [`LearnError::InferenceLimit`] if a plan cannot have one more entry, or if the name would be too long.
     /// - [`LearnError::Memory`] if memory runs out.
-    pub(crate) fn add(
-        &mut self,
-        label: &str,
-        pool: usize,
-        body: Vec<Action>,
-    ) -> Result<(), LearnError>
+    pub(crate) fn add(&mut self, label: &str, pool: usize) -> Result<(), LearnError>
         ensures ok { (lines : List RecordedLine) (beyond : Reason)
             → IsGiven lines beyond label.now pool
             → AreEntriesOf lines beyond self.old
@@ -113,7 +119,8 @@ impl Entries {
             label,
             pool,
             name,
-            body,
+            body: Vec::new(self.alloc),
+            paths: Vec::new(self.alloc),
         })?;
         Ok(())
     }
@@ -133,17 +140,6 @@ impl Entries {
         match self.entries.get(number) {
             Some(entry) => entry.body.as_slice(),
             None => &[],
-        }
-    }
-
-    /// Replaces the body of the entry with this number, if there is such an entry.
-    pub(crate) fn set_body(&mut self, number: usize, body: Vec<Action>)
-        ensures { (lines : List RecordedLine) (beyond : Reason)
-            → AreEntriesOf lines beyond self.old
-            → AreEntriesOf lines beyond self.new }
-    {
-        if let Some(entry) = self.entries.get_mut(number) {
-            entry.body = body;
         }
     }
 }

@@ -1,16 +1,20 @@
-//! The extension of bodies so that they cover the observed paths.
+//! The change of bodies so that the observed paths match them.
 
-ghost use Rattle.std.specs.Prelude.{◌≡◌, List, OnOk, IfErr};
+ghost use Rattle.std.specs.Prelude.{◌≡◌, List, OnOk, IfErr, string_bytes};
 ghost use Rattle.recordings.specs.RecordingLine.{RecordedLine};
 ghost use Rattle.learning.specs.declared.inference_limit.InferenceLimit.{InferenceLimit as Reason};
-ghost use Rattle.learning.specs.LearningState.{AreEntriesOf, IsGiven, IsLearnError};
+ghost use Rattle.learning.specs.LearningState.{AreEntriesOf, IsLearnError};
 
-use crate::entries::Entries;
+use crate::covering_body;
+use crate::entries::{Entries, Entry};
 use crate::learn_error::LearnError;
-use crate::{body_of_path, covering_body};
-use conformance::{PathMatch, PathState, PathStep, match_path};
-use job_bodies::{Action, MAX_ACTIONS, MAX_PATH_STEPS};
+use conformance::{ActorKind, PathMatch, PathState, PathStep, match_path};
+use job_bodies::Action;
 use std::alloc::{AllocError, Global};
+
+/// The maximum number of paths that one body is made for. The paths that it matches already do not
+/// count.
+const MAX_PATHS: usize = 256;
 
 /// An observed path, with the class assigned to each of its jobs.
 #[derive(Drop)]
@@ -30,25 +34,34 @@ pub(crate) struct Assignment {
 
 impl Entries {
     /// Returns the first entry of this label and pool whose body the path matches.
+    ///
+    /// # Errors
+    ///
+    /// Returns `AllocError` if memory runs out.
     pub(crate) fn matching_entry(
         &self,
         label: &str,
         pool: usize,
         observed_path: &ObservedPath,
-    ) -> Option<Assignment> {
-        let number = self.entries.iter().position(|entry| entry.is_of(label, pool)
-            && is_path_of(&entry.body, observed_path))?;
-        Some(Assignment {
-            number,
-            is_changed: false,
-        })
+    ) -> Result<Option<Assignment>, AllocError> {
+        for (number, entry) in self.entries.iter().enumerate() {
+            if entry.is_of(label, pool)
+                && is_path_of(self.alloc, self.kind, &entry.body, observed_path)?
+            {
+                return Ok(Some(Assignment {
+                    number,
+                    is_changed: false,
+                }));
+            }
+        }
+        Ok(None)
     }
 
-    /// Extends the body of the first entry with this label and pool for which a body that covers
-    /// the path is found. If there is none, adds an entry whose body is the path itself. Skips each
-    /// entry that is marked in `reachable`, because a job of that class would submit jobs of its
-    /// own class without end. Returns `None` if no body was found for the path, or if no entry has
-    /// this label and pool.
+    /// Changes the body of the first entry with this label and pool for which a body is found that
+    /// the path and the entry's paths match. If there is none, adds an entry for the path alone.
+    /// Skips each entry that is marked in `reachable`, because a job of that class would submit
+    /// jobs of its own class without end. Returns `None` if no body was found for the path, or if
+    /// no entry has this label and pool.
     ///
     /// # Errors
     ///
@@ -69,48 +82,43 @@ impl Entries {
     {
         for number in 0..self.entries.len() {
             if self.is_free(number, label, pool, reachable) {
-                if let Some(body) = covering_body(
-                    self.alloc,
-                    self.body(number),
-                    &observed_path.steps,
-                )? {
-                    let is_changed = body.len() > self.body(number).len();
-                    self.set_body(number, body);
-                    return Ok(Some(Assignment { number, is_changed }));
+                if let Some(assignment) = self.cover(number, &observed_path.steps)? {
+                    return Ok(Some(assignment));
                 }
             }
         }
         if !self.has(label, pool) {
             return Ok(None);
         }
-        match body_of_path(self.alloc, &observed_path.steps)? {
-            Some(body) => self.add_further_entry(label, pool, body),
-            None => Ok(None),
+        let number = self.entries.len();
+        match self.add(label, pool) {
+            Ok(()) => Ok(self.cover(number, &observed_path.steps)?),
+            Err(error) => Err(error),
         }
     }
 
-    // Adds a further entry for a label and pool that already have an entry.
-    fn add_further_entry(
-        &mut self,
-        label: &str,
-        pool: usize,
-        body: Vec<Action>,
-    ) -> Result<Option<Assignment>, LearnError>
-        ensures ok { (lines : List RecordedLine) (beyond : Reason)
-            → IsGiven lines beyond label.now pool
+    // Changes the body of the entry with this number so that the path and the entry's paths match
+    // it. Returns `None` if no such body was found, or if there is no such entry.
+    fn cover(&mut self, number: usize, path: &[PathStep]) -> Result<Option<Assignment>, AllocError>
+        ensures { (lines : List RecordedLine) (beyond : Reason)
             → AreEntriesOf lines beyond self.old
-            → OnOk result (AreEntriesOf lines beyond self.new) }
-        ensures err { (lines : List RecordedLine) (beyond : Reason)
-            → IsGiven lines beyond label.now pool
-            → AreEntriesOf lines beyond self.old
-            → IfErr result (IsLearnError lines) }
+            → AreEntriesOf lines beyond self.new }
     {
-        let number = self.entries.len();
-        self.add(label, pool, body)?;
-        Ok(Some(Assignment {
-            number,
-            is_changed: true,
-        }))
+        let alloc = self.alloc;
+        let kind = self.kind;
+        match self.entries.get_mut(number) {
+            Some(entry) => {
+                if entry.cover(alloc, kind, path)? {
+                    Ok(Some(Assignment {
+                        number,
+                        is_changed: true,
+                    }))
+                } else {
+                    Ok(None)
+                }
+            }
+            None => Ok(None),
+        }
     }
 
     // Returns true if the entry has this label and pool, and is not marked in `reachable`.
@@ -122,14 +130,55 @@ impl Entries {
     }
 }
 
-fn is_path_of(body: &[Action], observed_path: &ObservedPath) -> bool {
-    body.len() <= MAX_ACTIONS
-        && match_path(
-            body,
-            &observed_path.steps,
-            observed_path.path_state,
-            MAX_PATH_STEPS,
-        ) == PathMatch::Fits
+impl Entry {
+    // Changes the body so that the path and the paths before it match it. Returns false if no such
+    // body was found.
+    fn cover(
+        &mut self,
+        alloc: Global,
+        kind: ActorKind,
+        path: &[PathStep],
+    ) -> Result<bool, AllocError>
+        ensures label { string_bytes self.new.label ≡ string_bytes self.old.label }
+        ensures name { string_bytes self.new.name ≡ string_bytes self.old.name }
+        ensures pool { self.new.pool ≡ self.old.pool }
+    {
+        if self.paths.len() >= MAX_PATHS {
+            return Ok(false);
+        }
+        self.paths.push(copied_steps(alloc, path)?)?;
+        match covering_body(alloc, kind, &self.body, &self.paths)? {
+            Some(body) => {
+                self.body = body;
+                Ok(true)
+            }
+            None => {
+                self.paths.pop();
+                Ok(false)
+            }
+        }
+    }
+}
+
+fn copied_steps(alloc: Global, path: &[PathStep]) -> Result<Vec<PathStep>, AllocError> {
+    let mut steps = Vec::new(alloc);
+    for step in path {
+        steps.push(match step {
+            PathStep::Submits(classes) => PathStep::Submits(Vec::from_slice(alloc, classes)?),
+            PathStep::Gets(submit) => PathStep::Gets(*submit),
+        })?;
+    }
+    Ok(steps)
+}
+
+fn is_path_of(
+    alloc: Global,
+    kind: ActorKind,
+    body: &[Action],
+    path: &ObservedPath,
+) -> Result<bool, AllocError> {
+    let path_match = match_path(alloc, body, &path.steps, kind, path.path_state)?;
+    Ok(path_match == PathMatch::Fits)
 }
 
 /// Returns, for each class, whether these steps submit jobs of the class, directly or through the

@@ -13,7 +13,7 @@ ghost use Rattle.learning.specs.FirstPass.{AreNamesOfAll, IsLearnErrorAt, IsCorr
 ghost use Rattle.learning.specs.Names.{IsNamedClass, IsNamedClient};
 ghost use Rattle.learning.specs.Pools.{recorded_pools};
 ghost use Rattle.learning.specs.InferenceLimit.{HasActors, IsReason};
-ghost use Rattle.learning.specs.Unfinished.{unfinished_rounds, unfinished_jobs};
+ghost use Rattle.learning.specs.Unfinished.{unfinished_rounds, unfinished_jobs, failed_gets};
 
 use crate::counts::{KindCount, kind_counts};
 use crate::covering::cover_all;
@@ -29,14 +29,13 @@ use std::alloc::{AllocError, Global};
 
 /// Derives a plan from a recording.
 ///
-/// `extent` selects the part of the recording from which bodies are learned. `budget` limits the
-/// steps of each check of one path against one body.
+/// `extent` selects the part of the recording from which bodies are learned.
 ///
 /// The whole recording is read once, for its names, its counts and its first invalid line. The
-/// selected part is read a few more times, usually twice, while the bodies grow. If a label has
+/// selected part is read a few more times, usually twice, while the bodies change. If a label has
 /// several client kinds, the selected part must be the whole recording, and one more pass counts
-/// the rounds of each kind. The memory grows with the open actors, the plan and the rounds of the
-/// selected part.
+/// the rounds of each kind. The memory grows with the open actors, the plan, the paths that changed
+/// a body, at most 256 for each body, and the rounds of the selected part.
 ///
 /// The contract promises that the bodies form a plan. It does not promise that the recording
 /// matches them: the caller compares the recording with the plan. It does not promise that a plan
@@ -45,12 +44,7 @@ use std::alloc::{AllocError, Global};
 /// # Errors
 ///
 /// Returns `AllocError` if memory runs out.
-pub fn learn(
-    alloc: Global,
-    recording: &[u8],
-    extent: Extent,
-    budget: u64,
-) -> Result<InferenceResult, AllocError>
+pub fn learn(alloc: Global, recording: &[u8], extent: Extent) -> Result<InferenceResult, AllocError>
     ensures bad { IfOk result (λ reported. IsFirstFault (lines_read recording.now) (fault_of reported)) }
     ensures pools { IfOk result
         (IfInferred (λ inferred. inferred.plan.pools ≡ recorded_pools (lines_of recording.now))) }
@@ -66,9 +60,10 @@ pub fn learn(
         (IfInferred (λ inferred. inferred.unfinished_rounds ≡ unfinished_rounds (lines_of recording.now))) }
     ensures unfinished_jobs { IfOk result
         (IfInferred (λ inferred. inferred.unfinished_jobs ≡ unfinished_jobs (lines_of recording.now))) }
+    ensures failed_gets { IfOk result (IfInferred (λ inferred. inferred.failed_gets ≡ failed_gets (lines_of recording.now))) }
     ensures inference_limit { IfOk result (IfLimit (IsReason (lines_of recording.now))) }
 {
-    match inference_result(alloc, recording, extent, budget) {
+    match inference_result(alloc, recording, extent) {
         Ok(reported) => Ok(reported),
         Err(LearnError::InferenceLimit(reason)) => Ok(InferenceResult::InferenceLimit(reason)),
         Err(LearnError::Memory(error)) => Err(error),
@@ -79,16 +74,13 @@ fn inference_result(
     alloc: Global,
     recording: &[u8],
     extent: Extent,
-    budget: u64,
 ) -> Result<InferenceResult, LearnError>
     ensures ok { IfOk result (IsCorrectResult recording.now) }
     ensures err { IfErr result (IsLearnErrorAt (lines_read recording.now)) }
 {
     match recorded_names(alloc, recording)? {
         Err(fault) => Ok(InferenceResult::Invalid(fault)),
-        Ok(names) => Ok(InferenceResult::Inferred(infer_plan(
-            alloc, recording, extent, budget, names,
-        )?)),
+        Ok(names) => Ok(InferenceResult::Inferred(infer_plan(alloc, recording, extent, names)?)),
     }
 }
 
@@ -96,7 +88,6 @@ fn infer_plan(
     alloc: Global,
     recording: &[u8],
     extent: Extent,
-    budget: u64,
     mut names: RecordedNames,
 ) -> Result<InferredPlan, LearnError>
     ensures ok { AreNamesOfAll (lines_read recording.now) names
@@ -104,7 +95,7 @@ fn infer_plan(
     ensures err { AreNamesOfAll (lines_read recording.now) names
         → IfErr result (IsLearnError (lines_of recording.now)) }
 {
-    let kinds = learn_round_kinds(alloc, extent.of(recording), budget, &mut names)?;
+    let kinds = learn_round_kinds(alloc, extent.of(recording), &mut names)?;
     let classes = names.draft.copied_classes()?;
     let clients = infer_clients(alloc, recording, &kinds, &names)?;
     match Plan::build(alloc, names.pools, classes, clients) {
@@ -114,18 +105,18 @@ fn infer_plan(
             jobs: names.jobs,
             unfinished_rounds: names.rounds.saturating_sub(names.ended_rounds),
             unfinished_jobs: names.started_jobs.saturating_sub(names.ended_jobs),
+            failed_gets: names.failed_gets,
         }),
         Err(_) => Err(LearnError::InferenceLimit(InferenceLimit::Paths)),
     }
 }
 
-// Extends the bodies so that they cover the paths of the part. Returns the client kind of each
+// Changes the bodies so that the paths of the part match them. Returns the client kind of each
 // round of the part, by round number. Fails if the recording continues after the part and a label
 // has several kinds, because the kinds of the rounds after the part are then unknown.
 fn learn_round_kinds(
     alloc: Global,
     part: RecordingPart<'_>,
-    budget: u64,
     names: &mut RecordedNames,
 ) -> Result<Vec<Option<usize>>, LearnError>
     ensures ok { (lines : List RecordedLine)
@@ -139,7 +130,7 @@ fn learn_round_kinds(
     if names.draft.is_empty() {
         return Ok(Vec::new(alloc));
     }
-    let kinds = cover_all(alloc, part, &names.pools, budget, &mut names.draft)?;
+    let kinds = cover_all(alloc, part, &names.pools, &mut names.draft)?;
     if part.is_cut && !names.label_rounds.are_of(&names.draft.kinds.entries) {
         return Err(LearnError::InferenceLimit(InferenceLimit::Paths));
     }

@@ -28,4 +28,6 @@ pub struct InferredPlan {
     pub unfinished_rounds: usize,
     /// The number of jobs that started and did not end.
     pub unfinished_jobs: usize,
+    /// The number of gets that timed out or were interrupted. The bodies were learned without them.
+    pub failed_gets: usize,
 }

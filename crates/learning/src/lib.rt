@@ -5,8 +5,8 @@
 #![tactic(auto)]
 
 mod assigned_classes;
-mod common;
-mod correspondence;
+mod body_cost;
+mod candidates;
 mod counts;
 mod cover;
 mod covering;
@@ -14,20 +14,20 @@ mod draft;
 mod ended_actors;
 mod entries;
 mod extent;
+mod get_times;
 mod growth;
 mod inference;
 mod inference_limit;
 mod inference_result;
-mod insertion;
 mod label_rounds;
 mod learn_error;
-mod match_check;
-mod merge;
 mod names;
 mod pass;
 mod path_body;
+mod path_jobs;
 mod pools;
 mod recorded_names;
+mod supersequence;
 mod valid_gets;
 
 pub use cover::covering_body;

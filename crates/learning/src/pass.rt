@@ -1,4 +1,4 @@
-//! A pass over a part of a recording, which extends the bodies of a plan.
+//! A pass over a part of a recording, which changes the bodies of a plan.
 
 ghost use Rattle.std.specs.Prelude.{◌≡◌, List, OnOk, IfErr};
 ghost use Rattle.recordings.specs.RecordingLine.{RecordedLine};
@@ -35,8 +35,8 @@ pub(crate) struct Pass {
 /// Runs one pass over the part of the recording.
 ///
 /// If an actor matches no class or client kind of the plan, and each job that it submitted has a
-/// class, the pass extends a body to cover the actor's path. The path of an actor that has not
-/// ended may be incomplete. It extends a body only if no path of an ended actor did in this pass,
+/// class, the pass changes a body so that the actor's path matches it. The path of an actor that has
+/// not ended may be incomplete. It changes a body only if no path of an ended actor did in this pass,
 /// and the recording does not continue after the part.
 ///
 /// # Errors
@@ -48,7 +48,6 @@ pub(crate) fn run_pass(
     part: RecordingPart<'_>,
     pools: &[Pool],
     plan: &Plan,
-    budget: u64,
     draft: &mut PlanDraft,
 ) -> Result<Pass, LearnError>
     ensures ok { (lines : List RecordedLine)
@@ -59,7 +58,7 @@ pub(crate) fn run_pass(
         → IfErr result (IsLearnError lines) }
 {
     let mut pass = Pass::new(alloc, part.is_cut);
-    let mut classifier = PassClassifier::new(alloc, budget);
+    let mut classifier = PassClassifier::new(alloc);
     let mut lines = RecordingLines::new(part.text);
     while let Some(line) = lines.next() {
         if let Ok(line) = line {
@@ -79,9 +78,9 @@ struct PassClassifier {
 }
 
 impl PassClassifier {
-    fn new(alloc: Global, budget: u64) -> PassClassifier {
+    fn new(alloc: Global) -> PassClassifier {
         PassClassifier {
-            classes: ActorClassifier::new(alloc, budget),
+            classes: ActorClassifier::new(alloc),
             reported: Vec::new(alloc),
         }
     }
@@ -201,7 +200,7 @@ impl Pass {
         Ok(())
     }
 
-    // Returns true if the paths of actors that have not ended must not extend a body.
+    // Returns true if the paths of actors that have not ended must not change a body.
     fn skips_open_actors(&self) -> bool {
         self.is_changed || self.is_cut
     }
@@ -228,7 +227,7 @@ impl Pass {
         }
     }
 
-    // Returns the class or client kind of the actor. Extends a body if the actor matches none, and
+    // Returns the class or client kind of the actor. Changes a body if the actor matches none, and
     // each job that it submitted has a class.
     fn learn(
         &mut self,

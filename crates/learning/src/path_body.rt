@@ -1,9 +1,11 @@
 //! The body of a single path.
 
-ghost use Rattle.std.specs.Prelude.{◌≡◌, ◌≤◌, ◌↔◌, IfOk, IfSome, MatchOption, All, IsTrue, length};
+ghost use Rattle.std.specs.Prelude.{◌≡◌, ◌≤◌, ◌↔◌, [], IfOk, IfSome, MatchOption, All, IsTrue, length};
 ghost use Rattle.job_bodies.specs.declared.limits.TheConstants.{MAX_ACTIONS};
+ghost use Rattle.conformance.specs.declared.step.ActorKind.{ActorKind};
 ghost use Rattle.conformance.specs.declared.step.PathState.TheVariants.{Whole};
 ghost use Rattle.conformance.specs.Path.{IsPathOf};
+ghost use Rattle.learning.specs.Covers.{work_of};
 ghost use Rattle.learning.specs.ValidGets.{HasValidGets};
 ghost use Rattle.learning.specs.PathBody as spec;
 
@@ -25,8 +27,9 @@ pub fn body_of_path(alloc: Global, path: &[PathStep]) -> Result<Option<Vec<Actio
     ensures exact { IfOk result (λ found.
         MatchOption found (¬ spec.HasBody path.now) (λ body. body.items ≡ spec.body_of path.now)) }
     ensures has_body { IfOk result (λ found. IfSome found (λ body. spec.HasBody path.now)) }
-    ensures fits { IfOk result
-        (λ found. IfSome found (λ body. IsPathOf Whole body.items path.now)) }
+    ensures fits { (kind : ActorKind)
+        → IfOk result (λ found. IfSome found (λ body. IsPathOf kind Whole body.items path.now)) }
+    ensures no_work { IfOk result (λ found. IfSome found (λ body. work_of body.items ≡ [])) }
     ensures short { IfOk result (λ found. IfSome found (λ body. length body.items ≤ MAX_ACTIONS)) }
     ensures valid_gets { IfOk result (λ found. IfSome found (λ body. HasValidGets body.items)) }
 {

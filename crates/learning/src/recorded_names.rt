@@ -29,6 +29,8 @@ pub(crate) struct RecordedNames {
     pub(crate) ended_rounds: usize,
     pub(crate) started_jobs: usize,
     pub(crate) ended_jobs: usize,
+    /// The number of gets that timed out or were interrupted.
+    pub(crate) failed_gets: usize,
     alloc: Global,
 }
 
@@ -94,6 +96,7 @@ impl RecordedNames {
             ended_rounds: 0,
             started_jobs: 0,
             ended_jobs: 0,
+            failed_gets: 0,
             alloc,
         })
     }
@@ -131,6 +134,7 @@ impl RecordedNames {
         self.ended_rounds = incremented(self.ended_rounds, is_round_end(line))?;
         self.started_jobs = incremented(self.started_jobs, is_job_start(line))?;
         self.ended_jobs = incremented(self.ended_jobs, is_job_end(line))?;
+        self.failed_gets = incremented(self.failed_gets, is_failed_get(line))?;
         Ok(())
     }
 }
@@ -187,6 +191,15 @@ fn is_job_end(line: &Line<'_>) -> bool
 {
     match *line {
         Line::JobEnds { .. } | Line::JobThrew { .. } => true,
+        _ => false,
+    }
+}
+
+fn is_failed_get(line: &Line<'_>) -> bool
+    ensures { result ≡ unfinished.is_failed_get (line_view line.now) }
+{
+    match *line {
+        Line::TimedOut { .. } | Line::Interrupted { .. } => true,
         _ => false,
     }
 }

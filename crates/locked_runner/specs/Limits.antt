@@ -1,9 +1,11 @@
 -- The limits of a run.
-use Rattle.std.specs.Prelude.{ℕ, Bool, ◌||◌, nat_lt, sum_by}
+use Rattle.std.specs.Prelude.{ℕ, Bool, ◌||◌, nat_lt, if◌then◌else◌, sum_by}
 use Rattle.job_bodies.specs.Plan.{Plan}
 use Rattle.weights.specs.Ranks.{Ranks}
 use Rattle.locked_runner.specs.RunNumbers.{most_events}
 use Rattle.job_bodies.specs.declared.limits.TheConstants.{MAX_RUN_CLIENTS, MAX_RUN_CARRIERS, MAX_RUN_EVENTS}
+use Rattle.locked_runner.specs.declared.limits.RunLimit.{RunLimit}
+use Rattle.locked_runner.specs.declared.limits.RunLimit.TheVariants.{Clients, Threads, Events}
 
 -- the number of clients of all kinds
 abbrev pub clients : Plan → ℕ
@@ -19,3 +21,8 @@ exceeds_limits plan events = nat_lt MAX_RUN_CLIENTS (clients plan) || nat_lt MAX
 
 abbrev pub is_too_large : Plan → Ranks → ℕ → Bool
 is_too_large plan ranks rounds = exceeds_limits plan (most_events plan ranks rounds)
+
+-- the limit to report of a run that is too large: the first one that the plan exceeds with any number of rounds, or else the bound on
+-- events
+abbrev pub limit_of : Plan → RunLimit
+limit_of plan = if nat_lt MAX_RUN_CLIENTS (clients plan) then Clients else if nat_lt MAX_RUN_CARRIERS (workers plan) then Threads else Events

@@ -6,6 +6,31 @@ ghost use Rattle.locked_runner.specs.Limits as spec;
 
 use job_bodies::{MAX_RUN_CARRIERS, MAX_RUN_CLIENTS, MAX_RUN_EVENTS, Plan};
 
+/// A limit of a run.
+#[derive(Clone, Copy, PartialEq, Eq)]
+pub enum RunLimit {
+    /// The number of clients.
+    Clients,
+    /// The maximum number of threads of all pools together.
+    Threads,
+    /// The bound on the number of events.
+    Events,
+}
+
+/// Returns the limit to report of a run of the plan that is too large: the first one that the plan
+/// exceeds with any number of rounds, or else the bound on events.
+pub fn limit_of(plan: &Plan) -> RunLimit
+    ensures { result ≡ spec.limit_of plan.now }
+{
+    if clients_of(plan) > MAX_RUN_CLIENTS {
+        RunLimit::Clients
+    } else if workers_of(plan) > MAX_RUN_CARRIERS {
+        RunLimit::Threads
+    } else {
+        RunLimit::Events
+    }
+}
+
 /// Returns `true` if a run of the plan exceeds a limit. `events` is an upper bound of its number of
 /// events.
 pub(crate) fn exceeds_limits(plan: &Plan, events: u64) -> bool

@@ -26,7 +26,7 @@ pub mod Refusals
 pub mod Steps
 pub mod SubmitIndices
 pub mod Ends
-pub mod SubmitPlace
+pub mod SubmitIndex
 pub mod UndoneSubmit
 pub mod PathAfter
 pub mod PathsAfter

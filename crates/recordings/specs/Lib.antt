@@ -17,6 +17,7 @@ pub mod Faults
 pub mod FaultText
 pub mod CheckedLines
 pub mod ActorPath
+pub mod SubmitIndex
 pub mod LineSteps
 pub mod Path
 pub mod StoredPaths

@@ -1,6 +1,5 @@
 -- The stored path of an actor.
 use Rattle.std.specs.Prelude.{ℕ, List, Option}
-use Rattle.std.specs.Option.{option_map}
 use Rattle.support.specs.Numbered.{value_at}
 use Rattle.recordings.specs.declared.recording_line.RecordedActor.{RecordedActor}
 use Rattle.recordings.specs.declared.recording_line.RecordedActor.TheVariants.{Job, Round}
@@ -9,7 +8,7 @@ use Rattle.recordings.specs.declared.path_table.PathTable.{PathTable}
 use Rattle.recordings.specs.declared.paths.Paths.{Paths}
 
 abbrev pub path_in : PathTable → ℕ → Option (List RecordedStep)
-path_in table number = option_map (λ path. path.items) (value_at table.paths number)
+path_in table number = value_at table.paths number
 
 abbrev pub path_at : Paths → RecordedActor → Option (List RecordedStep)
 path_at paths (Job job) = path_in paths.jobs job

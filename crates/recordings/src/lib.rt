@@ -4,7 +4,6 @@
 //! with a plan needs.
 #![tactic(auto)]
 
-mod change_path;
 mod checked_lines;
 mod fault;
 mod foreign_get;
@@ -17,6 +16,7 @@ mod laws;
 mod line_forms;
 mod line_parts;
 mod lines;
+mod live_path;
 mod notes;
 mod path_table;
 mod paths;
@@ -28,6 +28,7 @@ mod rule;
 mod rule_check;
 mod state_update;
 mod step;
+mod submit_index;
 mod trace_validator;
 mod unclaimed;
 mod whole_text;

@@ -5,8 +5,9 @@ ghost use Rattle.std.specs.Option.{option_map};
 ghost use Rattle.recordings.specs.ActorPath.{with_get, without_submit};
 ghost use Rattle.recordings.specs.PathChanges.{with_step};
 ghost use Rattle.recordings.specs.StoredPaths.{path_in};
+ghost use Rattle.recordings.specs.declared.step.RecordedStep.TheVariants.{Submits};
 
-use crate::change_path::{drop_submit, push_get};
+use crate::live_path::LivePath;
 use crate::step::RecordedStep;
 use std::alloc::{AllocError, Global};
 use support::IdMap;
@@ -14,7 +15,7 @@ use support::IdMap;
 /// A map from the numbers of the live rounds, or of the live jobs, to their paths.
 #[derive(Drop)]
 pub(crate) struct PathTable {
-    paths: IdMap<Vec<RecordedStep>>,
+    paths: IdMap<LivePath>,
     alloc: Global,
 }
 
@@ -33,7 +34,7 @@ impl PathTable {
         ensures { option_map (λ path. path.now) result ≡ path_in self.now number }
     {
         match self.paths.get(number) {
-            Some(path) => Some(path.as_slice()),
+            Some(path) => Some(path.steps()),
             None => None,
         }
     }
@@ -48,7 +49,7 @@ impl PathTable {
             ((n : ℕ) → path_in self.new n ≡ (if number == n then Some [] else path_in self.old n)) }
         ensures same { OnErr result ((n : ℕ) → path_in self.new n ≡ path_in self.old n) }
     {
-        self.paths.insert(number, Vec::new(self.alloc))
+        self.paths.insert(number, LivePath::new(self.alloc))
     }
 
     /// Removes the actor with this number, and returns its path.
@@ -57,24 +58,25 @@ impl PathTable {
         ensures gone { (n : ℕ)
             → path_in self.new n ≡ (if number == n then None else path_in self.old n) }
     {
-        self.paths.remove(number)
+        Some(self.paths.remove(number)?.into_steps())
     }
 
-    /// Appends an action to the path of this actor. Has no effect if the actor is not live.
+    /// Appends a submit of the job to the path of this actor. Has no effect if the actor is not
+    /// live.
     ///
     /// # Errors
     ///
     /// Returns `AllocError` if memory runs out. The paths are then unchanged.
-    pub(crate) fn push(&mut self, number: usize, step: RecordedStep) -> Result<(), AllocError>
+    pub(crate) fn push_submit(&mut self, number: usize, job: usize) -> Result<(), AllocError>
         ensures done { OnOk result
             ((n : ℕ)
             → path_in self.new n
-            ≡ (if number == n then option_map (with_step step) (path_in self.old n) else path_in
+            ≡ (if number == n then option_map (with_step (Submits job)) (path_in self.old n) else path_in
             self.old n)) }
         ensures same { OnErr result ((n : ℕ) → path_in self.new n ≡ path_in self.old n) }
     {
         if let Some(path) = self.paths.get_mut(number) {
-            path.push(step)?;
+            path.push_submit(job)?;
         }
         Ok(())
     }
@@ -94,7 +96,7 @@ impl PathTable {
         ensures same { OnErr result ((n : ℕ) → path_in self.new n ≡ path_in self.old n) }
     {
         if let Some(path) = self.paths.get_mut(number) {
-            push_get(path, job)?;
+            path.push_get(job)?;
         }
         Ok(())
     }
@@ -108,7 +110,7 @@ impl PathTable {
             self.old n) }
     {
         if let Some(path) = self.paths.get_mut(number) {
-            drop_submit(path, job);
+            path.drop_submit(job);
         }
     }
 }

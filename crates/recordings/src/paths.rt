@@ -6,6 +6,7 @@ ghost use Rattle.recordings.specs.RecordingLine.{RecordedLine, line_view};
 ghost use Rattle.recordings.specs.ActorPath.{with_get, without_submit};
 ghost use Rattle.recordings.specs.PathChanges.{Changes, change_of, no_change, at_actor, actor_submits, with_step};
 ghost use Rattle.recordings.specs.LastLine.{last_path_of, last_path_in};
+ghost use Rattle.recordings.specs.declared.step.RecordedStep.TheVariants as step;
 ghost use Rattle.recordings.specs.PathsOfLines.{KeepsRules, IsPathsOf, live_path_of};
 
 use crate::path_table::PathTable;
@@ -17,8 +18,8 @@ use std::alloc::{AllocError, Global};
 /// began and have not ended, and the jobs that were submitted and are not done.
 ///
 /// A job that was refused, cancelled or removed and never ran remains live, with an empty path.
-/// Processing a line takes one look-up in a table. For a `got` line, it also searches the path of
-/// the actor backwards for the submit of the job. No contract states the size or the time.
+/// Processing a line takes one look-up in a table. For a `got` line, it also takes a binary search
+/// among the submits of the actor. No contract states the size or the time.
 #[derive(Drop)]
 pub struct Paths {
     rounds: PathTable,
@@ -126,7 +127,7 @@ impl Paths {
         ensures stored { OnOk result (Changes self.old (actor_submits actor job) self.new) }
         ensures same { OnErr result (Changes self.old no_change self.new) }
     {
-        self.push(actor, RecordedStep::Submits(job))?;
+        self.push_submit(actor, job)?;
         if let Err(error) = self.jobs.begin(job) {
             self.drop_submit(actor, job);
             return Err(error);
@@ -134,13 +135,14 @@ impl Paths {
         Ok(())
     }
 
-    fn push(&mut self, actor: RecordedActor, step: RecordedStep) -> Result<(), AllocError>
-        ensures stored { OnOk result (Changes self.old (at_actor actor (with_step step)) self.new) }
+    fn push_submit(&mut self, actor: RecordedActor, job: usize) -> Result<(), AllocError>
+        ensures stored { OnOk result
+            (Changes self.old (at_actor actor (with_step (step.Submits job))) self.new) }
         ensures same { OnErr result (Changes self.old no_change self.new) }
     {
         match actor {
-            RecordedActor::Job(number) => self.jobs.push(number, step),
-            RecordedActor::Round(number) => self.rounds.push(number, step),
+            RecordedActor::Job(number) => self.jobs.push_submit(number, job),
+            RecordedActor::Round(number) => self.rounds.push_submit(number, job),
         }
     }
 

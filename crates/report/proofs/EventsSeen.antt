@@ -2,9 +2,11 @@
 use Rattle.std.proofs.Common.{◌≡◌, ℕ, ◌+◌, ◌<◌, true, inl, inr, List, [], ◌∷◌, ◌++◌, length, get_or, slice_get, Option, Some, None, refl, sym, ap, ap₂, ◌∙◌, arith, length-set}
 use Rattle.std.specs.Prelude.{option_map, option_and_then}
 use Rattle.std.proofs.lemmas.Bool.{false≢true, cases_lt}
-use Rattle.std.proofs.lemmas.List.{get_or_push, get_or_past}
+use Rattle.std.proofs.lemmas.List.{get_or_push, get_or_past, get_or-set_same}
 use Rattle.std.proofs.lemmas.Option.{none-some, slice_get-get_or, slice_get_past}
+use Rattle.support.proofs.PassingPlaces.{first_where}
 use Rattle.job_bodies.specs.Plan.{Plan, no_pool}
+use Rattle.job_bodies.specs.WellFormed.{IsWellFormed}
 use Rattle.pool_machine.specs.PoolState.{PoolView}
 use Rattle.written_machine.specs.declared.client_state.ClientState.{ClientState}
 use Rattle.written_machine.specs.declared.event.Event.{Event}
@@ -13,9 +15,12 @@ use Rattle.written_machine.specs.declared.event.Outcome.{Outcome}
 use Rattle.written_machine.specs.declared.event.Outcome.TheVariants as outcome
 use Rattle.written_machine.specs.declared.parent.Parent.{Parent}
 use Rattle.written_machine.specs.declared.parent.Parent.TheVariants as parent
-use Rattle.written_machine.specs.State.{Stage, State, CreatedJob, no_job, no_client_state, job_at, is_unfinished, pool_of, pool_seen}
+use Rattle.written_machine.specs.State.{Stage, State, CreatedJob, no_job, no_client_state, job_at, is_unfinished, is_queued_in, pool_of, pool_seen}
 use Rattle.written_machine.specs.Step.{step, step_at_point, point_of_job, moved_jobs}
-use Rattle.written_machine.specs.Reach.{start, state_after}
+use Rattle.written_machine.specs.Reach.{start, state_after, IsReached}
+use Rattle.written_machine.proofs.Queues.{pool_exists}
+use Rattle.written_machine.proofs.Reached.{kept}
+use Rattle.written_machine.proofs.StateInvariant.{StateInvariant}
 use Rattle.written_machine.proofs.Events.{Happens, works, starts, queues, is_refused, gets, finishes, loops, takes, retires, happens}
 use Rattle.interleaving.specs.declared.job_view.Phase.TheVariants as phase
 use Rattle.interleaving.specs.LiveView.{live_view}
@@ -26,7 +31,7 @@ use Rattle.report.specs.declared.event_steps.Actor.{Actor}
 use Rattle.report.specs.declared.event_steps.Actor.TheVariants as actor
 use Rattle.report.specs.declared.event_steps.PoolCounts.{PoolCounts}
 use Rattle.report.specs.EventRows.{row_of, rows_from}
-use Rattle.report.specs.EventSteps.{actor_of, position_at, position_of, changed_pool, counts_of, step_of}
+use Rattle.report.specs.EventSteps.{actor_of, position_at, position_of, changed_pool, counts_of, taken_class, step_of}
 use Rattle.report.specs.Performed as seen
 
 -- ---- jobs
@@ -76,6 +81,40 @@ made_unfinished plan s s' o (finishes j body i at) = tt
 made_unfinished plan s s' o (loops c client body i at is_client repeats) = tt
 made_unfinished plan s s' o (takes p j queue idle is_queue is_idle) = tt
 made_unfinished plan s s' o (retires p idle is_idle above) = tt
+
+-- a job that a thread took is unfinished
+abbrev TakenIsUnfinished : State → Outcome → Type 0
+TakenIsUnfinished s (outcome.Took j) = is_unfinished (job_at s j).stage ≡ true
+TakenIsUnfinished s _ = Unit {0}
+
+taken_unfinished : (plan : Plan) (s s' : State) (o : Outcome) {e : Event} → StateInvariant plan s → Happens plan s e s' o → TakenIsUnfinished s' o
+taken_unfinished plan s s' o kept (works a body i u at) = tt
+taken_unfinished plan s s' o kept (starts a body i k at room) = tt
+taken_unfinished plan s s' o kept (queues a body i k at core room) = tt
+taken_unfinished plan s s' o kept (is_refused a body i k at no_room all) = tt
+taken_unfinished plan s s' o kept (gets a body i t j at is_child done) = tt
+taken_unfinished plan s s' o kept (finishes j body i at) = tt
+taken_unfinished plan s s' o kept (loops c client body i at is_client repeats) = tt
+taken_unfinished plan s s' o kept (takes q j queue idle is_queue is_idle) =
+    let inside : q < length s.pools = pool_exists s q j queue is_queue in
+    let exists : q < length plan.pools = omega (arith, kept.as_many) in
+    let first = first_where (is_queued_in plan q) s.jobs j queue (sym (kept.pools q exists).queue ∙ is_queue) in
+    ap (λ (job : CreatedJob). is_unfinished job.stage) (get_or-set_same s.jobs j (record (job_at s j) { stage = Stage.At 0 }) no_job first.inside)
+taken_unfinished plan s s' o kept (retires p idle is_idle above) = tt
+
+taken_shown_of : (plan : Plan) (s : State) (o : Outcome) → TakenIsUnfinished s o → seen.taken_seen (live_view plan s) o ≡ taken_class s o
+taken_shown_of plan s (outcome.Started j) live = refl
+taken_shown_of plan s (outcome.Queued j) live = refl
+taken_shown_of plan s (outcome.Refused p) live = refl
+taken_shown_of plan s (outcome.Worked u) live = refl
+taken_shown_of plan s (outcome.Got j) live = refl
+taken_shown_of plan s outcome.Looped live = refl
+taken_shown_of plan s (outcome.Finished j) live = refl
+taken_shown_of plan s (outcome.Took j) live = ap Some (class_shown plan s j live)
+taken_shown_of plan s outcome.Retired live = refl
+
+pub taken_shown : (plan : Plan) (s s' : State) (e : Event) (o : Outcome) → IsWellFormed plan → IsReached plan s → step plan s e ≡ Some (s', o) → seen.taken_seen (live_view plan s') o ≡ taken_class s' o
+taken_shown plan s s' e o ok reached is_step = taken_shown_of plan s' o (taken_unfinished plan s s' o (kept plan s ok reached) (happens plan s e s' o is_step))
 
 -- ---- the actor
 
@@ -146,14 +185,15 @@ counts_if plan s (Some p) = counts_at plan s p
 -- ---- a step
 
 -- what the code makes of the event is what the event did
-pub step_shown : (plan : Plan) (s s' : State) (e : Event) (o : Outcome) (a : Actor) (i : ℕ) (pool : Option ℕ) (counts : Option PoolCounts) (action : Option ℕ) → step plan s e ≡ Some (s', o)
+pub step_shown : (plan : Plan) (s s' : State) (e : Event) (o : Outcome) (a : Actor) (i : ℕ) (pool : Option ℕ) (counts : Option PoolCounts) (action taken : Option ℕ) → step plan s e ≡ Some (s', o)
     → a ≡ actor_of plan s e → action ≡ (step_of plan (record { event = e; before = s; outcome = o; after = s' })).action → pool ≡ changed_pool plan s' a o → counts ≡ seen.counts_seen (live_view plan s') pool
-    → record { actor = a; action = action; outcome = o; pool = counts } ≡ step_of plan (record { event = e; before = s; outcome = o; after = s' })
-step_shown plan s s' e o a i pool counts action is_step is_actor is_action is_pool is_counts =
+    → taken ≡ taken_class s' o → record { actor = a; action = action; outcome = o; pool = counts; taken = taken } ≡ step_of plan (record { event = e; before = s; outcome = o; after = s' })
+step_shown plan s s' e o a i pool counts action taken is_step is_actor is_action is_pool is_counts is_taken =
     let all_counts : counts ≡ option_and_then (counts_of plan s') (changed_pool plan s' (actor_of plan s e) o) =
     is_counts ∙ ap (seen.counts_seen (live_view plan s')) (is_pool ∙ ap (λ (x : Actor). changed_pool plan s' x o) is_actor) ∙ counts_if plan s' (changed_pool plan s' (actor_of plan s e) o) in
-    ap (λ (x : Actor). record { actor = x; action = action; outcome = o; pool = counts }) is_actor
-    ∙ ap₂ (λ (x : Option ℕ) (y : Option PoolCounts). record { actor = actor_of plan s e; action = x; outcome = o; pool = y }) is_action all_counts
+    ap (λ (x : Actor). record { actor = x; action = action; outcome = o; pool = counts; taken = taken }) is_actor
+    ∙ ap₂ (λ (x : Option ℕ) (y : Option PoolCounts). record { actor = actor_of plan s e; action = x; outcome = o; pool = y; taken = taken }) is_action all_counts
+    ∙ ap (λ (x : Option ℕ). record (step_of plan (record { event = e; before = s; outcome = o; after = s' })) { taken = x }) is_taken
 
 -- ---- lists of events
 

@@ -12,3 +12,6 @@ mod ReplayLines
 mod WaitsShown
 mod Witnesses
 mod JsonLists
+mod StoryTurns
+mod StoryState
+mod CompactText

@@ -29,7 +29,8 @@ none_if plan view j job true = refl
 none_if plan view j job false = refl
 
 module _ (plan : Plan) (s : State) (bodies : HasValidBodies plan) (kept : StateInvariant plan s) where
-  awaited_shown : (j i : ℕ) (action : Option Action) → (job_at s j).stage ≡ At i → slice_get (class_at plan (job_at s j).class).body i ≡ action → awaited_seen (live_view plan s) j action ≡ awaited s j action
+  -- the live view shows the job for which a running job waits at an action
+  pub awaited_shown : (j i : ℕ) (action : Option Action) → (job_at s j).stage ≡ At i → slice_get (class_at plan (job_at s j).class).body i ≡ action → awaited_seen (live_view plan s) j action ≡ awaited s j action
   awaited_shown j i None at there = refl
   awaited_shown j i (Some (Work u)) at there = refl
   awaited_shown j i (Some (Submit k)) at there = refl

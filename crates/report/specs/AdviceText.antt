@@ -44,12 +44,16 @@ abbrev pub advice_text : Plan → SizesFound → List ℕ
 advice_text plan (Found fit cert) = reasons_text plan fit
 advice_text plan (NotFound cause) = cause_advice_text cause
 
--- the line that says that the declared sizes may be safe
-abbrev pub maybe_text : List ℕ
-maybe_text = codes "neither a certificate for the declared sizes nor a counterexample was found: the sizes may be safe" ++ 10 ∷ []
+-- the words that say that the declared sizes may be safe
+abbrev pub maybe_words : List ℕ
+maybe_words = codes "neither a certificate for the declared sizes nor a counterexample was found: the sizes may be safe"
+
+-- the words that say what is not decided
+abbrev pub open_words : SizesFound → List ℕ
+open_words (NotFound (Cause cause)) = codes "no certificate accepts this plan with any sizes, and no counterexample was found"
+open_words (NotFound (TooLarge p)) = maybe_words
+open_words (Found fit cert) = maybe_words
 
 -- the line that says what is not decided
 abbrev pub open_text : SizesFound → List ℕ
-open_text (NotFound (Cause cause)) = codes "no certificate accepts this plan with any sizes, and no counterexample was found" ++ 10 ∷ []
-open_text (NotFound (TooLarge p)) = maybe_text
-open_text (Found fit cert) = maybe_text
+open_text sizes = open_words sizes ++ 10 ∷ []

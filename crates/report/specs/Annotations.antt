@@ -4,10 +4,13 @@ use Rattle.plan_text.specs.declared.place.TextPlace.{TextPlace}
 use Rattle.diagnostics.specs.declared.lint.Lint.{Lint}
 use Rattle.diagnostics.specs.declared.lint.Lint.TheVariants as lint
 use Rattle.report.specs.declared.annotation.Rule.{Rule}
-use Rattle.report.specs.declared.annotation.Rule.TheVariants.{Fault, Warning, Safe, NotSafe, NotDecided}
+use Rattle.report.specs.declared.annotation.Rule.TheVariants.{Fault, MoreFaults, Warning, Safe, NotSafe, NotDecided}
 use Rattle.report.specs.declared.annotation.Annotation.{Annotation}
 
 abbrev pub lint_name : Lint → List ℕ
+lint_name lint.SafeAtCore = codes "safe-at-core"
+lint_name (lint.SubmitsItself k) = codes "submits-itself"
+lint_name (lint.NeverGot part number action) = codes "never-got"
 lint_name lint.NothingToAsk = codes "nothing-to-ask"
 lint_name lint.NoClients = codes "no-clients"
 lint_name lint.NothingSubmitted = codes "nothing-submitted"
@@ -26,6 +29,7 @@ warning_name l = codes "warning-" ++ lint_name l
 -- the name of a rule
 abbrev pub rule_name : Rule → List ℕ
 rule_name (Fault number) = codes "fault-" ++ decimal number
+rule_name MoreFaults = codes "more-faults"
 rule_name (Warning l) = warning_name l
 rule_name Safe = codes "safe"
 rule_name NotSafe = codes "not-safe"

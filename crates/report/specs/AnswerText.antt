@@ -3,7 +3,7 @@ use Rattle.std.specs.Prelude.{◌≡◌, List, ℕ, [], ◌∷◌, ◌++◌, cod
 use Rattle.job_bodies.specs.Plan.{Plan}
 use Rattle.cert_text.specs.Cert.{Cert}
 use Rattle.counterexample.specs.declared.witness.Witness.{Witness}
-use Rattle.counterexample.specs.Description.{IsDescription}
+use Rattle.report.specs.Description.{IsDescription}
 use Rattle.size_search.specs.declared.found.SizesFound.{SizesFound}
 use Rattle.size_search.specs.declared.found.SizesFound.TheVariants.{Found, NotFound}
 use Rattle.report.specs.Sizes.{sizes_text}

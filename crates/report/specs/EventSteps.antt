@@ -1,4 +1,4 @@
--- What an event did: the actor, the action, the outcome, and the pool that it changed or that refused.
+-- What an event did: the actor, the action, the outcome, the pool that it changed or that refused, and the class of the job that it took.
 use Rattle.std.specs.Prelude.{ℕ, Option, Some, None, slice_get, option_map, option_and_then}
 use Rattle.job_bodies.specs.Plan.{Plan}
 use Rattle.written_machine.specs.declared.event.Event.{Event}
@@ -68,10 +68,16 @@ abbrev pub counts_of : Plan → State → ℕ → Option PoolCounts
 counts_of plan s p =
     option_map (λ pool. record { number = p; threads = threads plan s p; idle = (pool_part s p).idle }) (slice_get plan.pools p)
 
+-- the class of the job that a thread took, given the state after the event
+abbrev pub taken_class : State → Outcome → Option ℕ
+taken_class after (Took j) = Some (job_at after j).class
+taken_class after _ = None
+
 abbrev pub step_of : Plan → EventRow → EventStep
 step_of plan row = record {
   actor = actor_of plan row.before row.event;
   action = action_of row.outcome (position_of row.before row.event);
   outcome = row.outcome;
   pool = option_and_then (counts_of plan row.after) (changed_pool plan row.after (actor_of plan row.before row.event) row.outcome);
+  taken = taken_class row.after row.outcome;
 }

@@ -5,7 +5,7 @@ use Rattle.std.specs.Char.{encode_utf8}
 use Rattle.std.specs.Str.{chars}
 use Rattle.plan_text.specs.declared.place.TextPlace.{TextPlace}
 use Rattle.report.specs.declared.annotation.Rule.{Rule}
-use Rattle.report.specs.declared.annotation.Rule.TheVariants.{Fault, Warning, Safe, NotSafe, NotDecided}
+use Rattle.report.specs.declared.annotation.Rule.TheVariants.{Fault, MoreFaults, Warning, Safe, NotSafe, NotDecided}
 use Rattle.report.specs.Annotations.{Remark, rule_name}
 use Rattle.job_bodies.specs.Plan.{Plan}
 use Rattle.diagnostics.specs.declared.warnings.Warning.{Warning as PlanWarning}
@@ -16,6 +16,7 @@ use Rattle.report.specs.Remarks.{AreRemarks}
 -- the name of the command
 abbrev pub command : Rule → List ℕ
 command (Fault number) = codes "error"
+command MoreFaults = codes "error"
 command (Warning lint) = codes "warning"
 command Safe = codes "notice"
 command NotSafe = codes "error"
@@ -26,6 +27,7 @@ title Safe = codes "SAFE"
 title NotSafe = codes "NOT SAFE"
 title NotDecided = codes "NOT DECIDED"
 title (Fault number) = rule_name (Fault number)
+title MoreFaults = rule_name MoreFaults
 title (Warning lint) = rule_name (Warning lint)
 
 -- a character of a message

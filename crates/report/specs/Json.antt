@@ -1,7 +1,6 @@
 -- The answer of `ask` as a JSON object on one line, in format 1.
 use Rattle.std.specs.Prelude.{◌≡◌, ℕ, List, [], ◌∷◌, ◌++◌, codes}
 use Rattle.serde_json.specs.Data.{Data, null, number, unsigned, string, array, object, item, no_items, member, no_members}
-use Rattle.serde_json.specs.Written.{IsInOrder}
 use Rattle.serde_json.specs.View.{view, items_of}
 use Rattle.job_bodies.specs.Plan.{Plan}
 use Rattle.diagnostics.specs.declared.diagnostic.Faults.{Faults}
@@ -11,6 +10,7 @@ use Rattle.report.specs.declared.json_answers.AnswerParts.{AnswerParts}
 use Rattle.report.specs.declared.finding.PlanFinding.{PlanFinding}
 use Rattle.report.specs.declared.finding.PlanFinding.TheVariants.{Safe, NotSafe, NotDecided}
 use Rattle.report.specs.declared.version.TheConstants.{VERSION}
+use Rattle.report.specs.JsonLine.{IsLineOf}
 use Rattle.report.specs.JsonFaults.{faults_data, single_fault_data}
 use Rattle.report.specs.JsonPlan.{plan_data, text_only_data}
 use Rattle.report.specs.JsonPools.{pools_data}
@@ -24,6 +24,7 @@ use Rattle.report.specs.JsonWitness.{witness_data}
 pub record Parts : Type 0 where
   pub assumptions : Data
   pub faults : Data
+  pub omitted : ℕ
   pub plan : Data
   pub pools : Data
   pub sizes : Data
@@ -31,7 +32,7 @@ pub record Parts : Type 0 where
   pub witness : Data
 
 abbrev pub parts_of : AnswerParts → Parts
-parts_of m = record { assumptions = view m.assumptions; faults = view m.faults; plan = view m.plan; pools = view m.pools; sizes = view m.sizes; warnings = view m.warnings; witness = view m.witness }
+parts_of m = record { assumptions = view m.assumptions; faults = view m.faults; omitted = m.omitted; plan = view m.plan; pools = view m.pools; sizes = view m.sizes; warnings = view m.warnings; witness = view m.witness }
 
 -- the object of an answer with this name, its keys in ascending order
 unfoldable pub answer_data : List ℕ → List ℕ → Parts → Data
@@ -41,18 +42,13 @@ answer_data word file parts =
     (member (codes "faults") parts.faults
     (member (codes "file") (string file)
     (member (codes "format") (number (unsigned 1))
+    (member (codes "omitted") (number (unsigned parts.omitted))
     (member (codes "plan") parts.plan
     (member (codes "pools") parts.pools
     (member (codes "sizes") parts.sizes
     (member (codes "version") (string VERSION.now)
     (member (codes "warnings") parts.warnings
-    (member (codes "witness") parts.witness no_members)))))))))))
-
--- the text is the value, with each item and member once and in order, followed by a newline
-pub record IsLineOf (value : Data) (text : List ℕ) : Type 0 where
-  pub json : List ℕ
-  pub in_order : IsInOrder json value
-  pub is : text ≡ json ++ 10 ∷ []
+    (member (codes "witness") parts.witness no_members))))))))))))
 
 -- ---- a finding
 
@@ -92,7 +88,7 @@ witness_of places plan (NotSafe witness sizes) = witness_data places plan witnes
 witness_of places plan (NotDecided sizes) = null
 
 abbrev pub finding_parts : List ℕ → PlanPlaces → Plan → PlanFinding → List Warning → Parts
-finding_parts text places plan finding warnings = record { assumptions = assumptions_data finding; faults = array (items_of []); plan = plan_data text places plan; pools = pools_of plan finding; sizes = sizes_of places plan finding; warnings = warnings_data warnings; witness = witness_of places plan finding }
+finding_parts text places plan finding warnings = record { assumptions = assumptions_data finding; faults = array (items_of []); omitted = 0; plan = plan_data text places plan; pools = pools_of plan finding; sizes = sizes_of places plan finding; warnings = warnings_data warnings; witness = witness_of places plan finding }
 
 -- the answer about a plan that was read from this text
 abbrev pub finding_data : List ℕ → List ℕ → PlanPlaces → Plan → PlanFinding → List Warning → Data
@@ -104,17 +100,17 @@ pub record TellsFinding (file text : List ℕ) (places : PlanPlaces) (plan : Pla
 
 -- ---- faults
 
-abbrev pub fault_parts : List ℕ → Data → Parts
-fault_parts text faults = record { assumptions = array (items_of []); faults = faults; plan = text_only_data text; pools = array (items_of []); sizes = null; warnings = array (items_of []); witness = null }
+abbrev pub fault_parts : Data → Data → ℕ → Parts
+fault_parts plan faults omitted = record { assumptions = array (items_of []); faults = faults; omitted = omitted; plan = plan; pools = array (items_of []); sizes = null; warnings = array (items_of []); witness = null }
 
--- the answer about a text with these faults
-abbrev pub faulty_data : List ℕ → List ℕ → Data → Data
-faulty_data file text faults = answer_data (codes "FAULTS") file (fault_parts text faults)
+-- the answer about a text with these faults, and a number of others that are left out
+abbrev pub faulty_data : List ℕ → List ℕ → Data → ℕ → Data
+faulty_data file text faults omitted = answer_data (codes "FAULTS") file (fault_parts (text_only_data text) faults omitted)
 
 -- the line reports the faults of a plan's text
 pub record TellsFaults (file text : List ℕ) (faults : Faults) (line : List ℕ) : Type 0 where
-  pub is_line : IsLineOf (faulty_data file text (faults_data faults)) line
+  pub is_line : IsLineOf (faulty_data file text (faults_data faults) faults.omitted) line
 
 -- the line reports one fault without a place, in these words
 pub record TellsFault (file text : List ℕ) (number : ℕ) (words line : List ℕ) : Type 0 where
-  pub is_line : IsLineOf (faulty_data file text (single_fault_data number words)) line
+  pub is_line : IsLineOf (faulty_data file text (single_fault_data number words) 0) line

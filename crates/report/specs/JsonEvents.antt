@@ -1,11 +1,10 @@
 -- The events of a witness as JSON.
-use Rattle.std.specs.Prelude.{ℕ, List, map, codes, Option, Some, None, slice_get, option_map, option_and_then}
+use Rattle.std.specs.Prelude.{ℕ, List, map, codes, Option, Some, None}
 use Rattle.serde_json.specs.Data.{Data, null, number, unsigned, string, array, object, member, no_members}
 use Rattle.serde_json.specs.View.{items_of}
 use Rattle.job_bodies.specs.Plan.{Plan, pool_at, class_at, client_at}
 use Rattle.plan_text.specs.declared.place.TextPlace.{TextPlace}
 use Rattle.diagnostics.specs.declared.entry_places.PlanPlaces.{PlanPlaces}
-use Rattle.diagnostics.specs.declared.entry_places.BodyPlaces.{BodyPlaces}
 use Rattle.written_machine.specs.declared.event.Event.{Event}
 use Rattle.written_machine.specs.declared.event.Outcome.{Outcome}
 use Rattle.written_machine.specs.declared.event.Outcome.TheVariants.{Started, Queued, Refused, Worked, Got, Looped, Finished, Took, Retired}
@@ -14,6 +13,7 @@ use Rattle.report.specs.declared.event_steps.Actor.TheVariants.{Client, Job, Poo
 use Rattle.report.specs.declared.event_steps.PoolCounts.{PoolCounts}
 use Rattle.report.specs.EventRows.{event_rows}
 use Rattle.report.specs.EventRuns.{Run, runs, shown_of}
+use Rattle.report.specs.JsonPlaces.{line_data, column_data, action_place}
 
 -- ---- numbers and lists
 
@@ -32,22 +32,12 @@ numbers_data numbers = list_data (map number_data numbers)
 
 -- ---- the place of an action
 
--- the place of the action at index i of the body with index k
-abbrev pub place_in : List BodyPlaces → ℕ → ℕ → Option TextPlace
-place_in bodies k i = option_and_then (λ place. place) (option_and_then (λ body. slice_get body.actions.items i) (slice_get bodies k))
-
 -- the place of the actor's action; None if there is no action, or if its place is not known
-abbrev pub action_place : PlanPlaces → Actor → Option ℕ → Option TextPlace
-action_place places actor None = None
-action_place places (Client kind c) (Some i) = place_in places.clients.items kind i
-action_place places (Job class j) (Some i) = place_in places.classes.items class i
-action_place places (Pool p) (Some i) = None
-
-abbrev pub line_data : Option TextPlace → Data
-line_data place = optional_number (option_map (λ place. place.line) place)
-
-abbrev pub column_data : Option TextPlace → Data
-column_data place = optional_number (option_map (λ place. place.column) place)
+abbrev pub actor_place : PlanPlaces → Actor → Option ℕ → Option TextPlace
+actor_place places actor None = None
+actor_place places (Client kind c) (Some i) = action_place places.clients.items kind i
+actor_place places (Job class j) (Some i) = action_place places.classes.items class i
+actor_place places (Pool p) (Some i) = None
 
 -- ---- the parts of an event
 
@@ -125,9 +115,9 @@ abbrev pub run_data : Plan → PlanPlaces → Run → Data
 run_data plan places run = event_data (record {
   action = optional_number run.first.action;
   actor = actor_data plan run.first.actor;
-  column = column_data (action_place places run.first.actor run.first.action);
+  column = column_data (actor_place places run.first.actor run.first.action);
   job = optional_number (job_of run.first.outcome);
-  line = line_data (action_place places run.first.actor run.first.action);
+  line = line_data (actor_place places run.first.actor run.first.action);
   outcome = outcome_word run.first.outcome;
   pool = pool_data plan run.last.step.pool run.last.queue;
   times = run.times;

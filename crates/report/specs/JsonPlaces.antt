@@ -1,9 +1,13 @@
--- The places of a plan's entries, and lines and columns as JSON.
+-- The places of a plan's entries and of what a cause names, and lines and columns as JSON.
 use Rattle.std.specs.Prelude.{ℕ, List, Option, Some, None, option_and_then, slice_get, slice_index_or}
 use Rattle.serde_json.specs.Data.{Data, null, number, unsigned}
 use Rattle.plan_text.specs.declared.place.TextPlace.{TextPlace}
 use Rattle.diagnostics.specs.declared.entry_places.BodyPlaces.{BodyPlaces}
 use Rattle.diagnostics.specs.declared.entry_places.PoolPlaces.{PoolPlaces}
+use Rattle.diagnostics.specs.declared.entry_places.PlanPlaces.{PlanPlaces}
+use Rattle.size_search.specs.declared.cause.Cause.TheVariants.{Circle, ClientNeverGets, ClassNeverGets}
+use Rattle.size_search.specs.declared.found.NoSizes.{NoSizes}
+use Rattle.size_search.specs.declared.found.NoSizes.TheVariants.{Cause, TooLarge}
 
 -- the line of the place; null if the place is not known
 abbrev pub line_data : Option TextPlace → Data
@@ -34,3 +38,10 @@ listed_place actions action = slice_index_or actions action None
 -- the place of an action of the class or client kind at an index
 abbrev pub action_place : List BodyPlaces → ℕ → ℕ → Option TextPlace
 action_place bodies index action = option_and_then (λ body. listed_place body.actions.items action) (slice_get bodies index)
+
+-- the place of the class, the action or the pool that the cause names
+abbrev pub cause_place : PlanPlaces → NoSizes → Option TextPlace
+cause_place places (Cause (Circle k)) = name_place places.classes.items k
+cause_place places (Cause (ClientNeverGets c i)) = action_place places.clients.items c i
+cause_place places (Cause (ClassNeverGets k i)) = action_place places.classes.items k i
+cause_place places (TooLarge p) = (pool_places_at places.pools.items p).name

@@ -13,7 +13,7 @@ use Rattle.size_search.specs.declared.found.SizesFound.TheVariants.{Found, NotFo
 use Rattle.diagnostics.specs.declared.entry_places.PoolPlaces.{PoolPlaces}
 use Rattle.diagnostics.specs.declared.entry_places.PlanPlaces.{PlanPlaces}
 use Rattle.report.specs.Cause.{cause_words}
-use Rattle.report.specs.JsonPlaces.{line_data, column_data, pool_places_at, name_place, action_place}
+use Rattle.report.specs.JsonPlaces.{line_data, column_data, pool_places_at, cause_place}
 
 -- ---- sizes
 
@@ -92,14 +92,14 @@ limit_data place pool words =
     (member (codes "text") (string words) no_members))))))))
 
 -- the cause with its place, told in these words
-abbrev pub told_cause : PlanPlaces → Plan → NoSizes → List ℕ → Data
-told_cause places plan (Cause (Circle k)) words = cycle_data (name_place places.classes.items k) (class_at plan k).name words
-told_cause places plan (Cause (ClientNeverGets c i)) words = never_got_data (action_place places.clients.items c i) i null (string (client_at plan c).name) words
-told_cause places plan (Cause (ClassNeverGets k i)) words = never_got_data (action_place places.classes.items k i) i (string (class_at plan k).name) null words
-told_cause places plan (TooLarge p) words = limit_data (pool_places_at places.pools.items p).name (pool_at plan p).name words
+abbrev pub told_cause : Plan → NoSizes → Option TextPlace → List ℕ → Data
+told_cause plan (Cause (Circle k)) place words = cycle_data place (class_at plan k).name words
+told_cause plan (Cause (ClientNeverGets c i)) place words = never_got_data place i null (string (client_at plan c).name) words
+told_cause plan (Cause (ClassNeverGets k i)) place words = never_got_data place i (string (class_at plan k).name) null words
+told_cause plan (TooLarge p) place words = limit_data place (pool_at plan p).name words
 
 abbrev pub cause_data : PlanPlaces → Plan → NoSizes → Data
-cause_data places plan cause = told_cause places plan cause (cause_words plan cause)
+cause_data places plan cause = told_cause plan cause (cause_place places cause) (cause_words plan cause)
 
 -- ---- both
 

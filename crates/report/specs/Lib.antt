@@ -22,6 +22,7 @@ pub mod JsonPlan
 pub mod JsonPools
 pub mod JsonSizes
 pub mod JsonFaults
+pub mod JsonLine
 pub mod JsonWarnings
 pub mod JsonWitness
 pub mod Annotations
@@ -29,3 +30,7 @@ pub mod Remarks
 pub mod Github
 pub mod Sarif
 pub mod Page
+pub mod Story
+pub mod StorySeen
+pub mod Description
+pub mod Uri

@@ -68,6 +68,10 @@ changed_pool_seen plan view actor (Took j) = pool_of_actor plan actor
 changed_pool_seen plan view actor Retired = pool_of_actor plan actor
 changed_pool_seen plan view actor _ = None
 
+abbrev pub taken_seen : View → Outcome → Option ℕ
+taken_seen view (Took j) = Some (class_seen view j)
+taken_seen view _ = None
+
 abbrev pub pool_counts : View → ℕ → Option PoolCounts
 pool_counts view p = option_map (λ pool. record { number = p; threads = pool.threads; idle = pool.idle }) (slice_get view.pools p)
 

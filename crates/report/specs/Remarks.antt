@@ -5,15 +5,13 @@ use Rattle.std.specs.Str.Lines.{lines}
 use Rattle.job_bodies.specs.Plan.{Pool, Plan}
 use Rattle.cert_text.specs.Cert.{Cert}
 use Rattle.plan_text.specs.declared.place.TextPlace.{TextPlace}
-use Rattle.size_search.specs.declared.cause.Cause.TheVariants.{Circle, ClientNeverGets, ClassNeverGets}
 use Rattle.size_search.specs.declared.found.NoSizes.{NoSizes}
-use Rattle.size_search.specs.declared.found.NoSizes.TheVariants.{Cause, TooLarge}
 use Rattle.size_search.specs.declared.found.SizesFound.{SizesFound}
 use Rattle.size_search.specs.declared.found.SizesFound.TheVariants.{Found, NotFound}
 use Rattle.counterexample.specs.declared.ending.Ending.{Ending}
 use Rattle.counterexample.specs.declared.ending.Ending.TheVariants.{Refused, StuckForever, StuckNow}
 use Rattle.counterexample.specs.declared.witness.Witness.{Witness}
-use Rattle.counterexample.specs.Description.{IsDescription}
+use Rattle.report.specs.Description.{IsDescription}
 use Rattle.diagnostics.specs.declared.diagnostic.Diagnostic.{Diagnostic}
 use Rattle.diagnostics.specs.declared.diagnostic.Faults.{Faults}
 use Rattle.diagnostics.specs.declared.warnings.Warning.{Warning}
@@ -23,9 +21,10 @@ use Rattle.report.specs.declared.annotation.Rule.{Rule}
 use Rattle.report.specs.declared.annotation.Rule.TheVariants as rule
 use Rattle.report.specs.declared.finding.PlanFinding.{PlanFinding}
 use Rattle.report.specs.declared.finding.PlanFinding.TheVariants.{Safe, NotSafe, NotDecided}
+use Rattle.report.specs.AdviceText.{open_words}
 use Rattle.report.specs.Annotations.{Remark}
 use Rattle.report.specs.Cause.{cause_words}
-use Rattle.report.specs.JsonPlaces.{pool_places_at, name_place, action_place}
+use Rattle.report.specs.JsonPlaces.{pool_places_at, cause_place}
 
 -- one remark, as a list
 abbrev pub one : Rule → List ℕ → Option TextPlace → List Remark
@@ -39,9 +38,17 @@ fault_remark fault = record { rule = rule.Fault fault.fault.number; message = st
 abbrev pub each_fault : List Diagnostic → List Remark
 each_fault = map fault_remark
 
--- a remark for each fault
+-- the words for a number of faults that are left out
+abbrev pub omitted_words : ℕ → List ℕ
+omitted_words omitted = if omitted == 1 then codes "... and 1 more fault" else codes "... and " ++ (decimal omitted ++ codes " more faults")
+
+-- the remark about faults that are left out, if there are any
+abbrev pub omitted_remarks : ℕ → List Remark
+omitted_remarks omitted = if omitted == 0 then [] else one rule.MoreFaults (omitted_words omitted) None
+
+-- a remark for each fault that is reported, and one for those that are left out
 abbrev pub fault_remarks : Faults → List Remark
-fault_remarks faults = fault_remark faults.first ∷ each_fault faults.others.items
+fault_remarks faults = fault_remark faults.first ∷ (each_fault faults.others.items ++ omitted_remarks faults.omitted)
 
 -- the remark about a fault that has no place in the plan's text
 abbrev pub single_fault : ℕ → List ℕ → List Remark
@@ -82,13 +89,6 @@ fitted_remarks r places plan (p, fit) = declared_remarks r (pool_places_at place
 abbrev pub changes_remarks : Rule → PlanPlaces → Plan → List Pool → List Remark
 changes_remarks r places plan fitted = flat_map (fitted_remarks r places plan) (enumerate_from 0 fitted)
 
--- the place of what the cause names
-abbrev pub cause_place : PlanPlaces → NoSizes → Option TextPlace
-cause_place places (Cause (Circle k)) = name_place places.classes.items k
-cause_place places (Cause (ClientNeverGets c i)) = action_place places.clients.items c i
-cause_place places (Cause (ClassNeverGets k i)) = action_place places.classes.items k i
-cause_place places (TooLarge p) = (pool_places_at places.pools.items p).name
-
 abbrev pub cause_remarks : Rule → PlanPlaces → Plan → NoSizes → List Remark
 cause_remarks r places plan cause = one r (cause_words plan cause) (cause_place places cause)
 
@@ -100,12 +100,6 @@ sizes_remarks r places plan (NotFound cause) = cause_remarks r places plan cause
 
 abbrev pub safe_remarks : List Remark
 safe_remarks = one rule.Safe (codes "no submit is ever refused, and no jobs wait for each other forever") None
-
--- the words that say what is not decided
-abbrev pub open_words : SizesFound → List ℕ
-open_words (NotFound (Cause cause)) = codes "no certificate accepts this plan with any sizes, and no counterexample was found"
-open_words (NotFound (TooLarge p)) = codes "neither a certificate for the declared sizes nor a counterexample was found: the sizes may be safe"
-open_words (Found fit cert) = codes "neither a certificate for the declared sizes nor a counterexample was found: the sizes may be safe"
 
 abbrev pub not_decided_remarks : PlanPlaces → Plan → SizesFound → List Remark
 not_decided_remarks places plan sizes = one rule.NotDecided (open_words sizes) None ++ sizes_remarks rule.NotDecided places plan sizes

@@ -6,7 +6,7 @@ use Rattle.serde_json.specs.Data.{Data, number, unsigned, string, array, object,
 use Rattle.serde_json.specs.View.{items_of}
 use Rattle.plan_text.specs.declared.place.TextPlace.{TextPlace}
 use Rattle.report.specs.declared.annotation.Rule.{Rule}
-use Rattle.report.specs.declared.annotation.Rule.TheVariants.{Fault, Warning, Safe, NotSafe, NotDecided}
+use Rattle.report.specs.declared.annotation.Rule.TheVariants.{Fault, MoreFaults, Warning, Safe, NotSafe, NotDecided}
 use Rattle.report.specs.declared.version.TheConstants.{VERSION}
 use Rattle.report.specs.Annotations.{Remark, rule_name}
 use Rattle.job_bodies.specs.Plan.{Plan}
@@ -14,10 +14,12 @@ use Rattle.diagnostics.specs.declared.warnings.Warning.{Warning as PlanWarning}
 use Rattle.diagnostics.specs.declared.entry_places.PlanPlaces.{PlanPlaces}
 use Rattle.report.specs.declared.finding.PlanFinding.{PlanFinding}
 use Rattle.report.specs.Remarks.{AreRemarks}
-use Rattle.report.specs.Json.{IsLineOf}
+use Rattle.report.specs.JsonLine.{IsLineOf}
+use Rattle.report.specs.Uri.{uri_text}
 
 abbrev pub level_word : Rule → List ℕ
 level_word (Fault n) = codes "error"
+level_word MoreFaults = codes "error"
 level_word (Warning lint) = codes "warning"
 level_word Safe = codes "note"
 level_word NotSafe = codes "error"
@@ -31,7 +33,7 @@ region_data place =
     (member (codes "startLine") (number (unsigned place.line)) no_members))
 
 unfoldable pub file_data : List ℕ → Data
-file_data file = object (member (codes "uri") (string file) no_members)
+file_data file = object (member (codes "uri") (string (uri_text file)) no_members)
 
 unfoldable pub whole_file : Data → Data
 whole_file file = object (member (codes "artifactLocation") file no_members)

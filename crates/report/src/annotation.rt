@@ -13,6 +13,8 @@ use std::alloc::{AllocError, Global};
 pub(crate) enum Rule {
     /// The fault with this number.
     Fault(u8),
+    /// Faults that are left out, since at most 100 are reported.
+    MoreFaults,
     /// A warning about this lint.
     Warning(Lint),
     /// The answer SAFE.
@@ -47,6 +49,7 @@ pub(crate) fn push_rule_name(text: &mut String, rule: Rule) -> Result<(), AllocE
 {
     match rule {
         Rule::Fault(number) => write!(text, "fault-{number}"),
+        Rule::MoreFaults => text.push_str("more-faults"),
         Rule::Warning(lint) => push_warning_name(text, lint),
         Rule::Safe => text.push_str("safe"),
         Rule::NotSafe => text.push_str("not-safe"),
@@ -65,6 +68,9 @@ fn lint_name(lint: Lint) -> &'static str
     ensures { result.now ≡ spec.lint_name lint }
 {
     match lint {
+        Lint::SafeAtCore => "safe-at-core",
+        Lint::SubmitsItself(_) => "submits-itself",
+        Lint::NeverGot(_, _, _) => "never-got",
         Lint::NothingToAsk => "nothing-to-ask",
         Lint::NoClients => "no-clients",
         Lint::NothingSubmitted => "nothing-submitted",

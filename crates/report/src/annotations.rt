@@ -6,18 +6,20 @@ ghost use Rattle.report.specs.Remarks as spec;
 
 use crate::PlanFinding;
 use crate::annotation::{Annotation, Rule};
+use crate::description::describe;
 use crate::json_places::pool_places_at;
 use crate::size_annotations::push_sizes_found;
-use counterexample::{Ending, Witness, describe};
+use crate::unsafe_sizes::open_words;
+use counterexample::{Ending, Witness};
 use diagnostics::{Diagnostic, Faults, PlanPlaces, Warning};
 use job_bodies::Plan;
 use plan_text::TextPlace;
-use size_search::{NoSizes, SizesFound};
+use size_search::SizesFound;
 use std::alloc::{AllocError, Global};
 
 // ---- faults
 
-/// Returns an annotation for each fault.
+/// Returns an annotation for each fault that is reported, and one for those that are left out.
 pub(crate) fn fault_annotations(
     alloc: Global,
     faults: &Faults,
@@ -27,6 +29,7 @@ pub(crate) fn fault_annotations(
     let mut found = Vec::new(alloc);
     push_fault(alloc, &mut found, &faults.first)?;
     push_faults(alloc, &mut found, &faults.others)?;
+    push_omitted(alloc, &mut found, faults.omitted)?;
     Ok(found)
 }
 
@@ -53,6 +56,30 @@ fn push_fault(
 {
     let rule = Rule::Fault(fault.fault.number);
     push(alloc, found, rule, &fault.what, Some(fault.place))
+}
+
+/// Appends an annotation for this number of faults that are left out, if there are any.
+fn push_omitted(
+    alloc: Global,
+    found: &mut Vec<Annotation>,
+    omitted: usize,
+) -> Result<(), AllocError>
+    ensures { Adds result found.old.items found.new.items (spec.omitted_remarks omitted) }
+{
+    if omitted == 0 {
+        return Ok(());
+    }
+    let words = omitted_words(alloc, omitted)?;
+    push(alloc, found, Rule::MoreFaults, &words, None)
+}
+
+fn omitted_words(alloc: Global, omitted: usize) -> Result<String, AllocError>
+    ensures { IfOk result (λ words. string_bytes words ≡ spec.omitted_words omitted) }
+{
+    match omitted {
+        1 => String::from_str(alloc, "... and 1 more fault"),
+        _ => format!(in alloc; "... and {omitted} more faults"),
+    }
 }
 
 /// Returns an annotation for one fault with this message, which has no place in the plan's text.
@@ -244,18 +271,4 @@ fn push_not_decided(
 {
     push(alloc, found, Rule::NotDecided, open_words(sizes), None)?;
     push_sizes_found(alloc, found, Rule::NotDecided, places, plan, sizes)
-}
-
-/// Returns the words that say what is not decided.
-fn open_words(sizes: &SizesFound) -> &'static str
-    ensures { result.now ≡ spec.open_words sizes.now }
-{
-    match sizes {
-        SizesFound::NotFound(NoSizes::Cause(_)) => {
-            "no certificate accepts this plan with any sizes, and no counterexample was found"
-        }
-        SizesFound::Found { .. } | SizesFound::NotFound(NoSizes::TooLarge(_)) => {
-            "neither a certificate for the declared sizes nor a counterexample was found: the sizes may be safe"
-        }
-    }
 }

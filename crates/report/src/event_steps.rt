@@ -43,6 +43,8 @@ pub(crate) struct EventStep {
     pub(crate) outcome: Outcome,
     /// The pool that the event changed or that refused, after the event.
     pub(crate) pool: Option<PoolCounts>,
+    /// The class of the job that a thread took from a queue.
+    pub(crate) taken: Option<usize>,
 }
 
 /// Performs the events in a new world of the plan, up to the first event that is not possible, and
@@ -76,6 +78,7 @@ fn push_steps(
     world: &mut World,
     mut events: &[Event],
 ) -> Result<(), AllocError>
+    requires well_formed { IsWellFormed plan.now }
     requires kinds { kinds.now.items ≡ (start plan.now).clients }
     requires of_plan { IsReachableView plan.now world.old.view }
     ensures { IfOk result (λ nothing. (s : State) → IsReached plan.now s → live_view plan.now s ≡ world.old.view
@@ -99,6 +102,7 @@ fn perform(
     world: &mut World,
     event: Event,
 ) -> Result<Option<EventStep>, AllocError>
+    requires well_formed { IsWellFormed plan.now }
     requires kinds { kinds.now.items ≡ (start plan.now).clients }
     requires of_plan { IsReachableView plan.now world.old.view }
     ensures value { IfOk result (λ step. (s : State) → IsReached plan.now s → live_view plan.now s ≡ world.old.view
@@ -116,6 +120,7 @@ fn perform(
         action: action_of(outcome, position),
         outcome,
         pool: counts_of(plan, world, pool),
+        taken: taken_class(world, outcome),
     }))
 }
 
@@ -185,6 +190,16 @@ fn changed_pool(plan: &Plan, world: &World, actor: Actor, outcome: Outcome) -> O
         Outcome::Refused(pool) => Some(pool),
         Outcome::Finished(_) | Outcome::Took(_) | Outcome::Retired => pool_of_actor(plan, actor),
         Outcome::Worked(_) | Outcome::Got(_) | Outcome::Looped => None,
+    }
+}
+
+/// Returns the class of the job that a thread took. `world` is the world after the event.
+fn taken_class(world: &World, outcome: Outcome) -> Option<usize>
+    ensures { result ≡ performed.taken_seen world.now.view outcome }
+{
+    match outcome {
+        Outcome::Took(job) => Some(class_of(world, job)),
+        _ => None,
     }
 }
 

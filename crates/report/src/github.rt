@@ -108,7 +108,7 @@ fn command(rule: Rule) -> &'static str
     ensures { result.now ≡ spec.command rule }
 {
     match rule {
-        Rule::Fault(_) | Rule::NotSafe => "error",
+        Rule::Fault(_) | Rule::MoreFaults | Rule::NotSafe => "error",
         Rule::Warning(_) | Rule::NotDecided => "warning",
         Rule::Safe => "notice",
     }
@@ -145,7 +145,7 @@ fn push_title(text: &mut String, rule: Rule) -> Result<(), AllocError>
         Rule::Safe => text.push_str("SAFE"),
         Rule::NotSafe => text.push_str("NOT SAFE"),
         Rule::NotDecided => text.push_str("NOT DECIDED"),
-        Rule::Fault(_) | Rule::Warning(_) => push_rule_name(text, rule),
+        Rule::Fault(_) | Rule::MoreFaults | Rule::Warning(_) => push_rule_name(text, rule),
     }
 }
 

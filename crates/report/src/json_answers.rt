@@ -9,6 +9,7 @@ ghost use Rattle.report.specs.Json as spec;
 use crate::PlanFinding;
 use crate::json_faults::{faults_value, single_fault};
 use crate::json_findings::finding_parts;
+use crate::json_line::line_of;
 use crate::json_plan::text_only_value;
 use crate::version::VERSION;
 use diagnostics::{Faults, PlanPlaces, Warning};
@@ -24,6 +25,7 @@ const FORMAT: u8 = 1;
 pub(crate) struct AnswerParts {
     pub(crate) assumptions: Value,
     pub(crate) faults: Value,
+    pub(crate) omitted: usize,
     pub(crate) plan: Value,
     pub(crate) pools: Value,
     pub(crate) sizes: Value,
@@ -70,7 +72,7 @@ pub fn faults_json(
         (λ line. spec.TellsFaults file.now text.now faults.now (string_bytes line)) }
 {
     let fault_list = faults_value(alloc, faults)?;
-    let value = faulty_value(alloc, file, text, fault_list)?;
+    let value = faulty_value(alloc, file, text, fault_list, faults.omitted)?;
     line_of(alloc, &value)
 }
 
@@ -91,7 +93,7 @@ pub fn fault_json(
         (λ line. spec.TellsFault file.now text.now number words.now (string_bytes line)) }
 {
     let fault_list = single_fault(alloc, number, words)?;
-    let value = faulty_value(alloc, file, text, fault_list)?;
+    let value = faulty_value(alloc, file, text, fault_list, 0)?;
     line_of(alloc, &value)
 }
 
@@ -106,29 +108,39 @@ fn word_of(finding: &PlanFinding) -> &'static str
     }
 }
 
-/// Creates the object of an answer that has only these faults.
-fn faulty_value(alloc: Global, file: &str, text: &[u8], faults: Value) -> Result<Value, AllocError>
+/// Creates the object of an answer that has only these faults, and leaves out a number of others.
+fn faulty_value(
+    alloc: Global,
+    file: &str,
+    text: &[u8],
+    faults: Value,
+    omitted: usize,
+) -> Result<Value, AllocError>
     ensures { IfOk result
-        (λ value. data_of value ≡ spec.faulty_data file.now text.now (data_of faults)) }
+        (λ value. data_of value ≡ spec.faulty_data file.now text.now (data_of faults) omitted) }
 {
-    let parts = fault_parts(alloc, text, faults)?;
-    answer_value(alloc, "FAULTS", file, parts)
+    let plan = text_only_value(alloc, text)?;
+    answer_value(
+        alloc,
+        "FAULTS",
+        file,
+        fault_parts(alloc, plan, faults, omitted),
+    )
 }
 
-/// Creates the members of an answer that has only these faults.
-fn fault_parts(alloc: Global, text: &[u8], faults: Value) -> Result<AnswerParts, AllocError>
-    ensures { IfOk result
-        (λ parts. spec.parts_of parts ≡ spec.fault_parts text.now (data_of faults)) }
+fn fault_parts(alloc: Global, plan: Value, faults: Value, omitted: usize) -> AnswerParts
+    ensures { spec.parts_of result ≡ spec.fault_parts (data_of plan) (data_of faults) omitted }
 {
-    Ok(AnswerParts {
+    AnswerParts {
         assumptions: Value::Array(Vec::new(alloc)),
         faults,
-        plan: text_only_value(alloc, text)?,
+        omitted,
+        plan,
         pools: Value::Array(Vec::new(alloc)),
         sizes: Value::Null,
         warnings: Value::Array(Vec::new(alloc)),
         witness: Value::Null,
-    })
+    }
 }
 
 /// Creates the object of an answer with this name.
@@ -145,6 +157,7 @@ fn answer_value(
     let AnswerParts {
         assumptions,
         faults,
+        omitted,
         plan,
         pools,
         sizes,
@@ -157,6 +170,7 @@ fn answer_value(
         "faults": faults,
         "file": file,
         "format": FORMAT,
+        "omitted": omitted,
         "plan": plan,
         "pools": pools,
         "sizes": sizes,
@@ -164,13 +178,4 @@ fn answer_value(
         "warnings": warnings,
         "witness": witness
     })
-}
-
-/// Returns the text of the value, followed by a newline.
-fn line_of(alloc: Global, value: &Value) -> Result<String, AllocError>
-    ensures { IfOk result (λ text. spec.IsLineOf (data_of value.now) (string_bytes text)) }
-{
-    let mut text = value.to_string(alloc)?;
-    text.push('\n')?;
-    Ok(text)
 }

@@ -7,7 +7,7 @@ ghost use Rattle.report.specs.Cause.{cause_words};
 ghost use Rattle.report.specs.JsonSizes as spec;
 
 use crate::cause_lines::push_cause_words;
-use crate::json_places::{action_place, column_value, line_value, name_place, pool_places_at};
+use crate::json_places::{cause_place, column_value, line_value};
 use diagnostics::PlanPlaces;
 use job_bodies::Plan;
 use plan_text::TextPlace;
@@ -25,7 +25,7 @@ pub(crate) fn cause_value(
     ensures { IfOk result (λ value. view value ≡ spec.cause_data places.now plan.now cause) }
 {
     let words = words_of(alloc, plan, cause)?;
-    told_cause(alloc, places, plan, cause, &words)
+    told_cause(alloc, plan, cause, cause_place(places, cause), &words)
 }
 
 fn words_of(alloc: Global, plan: &Plan, cause: NoSizes) -> Result<String, AllocError>
@@ -38,31 +38,24 @@ fn words_of(alloc: Global, plan: &Plan, cause: NoSizes) -> Result<String, AllocE
 
 fn told_cause(
     alloc: Global,
-    places: &PlanPlaces,
     plan: &Plan,
     cause: NoSizes,
+    place: Option<TextPlace>,
     words: &str,
 ) -> Result<Value, AllocError>
-    ensures { IfOk result
-        (λ value. view value ≡ spec.told_cause places.now plan.now cause words.now) }
+    ensures { IfOk result (λ value. view value ≡ spec.told_cause plan.now cause place words.now) }
 {
     match cause {
         NoSizes::Cause(Cause::Circle(class)) => {
-            let place = name_place(&places.classes, class);
             cycle_value(alloc, place, plan.class_name(class), words)
         }
         NoSizes::Cause(Cause::ClientNeverGets(client, action)) => {
-            let place = action_place(&places.clients, client, action);
             client_never_gets(alloc, place, action, plan.client_name(client), words)
         }
         NoSizes::Cause(Cause::ClassNeverGets(class, action)) => {
-            let place = action_place(&places.classes, class, action);
             class_never_gets(alloc, place, action, plan.class_name(class), words)
         }
-        NoSizes::TooLarge(pool) => {
-            let place = pool_places_at(&places.pools, pool).name;
-            limit_value(alloc, place, plan.pool_name(pool), words)
-        }
+        NoSizes::TooLarge(pool) => limit_value(alloc, place, plan.pool_name(pool), words),
     }
 }
 

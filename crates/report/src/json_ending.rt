@@ -135,7 +135,7 @@ fn push_wait(
     }
 }
 
-fn pool_name(plan: &Plan, class: usize) -> &str
+pub(crate) fn pool_name(plan: &Plan, class: usize) -> &str
     ensures { result.now ≡ spec.pool_name plan.now class }
 {
     plan.pool_name(pool_of(plan, class))
@@ -155,7 +155,7 @@ fn wait_value(
     json!(in alloc; {"at": place, "for": awaited, "job": number, "pool": pool})
 }
 
-fn action_at(plan: &Plan, class: usize, position: usize) -> Option<Action>
+pub(crate) fn action_at(plan: &Plan, class: usize, position: usize) -> Option<Action>
     ensures { result ≡ slice_get (class_at plan.now class).body position }
 {
     match plan.class_at(class) {
@@ -183,7 +183,7 @@ fn awaited(
 }
 
 /// Returns the latest live job that the job with this number created by the submit at this position.
-fn child_of(world: &World, number: usize, submit: usize) -> Option<usize>
+pub(crate) fn child_of(world: &World, number: usize, submit: usize) -> Option<usize>
     ensures { result ≡ live_child world.now.view.jobs (parent.Job number) submit }
 {
     let mut child = None;

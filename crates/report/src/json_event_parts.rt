@@ -5,7 +5,8 @@ ghost use Rattle.serde_json.specs.View.{view};
 ghost use Rattle.report.specs.JsonEvents as spec;
 
 use crate::event_steps::Actor;
-use diagnostics::{BodyPlaces, PlanPlaces};
+use crate::json_places::action_place;
+use diagnostics::PlanPlaces;
 use interleaving::Outcome;
 use job_bodies::Plan;
 use plan_text::TextPlace;
@@ -63,25 +64,19 @@ pub(crate) fn event_value(
 }
 
 /// Returns the place of the actor's action, or `None` if it is not known.
-pub(crate) fn action_place(
+pub(crate) fn actor_place(
     places: &PlanPlaces,
     actor: Actor,
     action: Option<usize>,
 ) -> Option<TextPlace>
-    ensures { result ≡ spec.action_place places.now actor action }
+    ensures { result ≡ spec.actor_place places.now actor action }
 {
     let index = action?;
     match actor {
-        Actor::Client(kind, _) => place_in(&places.clients, kind, index),
-        Actor::Job(class, _) => place_in(&places.classes, class, index),
+        Actor::Client(kind, _) => action_place(&places.clients, kind, index),
+        Actor::Job(class, _) => action_place(&places.classes, class, index),
         Actor::Pool(_) => None,
     }
-}
-
-fn place_in(bodies: &[BodyPlaces], body: usize, index: usize) -> Option<TextPlace>
-    ensures { result ≡ spec.place_in bodies.now body index }
-{
-    *bodies.get(body)?.actions.get(index)?
 }
 
 /// Converts the actor of an event.

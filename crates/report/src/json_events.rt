@@ -10,8 +10,9 @@ ghost use Rattle.report.specs.JsonEvents as spec;
 use crate::event_queues::queue_value;
 use crate::event_steps::{Actor, EventStep, PoolCounts};
 use crate::json_event_parts::{
-    EventParts, action_place, actor_value, event_value, job_of, outcome_word, pool_state_value,
+    EventParts, actor_place, actor_value, event_value, job_of, outcome_word, pool_state_value,
 };
+use crate::json_places::{column_value, line_value};
 use crate::json_values::optional_number;
 use diagnostics::PlanPlaces;
 use interleaving::Outcome;
@@ -159,7 +160,7 @@ fn run_value(
     ensures { IfOk result (λ value. view value
         ≡ spec.run_data plan.now places.now (shown.run_of run steps.now)) }
 {
-    let place = action_place(places, run.first.actor, run.first.action);
+    let place = actor_place(places, run.first.actor, run.first.action);
     let pool = pool_value(alloc, plan, run.last.pool, steps)?;
     let actor = actor_value(alloc, plan, run.first.actor)?;
     event_value(
@@ -167,9 +168,9 @@ fn run_value(
         EventParts {
             action: optional_number(run.first.action),
             actor,
-            column: optional_number(place.map(|place| place.column)),
+            column: column_value(place),
             job: optional_number(job_of(run.first.outcome)),
-            line: optional_number(place.map(|place| place.line)),
+            line: line_value(place),
             pool,
         },
         outcome_word(run.first.outcome),

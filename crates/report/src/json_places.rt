@@ -1,12 +1,13 @@
-//! The places of a plan's entries as JSON.
+//! The places of a plan's entries, and lines and columns as JSON.
 
 ghost use Rattle.std.specs.Prelude.{◌≡◌};
 ghost use Rattle.serde_json.specs.View.{view};
 ghost use Rattle.report.specs.JsonPlaces as spec;
 
-use diagnostics::{BodyPlaces, PoolPlaces};
+use diagnostics::{BodyPlaces, PlanPlaces, PoolPlaces};
 use plan_text::TextPlace;
 use serde_json::Value;
+use size_search::{Cause, NoSizes};
 
 /// Converts the line of a place. The value is null if the place is not known.
 pub(crate) fn line_value(place: Option<TextPlace>) -> Value
@@ -69,5 +70,21 @@ fn place_at(actions: &[Option<TextPlace>], action: usize) -> Option<TextPlace>
     match actions.get(action) {
         Some(place) => *place,
         None => None,
+    }
+}
+
+/// Returns the place of the class, the action or the pool that the cause names.
+pub(crate) fn cause_place(places: &PlanPlaces, cause: NoSizes) -> Option<TextPlace>
+    ensures { result ≡ spec.cause_place places.now cause }
+{
+    match cause {
+        NoSizes::Cause(Cause::Circle(class)) => name_place(&places.classes, class),
+        NoSizes::Cause(Cause::ClientNeverGets(client, action)) => {
+            action_place(&places.clients, client, action)
+        }
+        NoSizes::Cause(Cause::ClassNeverGets(class, action)) => {
+            action_place(&places.classes, class, action)
+        }
+        NoSizes::TooLarge(pool) => pool_places_at(&places.pools, pool).name,
     }
 }

@@ -50,6 +50,9 @@ fn kind_of(lint: Lint) -> &'static str
     ensures { result.now ≡ spec.kind_of lint }
 {
     match lint {
+        Lint::SafeAtCore => "safe at core",
+        Lint::SubmitsItself(_) => "submits itself",
+        Lint::NeverGot(_, _, _) => "never got",
         Lint::NothingToAsk => "nothing to ask",
         Lint::NoClients => "no clients",
         Lint::NothingSubmitted => "nothing submitted",

@@ -1,10 +1,12 @@
-//! The report of `sizing ask` as text, JSON, page, picture, workflow commands and SARIF log; and the
-//! lines of `sizing fit`.
+//! The report of `sizing ask` as text, JSON, page, picture, workflow commands and SARIF log; the
+//! lines of `sizing fit`; and the story of a witness.
 #![tactic(auto)]
 
+mod active_clients;
 mod annotation;
 mod annotations;
 mod cause_lines;
+mod description;
 mod event_queues;
 mod event_steps;
 mod finding;
@@ -18,6 +20,7 @@ mod json_event_parts;
 mod json_events;
 mod json_faults;
 mod json_findings;
+mod json_line;
 mod json_places;
 mod json_plan;
 mod json_pools;
@@ -34,12 +37,20 @@ mod shares;
 mod size_annotations;
 mod size_laws;
 mod size_lines;
+mod story;
+mod story_lines;
+mod story_pools;
+mod story_steps;
+mod story_turns;
+mod story_waits;
 mod text;
 mod unsafe_sizes;
+mod uri;
 mod version;
 mod waits;
 
 pub use cause_lines::push_no_sizes;
+pub use description::describe;
 pub use finding::PlanFinding;
 pub use github::{fault_github, faults_github, finding_github};
 pub use json_answers::{fault_json, faults_json, finding_json};

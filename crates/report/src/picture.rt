@@ -2,108 +2,252 @@
 //! clients are outside them. An arrow is a submit, a dashed one a get, and a bold one a counted
 //! get.
 
-ghost use Rattle.std.specs.Prelude.{◌≡◌, IfOk, string_bytes};
+ghost use Rattle.std.specs.Prelude.{◌≡◌, IfOk, option_map, string_bytes};
+ghost use Rattle.support.specs.Pushed.{Pushes};
 ghost use Rattle.report.specs.Picture as spec;
 
-mod arrows;
+mod edges;
 
 use crate::finding::PlanFinding;
-use crate::picture::arrows::push_arrows;
+use crate::picture::edges::{push_class_edges, push_client_edges};
 use crate::safe::{push_most, push_threads, total_of};
-use cert_text::Cert;
-use job_bodies::{Client, Plan, Pool};
+use cert_text::PoolCert;
+use job_bodies::{Class, Client, Plan, Pool};
 use std::alloc::{AllocError, Global};
-use weights::Bound;
+use weights::{Bound, Ranks};
 
-/// Draws a plan, with the bounds of its queues if a certificate accepts it.
+/// Draws a plan, with the bounds of its queues and the counted gets if a certificate accepts it.
 ///
 /// # Errors
 ///
 /// [`AllocError`] if memory runs out.
 pub fn picture_of(alloc: Global, plan: &Plan, finding: &PlanFinding) -> Result<String, AllocError>
-    ensures { IfOk result (λ text. spec.IsPicture (string_bytes text)) }
+    ensures { IfOk result
+        (λ text. string_bytes text ≡ spec.picture_text plan.now finding.now) }
 {
-    let cert = match finding {
-        PlanFinding::Safe(cert) => Some(cert),
-        PlanFinding::NotSafe(_, _) | PlanFinding::NotDecided(_) => None,
-    };
-    let inside = inside_of(alloc, plan, cert)?;
-    let mut text = String::from_str(alloc, "digraph plan {\n")?;
-    text.push_str(&inside)?;
+    match finding {
+        PlanFinding::Safe(cert) => graph_of(alloc, plan, &cert.pools, Some(&cert.ranks)),
+        PlanFinding::NotSafe(_, _) | PlanFinding::NotDecided(_) => graph_of(alloc, plan, &[], None),
+    }
+}
+
+/// Draws a plan with the parts of a certificate for its pools, and its ranks.
+fn graph_of(
+    alloc: Global,
+    plan: &Plan,
+    parts: &[PoolCert],
+    ranks: Option<&Ranks>,
+) -> Result<String, AllocError>
+    ensures { IfOk result (λ text. string_bytes text
+        ≡ spec.graph_text plan.now parts.now (option_map (λ ranks. ranks.now) ranks.entry)) }
+{
+    let mut text = String::new(alloc);
+    push_head(&mut text)?;
+    push_clients(&mut text, plan.clients())?;
+    push_pools(&mut text, plan, parts)?;
+    push_client_edges(&mut text, plan)?;
+    push_class_edges(&mut text, plan, ranks)?;
     text.push_str("}\n")?;
     Ok(text)
 }
 
-fn inside_of(alloc: Global, plan: &Plan, cert: Option<&Cert>) -> Result<String, AllocError> {
-    let mut text = String::from_str(
-        alloc,
-        "  rankdir=LR\n  node [fontname=\"sans-serif\" fontsize=11]\n  edge [fontname=\"sans-serif\" fontsize=9]\n",
-    )?;
-    for (number, client) in plan.clients().iter().enumerate() {
-        push_client(&mut text, number, client)?;
-    }
-    for (number, pool) in plan.pools().iter().enumerate() {
-        push_pool(&mut text, plan, number, pool, cert)?;
-    }
-    push_arrows(alloc, &mut text, plan, cert)?;
-    Ok(text)
+fn push_head(text: &mut String) -> Result<(), AllocError>
+    ensures { Pushes result text.old text.new spec.head }
+{
+    text.push_str("digraph plan {\n")?;
+    text.push_str("  rankdir=LR\n")?;
+    text.push_str("  node [fontname=\"sans-serif\" fontsize=11]\n")?;
+    text.push_str("  edge [fontname=\"sans-serif\" fontsize=9]\n")
 }
 
-fn push_client(text: &mut String, number: usize, client: &Client) -> Result<(), AllocError> {
-    let name = client.name.as_str();
+// ---- clients
+
+fn push_clients(text: &mut String, clients: &[Client]) -> Result<(), AllocError>
+    ensures { Pushes result text.old text.new (spec.client_nodes clients.now) }
+{
+    for (number, client) in clients.iter().enumerate() {
+        push_client(text, number, client)?;
+    }
+    Ok(())
+}
+
+fn push_client(text: &mut String, number: usize, client: &Client) -> Result<(), AllocError>
+    ensures { Pushes result text.old text.new (spec.client_node (number, client.now)) }
+{
     let count = client.count;
-    let rounds = if client.repeat {
-        "again and again"
-    } else {
-        "once"
-    };
+    let name = client.name.as_str();
+    let rounds = rounds(client.repeat);
     writeln!(
         text,
         "  client{number} [shape=ellipse label=\"{count} {name}\\n{rounds}\"]"
     )
 }
 
-/// Appends a box for the pool, with its classes.
+fn rounds(repeat: bool) -> &'static str
+    ensures { result.now ≡ spec.rounds repeat }
+{
+    if repeat { "again and again" } else { "once" }
+}
+
+// ---- pools
+
+fn push_pools(text: &mut String, plan: &Plan, parts: &[PoolCert]) -> Result<(), AllocError>
+    ensures { Pushes result text.old text.new (spec.pool_boxes plan.now parts.now) }
+{
+    for (number, pool) in plan.pools().iter().enumerate() {
+        push_pool(text, plan, parts, number, pool)?;
+    }
+    Ok(())
+}
+
 fn push_pool(
+    text: &mut String,
+    plan: &Plan,
+    parts: &[PoolCert],
+    number: usize,
+    pool: &Pool,
+) -> Result<(), AllocError>
+    ensures { Pushes result text.old text.new
+        (spec.pool_box plan.now parts.now (number, pool.now)) }
+{
+    push_box(text, plan, number, pool, parts.get(number))
+}
+
+/// Appends a box for the pool, with its classes.
+#[tactic(auto, unfolding(crate::specs::Picture::box_text))]
+fn push_box(
     text: &mut String,
     plan: &Plan,
     number: usize,
     pool: &Pool,
-    cert: Option<&Cert>,
-) -> Result<(), AllocError> {
-    let name = pool.name.as_str();
-    let queue = pool.queue;
-    write!(text, "  subgraph cluster{number} {{\n    label=\"{name}\\n")?;
-    push_threads(text, pool)?;
-    write!(text, ", queue {queue}")?;
-    if let Some(cert) = cert
-        && let Some(parts) = cert.pools.get(number)
-    {
-        push_bound(text, plan, &parts.bound)?;
-    }
-    text.push_str("\"\n")?;
-    let mut any = false;
-    for (class, entry) in plan.classes().iter().enumerate() {
-        if entry.pool == number {
-            any = true;
-            let name = entry.name.as_str();
-            writeln!(text, "    class{class} [shape=box label=\"{name}\"]")?;
-        }
-    }
-    if !any {
-        // Graphviz draws no box around an empty cluster.
-        writeln!(text, "    pool{number} [style=invis label=\"\"]")?;
-    }
+    part: Option<&PoolCert>,
+) -> Result<(), AllocError>
+    ensures { Pushes result text.old text.new
+        (spec.box_text plan.now number pool.now (option_map (λ part. part.now) part.entry)) }
+{
+    push_start(text, plan, number, pool, part)?;
+    push_nodes(text, plan.classes(), number)
+}
+
+/// Appends the first lines of the pool's box.
+fn push_start(
+    text: &mut String,
+    plan: &Plan,
+    number: usize,
+    pool: &Pool,
+    part: Option<&PoolCert>,
+) -> Result<(), AllocError>
+    ensures { Pushes result text.old text.new
+        (spec.box_start number (spec.pool_label plan.now pool.now (option_map (λ part. part.now) part.entry))) }
+{
+    write!(text, "  subgraph cluster{number}")?;
+    text.push_str(" {\n")?;
+    text.push_str("    label=\"")?;
+    push_label(text, plan, pool, part)?;
+    text.push_str("\"\n")
+}
+
+/// Appends the nodes in the pool's box, and the end of the box.
+fn push_nodes(text: &mut String, classes: &[Class], pool: usize) -> Result<(), AllocError>
+    ensures { Pushes result text.old text.new (spec.box_nodes classes.now pool) }
+{
+    push_classes(text, classes, pool)?;
+    push_hidden(text, classes, pool)?;
     text.push_str("  }\n")
 }
 
+/// Appends the name of the pool, its sizes, and its bound if it is known.
+fn push_label(
+    text: &mut String,
+    plan: &Plan,
+    pool: &Pool,
+    part: Option<&PoolCert>,
+) -> Result<(), AllocError>
+    ensures { Pushes result text.old text.new
+        (spec.pool_label plan.now pool.now (option_map (λ part. part.now) part.entry)) }
+{
+    let name = pool.name.as_str();
+    let queue = pool.queue;
+    write!(text, "{name}\\n")?;
+    push_threads(text, pool)?;
+    write!(text, ", queue {queue}")?;
+    push_bound(text, plan, part)
+}
+
 /// Appends the maximum number of jobs in the queue at one time, or ever submitted to the pool.
-fn push_bound(text: &mut String, plan: &Plan, bound: &Bound) -> Result<(), AllocError> {
-    match total_of(plan, bound.vector()) {
+fn push_bound(text: &mut String, plan: &Plan, part: Option<&PoolCert>) -> Result<(), AllocError>
+    ensures { Pushes result text.old text.new
+        (spec.bound_part plan.now (option_map (λ part. part.now) part.entry)) }
+{
+    match part {
+        Some(part) => push_total(text, &part.bound, total_of(plan, part.bound.vector())),
+        None => Ok(()),
+    }
+}
+
+fn push_total(text: &mut String, bound: &Bound, total: Option<u64>) -> Result<(), AllocError>
+    ensures { Pushes result text.old text.new (spec.most_part bound.now total) }
+{
+    match total {
         Some(total) => {
             text.push_str("\\n")?;
             push_most(text, bound, total)
         }
         None => Ok(()),
     }
+}
+
+/// Appends a node for each class of the pool.
+fn push_classes(text: &mut String, classes: &[Class], pool: usize) -> Result<(), AllocError>
+    ensures { Pushes result text.old text.new (spec.class_nodes classes.now pool) }
+{
+    for (number, class) in classes.iter().enumerate() {
+        push_class(text, pool, number, class)?;
+    }
+    Ok(())
+}
+
+fn push_class(
+    text: &mut String,
+    pool: usize,
+    number: usize,
+    class: &Class,
+) -> Result<(), AllocError>
+    ensures { Pushes result text.old text.new (spec.class_node pool (number, class.now)) }
+{
+    if class.pool == pool {
+        push_class_line(text, number, &class.name)
+    } else {
+        Ok(())
+    }
+}
+
+fn push_class_line(text: &mut String, number: usize, name: &str) -> Result<(), AllocError>
+    ensures { Pushes result text.old text.new (spec.class_line number name.now) }
+{
+    writeln!(text, "    class{number} [shape=box label=\"{name}\"]")
+}
+
+/// Appends a node that is not visible if the pool has no classes: Graphviz draws no box around
+/// nothing.
+fn push_hidden(text: &mut String, classes: &[Class], pool: usize) -> Result<(), AllocError>
+    ensures { Pushes result text.old text.new (spec.hidden_node classes.now pool) }
+{
+    if has_class(classes, pool) {
+        Ok(())
+    } else {
+        push_hidden_line(text, pool)
+    }
+}
+
+fn has_class(classes: &[Class], pool: usize) -> bool
+    ensures { result ≡ spec.has_class classes.now pool }
+{
+    classes.iter().any(|class| class.pool == pool)
+}
+
+fn push_hidden_line(text: &mut String, pool: usize) -> Result<(), AllocError>
+    ensures { Pushes result text.old text.new (spec.hidden_line pool) }
+{
+    writeln!(text, "    pool{pool} [style=invis label=\"\"]")
 }

@@ -3,13 +3,15 @@
 ghost use Rattle.std.specs.Prelude.{◌≡◌, IfOk, OnOk, map, string_bytes};
 ghost use Rattle.serde_json.specs.View.{view};
 ghost use Rattle.report.specs.Annotations.{remarks_in, remark_of};
-ghost use Rattle.report.specs.Json.{IsLineOf};
+ghost use Rattle.report.specs.JsonLine.{IsLineOf};
 ghost use Rattle.report.specs.Remarks.{fault_remarks, single_fault};
 ghost use Rattle.report.specs.Sarif as spec;
 
 use crate::PlanFinding;
 use crate::annotation::{Annotation, Rule, rule_name};
 use crate::annotations::{annotations_of, fault_annotations, single_fault};
+use crate::json_line::line_of;
+use crate::uri::uri_of;
 use crate::version::VERSION;
 use diagnostics::{Faults, PlanPlaces, Warning};
 use job_bodies::Plan;
@@ -72,15 +74,6 @@ fn log_of(alloc: Global, file: &str, annotations: &[Annotation]) -> Result<Strin
 {
     let value = sarif_value(alloc, file, annotations)?;
     line_of(alloc, &value)
-}
-
-/// Returns the text of the value, followed by a newline.
-fn line_of(alloc: Global, value: &Value) -> Result<String, AllocError>
-    ensures { IfOk result (λ text. IsLineOf (view value.now) (string_bytes text)) }
-{
-    let mut text = value.to_string(alloc)?;
-    text.push('\n')?;
-    Ok(text)
 }
 
 /// Creates the log of these annotations of a file.
@@ -148,7 +141,7 @@ fn level_word(rule: Rule) -> &'static str
     ensures { result.now ≡ spec.level_word rule }
 {
     match rule {
-        Rule::Fault(_) | Rule::NotSafe => "error",
+        Rule::Fault(_) | Rule::MoreFaults | Rule::NotSafe => "error",
         Rule::Warning(_) | Rule::NotDecided => "warning",
         Rule::Safe => "note",
     }
@@ -177,7 +170,8 @@ fn physical_value(alloc: Global, file: &str, place: Option<TextPlace>) -> Result
 fn file_value(alloc: Global, file: &str) -> Result<Value, AllocError>
     ensures { IfOk result (λ value. view value ≡ spec.file_data file.now) }
 {
-    json!(in alloc; {"uri": file})
+    let uri = uri_of(alloc, file)?;
+    json!(in alloc; {"uri": &uri})
 }
 
 #[tactic(auto, unfolding(crate::specs::Sarif::whole_file))]

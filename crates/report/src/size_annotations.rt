@@ -7,11 +7,11 @@ ghost use Rattle.report.specs.Remarks as spec;
 use crate::annotation::{Annotation, Rule};
 use crate::annotations::push;
 use crate::cause_lines::push_cause_words;
-use crate::json_places::{action_place, name_place, pool_places_at};
+use crate::json_places::{cause_place, pool_places_at};
 use diagnostics::{PlanPlaces, PoolPlaces};
 use job_bodies::{Plan, Pool};
 use plan_text::TextPlace;
-use size_search::{Cause, NoSizes, SizesFound};
+use size_search::{NoSizes, SizesFound};
 use std::alloc::{AllocError, Global};
 
 /// Appends an annotation for each size to change, or one for the cause why there are no sizes.
@@ -157,20 +157,4 @@ fn push_cause(
     let mut words = String::new(alloc);
     push_cause_words(&mut words, plan, cause)?;
     push(alloc, found, rule, &words, cause_place(places, cause))
-}
-
-/// Returns the place of the class, the action or the pool that the cause names.
-fn cause_place(places: &PlanPlaces, cause: NoSizes) -> Option<TextPlace>
-    ensures { result ≡ spec.cause_place places.now cause }
-{
-    match cause {
-        NoSizes::Cause(Cause::Circle(class)) => name_place(&places.classes, class),
-        NoSizes::Cause(Cause::ClientNeverGets(client, action)) => {
-            action_place(&places.clients, client, action)
-        }
-        NoSizes::Cause(Cause::ClassNeverGets(class, action)) => {
-            action_place(&places.classes, class, action)
-        }
-        NoSizes::TooLarge(pool) => pool_places_at(&places.pools, pool).name,
-    }
 }

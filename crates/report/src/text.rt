@@ -4,6 +4,7 @@ ghost use Rattle.std.specs.Prelude.{IfOk, string_bytes};
 ghost use Rattle.support.specs.Pushed.{Pushes};
 ghost use Rattle.report.specs.AnswerText as spec;
 
+use crate::description::describe;
 use crate::finding::PlanFinding;
 use crate::safe::push_safe;
 use crate::unsafe_sizes::{push_advice, push_open};
@@ -48,7 +49,7 @@ fn not_safe(
     ensures { IfOk result
         (λ text. spec.TellsNotSafe plan.now witness.now sizes.now (string_bytes text)) }
 {
-    let story = counterexample::describe(alloc, plan, witness)?;
+    let story = describe(alloc, plan, witness)?;
     let mut text = String::from_str(alloc, "NOT SAFE\n")?;
     text.push_str(&story)?;
     push_found(&mut text, plan, sizes)?;

@@ -1,5 +1,6 @@
 //! The advice for a plan whose declared sizes are not safe, or not shown to be.
 
+ghost use Rattle.std.specs.Prelude.{◌≡◌};
 ghost use Rattle.support.specs.Pushed.{Pushes};
 ghost use Rattle.report.specs.AdviceText as spec;
 
@@ -93,12 +94,20 @@ fn push_advice_for_cause(text: &mut String, cause: NoSizes) -> Result<(), AllocE
 pub(crate) fn push_open(text: &mut String, sizes: &SizesFound) -> Result<(), AllocError>
     ensures { Pushes result text.old text.new (spec.open_text sizes.now) }
 {
+    text.push_str(open_words(sizes))?;
+    text.push('\n')
+}
+
+/// Returns the words that say what is not decided.
+pub(crate) fn open_words(sizes: &SizesFound) -> &'static str
+    ensures { result.now ≡ spec.open_words sizes.now }
+{
     match sizes {
-        SizesFound::NotFound(NoSizes::Cause(_)) => text.push_str(
-            "no certificate accepts this plan with any sizes, and no counterexample was found\n",
-        ),
-        SizesFound::Found { .. } | SizesFound::NotFound(NoSizes::TooLarge(_)) => text.push_str(
-            "neither a certificate for the declared sizes nor a counterexample was found: the sizes may be safe\n",
-        ),
+        SizesFound::NotFound(NoSizes::Cause(_)) => {
+            "no certificate accepts this plan with any sizes, and no counterexample was found"
+        }
+        SizesFound::Found { .. } | SizesFound::NotFound(NoSizes::TooLarge(_)) => {
+            "neither a certificate for the declared sizes nor a counterexample was found: the sizes may be safe"
+        }
     }
 }

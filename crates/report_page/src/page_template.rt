@@ -140,7 +140,7 @@ return h("header", {style: `--tone:var(--${tone})`}, h("div", {class: "answer"},
 answer.faults.length ? null : h("p", {class: "muted"}, `The plan has ${counts}.`),h("nav", {"aria-label": "Sections"}, ids.map(([id, title]) => h("a", {href: `#${id}`}, title)))));}
 function verdict(answer) {const {witness} = answer;if (answer.answer === "SAFE")
 return "In any order of events, no submit is ever refused, and no jobs wait for each other forever. This is proved for the plan.";if (answer.answer === "FAULTS")
-return `The text has ${plural(answer.faults.length, "fault")}, so the sizes were not checked.`;if (!witness)
+return `The text has ${plural(answer.faults.length + answer.omitted, "fault")}, so the sizes were not checked.`;if (!witness)
 return "The search found neither a certificate nor events that show the plan to be wrong. The sizes may be right.";const jobs = plural(witness.ending.jobs.length, "job");
 const events = plural(witness.events.reduce((sum, each) => sum + each.times, 0), "event");if (witness.ending.kind === "refused")
 return `Pool ${witness.ending.pool} refuses a submit after ${events}, which are possible from the plan's start.`;
@@ -345,15 +345,16 @@ line(0, 7, 22, 7, `stroke:var(--ink);stroke-width:2;${dash}`));const has = waits
 h("div", {class: "legend"}, has(true) ? h("span", {}, ink(""), "submits, and waits for each") : null,
 has(false) ? h("span", {}, ink("stroke-dasharray:5 4"), "submits, and does not wait for all") : null,rows.some(row => row.submits > 1) ? h("span", {}, "\u00d7n: n times in one body") : null),
 drawing(below + 12, "Clients, pools and classes; the table below has the same", grounds, lines, front),folded("As a table", false, tableOf(plan, rows))
-];}function listed(plan, id, title, them) {return section(id, title,them.map(each => h("div", {class: "fault"},
-each.line ? [h("span", {class: "muted"}, "line ", plan.link(each.line), ": ")] : null, each.text,plan.quoted(each.line))));}function source(plan, answer) {
+];}function listed(plan, id, title, them, omitted) {return section(id, title,[...them.map(each => h("div", {class: "fault"},
+each.line ? [h("span", {class: "muted"}, "line ", plan.link(each.line), ": ")] : null, each.text,plan.quoted(each.line))),
+omitted ? h("p", {class: "muted"}, `and ${plural(omitted, "more fault")}`) : null]);}function source(plan, answer) {
 const marked = new Set([...answer.faults, ...answer.warnings].map(each => each.line));for (const pool of answer.sizes ? answer.sizes.pools : [])
 for (const change of pool.changes) marked.add(change.line);return section("plan", "The plan",folded(plan.file, plan.lines.length <= 40 || answer.answer === "FAULTS",
 plan.excerpt(plan.lines.map((words, at) => [at + 1, words, marked.has(at + 1) ? "hit" : ""]), true)));}function show(answer) {const plan = new Plan(answer), parts = [];
 const story = answer.witness ? new Story(plan, answer) : null;const add = (title, element) => parts.push([element.id, title, element]);
-if (answer.faults.length) add("Faults", listed(plan, "faults", "Faults", answer.faults));if (answer.sizes) add("Sizes", sizes(plan, answer));
+if (answer.faults.length) add("Faults", listed(plan, "faults", "Faults", answer.faults, answer.omitted));if (answer.sizes) add("Sizes", sizes(plan, answer));
 if (answer.pools.length) add("Pools", pools(plan, answer, story && story.end));if (story) add("What happens", witness(plan, answer, story));
-if (answer.warnings.length) add("Warnings", listed(plan, "warnings", "Warnings", answer.warnings));if (answer.assumptions.length)
+if (answer.warnings.length) add("Warnings", listed(plan, "warnings", "Warnings", answer.warnings, 0));if (answer.assumptions.length)
 add("Assumptions",section("assumptions", "What this assumes", h("ul", {}, answer.assumptions.map(each => h("li", {}, coded(each))))));
 if (plan.clients.length || plan.classes.length) add("Who submits what", submits(plan));if (plan.lines) add("The plan", source(plan, answer));
 const program = answer.version ? `sizing ${answer.version}` : "sizing";document.title = `${answer.answer}: ${plan.file}`;

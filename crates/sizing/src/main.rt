@@ -2,12 +2,15 @@
 //! can deadlock.
 #![tactic(auto)]
 
+mod hints;
 mod version;
 
+use crate::hints::{missing_text, reason_of};
 use crate::version::VERSION;
 use clap::error::ErrorKind;
-use sizing_cli::{CliError, ServeFault, StdFiles, StdSink, StdSource, serve_words};
+use sizing_cli::{CliError, ServeFault, Status, StdFiles, StdSink, StdSource, serve_words};
 use std::alloc::AllocError;
+use std::fs::Files;
 use std::process::ExitCode;
 use std::{env, io};
 use support::FaultHead;
@@ -31,9 +34,21 @@ fn main(rt: HostRuntime) -> ExitCode {
     let mut sink = StdSink::new(rt.stdout());
     let mut files = StdFiles::new(&rt);
     match serve_words(&rt, rt.alloc(), &parts, &mut files, &mut source, &mut sink) {
-        Ok(status) => ExitCode::from(status.code()),
+        Ok(status) => {
+            if status == Status::BadText {
+                advise(&rt, &parts);
+            }
+            ExitCode::from(status.code())
+        }
         Err(fault) if asks_for_version(&fault) => print_version(&rt),
         Err(fault) => ended(&rt, &fault),
+    }
+}
+
+/// Reports on standard error that a text is missing, if the only named file holds one of two.
+fn advise(rt: &HostRuntime, words: &[&str]) {
+    if let Some((name, second)) = missing_text(rt, rt.alloc(), words) {
+        let _ = eprintln!(rt; "{name} has no line `%%`: name a second file with {second}");
     }
 }
 
@@ -46,7 +61,7 @@ fn asks_for_version(fault: &CliError<'_>) -> bool {
 }
 
 /// Prints the version, and returns the exit status.
-fn print_version(rt: &(impl Print + Eprint)) -> ExitCode {
+fn print_version(rt: &(impl Print + Eprint + Files)) -> ExitCode {
     match println!(rt; "sizing {VERSION}") {
         Ok(()) => ExitCode::SUCCESS,
         Err(_) => ended(
@@ -68,22 +83,22 @@ fn words_of(rt: &HostRuntime) -> io::Result<Vec<String>> {
 }
 
 /// Reports that the arguments could not be read, and returns the exit status.
-fn unread_words(rt: &impl Eprint, kind: io::ErrorKind) -> ExitCode {
+fn unread_words(rt: &(impl Eprint + Files), kind: io::ErrorKind) -> ExitCode {
     if kind == io::ErrorKind::OutOfMemory {
         return ended(rt, &CliError::from(AllocError));
     }
-    let _ = eprintln!(rt; "the words of the command line are to be UTF-8");
+    let _ = eprintln!(rt; "the arguments must be UTF-8");
     ExitCode::from(USAGE)
 }
 
 /// Reports an error and returns its exit status. If standard error fails too, only the status
 /// reports it.
-fn ended(rt: &impl Eprint, fault: &CliError<'_>) -> ExitCode {
+fn ended(rt: &(impl Eprint + Files), fault: &CliError<'_>) -> ExitCode {
     let _ = tell(rt, fault);
     ExitCode::from(fault.code())
 }
 
-fn tell(rt: &impl Eprint, fault: &CliError<'_>) -> io::Result<()> {
+fn tell(rt: &(impl Eprint + Files), fault: &CliError<'_>) -> io::Result<()> {
     match fault {
         CliError::Words(error) if error.kind() == ErrorKind::OutOfMemory => {
             eprintln!(rt; "{}", ServeFault::from(AllocError))
@@ -91,9 +106,7 @@ fn tell(rt: &impl Eprint, fault: &CliError<'_>) -> io::Result<()> {
         CliError::Words(error) => eprint!(rt; "{error}"),
         CliError::NoCommand => eprintln!(rt; "no command"),
         CliError::InputTwice => {
-            eprintln!(rt;
-                "standard input has one of the two texts, not both: name a file for the other"
-            )
+            eprintln!(rt; "`-` names standard input for both texts: name a file for one of them")
         }
         CliError::Bundle(name) => {
             eprintln!(rt;
@@ -108,11 +121,14 @@ fn tell(rt: &impl Eprint, fault: &CliError<'_>) -> io::Result<()> {
         }
         CliError::Occupied(name) => {
             eprintln!(rt;
-                "{name} is there and no certificate, so it stays as it is: name another file for --certificate"
+                "{name} exists and is not a certificate, so it was not changed: name another file for --certificate"
             )
         }
         CliError::Unwritten(name) => eprintln!(rt; "{} at {name}", FaultHead(WRITE_FAILED)),
-        CliError::Unread(name) => eprintln!(rt; "{} at {name}", FaultHead(READ_FAILED)),
+        CliError::Unread(name) => {
+            let reason = reason_of(rt, name);
+            eprintln!(rt; "{} at {name}{reason}", FaultHead(READ_FAILED))
+        }
         CliError::Serve(fault) => eprintln!(rt; "{fault}"),
     }
 }

@@ -1,6 +1,6 @@
 -- The possible answers of `ask` to an input, and the certificate that it leaves. `file` is the name of the plan's file in
 -- messages. This is a relation: it does not fix which certificate, witness or sizes are found, or that some are, nor the wording
--- of faults and of a witness's story, nor the places of a plan's entries.
+-- of faults, nor the places of a plan's entries.
 use Rattle.std.specs.Prelude.{◌≡◌, ◌≤◌, ◌<◌, ℕ, nat_lt, Bool, true, false, not, ◌&&◌, ◌==◌, if◌then◌else◌, List, [], ◌∷◌, ◌++◌, length, codes, decimal, Option, Some, None, IfSome, Result, Ok, Err, option_map, IsTrue, MatchBool}
 use Rattle.clap.specs.Words.{Text}
 use Rattle.job_bodies.specs.Plan.{Plan}
@@ -15,10 +15,14 @@ use Rattle.diagnostics.specs.declared.lint.Lint.{Lint}
 use Rattle.diagnostics.specs.declared.lint.Lint.TheVariants.{StaleCertificate}
 use Rattle.diagnostics.specs.declared.warnings.Warning.{Warning}
 use Rattle.diagnostics.specs.Lints.{AreLints, lints_in}
+use Rattle.diagnostics.specs.AtCore.{at_core, has_max_above_core}
 use Rattle.diagnostics.specs.Diagnostic.{HaveSingleLines, WarnInSingleLines, faults_text, warnings_text}
 use Rattle.diagnostics.specs.Lines.{HasNoNewline}
 use Rattle.diagnostics.specs.PlanPlaces.{FitPlan}
 use Rattle.diagnostics.specs.declared.entry_places.PlanPlaces.{PlanPlaces}
+use Rattle.sizing_cli.specs.declared.lowered_plan.LoweredPlan.{LoweredPlan}
+use Rattle.size_search.specs.declared.found.SizesFound.{SizesFound}
+use Rattle.size_search.specs.declared.found.SizesFound.TheVariants.{Found, NotFound}
 use Rattle.report.specs.declared.finding.PlanFinding.{PlanFinding}
 use Rattle.report.specs.declared.finding.PlanFinding.TheVariants.{Safe, NotSafe, NotDecided}
 use Rattle.report.specs.Finding.{IsFinding}
@@ -29,7 +33,8 @@ use Rattle.report.specs.Page as page
 use Rattle.report.specs.Github as github
 use Rattle.report.specs.Sarif as sarif
 use Rattle.report.specs.Remarks.{fault_remarks, single_fault}
-use Rattle.report.specs.Picture.{IsPicture}
+use Rattle.report.specs.JsonLine.{IsLineOf}
+use Rattle.report.specs.Picture.{picture_text}
 use Rattle.command_line.specs.declared.command.AskInput.{AskInput}
 use Rattle.command_line.specs.declared.command.AskInput.TheVariants.{PlanAlone, WithCertificate}
 use Rattle.command_line.specs.declared.command.Form.{Form}
@@ -61,7 +66,7 @@ TellsFaultsIn Json source faults text = json.TellsFaults source.file source.text
 TellsFaultsIn Dot source faults text = text ≡ faults_text source.file faults
 TellsFaultsIn Html source faults text = page.TellsFaults source.file source.text faults text
 TellsFaultsIn Github source faults text = text ≡ github.github_text source.file (fault_remarks faults)
-TellsFaultsIn Sarif source faults text = json.IsLineOf (sarif.sarif_data source.file (fault_remarks faults)) text
+TellsFaultsIn Sarif source faults text = IsLineOf (sarif.sarif_data source.file (fault_remarks faults)) text
 
 -- the answer reports at most 100 faults of a plan's text, each in one line. The first of them is `fault`. It omits faults
 -- only if it reports 100.
@@ -85,7 +90,7 @@ TellsCertFaultIn Json source number words text = json.TellsFault source.file sou
 TellsCertFaultIn Dot source number words text = text ≡ words ++ fault_number number
 TellsCertFaultIn Html source number words text = page.TellsFault source.file source.text number words text
 TellsCertFaultIn Github source number words text = text ≡ github.github_text source.file (single_fault number words)
-TellsCertFaultIn Sarif source number words text = json.IsLineOf (sarif.sarif_data source.file (single_fault number words)) text
+TellsCertFaultIn Sarif source number words text = IsLineOf (sarif.sarif_data source.file (single_fault number words)) text
 
 -- the answer reports a fault of a certificate, in words that are one line
 pub record AnswersCertFault (form : Form) (source : PlanSource) (fault : CertFault) (answer : Answer) : Type 0 where
@@ -116,17 +121,39 @@ is_stale plan (Some cert) = not (accepted plan cert)
 abbrev pub RestsOnGiven : Plan → Option Cert → PlanFinding → Type 0
 RestsOnGiven plan given finding = IfSome given (λ cert. IsTrue (accepted plan cert) → finding ≡ Safe cert)
 
--- the number of places that each pool needs according to the certificate that was found; empty if none was found
+-- the number of places that each pool needs with the sizes that were found, by their certificate
+abbrev pub needed_by_sizes : SizesFound → List (Option ℕ)
+needed_by_sizes (Found fit cert) = needed_places fit cert
+needed_by_sizes (NotFound cause) = []
+
+-- the number of places that each pool needs, by the certificate that was found
 abbrev pub needed_of : Plan → PlanFinding → List (Option ℕ)
 needed_of plan (Safe cert) = needed_places plan cert
-needed_of plan (NotSafe witness sizes) = []
-needed_of plan (NotDecided sizes) = []
+needed_of plan (NotSafe witness sizes) = needed_by_sizes sizes
+needed_of plan (NotDecided sizes) = needed_by_sizes sizes
 
--- the warnings report exactly the lints of the plan, in order, computed with the places that its pools need; if the
--- certificate is stale, one more warning says so
-pub record AreWarnings (plan : Plan) (finding : PlanFinding) (stale : Bool) (warnings : List Warning) : Type 0 where
+-- the lowered plan is the plan with each maximum lowered to the core size of its pool, and its certificate accepts it
+pub record IsAcceptedAtCore (plan : Plan) (lowered : LoweredPlan) : Type 0 where
+  pub above : has_max_above_core plan ≡ true
+  pub is_at_core : lowered.plan ≡ at_core plan
+  pub is_accepted : IsTrue (accepted lowered.plan lowered.cert)
+
+-- only a plan that is not decided has a lowered plan
+abbrev pub IsLowered : Plan → PlanFinding → Option LoweredPlan → Type 0
+IsLowered plan (Safe cert) lowered = lowered ≡ None
+IsLowered plan (NotSafe witness sizes) lowered = lowered ≡ None
+IsLowered plan (NotDecided sizes) lowered = IfSome lowered (IsAcceptedAtCore plan)
+
+-- the lints of the plan, with the numbers of places of the lowered plan's certificate if there is one
+abbrev pub AreLintsWith : Plan → PlanFinding → Option LoweredPlan → List Lint → Type 0
+AreLintsWith plan finding (Some lowered) lints = AreLints plan (needed_places lowered.plan lowered.cert) true lints
+AreLintsWith plan finding None lints = AreLints plan (needed_of plan finding) false lints
+
+-- the warnings are exactly the lints of the plan, in order, with these numbers of places for the pools, and whether the plan is
+-- safe with its maximums lowered; then a warning about a stale certificate, if it is stale
+pub record AreWarnings (plan : Plan) (finding : PlanFinding) (lowered : Option LoweredPlan) (stale : Bool) (warnings : List Warning) : Type 0 where
   pub lints : List Lint
-  pub are_lints : AreLints plan (needed_of plan finding) lints
+  pub are_lints : AreLintsWith plan finding lowered lints
   pub warned : lints_in warnings ≡ lints ++ stale_if stale
   pub single_lines : WarnInSingleLines warnings
 
@@ -146,15 +173,15 @@ pub record WithPlaces (plan : Plan) (Holds : PlanPlaces → Type 0) : Type 0 whe
 abbrev pub TellsFindingIn : Form → PlanSource → Plan → List Warning → PlanFinding → List ℕ → Type 0
 TellsFindingIn Words source plan warnings finding text = TellsFinding source.file plan warnings finding text
 TellsFindingIn Json source plan warnings finding text = WithPlaces plan (λ places. json.TellsFinding source.file source.text places plan finding warnings text)
-TellsFindingIn Dot source plan warnings finding text = IsPicture text
+TellsFindingIn Dot source plan warnings finding text = text ≡ picture_text plan finding
 TellsFindingIn Html source plan warnings finding text = WithPlaces plan (λ places. page.TellsFinding source.file source.text places plan finding warnings text)
 TellsFindingIn Github source plan warnings finding text = WithPlaces plan (λ places. github.TellsFinding source.file places plan finding warnings text)
 TellsFindingIn Sarif source plan warnings finding text = WithPlaces plan (λ places. sarif.TellsFinding source.file places plan finding warnings text)
 
 -- the answer reports the finding and the warnings, each of which is one line, and its status follows from both
-pub record AnswersFinding (options : AskOptions) (source : PlanSource) (plan : Plan) (finding : PlanFinding) (stale : Bool) (answer : Answer) : Type 0 where
+pub record AnswersFinding (options : AskOptions) (source : PlanSource) (plan : Plan) (finding : PlanFinding) (lowered : Option LoweredPlan) (stale : Bool) (answer : Answer) : Type 0 where
   pub warnings : List Warning
-  pub are_warnings : AreWarnings plan finding stale warnings
+  pub are_warnings : AreWarnings plan finding lowered stale warnings
   pub tells : TellsFindingIn options.form source plan warnings finding answer.text
   pub status : answer.status ≡ status_of options.strict warnings finding
 
@@ -185,7 +212,9 @@ pub record AnswersPlan (options : AskOptions) (source : PlanSource) (plan : Plan
   pub finding : PlanFinding
   pub is_finding : IsFinding plan finding
   pub rests : RestsOnGiven plan given finding
-  pub answers : AnswersFinding options source plan finding (is_stale plan given) answer
+  pub lowered : Option LoweredPlan
+  pub is_lowered : IsLowered plan finding lowered
+  pub answers : AnswersFinding options source plan finding lowered (is_stale plan given) answer
   pub leaves : IsFindingCertificate plan finding left
 
 abbrev pub AnswersCert : AskOptions → PlanSource → Plan → Result Cert CertFault → Option (List ℕ) → Answer → Type 0

@@ -21,7 +21,7 @@ use Rattle.conformance.specs.Findings.{AreFindingsOf}
 use Rattle.conformance.specs.FindingText.{findings_text}
 use Rattle.conformance.specs.Lines.{lines_of}
 use Rattle.conformance.specs.Outcome.{AreInOrder, IfCompared, fault_of}
-use Rattle.job_bodies.specs.declared.limits.TheConstants.{MAX_PATH_STEPS, MAX_RECORDED_BYTES}
+use Rattle.job_bodies.specs.declared.limits.TheConstants.{MAX_RECORDED_BYTES}
 use Rattle.sizing_cli.specs.declared.status.Status.{Status}
 use Rattle.sizing_cli.specs.declared.status.Status.TheVariants.{Done, Refused, Undecided}
 use Rattle.sizing_cli.specs.Answer.{Answer, fault, input_too_long, no_separator}
@@ -38,8 +38,8 @@ is_undecided (finding.Pool deviation) = false
 is_undecided (finding.NotPlanned name) = false
 is_undecided (finding.PathMismatch line mismatch) = false
 is_undecided (finding.TooMany excess) = false
-is_undecided (finding.ForeignGet get name) = false
-is_undecided (finding.Invalidation void) = false
+is_undecided (finding.ForeignGet get name job) = false
+is_undecided (finding.Invalidation void name) = false
 
 -- the status: Done if there are no findings, Undecided if all findings are undecided, and otherwise Refused
 abbrev pub status_of : List Finding → Status
@@ -63,7 +63,7 @@ AreAllFindings plan recording findings = findings ≡ [] → Conforms plan (line
 -- either the recording's first malformed line; or, if it has none, all findings, each once, in the order of the lines
 pub record IsConformance (plan : Plan) (recording : List ℕ) (outcome : Conformance) : Type 0 where
   pub bad : IsFirstFault (lines_read recording) (fault_of outcome)
-  pub found : IfCompared outcome (AreFindingsOf plan MAX_PATH_STEPS (lines_of recording))
+  pub found : IfCompared outcome (AreFindingsOf plan (lines_of recording))
   pub conforms : IfCompared outcome (AreAllFindings plan recording)
   pub ascending : IfCompared outcome AreInOrder
 

@@ -18,11 +18,11 @@ use Rattle.learning.specs.Counts.{AreCounted}
 use Rattle.learning.specs.Pools.{recorded_pools}
 use Rattle.learning.specs.Names.{IsNamedClass, IsNamedClient}
 use Rattle.learning.specs.InferenceLimit.{IsReason, inference_limit_text}
-use Rattle.learning.specs.Unfinished.{unfinished_rounds, unfinished_jobs}
+use Rattle.learning.specs.Unfinished.{unfinished_rounds, unfinished_jobs, failed_gets}
 use Rattle.learning.specs.declared.inference_result.InferredPlan.{InferredPlan}
 use Rattle.learning.specs.declared.inference_limit.InferenceLimit.{InferenceLimit}
 use Rattle.learning.specs.declared.inference_limit.InferenceLimit.TheVariants.{Paths, Text}
-use Rattle.job_bodies.specs.declared.limits.TheConstants.{MAX_PATH_STEPS, MAX_RECORDED_BYTES}
+use Rattle.job_bodies.specs.declared.limits.TheConstants.{MAX_RECORDED_BYTES}
 use Rattle.sizing_cli.specs.declared.status.Status.TheVariants.{Done, Refused}
 use Rattle.sizing_cli.specs.Answer.{Answer, input_too_long}
 use Rattle.sizing_cli.specs.Conform.{AreAllFindings, bad_recording}
@@ -42,8 +42,16 @@ unfinished_comment rounds jobs =
     if nat_eq rounds 0 && nat_eq jobs 0 then [] else
     (codes "# Not at their ends yet. Rounds: " ++ (decimal rounds ++ (codes ". Jobs: " ++ (decimal jobs ++ (codes ". What they wait for, and what comes behind it, is not here." ++ 10 ∷ [])))))
 
+-- the number of gets that timed out or were interrupted, if there are any
+abbrev pub failed_gets_comment : ℕ → List ℕ
+failed_gets_comment gets =
+    if nat_eq gets 0 then [] else
+    (codes "# Gets that timed out or were interrupted: " ++ (decimal gets ++ (codes ". A body has only those that returned later." ++ 10 ∷ [])))
+
 abbrev pub head_comment : InferredPlan → List ℕ
-head_comment seen = extent_comment seen.rounds seen.jobs ++ (not_taken_comment ++ unfinished_comment seen.unfinished_rounds seen.unfinished_jobs)
+head_comment seen =
+    extent_comment seen.rounds seen.jobs
+    ++ (not_taken_comment ++ (unfinished_comment seen.unfinished_rounds seen.unfinished_jobs ++ failed_gets_comment seen.failed_gets))
 
 -- the comment for a finding that the recording has and the plan does not contain
 abbrev pub comment_line : Plan → Finding → List ℕ
@@ -53,8 +61,8 @@ abbrev pub comments : Plan → List Finding → List ℕ
 comments plan findings = flat_map (comment_line plan) findings
 
 -- ---- the answers
--- the plan's pools and client counts are those of the lines, and these are the numbers of rounds and jobs, and of the
--- unfinished ones
+-- the plan's pools and client counts are those of the lines, and these are the numbers of rounds and jobs, of the
+-- unfinished ones, and of the gets that failed
 pub record IsSeen (lines : List RecordedLine) (seen : InferredPlan) : Type 0 where
   pub pools : seen.plan.pools ≡ recorded_pools lines
   pub counts : AreCounted lines seen.plan.clients
@@ -64,6 +72,7 @@ pub record IsSeen (lines : List RecordedLine) (seen : InferredPlan) : Type 0 whe
   pub jobs : seen.jobs ≡ submits lines
   pub unfinished_rounds : seen.unfinished_rounds ≡ unfinished_rounds lines
   pub unfinished_jobs : seen.unfinished_jobs ≡ unfinished_jobs lines
+  pub failed_gets : seen.failed_gets ≡ failed_gets lines
 
 -- The text is this plan's. Comments at its head give the extent of the recording and each finding.
 pub record IsTextOf (seen : InferredPlan) (findings : List Finding) (text : List ℕ) : Type 0 where
@@ -79,7 +88,7 @@ pub record IsLearnedText (recording text : List ℕ) : Type 0 where
   pub seen : InferredPlan
   pub is_seen : IsSeen (lines_of recording) seen
   pub findings : List Finding
-  pub found : AreFindingsOf seen.plan MAX_PATH_STEPS (lines_of recording) findings
+  pub found : AreFindingsOf seen.plan (lines_of recording) findings
   pub in_order : AreInOrder findings
   pub beside_actors : list_any is_of_actors findings ≡ false
   pub actors : DoAsPlanned seen.plan (lines_of recording)

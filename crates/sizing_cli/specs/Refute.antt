@@ -11,7 +11,7 @@ use Rattle.event_lines.specs.LineText.{lines_text}
 use Rattle.counterexample.specs.declared.witness.Witness.{Witness}
 use Rattle.counterexample.specs.Witness.{IsWitness}
 use Rattle.counterexample.specs.EventLines.{witness_lines}
-use Rattle.counterexample.specs.Description.{IsDescription}
+use Rattle.report.specs.Description.{IsDescription}
 use Rattle.command_line.specs.declared.command.RefuteFormat.{RefuteFormat}
 use Rattle.command_line.specs.declared.command.RefuteFormat.TheVariants.{Story, Bundle}
 use Rattle.job_bodies.specs.declared.limits.TheConstants.{MAX_INPUT_BYTES, MAX_EVENT_BYTES}

@@ -17,7 +17,9 @@ use Rattle.cert_check.specs.Text.{verdict_text}
 use Rattle.refusal_notes.specs.Explanation.{explanation}
 use Rattle.written_machine.specs.Reach.{start}
 use Rattle.locked_runner.specs.RunNumbers.{jobs, units}
-use Rattle.locked_runner.specs.Limits.{is_too_large}
+use Rattle.locked_runner.specs.declared.limits.RunLimit.{RunLimit}
+use Rattle.locked_runner.specs.declared.limits.RunLimit.TheVariants.{Clients, Threads, Events}
+use Rattle.locked_runner.specs.Limits.{is_too_large, limit_of}
 use Rattle.event_lines.specs.EventLine.{Line, event_lines}
 use Rattle.command_line.specs.declared.command.ReviewCommand.{ReviewCommand}
 use Rattle.command_line.specs.declared.command.ReviewCommand.TheVariants.{Replay, Check, Explain}
@@ -67,15 +69,21 @@ explain plan second = explain_of_cert plan (cert_of second plan)
 abbrev pub not_run : Answer
 not_run = record { text = codes "no" ++ 10 ∷ []; status = Refused }
 
-abbrev pub too_large : Answer
-too_large = fault (head RUN_TOO_LARGE)
+abbrev pub limit_words : RunLimit → List ℕ
+limit_words Clients = codes "more than 64 clients"
+limit_words Threads = codes "more than 64 threads of all pools together"
+limit_words Events = codes "more than 1000000 events"
+
+-- the fault of a run of this plan that is too large, and the limit that it exceeds
+abbrev pub too_large : Plan → Answer
+too_large plan = fault (head RUN_TOO_LARGE ++ (codes ": " ++ limit_words (limit_of plan)))
 
 -- a run completed with this many jobs and units of work, and no refused submit
 abbrev pub run_through : ℕ → ℕ → Answer
 run_through jobs units = record { text = codes "jobs " ++ (decimal jobs ++ (codes ", units " ++ (decimal units ++ (codes ", refused 0" ++ 10 ∷ [])))); status = Done }
 
 abbrev pub run_of_accepted : Plan → Cert → ℕ → Answer
-run_of_accepted plan cert rounds = if is_too_large plan cert.ranks rounds then too_large else run_through (jobs plan cert.ranks rounds) (units plan cert.ranks rounds)
+run_of_accepted plan cert rounds = if is_too_large plan cert.ranks rounds then too_large plan else run_through (jobs plan cert.ranks rounds) (units plan cert.ranks rounds)
 
 abbrev pub run_of_cert : Plan → ℕ → Result Cert CertFault → Answer
 run_of_cert plan rounds (Err f) = fault (head f.number)

@@ -5,7 +5,7 @@ ghost use Rattle.support.specs.Name.{head};
 ghost use Rattle.job_bodies.specs.FaultText.{fault_line};
 ghost use Rattle.sizing_cli.specs.Answer as spec;
 ghost use Rattle.sizing_cli.specs.Conform.{bad_recording as bad_recording_spec};
-ghost use Rattle.sizing_cli.specs.Report.{too_large};
+ghost use Rattle.sizing_cli.specs.Report.{limit_words, too_large};
 ghost use Rattle.sizing_cli.specs.Transcript.{is_no, reply_answer};
 
 use crate::Status;
@@ -13,6 +13,7 @@ use cert_text::CertFault;
 use event_lines::{Reply, push_reply};
 use interleaving::Outcome;
 use job_bodies::{Plan, PlanFault};
+use locked_runner::{RunLimit, limit_of};
 use recordings::RecordingFault;
 use std::alloc::{AllocError, Global};
 use std::marker::Model;
@@ -94,11 +95,22 @@ pub fn input_too_long(alloc: Global) -> Result<Answer, AllocError>
     fault(format!(in alloc; "{}", FaultHead(number::INPUT_TOO_LONG))?)
 }
 
-/// Returns the answer to a plan that is too large to run.
-pub fn too_large(alloc: Global) -> Result<Answer, AllocError>
-    ensures { IfOk result (λ answer. answer ≡ too_large) }
+/// Returns the answer to a plan that is too large to run, with the limit that a run would exceed.
+pub fn too_large(alloc: Global, plan: &Plan) -> Result<Answer, AllocError>
+    ensures { IfOk result (λ answer. answer ≡ too_large plan.now) }
 {
-    fault(format!(in alloc; "{}", FaultHead(number::RUN_TOO_LARGE))?)
+    let words = limit_words(limit_of(plan));
+    fault(format!(in alloc; "{}: {words}", FaultHead(number::RUN_TOO_LARGE))?)
+}
+
+fn limit_words(limit: RunLimit) -> &'static str
+    ensures { result.now ≡ limit_words limit }
+{
+    match limit {
+        RunLimit::Clients => "more than 64 clients",
+        RunLimit::Threads => "more than 64 threads of all pools together",
+        RunLimit::Events => "more than 1000000 events",
+    }
 }
 
 /// Returns the answer to event lines whose line `line`, counted from 1, is malformed.

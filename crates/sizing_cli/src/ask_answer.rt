@@ -12,6 +12,7 @@ use crate::ask_faults::{cert_fault_answer, faults_answer};
 use crate::bundle::bundle_of;
 use crate::finding::finding_of;
 use crate::finding_answer::answer_of;
+use crate::lowered_plan::lowered_plan;
 use crate::output::Output;
 use crate::texts::{cert_in, plan_in};
 use cert_text::Cert;
@@ -178,6 +179,16 @@ fn ask_found<R: Threads + Wait + Sync>(
     ensures fault { IfErr result (λ fault. IsTrue (is_of_search fault.number)) }
 {
     let (finding, is_stale) = finding_of(rt, alloc, plan, cert)?;
-    let answer = answer_of(alloc, options, file, text, plan, &finding, is_stale)?;
+    let lowered = lowered_plan(rt, alloc, plan, &finding)?;
+    let answer = answer_of(
+        alloc,
+        options,
+        file,
+        text,
+        plan,
+        &finding,
+        lowered.as_ref(),
+        is_stale,
+    )?;
     Ok(answer)
 }

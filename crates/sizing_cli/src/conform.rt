@@ -9,7 +9,7 @@ use crate::answer::{Answer, bad_recording, input_too_long, no_separator, plan_fa
 use crate::bundle::bundle_of;
 use crate::texts::plan_in;
 use conformance::{Conformance, Finding, conform, push_findings};
-use job_bodies::{MAX_PATH_STEPS, MAX_RECORDED_BYTES, Plan};
+use job_bodies::{MAX_RECORDED_BYTES, Plan};
 use std::alloc::{AllocError, Global};
 
 /// Returns how the recording differs from the plan. The input is a bundle of a plan and a
@@ -37,7 +37,7 @@ pub fn conform_report(alloc: Global, input: &[u8]) -> Result<Answer, AllocError>
 fn compare(alloc: Global, plan: &Plan, recording: &[u8]) -> Result<Answer, AllocError>
     ensures { IfOk result (spec.AnswersRecording plan.now recording.now) }
 {
-    match conform(alloc, plan, recording, MAX_PATH_STEPS)? {
+    match conform(alloc, plan, recording)? {
         Conformance::Invalid(fault) => bad_recording(alloc, fault),
         Conformance::Compared(findings) => findings_answer(alloc, plan, &findings),
     }

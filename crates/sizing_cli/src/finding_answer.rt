@@ -1,18 +1,20 @@
 //! The answer of `ask` about a plan, written from a finding.
 
-ghost use Rattle.std.specs.Prelude.{◌≡◌, ◌++◌, IfOk, IsTrue, option_map, string_bytes};
+ghost use Rattle.std.specs.Prelude.{◌≡◌, ◌++◌, IfOk, IsTrue, true, false, option_map, string_bytes};
 ghost use Rattle.soundness.specs.Accepted.{accepted};
 ghost use Rattle.command_line.specs.declared.command.Form.TheVariants as forms;
 ghost use Rattle.diagnostics.specs.Diagnostic.{WarnInSingleLines};
 ghost use Rattle.diagnostics.specs.Lines.{HasNoNewline};
-ghost use Rattle.diagnostics.specs.Lints.{lints_in};
+ghost use Rattle.diagnostics.specs.Lints.{AreLints, lints_in};
 ghost use Rattle.job_bodies.specs.Plan.{Plan as PlanValue};
 ghost use Rattle.report.specs.Finding.{IsFinding};
+ghost use Rattle.report.specs.Places.{needed_places};
 ghost use Rattle.sizing_cli.specs.Ask as spec;
 
 use crate::Status;
 use crate::answer::Answer;
 use crate::ask_answer::AskOutput;
+use crate::lowered_plan::LoweredPlan;
 use crate::output::Output;
 use cert_text::{Cert, write_cert};
 use command_line::{AskOptions, Form};
@@ -23,9 +25,11 @@ use report::{
     PlanFinding, finding_github, finding_html, finding_json, finding_sarif, needed_places,
     picture_of, render,
 };
+use size_search::SizesFound;
 use std::alloc::{AllocError, Global};
 
-/// Writes the answer for this finding. Messages use `file` as the name of the plan's file. A given
+/// Writes the answer for this finding. `lowered` is the plan with its maximums lowered to the cores,
+/// if a certificate of it was found. Messages use `file` as the name of the plan's file. A given
 /// certificate is stale if it does not accept the plan.
 pub(crate) fn answer_of(
     alloc: Global,
@@ -34,18 +38,19 @@ pub(crate) fn answer_of(
     text: &[u8],
     plan: &Plan,
     finding: &PlanFinding,
+    lowered: Option<&LoweredPlan>,
     is_stale: bool,
 ) -> Result<AskOutput, AllocError>
     requires { IsFinding plan.now finding.now }
     ensures answer { IfOk result
         (λ answer. spec.AnswersFinding options (spec.source_of file.now text.now) plan.now finding.now
-        is_stale answer.output) }
+        (option_map (λ lowered. lowered.now) lowered.entry) is_stale answer.output) }
     ensures leaves { IfOk result
         (λ answer. spec.IsFindingCertificate plan.now finding.now (spec.certificate_of_output answer)) }
 {
-    let warnings = warnings_for(alloc, text, plan, finding, is_stale)?;
+    let warnings = warnings_for(alloc, text, plan, finding, lowered, is_stale)?;
     let answer = answer_with(
-        alloc, options, file, text, plan, finding, is_stale, &warnings,
+        alloc, options, file, text, plan, finding, lowered, is_stale, &warnings,
     )?;
     let certificate = certificate_text(alloc, finding)?;
     Ok(AskOutput {
@@ -60,18 +65,69 @@ fn warnings_for(
     text: &[u8],
     plan: &Plan,
     finding: &PlanFinding,
+    lowered: Option<&LoweredPlan>,
     is_stale: bool,
 ) -> Result<Vec<Warning>, AllocError>
-    ensures { IfOk result
-        (λ warnings. spec.AreWarnings plan.now finding.now is_stale warnings.items) }
+    ensures { IfOk result (λ warnings.
+        spec.AreWarnings plan.now finding.now (option_map (λ lowered. lowered.now) lowered.entry) is_stale warnings.items) }
 {
-    let needed = needed_of(alloc, plan, finding)?;
-    let warnings = warnings_of(alloc, text, plan, &needed)?;
+    let warnings = plan_warnings(alloc, text, plan, finding, lowered)?;
     let all = with_stale(alloc, warnings, is_stale)?;
     Ok(all)
 }
 
-/// Returns how many places each pool needs. The list is empty if no certificate was found.
+/// Returns the warnings about a plan.
+fn plan_warnings(
+    alloc: Global,
+    text: &[u8],
+    plan: &Plan,
+    finding: &PlanFinding,
+    lowered: Option<&LoweredPlan>,
+) -> Result<Vec<Warning>, AllocError>
+    ensures lints { IfOk result (λ warnings.
+        spec.AreLintsWith plan.now finding.now (option_map (λ lowered. lowered.now) lowered.entry)
+        (lints_in warnings.items)) }
+    ensures single_lines { IfOk result (λ warnings. WarnInSingleLines warnings.items) }
+{
+    match lowered {
+        Some(lowered) => lowered_warnings(alloc, text, plan, lowered),
+        None => declared_warnings(alloc, text, plan, finding),
+    }
+}
+
+/// Returns the warnings about a plan that is safe with its maximums lowered to the cores.
+fn lowered_warnings(
+    alloc: Global,
+    text: &[u8],
+    plan: &Plan,
+    lowered: &LoweredPlan,
+) -> Result<Vec<Warning>, AllocError>
+    ensures lints { IfOk result (λ warnings.
+        AreLints plan.now (needed_places lowered.now.plan lowered.now.cert) true (lints_in warnings.items)) }
+    ensures single_lines { IfOk result (λ warnings. WarnInSingleLines warnings.items) }
+{
+    let needed = needed_places(alloc, &lowered.plan, &lowered.cert)?;
+    let warnings = warnings_of(alloc, text, plan, &needed, true)?;
+    Ok(warnings)
+}
+
+fn declared_warnings(
+    alloc: Global,
+    text: &[u8],
+    plan: &Plan,
+    finding: &PlanFinding,
+) -> Result<Vec<Warning>, AllocError>
+    ensures lints { IfOk result (λ warnings.
+        AreLints plan.now (spec.needed_of plan.now finding.now) false (lints_in warnings.items)) }
+    ensures single_lines { IfOk result (λ warnings. WarnInSingleLines warnings.items) }
+{
+    let needed = needed_of(alloc, plan, finding)?;
+    let warnings = warnings_of(alloc, text, plan, &needed, false)?;
+    Ok(warnings)
+}
+
+/// Returns how many places each pool needs, by the certificate of the plan or of the sizes that were
+/// found. The list is empty if there is none.
 fn needed_of(
     alloc: Global,
     plan: &Plan,
@@ -81,7 +137,18 @@ fn needed_of(
 {
     match finding {
         PlanFinding::Safe(cert) => needed_places(alloc, plan, cert),
-        PlanFinding::NotSafe(_, _) | PlanFinding::NotDecided(_) => Ok(Vec::new(alloc)),
+        PlanFinding::NotSafe(_, sizes) | PlanFinding::NotDecided(sizes) => {
+            needed_by_sizes(alloc, sizes)
+        }
+    }
+}
+
+fn needed_by_sizes(alloc: Global, sizes: &SizesFound) -> Result<Vec<Option<u64>>, AllocError>
+    ensures { IfOk result (λ needed. needed.items ≡ spec.needed_by_sizes sizes.now) }
+{
+    match sizes {
+        SizesFound::Found { plan: fit, cert } => needed_places(alloc, fit, cert),
+        SizesFound::NotFound(_) => Ok(Vec::new(alloc)),
     }
 }
 
@@ -110,11 +177,13 @@ fn answer_with(
     text: &[u8],
     plan: &Plan,
     finding: &PlanFinding,
+    lowered: Option<&LoweredPlan>,
     is_stale: bool,
     warnings: &[Warning],
 ) -> Result<Answer, AllocError>
-    requires { spec.AreWarnings plan.now finding.now is_stale warnings.now }
-    ensures { IfOk result (spec.AnswersFinding options (spec.source_of file.now text.now) plan.now finding.now is_stale) }
+    requires { spec.AreWarnings plan.now finding.now (option_map (λ lowered. lowered.now) lowered) is_stale warnings.now }
+    ensures { IfOk result (spec.AnswersFinding options (spec.source_of file.now text.now) plan.now finding.now
+        (option_map (λ lowered. lowered.now) lowered.entry) is_stale) }
 {
     let text = text_of(alloc, options.form, file, text, plan, finding, warnings)?;
     let status = status_of(options.strict, warnings, finding);

@@ -15,7 +15,7 @@ use crate::Status;
 use crate::answer::{Answer, bad_recording, input_too_long};
 use crate::texts::plan_in;
 use conformance::{Conformance, Finding, conform, push_finding, push_findings};
-use job_bodies::{MAX_PATH_STEPS, MAX_PLAN_BYTES, MAX_RECORDED_BYTES, Plan};
+use job_bodies::{MAX_PLAN_BYTES, MAX_RECORDED_BYTES, Plan};
 use learning::{Extent, InferenceLimit, InferenceResult, InferredPlan, START_BYTES, learn};
 use plan_text::write_plan;
 use std::alloc::{AllocError, Global};
@@ -49,7 +49,7 @@ fn learn_from_start(
 ) -> Result<Option<Answer>, AllocError>
     ensures { IfOk result (λ found. IfSome found (spec.AnswersLines strict recording.now)) }
 {
-    match learn(alloc, recording, Extent::Start, MAX_PATH_STEPS)? {
+    match learn(alloc, recording, Extent::Start)? {
         InferenceResult::Invalid(fault) => Ok(Some(bad_recording(alloc, fault)?)),
         InferenceResult::InferenceLimit(_) => Ok(None),
         InferenceResult::Inferred(seen) => plan_answer(alloc, strict, recording, &seen),
@@ -60,7 +60,7 @@ fn learn_from_start(
 fn learn_from_all(alloc: Global, strict: bool, recording: &[u8]) -> Result<Answer, AllocError>
     ensures { IfOk result (spec.AnswersLines strict recording.now) }
 {
-    match learn(alloc, recording, Extent::Whole, MAX_PATH_STEPS)? {
+    match learn(alloc, recording, Extent::Whole)? {
         InferenceResult::Invalid(fault) => bad_recording(alloc, fault),
         InferenceResult::InferenceLimit(reason) => not_learned(alloc, reason),
         InferenceResult::Inferred(seen) => match plan_answer(alloc, strict, recording, &seen)? {
@@ -83,8 +83,7 @@ fn plan_answer(
     requires seen { spec.IsSeen (lines_of recording.now) seen.now }
     ensures { IfOk result (λ found. IfSome found (spec.AnswersLines strict recording.now)) }
 {
-    let Conformance::Compared(findings) = conform(alloc, &seen.plan, recording, MAX_PATH_STEPS)?
-    else {
+    let Conformance::Compared(findings) = conform(alloc, &seen.plan, recording)? else {
         return Ok(None);
     };
     if are_of_actors(&findings) {
@@ -155,7 +154,8 @@ fn push_head(text: &mut String, seen: &InferredPlan) -> Result<(), AllocError>
     text.push_str(
         "# What was not taken is not here: another path, class, kind or pool. Each count is what was seen at once.\n",
     )?;
-    push_unfinished(text, seen.unfinished_rounds, seen.unfinished_jobs)
+    push_unfinished(text, seen.unfinished_rounds, seen.unfinished_jobs)?;
+    push_failed_gets(text, seen.failed_gets)
 }
 
 /// Appends the comment with the number of rounds and jobs that the plan was derived from.
@@ -179,6 +179,19 @@ fn push_unfinished(text: &mut String, rounds: usize, jobs: usize) -> Result<(), 
     write!(
         text,
         "# Not at their ends yet. Rounds: {rounds}. Jobs: {jobs}. What they wait for, and what comes behind it, is not here.\n"
+    )
+}
+
+/// Appends the comment with the number of gets that timed out or were interrupted, if there are any.
+fn push_failed_gets(text: &mut String, gets: usize) -> Result<(), AllocError>
+    ensures { Pushes result text.old text.new (spec.failed_gets_comment gets) }
+{
+    if gets == 0 {
+        return Ok(());
+    }
+    write!(
+        text,
+        "# Gets that timed out or were interrupted: {gets}. A body has only those that returned later.\n"
     )
 }
 
@@ -254,7 +267,7 @@ fn is_of_actors(finding: &Finding) -> bool
 {
     !matches!(
         finding,
-        Finding::Pool(_) | Finding::ForeignGet { .. } | Finding::Invalidation(_)
+        Finding::Pool(_) | Finding::ForeignGet { .. } | Finding::Invalidation { .. }
     )
 }
 

@@ -27,6 +27,7 @@ mod input_length;
 mod join;
 mod join_laws;
 mod learn;
+mod lowered_plan;
 mod named_texts;
 mod noop_gate;
 mod output;
@@ -45,6 +46,7 @@ mod witness;
 
 pub use arguments::serve_words;
 pub use ask_answer::{AskOutput, ask};
+pub use bundle::{Bundle, bundle_of};
 pub use byte_streams::{IoFault, MemorySink, MemorySource, Sink, Source, StdSink, StdSource};
 pub use certify::whole_lines;
 pub use command_line::{

@@ -88,7 +88,7 @@ fn run_certified<R: Threads + Wait + Sync>(
 {
     match run(rt, alloc, certified, rounds, &NoopGate) {
         Ok(report) => Ok(run_through(alloc, report.jobs, report.units)?),
-        Err(fault) if fault.number == RUN_TOO_LARGE => Ok(too_large(alloc)?),
+        Err(fault) if fault.number == RUN_TOO_LARGE => Ok(too_large(alloc, certified.plan())?),
         Err(fault) => Err(ServeFault {
             number: fault.number,
         }),

@@ -3,6 +3,7 @@
 mod bytes;
 mod cert_texts;
 mod event_texts;
+mod file_names;
 mod fits;
 mod help_texts;
 mod judged_plans;

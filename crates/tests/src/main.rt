@@ -41,7 +41,7 @@ const WORLDS: [&str; 6] = [
     "world_stuck",
 ];
 
-const SERVED: [&str; 12] = [
+const SERVED: [&str; 13] = [
     "served_replays",
     "served_examples",
     "served_faults",
@@ -54,15 +54,17 @@ const SERVED: [&str; 12] = [
     "served_words",
     "recorded_conforms",
     "recorded_learns",
+    "recorded_learns_orders",
 ];
 
-const ON_THREADS: [&str; 7] = [
+const ON_THREADS: [&str; 8] = [
     "threads_certify",
     "threads_checks",
     "threads_fits",
     "threads_runs",
     "threads_refutes",
     "threads_asks",
+    "threads_formats",
     "found_sizes",
 ];
 

@@ -1,10 +1,8 @@
-use Rattle.std.proofs.Common.{◌++◌, List, map, filter, ap, ◌∙◌}
+use Rattle.std.proofs.Common.{◌++◌, List, map, ap, ◌∙◌}
 use Rattle.conformance.specs.declared.round_comparison.RoundExcess.{RoundExcess}
-use Rattle.recordings.specs.Invalidations.{invalidations_of}
 use Rattle.conformance.specs.declared.finding.Finding.{Finding}
 use Rattle.conformance.specs.declared.finding.Finding.TheVariants as finding
 use Rattle.conformance.specs.CollectedFindings as made
-use Rattle.conformance.specs.Lines.{lines_of}
 use Rattle.conformance.proofs.collect_findings.collect_findings.Goals as goal
 
 pub returns : goal.returns
@@ -18,7 +16,9 @@ returns c = λ so.
     record {
       mismatches = actor_survey.mismatches;
       foreign = noted.foreign;
+      invalidations = noted.invalidations;
       mismatches_so = actor_survey.mismatches_so;
       foreign_so = noted.foreign_so;
-      all = noted.after ∙ ap (λ (xs : List Finding). xs ++ noted.foreign ++ map finding.Invalidation (filter made.is_path_independent (invalidations_of (lines_of c.args.recording.now)))) a3;
+      invalidations_so = noted.invalidations_so;
+      all = noted.after ∙ ap (λ (xs : List Finding). xs ++ noted.foreign ++ noted.invalidations) a3;
     }

@@ -21,6 +21,6 @@ loop-reported-preserved c =
     record {
       more = current.more ++ found ∷ [];
       after = c.in_ok-push.ensures.items ∙ (ap (λ (xs : List Finding). xs ++ found ∷ []) current.after ∙ append_assoc c.args.findings.now.items current.more (found ∷ []));
-      so = subst (λ (xs : List ClassifiedActor). made.AreMismatchesOf lines is_classless xs (current.more ++ found ∷ [])) (sym front)
-          (zip_push (made.IsMismatchFinding lines is_classless) (take c.loop-reported.reported-index mismatches) current.more reported found current.so (made.mismatches c.in_ok-line.line c.in_ok-line.mismatch c.in_ok-line.ensures));
+      so = subst (λ (xs : List ClassifiedActor). made.AreMismatchesOf c.args.plan.now lines is_classless xs (current.more ++ found ∷ [])) (sym front)
+          (zip_push (made.IsMismatchFinding c.args.plan.now lines is_classless) (take c.loop-reported.reported-index mismatches) current.more reported found current.so (made.mismatches c.in_ok-line.line c.in_ok-line.mismatch c.in_ok-line.ensures));
     }

@@ -5,4 +5,4 @@ use Rattle.conformance.specs.Lines.{lines_of}
 use Rattle.conformance.proofs.collect_findings.push_mismatches.Given as goal
 
 abbrev pub invariant-loop-reported : goal.invariant-loop-reported
-invariant-loop-reported l = spec.Adds l.initial.findings.items (spec.AreMismatchesOf (lines_of l.recording) (has_job l.classless) (take l.reported-index l.mismatches)) l.findings.items
+invariant-loop-reported l = spec.Adds l.initial.findings.items (spec.AreMismatchesOf l.plan (lines_of l.recording) (has_job l.classless) (take l.reported-index l.mismatches)) l.findings.items

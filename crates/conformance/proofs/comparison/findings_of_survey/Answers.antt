@@ -1,40 +1,51 @@
 use Rattle.std.proofs.Common.{◌∙◌, rules}
 use Rattle.std.proofs.lemmas.List.Sorted.{list_any-IsPermutation, IsNonDecreasingBy-from_sort_by_key}
 use Rattle.conformance.specs.Lines.{lines_of}
-use Rattle.conformance.specs.Finding.{place_of}
+use Rattle.conformance.specs.Finding.{sort_key}
 use Rattle.conformance.specs.Findings.{is_of_actors}
 use Rattle.conformance.proofs.AllFound.{all_found}
+use Rattle.conformance.proofs.NoneUndecided.{none_undecided}
 use Rattle.conformance.proofs.Conforming.{conforms, actors_do, none_before}
 use Rattle.conformance.proofs.KindsByResults.{all_first_kinds}
 use Rattle.conformance.proofs.comparison.findings_of_survey.Goals as goal
 
 pub returns-clause-conforms : goal.returns-clause-conforms
-returns-clause-conforms c = λ budget keeps so none.
+returns-clause-conforms c = λ keeps so none.
     let lines = lines_of c.args.recording.now in
     let plan = c.args.plan.now in
-    let first = all_first_kinds plan budget lines so.actor_survey.reported keeps so.actor_survey.all in
-    conforms plan budget lines c.args.survey first.kinds c.in_ok-excesses.excesses.items c.in_ok-findings.findings.items
+    let first = all_first_kinds plan lines so.actor_survey.reported keeps so.actor_survey.all in
+    conforms plan lines c.args.survey first.kinds c.in_ok-excesses.excesses.items c.in_ok-findings.findings.items
     c.pools_are_as_planned.ensures.as_planned c.pools_are_as_planned.ensures.recorded c.rounds_are_within_plan.ensures.within
-    so first.so (c.in_ok-excesses.ensures budget first.kinds keeps so first.so) (c.in_ok-findings.ensures so.line_survey.notes)
+    so first.so (c.in_ok-excesses.ensures first.kinds keeps so first.so) (c.in_ok-findings.ensures so.line_survey.notes)
     (none_before _ _ c.in_ok-sort_by_key.ensures.permutation none)
 
 pub returns-clause-actors : goal.returns-clause-actors
-returns-clause-actors c = λ budget keeps so none.
+returns-clause-actors c = λ keeps so none.
     let lines = lines_of c.args.recording.now in
     let plan = c.args.plan.now in
-    let first = all_first_kinds plan budget lines so.actor_survey.reported keeps so.actor_survey.all in
-    actors_do plan budget lines c.args.survey first.kinds c.in_ok-excesses.excesses.items c.in_ok-findings.findings.items c.rounds_are_within_plan.ensures.within
-    so first.so (c.in_ok-excesses.ensures budget first.kinds keeps so first.so) (c.in_ok-findings.ensures so.line_survey.notes)
+    let first = all_first_kinds plan lines so.actor_survey.reported keeps so.actor_survey.all in
+    actors_do plan lines c.args.survey first.kinds c.in_ok-excesses.excesses.items c.in_ok-findings.findings.items c.rounds_are_within_plan.ensures.within
+    so first.so (c.in_ok-excesses.ensures first.kinds keeps so first.so) (c.in_ok-findings.ensures so.line_survey.notes)
     (list_any-IsPermutation is_of_actors _ _ c.in_ok-sort_by_key.ensures.permutation ∙ none)
 
 pub returns-clause-found : goal.returns-clause-found
-returns-clause-found c = λ budget keeps so.
+returns-clause-found c = λ keeps so.
     let lines = lines_of c.args.recording.now in
     let plan = c.args.plan.now in
-    let first = all_first_kinds plan budget lines so.actor_survey.reported keeps so.actor_survey.all in
-    all_found plan budget lines c.args.survey first.kinds c.in_ok-excesses.excesses.items c.in_ok-findings.findings.items _
-    so first.so (c.in_ok-excesses.ensures budget first.kinds keeps so first.so) (c.in_ok-findings.ensures so.line_survey.notes)
+    let first = all_first_kinds plan lines so.actor_survey.reported keeps so.actor_survey.all in
+    all_found plan lines c.args.survey first.kinds c.in_ok-excesses.excesses.items c.in_ok-findings.findings.items _
+    so first.so (c.in_ok-excesses.ensures first.kinds keeps so first.so) (c.in_ok-findings.ensures so.line_survey.notes)
     c.in_ok-sort_by_key.ensures.permutation
 
+pub returns-clause-decided : goal.returns-clause-decided
+returns-clause-decided c = λ keeps so.
+    let lines = lines_of c.args.recording.now in
+    let plan = c.args.plan.now in
+    let first = all_first_kinds plan lines so.actor_survey.reported keeps so.actor_survey.all in
+    none_undecided plan lines _
+    (all_found plan lines c.args.survey first.kinds c.in_ok-excesses.excesses.items c.in_ok-findings.findings.items _
+    so first.so (c.in_ok-excesses.ensures first.kinds keeps so first.so) (c.in_ok-findings.ensures so.line_survey.notes)
+    c.in_ok-sort_by_key.ensures.permutation)
+
 pub returns-clause-ascending : goal.returns-clause-ascending
-returns-clause-ascending c = IsNonDecreasingBy-from_sort_by_key place_of _ c.in_ok-sort_by_key.ensures.sorted (λ a r q k. search rules)
+returns-clause-ascending c = IsNonDecreasingBy-from_sort_by_key sort_key _ c.in_ok-sort_by_key.ensures.sorted (λ a r q k. search rules)

@@ -1,4 +1,4 @@
-use Rattle.std.proofs.Common.{◌≡◌, List, Option, refl, ap, sym, subst, ◌∙◌, rules}
+use Rattle.std.proofs.Common.{◌≡◌, List, Option, refl, ap, sym, subst, ◌∙◌}
 use Rattle.recordings.specs.declared.step.RecordedStep.{RecordedStep}
 use Rattle.conformance.specs.declared.describe_mismatch.JobStep.{JobStep}
 use Rattle.conformance.specs.declared.mismatch.NamedStep.{NamedStep}
@@ -18,11 +18,13 @@ returns c =
     let did : c.step_at-step.result ≡ spec.step_at reported.path.items reported.family.explained = c.step_at-step.ensures ∙ ap (λ (path : List RecordedStep). spec.step_at path reported.family.explained) c.deref.ensures.value in
     record {
       actor_is = refl;
-      label_is = search rules;
+      label_is = c.in_ok-label_of_classified.ensures.name;
+      pool_is = c.in_ok-label_of_classified.ensures.pool;
       line = found_seen c.first_line.result;
       first = subst (λ (w : LineQuery). IsFirstLine lines w (found_seen c.first_line.result)) (c.line_query_of.ensures ∙ ap (spec.line_query_of reported.actor) did) c.first_line.ensures;
       number_is = c.number_of-line.ensures;
-      did = subst (λ (d : Option JobStep). spec.IsDeviatingStep lines (has_job c.args.classless.now) d c.in_ok-deviating_step.field-0) did c.in_ok-deviating_step.ensures;
+      did = subst (λ (d : Option JobStep). spec.IsDeviatingStep c.args.plan.now lines (has_job c.args.classless.now) reported.path.items d c.in_ok-deviating_step.field-0) did
+          (subst (λ (path : List RecordedStep). spec.IsDeviatingStep c.args.plan.now lines (has_job c.args.classless.now) path c.step_at-step.result c.in_ok-deviating_step.field-0) c.deref-2.ensures.value c.in_ok-deviating_step.ensures);
       after = elim c.match-checked_sub.branch [
         | in-None w ↦ after_begin_line lines reported.path.items reported.family.explained _ w.in-None.ensures w.after-is
         | in-Some+in_ok-after-in-Some w ↦

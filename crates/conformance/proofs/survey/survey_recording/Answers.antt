@@ -7,10 +7,10 @@ use Rattle.conformance.proofs.survey.survey_recording.Goals as goal
 pub returns-in-Some : goal.returns-in-Some
 returns-in-Some c =
     let begun = c.new-builder.ensures c.args.plan.now c.in_ok-excess_tracker.ensures in
-    subst (λ (fault : Option RecordingFault). ReadsAllLines c.args.plan.now c.args.budget c.args.recording.now c.take_all.new.self fault) c.in-Some.is (c.in_ok-fault.ensures c.args.budget begun)
+    subst (λ (fault : Option RecordingFault). ReadsAllLines c.args.plan.now c.args.recording.now c.take_all.new.self fault) c.in-Some.is (c.in_ok-fault.ensures begun)
 
 pub returns-in_ok-finish-in-None : goal.returns-in_ok-finish-in-None
 returns-in_ok-finish-in-None c =
     let begun = c.new-builder.ensures c.args.plan.now c.in_ok-excess_tracker.ensures in
-    let through = subst (λ (fault : Option RecordingFault). ReadsAllLines c.args.plan.now c.args.budget c.args.recording.now c.take_all.new.self fault) c.in-None.is (c.in_ok-fault.ensures c.args.budget begun) in
-    (through.0, c.in_ok-finish-in-None.ensures c.args.budget (lines_of c.args.recording.now) through.1 through.2)
+    let through = subst (λ (fault : Option RecordingFault). ReadsAllLines c.args.plan.now c.args.recording.now c.take_all.new.self fault) c.in-None.is (c.in_ok-fault.ensures begun) in
+    (through.0, c.in_ok-finish-in-None.ensures (lines_of c.args.recording.now) through.1 through.2)

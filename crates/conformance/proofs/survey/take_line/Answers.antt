@@ -6,15 +6,15 @@ use Rattle.conformance.proofs.VerdictsAfter.{on_both}
 use Rattle.conformance.proofs.survey.take_line.Goals as goal
 
 pub returns-clause-current : goal.returns-clause-current
-returns-clause-current c = λ budget before keeps nothing so.
+returns-clause-current c = λ before keeps nothing so.
     let plan = c.args.plan.now in
     let more = c.take.new.reported.items in
     let none = ap (λ (xs : List ClassifiedActor). so.reported ++ xs) nothing ∙ append-nil so.reported in
-    let all = c.in_ok-take.ensures.all budget before so.reported keeps so.classes_represent (subst (AreResultsSoFarOf plan budget before) (sym none) so.actor_survey_so.reported_so) in
+    let all = c.in_ok-take.ensures.all before so.reported keeps so.classes_represent (subst (AreResultsSoFarOf plan before) (sym none) so.actor_survey_so.reported_so) in
     on_both c.note_all.result
     (λ verdicts others. record {
       reported = so.reported ++ more;
-      classes_represent = c.in_ok-take.ensures.taken budget before keeps so.classes_represent;
+      classes_represent = c.in_ok-take.ensures.taken before keeps so.classes_represent;
       actor_survey_so = record { reported_so = all; verdicts = verdicts; others = others };
     })
     (c.note_all.ensures.verdicts so.reported so.actor_survey_so.verdicts) (c.note_all.ensures.others so.reported so.actor_survey_so.others)

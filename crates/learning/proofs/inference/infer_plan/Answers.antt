@@ -50,4 +50,5 @@ returns-in-Ok-clause-ok c = λ all.
       jobs = named.jobs;
       unfinished_rounds = grind (arith, c.saturating_sub.ensures, named.rounds, named.ended_rounds);
       unfinished_jobs = grind (arith, c.saturating_sub-in-Ok.ensures, named.started_jobs, named.ended_jobs);
+      failed_gets = named.failed_gets;
     }

@@ -4,7 +4,7 @@ use Rattle.sizing_cli.proofs.finding_answer.warnings_for.Goals as goal
 pub returns : goal.returns
 returns c = record {
   lints = lints_in c.in_ok-warnings.warnings.items;
-  are_lints = rw (← c.in_ok-needed.ensures, ← c.deref.ensures.value) c.in_ok-warnings.ensures.lints;
+  are_lints = c.in_ok-warnings.ensures.lints;
   warned = c.in_ok-all.ensures.lints;
   single_lines = c.in_ok-all.ensures.single_lines;
 }

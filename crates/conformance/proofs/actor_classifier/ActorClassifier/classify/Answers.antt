@@ -1,4 +1,4 @@
-use Rattle.std.proofs.Common.{◌≡◌, ◌&&◌, true, List, sym, subst, ◌∙◌}
+use Rattle.std.proofs.Common.{◌≡◌, ◌&&◌, true, List, sym, subst, ◌∙◌, arith}
 use Rattle.std.specs.Prelude.{string_bytes}
 use Rattle.recordings.specs.declared.step.RecordedStep.{RecordedStep}
 use Rattle.recordings.proofs.Tests.{and_first, and_second}
@@ -17,10 +17,10 @@ returns-clause-reported c =
     let is_step_decided = c.in_ok-is_decided.is_decided in
     let steps = c.take_path.new.steps.items in
     let family : FamilyMatch = record { members = c.in_ok-family.family.members; explained = c.in_ok-family.family.explained; is_decided = c.both_hold.result } in
-    let its : IsFamilyOf a.plan.now a.self.now.budget a.actor (string_bytes a.label) (string_bytes a.pool) a.actor_path.path_state steps c.in_ok-family.family =
-    subst (λ (some : List PathStep). IsFamilyOf a.plan.now a.self.now.budget a.actor (string_bytes a.label) (string_bytes a.pool) a.actor_path.path_state some c.in_ok-family.family) c.deref-4.ensures.value
-    (subst (λ (pool : List _). IsFamilyOf a.plan.now a.self.now.budget a.actor (string_bytes a.label) pool a.actor_path.path_state c.deref-4.result.now c.in_ok-family.family) c.deref-3.ensures
-    (subst (λ (label : List _). IsFamilyOf a.plan.now a.self.now.budget a.actor label c.deref-3.result.now a.actor_path.path_state c.deref-4.result.now c.in_ok-family.family) c.deref-2.ensures c.in_ok-family.ensures)) in
+    let its : IsFamilyOf a.plan.now a.actor (string_bytes a.label) (string_bytes a.pool) a.actor_path.path_state steps c.in_ok-family.family =
+    subst (λ (some : List PathStep). IsFamilyOf a.plan.now a.actor (string_bytes a.label) (string_bytes a.pool) a.actor_path.path_state some c.in_ok-family.family) c.deref-4.ensures.value
+    (subst (λ (pool : List _). IsFamilyOf a.plan.now a.actor (string_bytes a.label) pool a.actor_path.path_state c.deref-4.result.now c.in_ok-family.family) c.deref-3.ensures
+    (subst (λ (label : List _). IsFamilyOf a.plan.now a.actor label c.deref-3.result.now a.actor_path.path_state c.deref-4.result.now c.in_ok-family.family) c.deref-2.ensures c.in_ok-family.ensures)) in
     record {
       family = family;
       after = c.in_ok-push.ensures.items;
@@ -34,8 +34,9 @@ returns-clause-reported c =
             members = its.members (and_first _ _ both);
             explained = its.explained (and_first _ _ both);
           };
-      decided = λ enough are all once.
-          c.both_hold.ensures ∙ both_true _ _ (its.decided enough)
+      decided = λ are all once.
+          c.both_hold.ensures ∙ both_true _ _ (its.decided (c.in_ok-is_decided.ensures.plain are))
           (c.in_ok-is_decided.ensures.decided are (subst (λ (path : List RecordedStep). AreAllIn a.self.now.known path) (sym c.deref.ensures.value) all) (subst AreOnce (sym c.deref.ensures.value) once));
+      few = λ none job is. omega (arith, its.few job is, none (string_bytes a.label) (string_bytes a.pool));
       ascending = its.ascending;
     }

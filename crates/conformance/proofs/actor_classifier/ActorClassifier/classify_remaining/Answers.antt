@@ -13,8 +13,8 @@ pub returns-in_default-clause-remaining : goal.returns-in_default-clause-remaini
 returns-in_default-clause-remaining c = λ lines keeps paths remaining none.
     let a = c.args in
     let same = same_without a.self.now.actors c.remove.new.self a.actor (sym c.in_default.ensures.value) (λ one. same_actor a.actor one) c.remove.ensures.later in (
-      left_same a.plan.now a.self.now.budget lines a.self.now.actors c.remove.new.self a.self.now.known same remaining,
-      tells_same (IsCorrectResult a.plan.now a.self.now.budget lines) a.self.now.actors c.remove.new.self (λ one. ap is_some (same one)) a.reported.now.items,
+      left_same a.plan.now lines a.self.now.actors c.remove.new.self a.self.now.known same remaining,
+      tells_same (IsCorrectResult a.plan.now lines) a.self.now.actors c.remove.new.self (λ one. ap is_some (same one)) a.reported.now.items,
     )
 
 pub returns-clause-remaining : goal.returns-clause-remaining
@@ -24,9 +24,9 @@ returns-clause-remaining c = λ lines keeps paths remaining none.
     let by = c.in_ok-actor_path.ensures lines paths (remaining.at a.actor c.in-Some.kept there) in
     on_ok_weaker c.classify.result
     (λ t. (
-      subst (λ (actors : ActorTable). IsStateAtEnd a.plan.now a.self.now.budget lines actors c.classify.new.self.known) (sym c.classify.ensures.actors)
-          (left_then a.plan.now a.self.now.budget lines keeps a.self.now.actors c.remove.new.self a.self.now.known c.classify.new.self.known a.actor c.in-Some.kept there c.in_ok-actor_path.actor_path a.reported.now.items c.classify.new.reported.items remaining none by t c.remove.ensures.later),
-      subst (λ (actors : ActorTable). AddsResults (IsCorrectResult a.plan.now a.self.now.budget lines) a.self.now.actors actors a.reported.now.items c.classify.new.reported.items) (sym c.classify.ensures.actors)
-          (tells_left a.plan.now a.self.now.budget lines keeps a.self.now.actors c.remove.new.self a.self.now.known c.classify.new.self.known a.actor c.in-Some.kept there c.in_ok-actor_path.actor_path a.reported.now.items c.classify.new.reported.items remaining none by t c.remove.ensures.later),
+      subst (λ (actors : ActorTable). IsStateAtEnd a.plan.now lines actors c.classify.new.self.known) (sym c.classify.ensures.actors)
+          (left_then a.plan.now lines keeps a.self.now.actors c.remove.new.self a.self.now.known c.classify.new.self.known a.actor c.in-Some.kept there c.in_ok-actor_path.actor_path a.reported.now.items c.classify.new.reported.items remaining none by t c.remove.ensures.later),
+      subst (λ (actors : ActorTable). AddsResults (IsCorrectResult a.plan.now lines) a.self.now.actors actors a.reported.now.items c.classify.new.reported.items) (sym c.classify.ensures.actors)
+          (tells_left a.plan.now lines keeps a.self.now.actors c.remove.new.self a.self.now.known c.classify.new.self.known a.actor c.in-Some.kept there c.in_ok-actor_path.actor_path a.reported.now.items c.classify.new.reported.items remaining none by t c.remove.ensures.later),
     ))
     c.classify.ensures.reported

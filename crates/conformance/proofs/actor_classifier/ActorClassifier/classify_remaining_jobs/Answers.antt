@@ -2,20 +2,18 @@ use Rattle.std.proofs.Common.{ℕ, List, refl, sym, subst, ◌∙◌}
 use Rattle.std.specs.List.Sorted.{IsNonDecreasing}
 use Rattle.recordings.specs.declared.paths.Paths.{Paths}
 use Rattle.recordings.specs.PathsOfLines.{IsPathsOf}
-use Rattle.conformance.specs.RemainingActors.{IsStateAtEnd, AreJobsAmong}
+use Rattle.conformance.specs.RemainingActors.{AreJobsAmong}
 use Rattle.conformance.specs.ClassifiedActor.{IsCorrectResult}
 use Rattle.conformance.proofs.RemainingNumbers.{sorted_front, none_below, jobs_among}
 use Rattle.conformance.proofs.AddsResults.{tells_none, tells_then}
-use Rattle.conformance.proofs.ClassifyRemaining.{left_at}
 use Rattle.conformance.proofs.actor_classifier.ActorClassifier.classify_remaining_jobs.Goals as goal
 
 pub loop-job-init : goal.loop-job-init
 loop-job-init c = record {
-  remaining = λ lines keeps paths remaining among sorted. (remaining, tells_none (IsCorrectResult c.args.plan.now c.args.self.now.budget lines) c.args.self.now.actors c.args.reported.now.items);
+  remaining = λ lines keeps paths remaining among sorted. (remaining, tells_none (IsCorrectResult c.args.plan.now lines) c.args.self.now.actors c.args.reported.now.items);
   among = λ h. h;
   sorted = λ h. h;
   paths = refl;
-  budget = refl;
 }
 
 pub loop-job-preserved : goal.loop-job-preserved
@@ -25,14 +23,11 @@ loop-job-preserved c =
     let items = c.in-Some.ensures.items in
     record {
       remaining = λ lines keeps paths remaining among sorted.
-          let is = l.invariant.budget in
           let current = l.invariant.remaining lines keeps paths remaining among sorted in
-          let now = left_at a.plan.now l.self.budget a.self.now.budget lines l.self.actors c.classify_remaining.new.self.actors c.classify_remaining.new.self.known l.reported.items c.classify_remaining.new.reported.items is
-          (c.in_ok-classify_remaining.ensures.remaining lines keeps (subst (λ (p : Paths). IsPathsOf p lines) (sym l.invariant.paths) paths) (subst (λ b. IsStateAtEnd a.plan.now b lines l.self.actors l.self.known) (sym is) current.0)
+          let now = (c.in_ok-classify_remaining.ensures.remaining lines keeps (subst (λ (p : Paths). IsPathsOf p lines) (sym l.invariant.paths) paths) current.0
           (none_below l.self.actors c.pop.new.self.items c.in-Some.job (subst IsNonDecreasing items (l.invariant.sorted sorted)) (subst (λ (ns : List ℕ). AreJobsAmong l.self.actors ns) items (l.invariant.among among)))) in
-          (now.0, tells_then (IsCorrectResult a.plan.now a.self.now.budget lines) a.self.now.actors l.self.actors c.classify_remaining.new.self.actors a.reported.now.items l.reported.items c.classify_remaining.new.reported.items current.1 now.1);
+          (now.0, tells_then (IsCorrectResult a.plan.now lines) a.self.now.actors l.self.actors c.classify_remaining.new.self.actors a.reported.now.items l.reported.items c.classify_remaining.new.reported.items current.1 now.1);
       among = λ among. jobs_among l.self.actors c.classify_remaining.new.self.actors c.pop.new.self.items c.in-Some.job c.classify_remaining.ensures.goes (subst (λ (ns : List ℕ). AreJobsAmong l.self.actors ns) items (l.invariant.among among));
       sorted = λ sorted. sorted_front c.pop.new.self.items c.in-Some.job (subst IsNonDecreasing items (l.invariant.sorted sorted));
       paths = c.classify_remaining.ensures.paths ∙ l.invariant.paths;
-      budget = c.classify_remaining.ensures.budget ∙ l.invariant.budget;
     }

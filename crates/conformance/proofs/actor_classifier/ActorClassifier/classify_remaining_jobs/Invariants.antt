@@ -10,12 +10,11 @@ use Rattle.conformance.proofs.actor_classifier.ActorClassifier.classify_remainin
 -- The jobs that were popped from the list are classified.
 abbrev pub invariant-loop-job : goal.invariant-loop-job
 invariant-loop-job l = record {
-  remaining : (lines : List RecordedLine) → KeepsRules lines → IsPathsOf l.initial.self.paths lines → IsStateAtEnd l.plan l.initial.self.budget lines l.initial.self.actors l.initial.self.known → AreJobsAmong l.initial.self.actors l.fn.jobs.items → IsNonDecreasing l.fn.jobs.items
-      → IsStateAtEnd l.plan l.initial.self.budget lines l.self.actors l.self.known × AddsResults (IsCorrectResult l.plan l.initial.self.budget lines) l.initial.self.actors l.self.actors l.initial.reported.items l.reported.items;
+  remaining : (lines : List RecordedLine) → KeepsRules lines → IsPathsOf l.initial.self.paths lines → IsStateAtEnd l.plan lines l.initial.self.actors l.initial.self.known → AreJobsAmong l.initial.self.actors l.fn.jobs.items → IsNonDecreasing l.fn.jobs.items
+      → IsStateAtEnd l.plan lines l.self.actors l.self.known × AddsResults (IsCorrectResult l.plan lines) l.initial.self.actors l.self.actors l.initial.reported.items l.reported.items;
   among : AreJobsAmong l.initial.self.actors l.fn.jobs.items → AreJobsAmong l.self.actors l.jobs.items;
   sorted : IsNonDecreasing l.fn.jobs.items → IsNonDecreasing l.jobs.items;
   paths : l.self.paths ≡ l.initial.self.paths;
-  budget : l.self.budget ≡ l.initial.self.budget;
 }
 
 abbrev pub decreases-loop-job : goal.decreases-loop-job

@@ -1,20 +1,18 @@
 use Rattle.std.proofs.Common.{ℕ, List, refl, sym, subst, ◌∙◌}
 use Rattle.recordings.specs.declared.paths.Paths.{Paths}
 use Rattle.recordings.specs.PathsOfLines.{IsPathsOf}
-use Rattle.conformance.specs.RemainingActors.{IsStateAtEnd, AreRoundsAmong}
+use Rattle.conformance.specs.RemainingActors.{AreRoundsAmong}
 use Rattle.conformance.specs.ClassifiedActor.{IsCorrectResult}
 use Rattle.conformance.proofs.RemainingNumbers.{rounds_among, jobs_still_none}
 use Rattle.conformance.proofs.AddsResults.{tells_none, tells_then}
-use Rattle.conformance.proofs.ClassifyRemaining.{left_at}
 use Rattle.conformance.proofs.actor_classifier.ActorClassifier.classify_remaining_rounds.Goals as goal
 
 pub loop-round-init : goal.loop-round-init
 loop-round-init c = record {
-  remaining = λ lines keeps paths remaining none. (remaining, tells_none (IsCorrectResult c.args.plan.now c.args.self.now.budget lines) c.args.self.now.actors c.args.reported.now.items);
+  remaining = λ lines keeps paths remaining none. (remaining, tells_none (IsCorrectResult c.args.plan.now lines) c.args.self.now.actors c.args.reported.now.items);
   among = λ h. h;
   jobs = λ h. h;
   paths = refl;
-  budget = refl;
 }
 
 pub loop-round-preserved : goal.loop-round-preserved
@@ -23,15 +21,12 @@ loop-round-preserved c =
     let l = c.loop-round in
     record {
       remaining = λ lines keeps paths remaining none.
-          let is = l.invariant.budget in
           let current = l.invariant.remaining lines keeps paths remaining none in
-          let now = left_at a.plan.now l.self.budget a.self.now.budget lines l.self.actors c.classify_remaining.new.self.actors c.classify_remaining.new.self.known l.reported.items c.classify_remaining.new.reported.items is
-          (c.in_ok-classify_remaining.ensures.remaining lines keeps (subst (λ (p : Paths). IsPathsOf p lines) (sym l.invariant.paths) paths) (subst (λ b. IsStateAtEnd a.plan.now b lines l.self.actors l.self.known) (sym is) current.0) (l.invariant.jobs none)) in
-          (now.0, tells_then (IsCorrectResult a.plan.now a.self.now.budget lines) a.self.now.actors l.self.actors c.classify_remaining.new.self.actors a.reported.now.items l.reported.items c.classify_remaining.new.reported.items current.1 now.1);
+          let now = (c.in_ok-classify_remaining.ensures.remaining lines keeps (subst (λ (p : Paths). IsPathsOf p lines) (sym l.invariant.paths) paths) current.0 (l.invariant.jobs none)) in
+          (now.0, tells_then (IsCorrectResult a.plan.now lines) a.self.now.actors l.self.actors c.classify_remaining.new.self.actors a.reported.now.items l.reported.items c.classify_remaining.new.reported.items current.1 now.1);
       among = λ among. rounds_among l.self.actors c.classify_remaining.new.self.actors c.pop.new.self.items c.in-Some.round c.classify_remaining.ensures.goes (subst (λ (ns : List ℕ). AreRoundsAmong l.self.actors ns) c.in-Some.ensures.items (l.invariant.among among));
       jobs = λ none. jobs_still_none l.self.actors c.classify_remaining.new.self.actors c.in-Some.round c.classify_remaining.ensures.goes (l.invariant.jobs none);
       paths = c.classify_remaining.ensures.paths ∙ l.invariant.paths;
-      budget = c.classify_remaining.ensures.budget ∙ l.invariant.budget;
     }
 
 pub returns-in_err-classify_remaining-clause-jobs : goal.returns-in_err-classify_remaining-clause-jobs

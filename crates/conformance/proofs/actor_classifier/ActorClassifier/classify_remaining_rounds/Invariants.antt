@@ -9,12 +9,11 @@ use Rattle.conformance.proofs.actor_classifier.ActorClassifier.classify_remainin
 -- The rounds that were popped from the list are classified.
 abbrev pub invariant-loop-round : goal.invariant-loop-round
 invariant-loop-round l = record {
-  remaining : (lines : List RecordedLine) → KeepsRules lines → IsPathsOf l.initial.self.paths lines → IsStateAtEnd l.plan l.initial.self.budget lines l.initial.self.actors l.initial.self.known → HasNoJobs l.initial.self.actors
-      → IsStateAtEnd l.plan l.initial.self.budget lines l.self.actors l.self.known × AddsResults (IsCorrectResult l.plan l.initial.self.budget lines) l.initial.self.actors l.self.actors l.initial.reported.items l.reported.items;
+  remaining : (lines : List RecordedLine) → KeepsRules lines → IsPathsOf l.initial.self.paths lines → IsStateAtEnd l.plan lines l.initial.self.actors l.initial.self.known → HasNoJobs l.initial.self.actors
+      → IsStateAtEnd l.plan lines l.self.actors l.self.known × AddsResults (IsCorrectResult l.plan lines) l.initial.self.actors l.self.actors l.initial.reported.items l.reported.items;
   among : AreRoundsAmong l.initial.self.actors l.fn.rounds.items → AreRoundsAmong l.self.actors l.rounds.items;
   jobs : HasNoJobs l.initial.self.actors → HasNoJobs l.self.actors;
   paths : l.self.paths ≡ l.initial.self.paths;
-  budget : l.self.budget ≡ l.initial.self.budget;
 }
 
 abbrev pub decreases-loop-round : goal.decreases-loop-round

@@ -1,4 +1,3 @@
-use Rattle.std.proofs.Common.{refl}
 use Rattle.conformance.specs.ActorTables.{classes_in}
 use Rattle.conformance.proofs.Words.{two_of}
 use Rattle.conformance.proofs.EmptyTables.{kept_none}
@@ -7,11 +6,10 @@ use Rattle.conformance.proofs.actor_classifier.ActorClassifier.new.Goals as goal
 
 pub returns-clause-represents : goal.returns-clause-represents
 returns-clause-represents c = λ plan. record {
-  has_budget = refl;
   paths = c.new.ensures;
   kept = kept_none plan c.new-2.result c.new-3.result c.new-2.ensures c.new-3.ensures;
   decided = λ enough job one h. two_of (classes_in c.new-3.result job) one h (c.new-3.ensures job);
 }
 
 pub returns-clause-reported : goal.returns-clause-reported
-returns-clause-reported c = λ plan. reported_none plan c.args.budget
+returns-clause-reported c = λ plan. reported_none plan

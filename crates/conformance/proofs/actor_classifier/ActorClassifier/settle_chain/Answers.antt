@@ -1,6 +1,5 @@
-use Rattle.std.proofs.Common.{ℕ, Option, Some, None, refl, subst, ◌∙◌}
+use Rattle.std.proofs.Common.{Option, Some, None, refl, subst, ◌∙◌}
 use Rattle.recordings.specs.declared.recording_line.RecordedActor.{RecordedActor}
-use Rattle.conformance.specs.PlanBudget.{IsEnoughForPlan}
 use Rattle.conformance.specs.ClassificationResults.{IsStep, IsSettledResult}
 use Rattle.conformance.proofs.ActorSteps.{step_then}
 use Rattle.conformance.proofs.AddsResults.{tells_none}
@@ -8,31 +7,25 @@ use Rattle.conformance.proofs.actor_classifier.ActorClassifier.settle_chain.Goal
 
 pub loop-next-init : goal.loop-next-init
 loop-next-init c = record {
-  reported = λ lines kept decided keeps. record { kept = kept; decided = decided; tells = tells_none (IsSettledResult c.args.plan.now c.args.self.now.budget lines) c.args.self.now.actors c.args.reported.now.items };
+  reported = λ lines kept decided keeps. record { kept = kept; decided = decided; tells = tells_none (IsSettledResult c.args.plan.now lines) c.args.self.now.actors c.args.reported.now.items };
   paths = refl;
-  budget = refl;
 }
 
 pub loop-next-preserved : goal.loop-next-preserved
 loop-next-preserved c = record {
   reported = λ lines kept decided keeps.
       let a = c.args in
-      let is = c.loop-next.invariant.budget in
       let current = c.loop-next.invariant.reported lines kept decided keeps in
-      let now = c.in_ok-next.ensures.reported lines current.kept (λ enough. current.decided (subst (λ (b : ℕ). IsEnoughForPlan b a.plan.now) is enough)) keeps in
-      step_then a.plan.now a.self.now.budget lines a.self.now.actors c.loop-next.self.actors c.settle_one.new.self.actors c.loop-next.self.known c.settle_one.new.self.known (Some c.loop-next.one) (Some c.in-Some.next) a.reported.now.items c.loop-next.reported.items c.settle_one.new.reported.items current
-      (subst (λ (b : ℕ). IsStep a.plan.now b lines c.loop-next.self.actors c.settle_one.new.self.actors c.settle_one.new.self.known (Some c.in-Some.next) c.loop-next.reported.items c.settle_one.new.reported.items) is
-      (subst (λ (next : Option RecordedActor). IsStep a.plan.now c.loop-next.self.budget lines c.loop-next.self.actors c.settle_one.new.self.actors c.settle_one.new.self.known next c.loop-next.reported.items c.settle_one.new.reported.items) c.in-Some.is now));
+      let now = c.in_ok-next.ensures.reported lines current.kept current.decided keeps in
+      step_then a.plan.now lines a.self.now.actors c.loop-next.self.actors c.settle_one.new.self.actors c.loop-next.self.known c.settle_one.new.self.known (Some c.loop-next.one) (Some c.in-Some.next) a.reported.now.items c.loop-next.reported.items c.settle_one.new.reported.items current
+      (subst (λ (next : Option RecordedActor). IsStep a.plan.now lines c.loop-next.self.actors c.settle_one.new.self.actors c.settle_one.new.self.known next c.loop-next.reported.items c.settle_one.new.reported.items) c.in-Some.is now);
   paths = c.settle_one.ensures.paths ∙ c.loop-next.invariant.paths;
-  budget = c.settle_one.ensures.budget ∙ c.loop-next.invariant.budget;
 }
 
 pub returns-in-None-clause-reported : goal.returns-in-None-clause-reported
 returns-in-None-clause-reported c = λ lines kept decided keeps.
     let a = c.args in
-    let is = c.loop-next.invariant.budget in
     let current = c.loop-next.invariant.reported lines kept decided keeps in
-    let now = c.in_ok-next.ensures.reported lines current.kept (λ enough. current.decided (subst (λ (b : ℕ). IsEnoughForPlan b a.plan.now) is enough)) keeps in
-    step_then a.plan.now a.self.now.budget lines a.self.now.actors c.loop-next.self.actors c.settle_one.new.self.actors c.loop-next.self.known c.settle_one.new.self.known (Some c.loop-next.one) None a.reported.now.items c.loop-next.reported.items c.settle_one.new.reported.items current
-    (subst (λ (b : ℕ). IsStep a.plan.now b lines c.loop-next.self.actors c.settle_one.new.self.actors c.settle_one.new.self.known None c.loop-next.reported.items c.settle_one.new.reported.items) is
-    (subst (λ (next : Option RecordedActor). IsStep a.plan.now c.loop-next.self.budget lines c.loop-next.self.actors c.settle_one.new.self.actors c.settle_one.new.self.known next c.loop-next.reported.items c.settle_one.new.reported.items) c.in-None.is now))
+    let now = c.in_ok-next.ensures.reported lines current.kept current.decided keeps in
+    step_then a.plan.now lines a.self.now.actors c.loop-next.self.actors c.settle_one.new.self.actors c.loop-next.self.known c.settle_one.new.self.known (Some c.loop-next.one) None a.reported.now.items c.loop-next.reported.items c.settle_one.new.reported.items current
+    (subst (λ (next : Option RecordedActor). IsStep a.plan.now lines c.loop-next.self.actors c.settle_one.new.self.actors c.settle_one.new.self.known next c.loop-next.reported.items c.settle_one.new.reported.items) c.in-None.is now)

@@ -1,8 +1,8 @@
 use Rattle.conformance.proofs.survey.Survey.finish.Goals as goal
 
 pub returns : goal.returns
-returns c = λ budget lines keeps line_survey actor_survey excess_tracker. record {
+returns c = λ lines keeps line_survey actor_survey excess_tracker. record {
   line_survey = c.in_ok-finish.ensures lines line_survey;
-  actor_survey = c.in_ok-finish-2.ensures.all budget lines keeps actor_survey;
+  actor_survey = c.in_ok-finish-2.ensures.all lines keeps actor_survey;
   excess_tracker = record { so = λ none. excess_tracker.so (c.in_ok-finish-2.ensures.had none) };
 }

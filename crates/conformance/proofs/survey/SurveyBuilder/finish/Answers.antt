@@ -1,4 +1,4 @@
 use Rattle.conformance.proofs.survey.SurveyBuilder.finish.Goals as goal
 
 pub returns : goal.returns
-returns c = λ budget lines keeps so. c.in_ok-finish.ensures budget lines keeps so.line_survey so.actor_survey so.excess_tracker
+returns c = λ lines keeps so. c.in_ok-finish.ensures lines keeps so.line_survey so.actor_survey so.excess_tracker

@@ -3,8 +3,8 @@ use Rattle.recordings.specs.RecordingLine.{line_view}
 use Rattle.conformance.proofs.survey.SurveyBuilder.take.Goals as goal
 
 pub returns : goal.returns
-returns c = λ budget before keeps number so.
-    let actor_survey = c.in_ok-take_line.ensures.current budget before keeps so.nothing so.actor_survey in
+returns c = λ before keeps number so.
+    let actor_survey = c.in_ok-take_line.ensures.current before keeps so.nothing so.actor_survey in
     record {
       line_survey = c.in_ok-take.ensures before keeps number so.line_survey;
       actor_survey = actor_survey;

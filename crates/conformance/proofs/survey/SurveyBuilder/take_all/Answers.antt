@@ -15,7 +15,7 @@ loop-lines-init c =
     let nothing : lines_before all c.new-lines.result.number ≡ [] = ap (λ (n : ℕ). lines_before all n) c.new-lines.ensures.number in
     record {
       checked = c.new-lines.ensures.checked;
-      builder = λ budget so. subst (λ (ls : List RecordedLine). IsSurveyBuilderOf c.args.plan.now budget ls c.args.self.now) (sym nothing) so;
+      builder = λ so. subst (λ (ls : List RecordedLine). IsSurveyBuilderOf c.args.plan.now ls c.args.self.now) (sym nothing) so;
     }
 
 pub loop-lines-preserved : goal.loop-lines-preserved
@@ -31,12 +31,12 @@ loop-lines-preserved c =
     let number : c.number.result ≡ length before + 1 = c.number.ensures ∙ next.number ∙ ap (λ (n : ℕ). n + 1) (sym c.loop-lines.invariant.checked.counted) in
     record {
       checked = next.checked;
-      builder = λ budget so. subst (λ (ls : List RecordedLine). IsSurveyBuilderOf c.args.plan.now budget ls c.take.new.self) (sym next.taken)
-          (c.in_ok-take.ensures budget before keeps number (c.loop-lines.invariant.builder budget so));
+      builder = λ so. subst (λ (ls : List RecordedLine). IsSurveyBuilderOf c.args.plan.now ls c.take.new.self) (sym next.taken)
+          (c.in_ok-take.ensures before keeps number (c.loop-lines.invariant.builder so));
     }
 
 pub returns-in-Err : goal.returns-in-Err
-returns-in-Err c = λ budget so.
+returns-in-Err c = λ so.
     let all = lines_read c.args.recording.now in
     let old = c.loop-lines.lines in
     let new = c.next.new.self in
@@ -44,7 +44,7 @@ returns-in-Err c = λ budget so.
     subst (λ (next : Option (Result Line RecordingFault)). IsNext all old next new) is (c.in_ok-line.ensures all c.loop-lines.invariant.checked)
 
 pub returns : goal.returns
-returns c = λ budget so.
+returns c = λ so.
     let all = lines_read c.args.recording.now in
     let lines = lines_of c.args.recording.now in
     let old = c.loop-lines.lines in
@@ -52,4 +52,4 @@ returns c = λ budget so.
     let current = c.loop-lines.invariant in
     let taken : AreAllAccepted all old new = subst (λ (next : Option (Result Line RecordingFault)). IsNext all old next new) c.in_default.is (c.in_ok-line.ensures all current.checked) in
     let keeps : KeepsRules lines = record { unbroken = subst AreUnbroken taken.taken current.checked.unbroken } in
-    (taken.none, keeps, subst (λ (ls : List RecordedLine). IsSurveyBuilderOf c.args.plan.now budget ls c.loop-lines.self) taken.taken (current.builder budget so))
+    (taken.none, keeps, subst (λ (ls : List RecordedLine). IsSurveyBuilderOf c.args.plan.now ls c.loop-lines.self) taken.taken (current.builder so))

@@ -16,7 +16,7 @@ pub returns-clause-ok : goal.returns-clause-ok
 returns-clause-ok c = λ lines beyond given entries.
     let few : length c.deref.result.now < MAX_CLASSES = grind (arith, c.if-len-self.false, c.len.ensures, c.deref.ensures.value, entries.few) in
     record {
-      each = subst (All (IsEntryOf lines beyond)) (sym c.in_ok-push.ensures.entries) (All-push (IsEntryOf lines beyond) c.args.self.now.entries.items (record { label = c.in_ok-label.label; pool = c.args.pool; name = c.in_ok-name.name; body = c.args.body }) entries.each (record {
+      each = subst (All (IsEntryOf lines beyond)) (sym c.in_ok-push.ensures.entries) (All-push (IsEntryOf lines beyond) c.args.self.now.entries.items _ entries.each (record {
         given = subst (λ label. IsGiven lines beyond label c.args.pool) (sym c.in_ok-label.ensures.ok) given;
         named = subst (λ label. IsOfFamily label (string_bytes c.in_ok-name.name)) (sym c.in_ok-label.ensures.ok) (c.in_ok-name.ensures.ok few);
       }));

@@ -27,7 +27,7 @@ returns-clause-names c = λ before names.
     let counts = c.in_ok-count.ensures in
     named_after c.args.self.now c.count.new.self before (line_view c.args.line.now) names (ap (λ pools. pools.items) counts.pools ∙ c.in_ok-note_pool.ensures.ok)
     (λ few. subst (λ (pools : List Pool). length pools ≤ MAX_POOLS) (sym (ap (λ pools. pools.items) counts.pools)) (c.in_ok-note_pool.ensures.few few))
-    counts.rounds counts.jobs counts.ended_rounds counts.started_jobs counts.ended_jobs
+    counts.rounds counts.jobs counts.ended_rounds counts.started_jobs counts.ended_jobs counts.failed_gets
 
 pub returns-clause-draft : goal.returns-clause-draft
 returns-clause-draft c = λ before after names draft.

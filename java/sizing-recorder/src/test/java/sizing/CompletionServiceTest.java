@@ -4,6 +4,7 @@ import static org.junit.jupiter.api.Assertions.assertEquals;
 import static org.junit.jupiter.api.Assertions.assertTrue;
 import static sizing.RecordingAssertions.assertLines;
 
+import java.util.ArrayList;
 import java.util.List;
 import java.util.concurrent.CountDownLatch;
 import java.util.concurrent.ExecutorCompletionService;
@@ -18,8 +19,31 @@ class CompletionServiceTest {
     private final ExecutorService pool = recording.pool("p", Recording.executor(1, 1, 9));
     private final ExecutorCompletionService<Integer> service = new ExecutorCompletionService<>(pool);
 
+    private final List<CountDownLatch> latches = new ArrayList<>();
+
     private List<String> round() throws Exception {
         return recording.acts().stream().filter(line -> line.startsWith("round 0 ")).toList();
+    }
+
+    /** Submits three rows, each of which ends when its latch opens. */
+    private void submitHeldRows(ExecutorCompletionService<Integer> rows) {
+        for (int row = 0; row < 3; row++) {
+            CountDownLatch latch = new CountDownLatch(1);
+            latches.add(latch);
+            int value = row;
+            rows.submit(Recorder.label("row", () -> {
+                Recording.await(latch);
+                return value;
+            }));
+        }
+    }
+
+    /** Lets a row end, and takes it. */
+    private Future<Integer> takeHeld(ExecutorCompletionService<Integer> rows, int row) throws Exception {
+        latches.get(row).countDown();
+        Future<Integer> taken = rows.take();
+        assertTrue(taken.isDone());
+        return taken;
     }
 
     @Test
@@ -34,6 +58,51 @@ class CompletionServiceTest {
         }
         assertLines(round(), "round 0 begin importer", "round 0 submit 0 row p", "round 0 submit 1 row p", "round 0 got 0",
                 "round 0 submit 2 last p", "round 0 got 1", "round 0 got 2", "round 0 end");
+    }
+
+    @Test
+    void theGetsAreInTheOrderInWhichTheJobsAreDone() throws Exception {
+        ExecutorCompletionService<Integer> rows = new ExecutorCompletionService<>(recording.pool("rows", Recording.executor(3, 3, 9)));
+        try (Recorder.Round round = recording.recorder.round("importer")) {
+            submitHeldRows(rows);
+            for (int row : List.of(2, 0, 1)) {
+                assertEquals(row, takeHeld(rows, row).get());
+            }
+        }
+        assertLines(round(), "round 0 begin importer", "round 0 submit 0 row rows", "round 0 submit 1 row rows", "round 0 submit 2 row rows",
+                "round 0 got 2", "round 0 got 0", "round 0 got 1", "round 0 end");
+    }
+
+    @Test
+    void theGetsOfAJobAreItsOwn() throws Exception {
+        ExecutorCompletionService<Integer> rows = new ExecutorCompletionService<>(recording.pool("rows", Recording.executor(3, 3, 9)));
+        try (Recorder.Round round = recording.recorder.round("importer")) {
+            assertEquals(3, pool.submit(Recorder.label("import", () -> {
+                submitHeldRows(rows);
+                return takeHeld(rows, 1).get() + takeHeld(rows, 2).get() + takeHeld(rows, 0).get();
+            })).get());
+        }
+        List<String> acts = recording.acts();
+        assertLines(acts.stream().filter(line -> line.startsWith("round 0 ")).toList(), "round 0 begin importer", "round 0 submit 0 import p",
+                "round 0 got 0", "round 0 end");
+        assertLines(acts.stream().filter(line -> line.startsWith("job 0 ")).toList(), "job 0 start", "job 0 submit 1 row rows",
+                "job 0 submit 2 row rows", "job 0 submit 3 row rows", "job 0 got 2", "job 0 got 3", "job 0 got 1", "job 0 end");
+    }
+
+    @Test
+    void aTakenJobIsGotWhenItIsRead() throws Exception {
+        ExecutorCompletionService<Integer> rows = new ExecutorCompletionService<>(recording.pool("rows", Recording.executor(3, 3, 9)));
+        try (Recorder.Round round = recording.recorder.round("importer")) {
+            submitHeldRows(rows);
+            Future<Integer> second = takeHeld(rows, 1);
+            assertEquals(0, takeHeld(rows, 0).get());
+            rows.submit(Recorder.label("row", () -> 3));
+            assertEquals(3, rows.take().get());
+            assertEquals(1, second.get());
+            takeHeld(rows, 2);
+        }
+        assertLines(round(), "round 0 begin importer", "round 0 submit 0 row rows", "round 0 submit 1 row rows", "round 0 submit 2 row rows",
+                "round 0 got 0", "round 0 submit 3 row rows", "round 0 got 3", "round 0 got 1", "round 0 got 2", "round 0 end");
     }
 
     @Test

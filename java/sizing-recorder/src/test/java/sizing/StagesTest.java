@@ -106,6 +106,24 @@ class StagesTest {
         assertEquals(List.of("round 0 got 0", "round 0 got 1"), lines.subList(3, 5).stream().sorted().toList());
     }
 
+    @Test
+    void eachJoinOfAnyOfIsAGetOfTheStageThatEnds() throws Exception {
+        try (Recorder.Round round = recording.recorder.round("request")) {
+            Thread thread = Thread.currentThread();
+            CountDownLatch second = new CountDownLatch(1);
+            CompletableFuture<Integer> slow = CompletableFuture.supplyAsync(() -> {
+                await(second);
+                return whenWaiting(thread, 1);
+            }, load);
+            CompletableFuture<Integer> fast = CompletableFuture.supplyAsync(() -> whenWaiting(thread, 2), load);
+            assertEquals(2, CompletableFuture.anyOf(slow, fast).join());
+            second.countDown();
+            assertEquals(1, CompletableFuture.anyOf(slow).join());
+        }
+        assertLines(round("0"), "round 0 begin request", "round 0 submit 0 load io", "round 0 submit 1 load io", "round 0 got 1",
+                "round 0 got 0", "round 0 end");
+    }
+
     private static void await(CountDownLatch latch) {
         try {
             Recording.await(latch);

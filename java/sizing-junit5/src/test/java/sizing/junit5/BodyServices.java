@@ -77,6 +77,17 @@ final class BodyServices {
         });
     }
 
+    /** Both futures are got after the second submit. */
+    static void getThatComesLater(ServiceRun run) throws Exception {
+        ExecutorService prices = run.pool("prices");
+        run.rounds("request", 1, 1, () -> {
+            Future<Integer> price = prices.submit(task("price", 1));
+            Future<Integer> tax = prices.submit(task("tax", 1));
+            price.get();
+            tax.get();
+        });
+    }
+
     static void reportUpToEight(ServiceRun run) throws Exception {
         reports(run, () -> 1 + ThreadLocalRandom.current().nextInt(8), 5, 20);
     }
@@ -99,7 +110,7 @@ final class BodyServices {
         })).get());
     }
 
-    /** The report gets the section that is done first, and a body fixes the order of its gets. */
+    /** The report gets the section that is done first, which is the second one that it submitted. */
     static void reportThatGetsTheFirstDone(ServiceRun run) throws Exception {
         ExecutorService reports = run.pool("reports");
         CountDownLatch taken = new CountDownLatch(1);

@@ -139,7 +139,7 @@ final class ChainServices {
         });
     }
 
-    /** The plan has one order of the two chains, and the service takes another: the second chain overtakes the first. */
+    /** The second chain overtakes the first: the order of the gets is not that of the plan. */
     static void chainsInAJob(ServiceRun run) throws Exception {
         ExecutorService web = run.pool("web");
         ExecutorService io = run.pool("io");

@@ -1,0 +1,63 @@
+-- The state of the walks of a body and a path.
+use Rattle.std.specs.Prelude.{◌≡◌, ◌≤◌, ◌<◌, ◌↔◌, ℕ, ◌+◌, Bool, true, false, ◌&&◌, ◌||◌, nat_lt, if◌then◌else◌, List, [], ◌∷◌, ◌++◌, None, Some, length, slice_get, slice_index_or}
+use Rattle.std.specs.List.{list_any}
+use Rattle.job_bodies.specs.declared.action.Action.{Action}
+use Rattle.conformance.specs.declared.open_job.OpenJob.{OpenJob}
+use Rattle.conformance.specs.declared.step.ActorKind.{ActorKind}
+use Rattle.conformance.specs.declared.step.PathStep.{PathStep}
+use Rattle.conformance.specs.declared.walk_state.WalkState.{WalkState}
+use Rattle.conformance.specs.declared.walk_state.Progress.{Progress}
+use Rattle.conformance.specs.declared.walk_state.Progress.TheVariants as progress
+use Rattle.conformance.specs.Path.{Walks, MayGet, HasOneClass, is_submit_of, open_class, without}
+use Rattle.conformance.specs.BodyGets.{get_at, can_pass}
+
+-- The body can be at this index.
+abbrev pub is_at : WalkState → ℕ → Bool
+is_at state index = slice_index_or state.row.items index false
+
+-- The tables of the state belong to the body and the open jobs.
+pub record HasTables (body : List Action) (state : WalkState) : Type 0 where
+  pub row_length : length state.row.items ≡ length body + 1
+  pub passes_length : length state.passes.items ≡ length body
+  pub passes : (index : ℕ) → index < length body → slice_index_or state.passes.items index false ≡ can_pass (get_at body index) state.jobs.items
+
+-- The path submitted a job of the class, and the body with it.
+pub record IsAfterSubmit (body : List Action) (job class : ℕ) (old new : WalkState) : Type 0 where
+  pub tables : HasTables body new
+  pub jobs : new.jobs.items ≡ old.jobs.items ++ record { job = job; class = class } ∷ []
+  pub first : is_at new 0 ≡ false
+  pub rest : (index : ℕ) → index < length body → is_at new (index + 1) ≡ ((is_at old index && is_submit_of class (slice_get body index)) || (is_at new index && can_pass (get_at body index) new.jobs.items))
+
+-- The path got a job of the class. The body is before the index `end`.
+pub record IsAfterGetOf (kind : ActorKind) (body : List Action) (job class : ℕ) (old new : WalkState) : Type 0 where
+  pub tables : HasTables body new
+  pub jobs : new.jobs.items ≡ without job old.jobs.items
+  pub end : ℕ
+  pub is_end : (index : ℕ) → index ≤ length body → (nat_lt index end ≡ true) ↔ MayGet kind body index class
+  pub first : is_at new 0 ≡ (is_at old 0 && nat_lt 0 end)
+  pub rest : (index : ℕ) → index < length body → is_at new (index + 1) ≡ ((is_at old (index + 1) && nat_lt (index + 1) end) || (is_at new index && can_pass (get_at body index) new.jobs.items))
+
+-- The path got the job.
+pub record IsAfterGet (kind : ActorKind) (body : List Action) (job : ℕ) (old new : WalkState) : Type 0 where
+  pub got : (class : ℕ) → open_class job old.jobs.items ≡ Some class → IsAfterGetOf kind body job class old new
+  pub missing : open_class job old.jobs.items ≡ None → (index : ℕ) → is_at new index ≡ false
+
+-- ---- walks
+-- The state has exactly the walks up to this index of the path.
+pub record IsStateAt (kind : ActorKind) (body : List Action) (path : List PathStep) (place : ℕ) (state : WalkState) : Type 0 where
+  pub tables : HasTables body state
+  pub sound : (index : ℕ) → is_at state index ≡ true → Walks kind body path index place state.jobs.items
+  pub complete : (index : ℕ) (jobs : List OpenJob) → Walks kind body path index place jobs → (jobs ≡ state.jobs.items) × (is_at state index ≡ true)
+
+-- The body can be at some index.
+abbrev pub IsBegun : WalkState → Type 0
+IsBegun state = (index : ℕ) × (is_at state index ≡ true)
+
+abbrev pub progress_of : WalkState → Progress
+progress_of state = if list_any (λ at. at) state.row.items then progress.Walked else progress.Stops
+
+-- The walks after a further step of the path.
+abbrev pub IsProgress : ActorKind → List Action → List PathStep → ℕ → PathStep → WalkState → Progress → Type 0
+IsProgress kind body path place step new progress.Walked = IsStateAt kind body path (place + 1) new × IsBegun new
+IsProgress kind body path place step new progress.Stops = (index : ℕ) (jobs : List OpenJob) → ¬ Walks kind body path index (place + 1) jobs
+IsProgress kind body path place step new progress.Undecided = ¬ HasOneClass body step

@@ -1,0 +1,73 @@
+//! The class of a submit among those of a body.
+
+ghost use Rattle.std.specs.Prelude.{◌≡◌, Some};
+ghost use Rattle.conformance.specs.Path as spec;
+ghost use Rattle.conformance.specs.declared.step.PathStep.TheVariants.{Submits};
+ghost use Rattle.conformance.specs.Candidate.{IsCandidate, next_candidate, with_class};
+
+use job_bodies::Action;
+
+/// The class of a submit among those that a body submits.
+#[derive(Clone, Copy)]
+pub(crate) enum Candidate {
+    /// The body submits none of its classes.
+    None,
+    /// The body submits only this one of its classes.
+    One(usize),
+    /// The body submits several of its classes.
+    Several,
+}
+
+/// Returns the class of a submit among those that the body submits.
+pub(crate) fn candidate_of(body: &[Action], classes: &Vec<usize>) -> Candidate
+    ensures { IsCandidate body.now (Submits classes.now) result }
+{
+    let mut found = Candidate::None;
+    for class in classes {
+        found = next_candidate(body, found, *class);
+    }
+    found
+}
+
+/// Returns the candidate after one more class of the submit.
+fn next_candidate(body: &[Action], found: Candidate, class: usize) -> Candidate
+    ensures { result ≡ next_candidate body.now found class }
+{
+    if has_submit_of(body, class) {
+        with_class(found, class)
+    } else {
+        found
+    }
+}
+
+fn with_class(found: Candidate, class: usize) -> Candidate
+    ensures { result ≡ with_class found class }
+{
+    match found {
+        Candidate::None => Candidate::One(class),
+        Candidate::One(one) => {
+            if one == class {
+                Candidate::One(one)
+            } else {
+                Candidate::Several
+            }
+        }
+        Candidate::Several => Candidate::Several,
+    }
+}
+
+/// Returns true if the body submits jobs of the class.
+pub(crate) fn has_submit_of(body: &[Action], class: usize) -> bool
+    ensures { result ≡ spec.has_submit_of body.now class }
+{
+    body.iter().any(|action| is_submit_of(class, *action))
+}
+
+fn is_submit_of(class: usize, action: Action) -> bool
+    ensures { result ≡ spec.is_submit_of class (Some action) }
+{
+    match action {
+        Action::Submit(other) => other == class,
+        Action::Work(_) | Action::Get(_) => false,
+    }
+}

@@ -1,0 +1,127 @@
+//! Paths in which each job has at most one class.
+
+ghost use Rattle.std.specs.Prelude.{◌≡◌, Contains, IfOk, IfSome};
+ghost use Rattle.std.specs.Option.{option_to_list};
+ghost use Rattle.conformance.specs.Narrowing.{IsNarrowerStep, IsNarrower};
+
+use crate::candidate::has_submit_of;
+use crate::step::PathStep;
+use job_bodies::Action;
+use std::alloc::{AllocError, Global};
+
+/// A rule that picks one of the classes of each job of a path, among those that a body submits.
+#[derive(Clone, Copy)]
+pub(crate) enum Pick {
+    /// The first of the job's classes.
+    First,
+    /// The last of the job's classes.
+    Last,
+    /// The class of the body's next submit, after those picked before, of one of the job's classes.
+    InOrder,
+}
+
+/// Returns the path with the class that the rule picks for each job. A job for which it picks none
+/// has no classes.
+///
+/// # Errors
+///
+/// Returns [`AllocError`] if memory runs out.
+pub(crate) fn narrowed(
+    alloc: Global,
+    body: &[Action],
+    path: &[PathStep],
+    pick: Pick,
+) -> Result<Vec<PathStep>, AllocError>
+    ensures { IfOk result (λ fewer. IsNarrower fewer.items path.now) }
+{
+    let mut fewer = Vec::with_capacity(alloc, path.len())?;
+    let mut from = 0;
+    for step in path {
+        let narrower = narrowed_step(alloc, body, &mut from, step, pick)?;
+        fewer.push(narrower)?;
+    }
+    Ok(fewer)
+}
+
+/// Returns the step with the class that the rule picks.
+fn narrowed_step(
+    alloc: Global,
+    body: &[Action],
+    from: &mut usize,
+    step: &PathStep,
+    pick: Pick,
+) -> Result<PathStep, AllocError>
+    ensures { IfOk result (λ narrower. IsNarrowerStep narrower step.now) }
+{
+    match step {
+        PathStep::Submits(classes) => {
+            let picked = picked_class(body, from, classes, pick);
+            let fewer = one_class(alloc, picked)?;
+            Ok(PathStep::Submits(fewer))
+        }
+        PathStep::Gets(job) => Ok(PathStep::Gets(*job)),
+    }
+}
+
+/// Returns the list of this class, or an empty list.
+fn one_class(alloc: Global, picked: Option<usize>) -> Result<Vec<usize>, AllocError>
+    ensures { IfOk result (λ fewer. fewer.items ≡ option_to_list picked) }
+{
+    let mut fewer = Vec::new(alloc);
+    if let Some(class) = picked {
+        fewer.push(class)?;
+    }
+    Ok(fewer)
+}
+
+/// Returns the class that the rule picks among these.
+fn picked_class(body: &[Action], from: &mut usize, classes: &[usize], pick: Pick) -> Option<usize>
+    ensures { IfSome result (λ class. Contains classes.now class) }
+{
+    match pick {
+        Pick::First => first_class(body, classes),
+        Pick::Last => last_class(body, classes),
+        Pick::InOrder => next_class(body, from, classes),
+    }
+}
+
+/// Returns the first of the classes that the body submits.
+fn first_class(body: &[Action], classes: &[usize]) -> Option<usize>
+    ensures { IfSome result (λ class. Contains classes.now class) }
+{
+    for class in classes {
+        if has_submit_of(body, *class) {
+            return Some(*class);
+        }
+    }
+    None
+}
+
+/// Returns the last of the classes that the body submits.
+fn last_class(body: &[Action], classes: &[usize]) -> Option<usize>
+    ensures { IfSome result (λ class. Contains classes.now class) }
+{
+    let mut last = None;
+    for class in classes {
+        if has_submit_of(body, *class) {
+            last = Some(*class);
+        }
+    }
+    last
+}
+
+/// Returns the class of the first submit of one of the classes, starting at the index `from` of the
+/// body, and moves `from` past that submit.
+fn next_class(body: &[Action], from: &mut usize, classes: &[usize]) -> Option<usize>
+    ensures { IfSome result (λ class. Contains classes.now class) }
+{
+    for index in *from..body.len() {
+        if let Action::Submit(class) = body[index] {
+            if classes.contains(&class) {
+                *from = index + 1;
+                return Some(class);
+            }
+        }
+    }
+    None
+}

@@ -1,0 +1,40 @@
+//! The open jobs of a path.
+
+ghost use Rattle.std.specs.Prelude.{◌≡◌, ◌<◌, ◌==◌, length, position, IfSome};
+ghost use Rattle.conformance.specs.Path as spec;
+
+/// A job of a path that is submitted and not yet got.
+#[derive(Clone, Copy, PartialEq, Eq)]
+pub struct OpenJob {
+    /// The index of its submit in the path.
+    pub job: usize,
+    pub class: usize,
+}
+
+/// Returns the number of jobs of the class.
+pub(crate) fn count_in(class: usize, jobs: &[OpenJob]) -> usize
+    ensures { result ≡ spec.count_in class jobs.now }
+{
+    jobs.iter().filter(|one| one.class == class).count()
+}
+
+/// Removes the job and returns its class, or `None` if it is not open.
+pub(crate) fn take_job(jobs: &mut Vec<OpenJob>, job: usize) -> Option<usize>
+    ensures class { result ≡ spec.open_class job jobs.old.items }
+    ensures jobs { jobs.new.items ≡ spec.without job jobs.old.items }
+{
+    match index_of(jobs, job) {
+        Some(index) => {
+            let one = jobs.remove(index);
+            Some(one.class)
+        }
+        None => None,
+    }
+}
+
+fn index_of(jobs: &[OpenJob], job: usize) -> Option<usize>
+    ensures value { result ≡ position (λ one. one.job == job) jobs.now }
+    ensures bound { IfSome result (λ index. index < length jobs.now) }
+{
+    jobs.iter().position(|one| one.job == job)
+}

@@ -1,0 +1,92 @@
+//! Rows: at which indices a body can be.
+
+ghost use Rattle.std.specs.Prelude.{◌≡◌, ◌<◌, ℕ, ◌+◌, false, ◌&&◌, ◌||◌, None, nat_lt, length, slice_get, slice_index_or};
+ghost use Rattle.std.specs.Option.{option_copied};
+ghost use Rattle.conformance.specs.BodyGets.{pass_after};
+ghost use Rattle.conformance.specs.Path as spec;
+
+use crate::body_gets::BodyGet;
+use job_bodies::Action;
+
+/// Moves the body over a submit of the class. It can no longer be where no such submit is next.
+pub(crate) fn shift_row(row: &mut [bool], body: &[Action], class: usize)
+    requires { length row.old ≡ length body.now + 1 }
+    ensures first { slice_index_or row.new 0 false ≡ false }
+    ensures rest { (index : ℕ)
+        → index < length body.now
+        → slice_index_or row.new (index + 1) false
+        ≡ (slice_index_or row.old index false && spec.is_submit_of class (slice_get body.now index)) }
+{
+    let mut before = false;
+    for index in 0..row.len() {
+        let here = row[index];
+        row[index] = before;
+        before = here && is_submit_of(class, body.get(index));
+    }
+}
+
+fn is_submit_of(class: usize, action: Option<&Action>) -> bool
+    ensures { result ≡ spec.is_submit_of class (option_copied action.entry) }
+{
+    match action {
+        Some(Action::Submit(other)) => *other == class,
+        _ => false,
+    }
+}
+
+/// Removes the indices from `end` on.
+pub(crate) fn cut_row(row: &mut [bool], end: usize)
+    ensures { (index : ℕ) → slice_index_or row.new index false
+        ≡ (slice_index_or row.old index false && nat_lt index end) }
+{
+    for index in 0..row.len() {
+        if index >= end {
+            row[index] = false;
+        }
+    }
+}
+
+/// Adds the indices that the body can reach alone. `passes` says for each action whether the body
+/// may pass it.
+pub(crate) fn close_row(row: &mut [bool], passes: &[bool])
+    requires { length row.old ≡ length passes.now + 1 }
+    ensures first { slice_index_or row.new 0 false ≡ slice_index_or row.old 0 false }
+    ensures rest { (index : ℕ)
+        → index < length passes.now
+        → slice_index_or row.new (index + 1) false
+        ≡ (slice_index_or row.old (index + 1) false
+        || (slice_index_or row.new index false && slice_index_or passes.now index false)) }
+{
+    for index in 0..passes.len() {
+        if row[index] && passes[index] {
+            row[index + 1] = true;
+        }
+    }
+}
+
+/// Computes again which gets of the class the body may pass, if this number of jobs is open.
+pub(crate) fn update_passes(
+    passes: &mut [bool],
+    gets: &[Option<BodyGet>],
+    class: usize,
+    count: usize,
+)
+    requires { length passes.old ≡ length gets.now }
+    ensures { (index : ℕ)
+        → index < length gets.now
+        → slice_index_or passes.new index false
+        ≡ pass_after class count (slice_index_or gets.now index None) (slice_index_or passes.old index false) }
+{
+    for index in 0..gets.len() {
+        passes[index] = pass_after(class, count, gets[index], passes[index]);
+    }
+}
+
+fn pass_after(class: usize, count: usize, get: Option<BodyGet>, before: bool) -> bool
+    ensures { result ≡ pass_after class count get before }
+{
+    match get {
+        Some(get) if get.class == class => count <= get.limit,
+        _ => before,
+    }
+}

@@ -1,0 +1,97 @@
+//! The classes through which a class submits itself.
+
+use job_bodies::{Action, Plan};
+use std::alloc::{AllocError, Global};
+
+/// A search for the shortest way from a class to a submit of the same class.
+#[derive(Drop)]
+struct CircleSearch {
+    /// For each class that was found, the class that submits it.
+    submitters: Vec<Option<usize>>,
+    /// The classes that were found, in order.
+    found: Vec<usize>,
+}
+
+impl CircleSearch {
+    fn new(alloc: Global, plan: &Plan) -> Result<CircleSearch, AllocError> {
+        Ok(CircleSearch {
+            submitters: vec![in alloc; None; plan.classes().len()]?,
+            found: Vec::new(alloc),
+        })
+    }
+
+    /// Adds a class that `submitter` submits, unless it was found before.
+    fn add(&mut self, class: usize, submitter: usize) -> Result<(), AllocError> {
+        if let Some(entry) = self.submitters.get_mut(class)
+            && entry.is_none()
+        {
+            *entry = Some(submitter);
+            self.found.push(class)?;
+        }
+        Ok(())
+    }
+
+    /// Adds the classes that the class submits.
+    fn add_body(&mut self, plan: &Plan, class: usize) -> Result<(), AllocError> {
+        if let Some(submitter) = plan.class_at(class) {
+            for action in &submitter.body {
+                if let Action::Submit(submitted) = *action {
+                    self.add(submitted, class)?;
+                }
+            }
+        }
+        Ok(())
+    }
+
+    /// Adds all classes that the class submits, directly or through other classes.
+    fn add_all(&mut self, plan: &Plan, class: usize) -> Result<(), AllocError> {
+        self.add_body(plan, class)?;
+        for position in 0..plan.classes().len() {
+            if let Some(next) = self.found.get(position).copied() {
+                self.add_body(plan, next)?;
+            }
+        }
+        Ok(())
+    }
+
+    /// Returns the class that submits this one, or `None` if none was found.
+    fn submitter_of(&self, class: usize) -> Option<usize> {
+        self.submitters.get(class).copied().flatten()
+    }
+}
+
+/// Returns the classes through which the class submits itself, in order and as few as possible. The
+/// list is empty if the class submits itself directly, or not at all.
+pub(crate) fn classes_between(
+    alloc: Global,
+    plan: &Plan,
+    class: usize,
+) -> Result<Vec<usize>, AllocError> {
+    let mut search = CircleSearch::new(alloc, plan)?;
+    search.add_all(plan, class)?;
+    let mut between = Vec::new(alloc);
+    push_submitters(&mut between, &search, plan, class)?;
+    between.reverse();
+    Ok(between)
+}
+
+/// Appends the class that submits this one, the class that submits that one, and so on, until the
+/// class itself.
+fn push_submitters(
+    between: &mut Vec<usize>,
+    search: &CircleSearch,
+    plan: &Plan,
+    class: usize,
+) -> Result<(), AllocError> {
+    let mut last = class;
+    for _step in 0..plan.classes().len() {
+        match search.submitter_of(last) {
+            Some(submitter) if submitter != class => {
+                between.push(submitter)?;
+                last = submitter;
+            }
+            _ => break,
+        }
+    }
+    Ok(())
+}

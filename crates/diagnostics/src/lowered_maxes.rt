@@ -1,0 +1,47 @@
+//! Plans whose pools start no threads above their cores.
+
+ghost use Rattle.std.specs.Prelude.{◌≡◌, IfOk, map};
+ghost use Rattle.job_bodies.specs.WellFormed.{IsWellFormed};
+ghost use Rattle.diagnostics.specs.AtCore as spec;
+
+use crate::lint_conditions::may_grow;
+use job_bodies::{Plan, Pool};
+use std::alloc::{AllocError, Global};
+
+/// Returns whether some pool's maximum is above its core size.
+pub fn has_max_above_core(plan: &Plan) -> bool
+    ensures { result ≡ spec.has_max_above_core plan.now }
+{
+    plan.pools().iter().any(|pool| may_grow(pool))
+}
+
+/// Returns the plan with each maximum lowered to the core size of its pool.
+///
+/// # Errors
+///
+/// [`AllocError`] if memory runs out.
+pub fn at_core(alloc: Global, plan: &Plan) -> Result<Plan, AllocError>
+    ensures { IfOk result (λ lowered. lowered ≡ spec.at_core plan.now) }
+{
+    let pools = pools_at_core(alloc, plan)?;
+    Ok(plan.try_clone(alloc)?.with_pools(pools))
+}
+
+fn pools_at_core(alloc: Global, plan: &Plan) -> Result<Vec<Pool>, AllocError>
+    ensures pools { IfOk result (λ pools. pools.items ≡ map spec.with_max_at_core plan.now.pools) }
+    ensures well_formed { IsWellFormed plan.now }
+{
+    let mut pools = Vec::with_capacity(alloc, plan.pools().len())?;
+    for pool in plan.pools() {
+        pools.push(pool_at_core(alloc, pool)?)?;
+    }
+    Ok(pools)
+}
+
+fn pool_at_core(alloc: Global, pool: &Pool) -> Result<Pool, AllocError>
+    ensures { IfOk result (λ lowered. lowered ≡ spec.with_max_at_core pool.now) }
+{
+    let mut lowered = pool.try_clone(alloc)?;
+    lowered.max = lowered.core;
+    Ok(lowered)
+}

@@ -1,0 +1,140 @@
+//! The earliest times at which a body may get its jobs, so that every path still matches it.
+
+use crate::path_jobs::{JobStep, PathJob, submitted_jobs};
+use std::alloc::{AllocError, Global};
+
+/// Returns for each submit of a body after which of its submits the job may be got: the index of
+/// the earliest one, or `None` if the body must not get the job. `common` has the jobs of the
+/// submits, and the submits of each path are a subsequence.
+///
+/// The submits of the body that a path makes are the first possible ones, or the last possible ones
+/// if `is_late`. At each moment the body then has at least as many open jobs as each path. Equal
+/// jobs are got in the order of their submits.
+///
+/// # Errors
+///
+/// Returns `AllocError` if memory runs out.
+pub(crate) fn get_times(
+    alloc: Global,
+    common: &[PathJob],
+    paths: &[Vec<JobStep>],
+    is_late: bool,
+) -> Result<Vec<Option<usize>>, AllocError> {
+    let mut times = Vec::from_elem(alloc, Some(0), common.len())?;
+    for path in paths {
+        let jobs = submitted_jobs(alloc, path)?;
+        let made = made_submits(alloc, common, &jobs, is_late)?;
+        let of_path = times_of_path(alloc, common, path, &made)?;
+        delay(&mut times, &of_path);
+    }
+    Ok(times)
+}
+
+/// Replaces each time by the later one of the two.
+fn delay(times: &mut [Option<usize>], others: &[Option<usize>]) {
+    for (time, other) in times.iter_mut().zip(others) {
+        *time = later(*time, *other);
+    }
+}
+
+fn later(time: Option<usize>, other: Option<usize>) -> Option<usize> {
+    match (time, other) {
+        (Some(time), Some(other)) => Some(time.max(other)),
+        _ => None,
+    }
+}
+
+/// Returns for each submit of the body whether it is the submit of one of these jobs.
+fn made_submits(
+    alloc: Global,
+    common: &[PathJob],
+    jobs: &[PathJob],
+    is_late: bool,
+) -> Result<Vec<bool>, AllocError> {
+    let mut made = Vec::from_elem(alloc, false, common.len())?;
+    if is_late {
+        mark_last(common, jobs, &mut made);
+    } else {
+        mark_first(common, jobs, &mut made);
+    }
+    Ok(made)
+}
+
+fn mark_first(common: &[PathJob], jobs: &[PathJob], made: &mut [bool]) {
+    let mut found: usize = 0;
+    for index in 0..common.len() {
+        if jobs.get(found).is_some() && jobs.get(found) == common.get(index) {
+            mark(made, index);
+            found = found.saturating_add(1);
+        }
+    }
+}
+
+fn mark_last(common: &[PathJob], jobs: &[PathJob], made: &mut [bool]) {
+    let mut left = jobs.len();
+    for index in (0..common.len()).rev() {
+        if left > 0 && jobs.get(left.saturating_sub(1)) == common.get(index) {
+            mark(made, index);
+            left = left.saturating_sub(1);
+        }
+    }
+}
+
+fn mark(made: &mut [bool], index: usize) {
+    if let Some(slot) = made.get_mut(index) {
+        *slot = true;
+    }
+}
+
+/// Returns the times for a single path. A job of a submit that the path does not make may be got at
+/// once, and each other job when the path gets it.
+fn times_of_path(
+    alloc: Global,
+    common: &[PathJob],
+    path: &[JobStep],
+    made: &[bool],
+) -> Result<Vec<Option<usize>>, AllocError> {
+    let mut times = Vec::from_elem(alloc, None, common.len())?;
+    let mut place: usize = 0;
+    for (time, job) in common.iter().enumerate() {
+        if made.get(time) == Some(&true) {
+            place = record_gets(common, path, place.saturating_add(1), time, &mut times);
+        } else {
+            record_get(common, *job, time, &mut times);
+        }
+    }
+    Ok(times)
+}
+
+/// Records the gets of the path from index `from` to its next submit. Returns the index of that
+/// submit.
+fn record_gets(
+    common: &[PathJob],
+    path: &[JobStep],
+    from: usize,
+    time: usize,
+    times: &mut [Option<usize>],
+) -> usize {
+    let mut place = from;
+    for step in path.iter().skip(from) {
+        match *step {
+            JobStep::Gets(job) => record_get(common, job, time, times),
+            JobStep::Submits(_) => break,
+        }
+        place = place.saturating_add(1);
+    }
+    place
+}
+
+/// Records the time of a get for the first equal job that has none.
+fn record_get(common: &[PathJob], job: PathJob, time: usize, times: &mut [Option<usize>]) {
+    if !job.is_got {
+        return;
+    }
+    for (other, slot) in common.iter().zip(times.iter_mut()) {
+        if *other == job && slot.is_none() {
+            *slot = Some(time);
+            return;
+        }
+    }
+}

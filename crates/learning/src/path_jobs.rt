@@ -1,0 +1,88 @@
+//! The steps of a path, each with its job.
+
+use conformance::PathStep;
+use std::alloc::{AllocError, Global};
+
+/// A job of a path, without its index. A body does not distinguish equal jobs.
+#[derive(Clone, Copy, PartialEq, Eq)]
+pub(crate) struct PathJob {
+    pub(crate) class: usize,
+    /// True if the body has a get of the job.
+    pub(crate) is_got: bool,
+}
+
+/// A step of a path, with its job.
+#[derive(Clone, Copy, PartialEq, Eq)]
+pub(crate) enum JobStep {
+    Submits(PathJob),
+    Gets(PathJob),
+}
+
+/// Returns the steps of the path, each with its job. Each job has the first class that it can
+/// belong to. If `marks_gets`, the body has a get of a job only if the path has one, and otherwise
+/// it may have a get of each job.
+///
+/// Returns `None` if the job of a submit cannot belong to any class, or if a get names no submit.
+///
+/// # Errors
+///
+/// Returns `AllocError` if memory runs out.
+pub(crate) fn job_steps(
+    alloc: Global,
+    path: &[PathStep],
+    marks_gets: bool,
+) -> Result<Option<Vec<JobStep>>, AllocError> {
+    let mut steps = Vec::new(alloc);
+    for place in 0..path.len() {
+        match job_step(path, place, marks_gets) {
+            Some(step) => steps.push(step)?,
+            None => return Ok(None),
+        }
+    }
+    Ok(Some(steps))
+}
+
+fn job_step(path: &[PathStep], place: usize, marks_gets: bool) -> Option<JobStep> {
+    match path.get(place)? {
+        PathStep::Submits(_) => Some(JobStep::Submits(job_at(path, place, marks_gets)?)),
+        PathStep::Gets(submit) => Some(JobStep::Gets(job_at(path, *submit, marks_gets)?)),
+    }
+}
+
+/// Returns the job that the submit at this index makes.
+fn job_at(path: &[PathStep], place: usize, marks_gets: bool) -> Option<PathJob> {
+    match path.get(place)? {
+        PathStep::Submits(classes) => Some(PathJob {
+            class: *classes.first()?,
+            is_got: !marks_gets || is_got(path, place),
+        }),
+        PathStep::Gets(_) => None,
+    }
+}
+
+/// Returns true if the path gets the job that the submit at this index makes.
+fn is_got(path: &[PathStep], place: usize) -> bool {
+    path.iter().any(|step| gets(step, place))
+}
+
+fn gets(step: &PathStep, place: usize) -> bool {
+    match step {
+        PathStep::Gets(submit) => *submit == place,
+        PathStep::Submits(_) => false,
+    }
+}
+
+/// Returns the jobs that the steps submit, in order.
+///
+/// # Errors
+///
+/// Returns `AllocError` if memory runs out.
+pub(crate) fn submitted_jobs(alloc: Global, steps: &[JobStep]) -> Result<Vec<PathJob>, AllocError> {
+    let mut jobs = Vec::new(alloc);
+    for step in steps {
+        if let JobStep::Submits(job) = *step {
+            jobs.push(job)?;
+        }
+    }
+    Ok(jobs)
+}

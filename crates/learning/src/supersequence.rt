@@ -1,0 +1,145 @@
+//! A common supersequence of the submits of several paths.
+
+use crate::path_jobs::{JobStep, PathJob, submitted_jobs};
+use job_bodies::MAX_ACTIONS;
+use std::alloc::{AllocError, Global};
+
+/// Returns a list of jobs of which the submits of each path are a subsequence, or `None` if it
+/// would be longer than a body may be. The paths are added one by one, from the last one to the
+/// first if `is_reversed`.
+///
+/// # Errors
+///
+/// Returns `AllocError` if memory runs out.
+pub(crate) fn common_supersequence(
+    alloc: Global,
+    paths: &[Vec<JobStep>],
+    is_reversed: bool,
+) -> Result<Option<Vec<PathJob>>, AllocError> {
+    let mut common = Vec::new(alloc);
+    for number in 0..paths.len() {
+        let jobs = submitted_jobs(alloc, path_at(paths, number, is_reversed))?;
+        if !is_subsequence(&jobs, &common) {
+            if jobs.len() > MAX_ACTIONS {
+                return Ok(None);
+            }
+            common = merged(alloc, &common, &jobs)?;
+            if common.len() > MAX_ACTIONS {
+                return Ok(None);
+            }
+        }
+    }
+    Ok(Some(common))
+}
+
+/// Returns the path with this number, counted from the end if `is_reversed`.
+fn path_at(paths: &[Vec<JobStep>], number: usize, is_reversed: bool) -> &[JobStep] {
+    let index = if is_reversed {
+        paths.len().saturating_sub(number).saturating_sub(1)
+    } else {
+        number
+    };
+    match paths.get(index) {
+        Some(path) => path.as_slice(),
+        None => &[],
+    }
+}
+
+fn is_subsequence(jobs: &[PathJob], of: &[PathJob]) -> bool {
+    let mut found: usize = 0;
+    for job in of {
+        if jobs.get(found) == Some(job) {
+            found = found.saturating_add(1);
+        }
+    }
+    found >= jobs.len()
+}
+
+/// Returns a shortest common supersequence of two lists. If a job of either list may be the next
+/// one, it is the job of the first list.
+fn merged(
+    alloc: Global,
+    first: &[PathJob],
+    second: &[PathJob],
+) -> Result<Vec<PathJob>, AllocError> {
+    let lengths = common_lengths(alloc, first, second)?;
+    let mut merged = Vec::new(alloc);
+    let mut index = 0;
+    let mut other = 0;
+    while index < first.len() && other < second.len() {
+        let is_equal = first[index] == second[other];
+        if is_equal || continues_first(&lengths, first.len() - index, second.len() - other) {
+            merged.push(first[index])?;
+            index += 1;
+            if is_equal {
+                other += 1;
+            }
+        } else {
+            merged.push(second[other])?;
+            other += 1;
+        }
+    }
+    push_from(&mut merged, first, index)?;
+    push_from(&mut merged, second, other)?;
+    Ok(merged)
+}
+
+fn push_from(jobs: &mut Vec<PathJob>, more: &[PathJob], index: usize) -> Result<(), AllocError> {
+    for job in more.iter().skip(index) {
+        jobs.push(*job)?;
+    }
+    Ok(())
+}
+
+/// Returns true if the suffixes that follow the next job of the first list have a common
+/// subsequence that is at least as long as without the next job of the second list.
+fn continues_first(lengths: &[Vec<usize>], left: usize, other_left: usize) -> bool {
+    length_at(lengths, left.saturating_sub(1), other_left)
+        >= length_at(lengths, left, other_left.saturating_sub(1))
+}
+
+fn length_at(lengths: &[Vec<usize>], left: usize, other_left: usize) -> usize {
+    match lengths.get(left) {
+        Some(row) => row.get(other_left).copied().unwrap_or(0),
+        None => 0,
+    }
+}
+
+/// Returns the length of the longest common subsequence of each suffix of the first list and each
+/// suffix of the second one. The outer index is the length of the first list's suffix.
+fn common_lengths(
+    alloc: Global,
+    first: &[PathJob],
+    second: &[PathJob],
+) -> Result<Vec<Vec<usize>>, AllocError> {
+    let mut rows = Vec::new(alloc);
+    rows.push(Vec::from_elem(alloc, 0, second.len().saturating_add(1))?)?;
+    for job in first.iter().rev() {
+        let row = next_row(alloc, *job, second, &rows)?;
+        rows.push(row)?;
+    }
+    Ok(rows)
+}
+
+/// Returns the row of lengths for the suffix of the first list that begins with this job. `rows`
+/// has the rows of the shorter suffixes.
+fn next_row(
+    alloc: Global,
+    job: PathJob,
+    second: &[PathJob],
+    rows: &[Vec<usize>],
+) -> Result<Vec<usize>, AllocError> {
+    let last = rows.len().saturating_sub(1);
+    let mut row = Vec::new(alloc);
+    let mut before = 0;
+    row.push(before)?;
+    for (left, other) in second.iter().rev().enumerate() {
+        before = if job == *other {
+            length_at(rows, last, left).saturating_add(1)
+        } else {
+            before.max(length_at(rows, last, left.saturating_add(1)))
+        };
+        row.push(before)?;
+    }
+    Ok(row)
+}

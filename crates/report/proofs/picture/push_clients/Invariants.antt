@@ -1,0 +1,9 @@
+-- The text so far and the nodes of the remaining kinds are the whole text.
+use Rattle.std.proofs.Common.{◌≡◌, ◌++◌}
+use Rattle.std.specs.Prelude.{string_bytes}
+use Rattle.report.specs.Picture.{client_node}
+use Rattle.report.proofs.Rows.{rest_of}
+use Rattle.report.proofs.picture.push_clients.Given as goal
+
+abbrev pub invariant-loop-number : goal.invariant-loop-number
+invariant-loop-number l = string_bytes l.text ++ rest_of client_node l.clients l.number ≡ string_bytes l.fn.text ++ rest_of client_node l.clients 0

@@ -1,0 +1,60 @@
+-- The description of a witness.
+use Rattle.std.specs.Prelude.{◌≡◌, ◌↔◌, ◌==◌, ℕ, if◌then◌else◌, List, [], ◌∷◌, ◌++◌, length, flat_map, codes, decimal, Contains}
+use Rattle.std.specs.List.Sorted.{IsStrictlyIncreasing}
+use Rattle.job_bodies.specs.Plan.{Plan, pool_at}
+use Rattle.written_machine.specs.declared.event.Event.{Event}
+use Rattle.written_machine.specs.declared.event.Event.TheVariants.{Client, Job, Take, Retire}
+use Rattle.counterexample.specs.declared.ending.Ending.{Ending}
+use Rattle.counterexample.specs.declared.ending.Ending.TheVariants.{Refused, StuckForever, StuckNow}
+use Rattle.counterexample.specs.declared.ending.Reason.TheVariants.{PoolsAreFull, PoolsStayAtCore}
+use Rattle.counterexample.specs.declared.witness.Witness.{Witness}
+use Rattle.counterexample.specs.EventLines.{stuck_members}
+use Rattle.report.specs.Story.{story_text}
+
+-- the text that says how many jobs wait only for each other
+abbrev pub jobs_wait : List ℕ → List ℕ
+jobs_wait members = decimal (length members) ++ codes " jobs wait only for each other"
+
+-- the text of the witness's ending
+abbrev pub ending_text : Plan → Ending → List ℕ
+ending_text plan (Refused p) = codes "refused by " ++ (pool_at plan p).name
+ending_text plan (StuckForever members reason) = codes "stuck forever: " ++ jobs_wait members.items
+ending_text plan (StuckNow members) = codes "stuck now: " ++ jobs_wait members.items
+
+-- the client that performs the event, as a list, which is empty if no client does
+abbrev pub active_client_of : Event → List ℕ
+active_client_of (Client client) = client ∷ []
+active_client_of (Job job) = []
+active_client_of (Take pool) = []
+active_client_of (Retire pool) = []
+
+-- the number of the acting client for each event of a client, with duplicates
+abbrev pub active_clients : List Event → List ℕ
+active_clients = flat_map active_client_of
+
+-- `count` is the number of different clients that act in the events
+pub record IsActiveClientCount (events : List Event) (count : ℕ) : Type 0 where
+  pub clients : List ℕ
+  pub each_once : IsStrictlyIncreasing clients
+  pub are_active_clients : (client : ℕ) → Contains clients client ↔ Contains (active_clients events) client
+  pub count_is : count ≡ length clients
+
+abbrev pub of_clients : ℕ → List ℕ
+of_clients count = if count == 1 then codes " of 1 client" else codes " of " ++ decimal count ++ codes " clients"
+
+-- the first line: the ending of the witness, the number of its events, and the number of clients that act in the events
+abbrev pub head : Plan → Witness → ℕ → List ℕ
+head plan witness clients = (ending_text plan witness.ending ++ codes ", after " ++ decimal (length witness.events.items) ++ codes " events") ++ (of_clients clients ++ 10 ∷ [])
+
+-- the last line: the reason why jobs wait permanently, or what may end the wait; a refused submit has no such line
+abbrev pub why_text : Ending → List ℕ
+why_text (Refused p) = []
+why_text (StuckForever members PoolsAreFull) = codes "forever: each pool in whose queue one of them waits has all its threads" ++ 10 ∷ []
+why_text (StuckForever members PoolsStayAtCore) = codes "forever: each pool in whose queue one of them waits has all its threads, or never starts one above core" ++ 10 ∷ []
+why_text (StuckNow members) = codes "until a pool in whose queue one of them waits starts a thread above core" ++ 10 ∷ []
+
+-- the text is the first line, the story, and the last line
+pub record IsDescription (plan : Plan) (witness : Witness) (text : List ℕ) : Type 0 where
+  pub clients : ℕ
+  pub clients_are : IsActiveClientCount witness.events.items clients
+  pub is : text ≡ (head plan witness clients ++ story_text plan witness.events.items (stuck_members witness.ending)) ++ why_text witness.ending

@@ -1,0 +1,110 @@
+//! The description of a witness for a reader.
+
+ghost use Rattle.std.specs.Prelude.{◌++◌, IfOk, codes, string_bytes};
+ghost use Rattle.support.specs.Pushed.{Pushes};
+ghost use Rattle.report.specs.Description as spec;
+
+use crate::active_clients::active_client_count;
+use crate::json_ending::members_of;
+use crate::story::push_story;
+use counterexample::{Ending, Reason, Witness};
+use job_bodies::Plan;
+use std::alloc::{AllocError, Global};
+
+/// Returns the description of a witness.
+///
+/// The first line has the form `refused by db, after 7 events of 2 clients`. The lines after it
+/// show the events, the pools, and what each waiting job waits for. If jobs wait only for each
+/// other, a last line says why they do so permanently, or what may end the wait.
+///
+/// # Errors
+///
+/// Returns [`AllocError`] if memory runs out.
+pub fn describe(alloc: Global, plan: &Plan, witness: &Witness) -> Result<String, AllocError>
+    ensures { IfOk result (λ text. spec.IsDescription plan.now witness.now (string_bytes text)) }
+{
+    let clients = active_client_count(alloc, &witness.events)?;
+    let mut text = String::new(alloc);
+    push_head(&mut text, plan, witness, clients)?;
+    push_story(
+        &mut text,
+        alloc,
+        plan,
+        &witness.events,
+        members_of(&witness.ending),
+    )?;
+    push_why(&mut text, &witness.ending)?;
+    Ok(text)
+}
+
+/// Appends the first line: the ending of the witness, and the numbers of its events and clients.
+fn push_head(
+    text: &mut String,
+    plan: &Plan,
+    witness: &Witness,
+    clients: usize,
+) -> Result<(), AllocError>
+    ensures { Pushes result text.old text.new (spec.head plan.now witness.now clients) }
+{
+    push_ending(text, plan, &witness.ending)?;
+    let events = witness.events.len();
+    write!(text, ", after {events} events")?;
+    push_clients(text, clients)?;
+    text.push('\n')
+}
+
+fn push_clients(text: &mut String, clients: usize) -> Result<(), AllocError>
+    ensures { Pushes result text.old text.new (spec.of_clients clients) }
+{
+    if clients == 1 {
+        text.push_str(" of 1 client")
+    } else {
+        write!(text, " of {clients} clients")
+    }
+}
+
+fn push_ending(text: &mut String, plan: &Plan, ending: &Ending) -> Result<(), AllocError>
+    ensures { Pushes result text.old text.new (spec.ending_text plan.now ending.now) }
+{
+    match ending {
+        Ending::Refused(pool) => push_refused(text, plan.pool_name(*pool)),
+        Ending::StuckForever(members, _) => push_stuck(text, "stuck forever: ", members),
+        Ending::StuckNow(members) => push_stuck(text, "stuck now: ", members),
+    }
+}
+
+fn push_refused(text: &mut String, pool: &str) -> Result<(), AllocError>
+    ensures { Pushes result text.old text.new (codes "refused by " ++ pool.now) }
+{
+    text.push_str("refused by ")?;
+    text.push_str(pool)
+}
+
+fn push_stuck(text: &mut String, how: &str, members: &[usize]) -> Result<(), AllocError>
+    ensures { Pushes result text.old text.new (how.now ++ spec.jobs_wait members.now) }
+{
+    let jobs = members.len();
+    write!(text, "{how}{jobs} jobs wait only for each other")
+}
+
+/// Appends the last line: the reason why jobs wait permanently, or what may end the wait.
+fn push_why(text: &mut String, ending: &Ending) -> Result<(), AllocError>
+    ensures { Pushes result text.old text.new (spec.why_text ending.now) }
+{
+    match ending {
+        Ending::Refused(_) => Ok(()),
+        Ending::StuckForever(_, Reason::PoolsAreFull) => {
+            text.push_str(
+                "forever: each pool in whose queue one of them waits has all its threads\n",
+            )
+        }
+        Ending::StuckForever(_, Reason::PoolsStayAtCore) => text.push_str(
+            "forever: each pool in whose queue one of them waits has all its threads, or never starts one above core\n",
+        ),
+        Ending::StuckNow(_) => {
+            text.push_str(
+                "until a pool in whose queue one of them waits starts a thread above core\n",
+            )
+        }
+    }
+}

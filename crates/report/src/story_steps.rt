@@ -1,0 +1,114 @@
+//! The text of one step: the actor, and what it did.
+
+ghost use Rattle.support.specs.Pushed.{Pushes};
+ghost use Rattle.std.specs.Prelude.{◌≡◌, ◌++◌, codes};
+ghost use Rattle.report.specs.Story as spec;
+
+use crate::event_steps::{Actor, EventStep};
+use interleaving::Outcome;
+use job_bodies::{Action, Plan};
+use std::alloc::AllocError;
+use weights::submitted_class;
+
+/// Appends the name of an actor, such as `client web`, `job page` or `pool db`. A client is named by
+/// its client kind, and a job by its class.
+pub(crate) fn push_actor(text: &mut String, plan: &Plan, actor: Actor) -> Result<(), AllocError>
+    ensures { Pushes result text.old text.new (spec.actor_text plan.now actor) }
+{
+    match actor {
+        Actor::Client(kind, _) => push_named(text, "client ", plan.client_name(kind)),
+        Actor::Job(class, _) => push_named(text, "job ", plan.class_name(class)),
+        Actor::Pool(pool) => push_named(text, "pool ", plan.pool_name(pool)),
+    }
+}
+
+fn push_named(text: &mut String, words: &str, name: &str) -> Result<(), AllocError>
+    ensures { Pushes result text.old text.new (words.now ++ name.now) }
+{
+    text.push_str(words)?;
+    text.push_str(name)
+}
+
+/// Appends what the step did, such as `submits page (queued)`.
+pub(crate) fn push_step(text: &mut String, plan: &Plan, step: EventStep) -> Result<(), AllocError>
+    ensures { Pushes result text.old text.new (spec.step_text plan.now step) }
+{
+    let submitted = submitted_name(plan, step.actor, step.action);
+    let taken = taken_name(plan, step.taken);
+    push_act(text, plan, submitted, taken, step.outcome)
+}
+
+/// Returns the name of the class that the actor's action submits.
+fn submitted_name(plan: &Plan, actor: Actor, action: Option<usize>) -> &str
+    ensures { result.now ≡ spec.submitted_name plan.now actor action }
+{
+    match action {
+        Some(action) => plan.class_name(submitted_class(body_of(plan, actor), action)),
+        None => "",
+    }
+}
+
+fn body_of(plan: &Plan, actor: Actor) -> &[Action]
+    ensures { result.now ≡ spec.body_of plan.now actor }
+{
+    match actor {
+        Actor::Client(kind, _) => match plan.client_at(kind) {
+            Some(client) => &client.body,
+            None => &[],
+        },
+        Actor::Job(class, _) => match plan.class_at(class) {
+            Some(class) => &class.body,
+            None => &[],
+        },
+        Actor::Pool(_) => &[],
+    }
+}
+
+fn taken_name(plan: &Plan, taken: Option<usize>) -> &str
+    ensures { result.now ≡ spec.taken_name plan.now taken }
+{
+    match taken {
+        Some(class) => plan.class_name(class),
+        None => "",
+    }
+}
+
+/// Appends what an actor did that submitted a job of one class or took a job of another.
+fn push_act(
+    text: &mut String,
+    plan: &Plan,
+    submitted: &str,
+    taken: &str,
+    outcome: Outcome,
+) -> Result<(), AllocError>
+    ensures { Pushes result text.old text.new
+        (spec.act_text plan.now submitted.now taken.now outcome) }
+{
+    match outcome {
+        Outcome::Started(_) => push_submit(text, submitted, " (a new thread starts it)"),
+        Outcome::Queued(_) => push_submit(text, submitted, " (queued)"),
+        Outcome::Refused(pool) => push_refused(text, submitted, plan.pool_name(pool)),
+        Outcome::Worked(_) => text.push_str("works"),
+        Outcome::Got(_) => text.push_str("gets its result"),
+        Outcome::Looped => text.push_str("begins again"),
+        Outcome::Finished(_) => text.push_str("is done"),
+        Outcome::Took(_) => push_named(text, "a thread takes ", taken),
+        Outcome::Retired => text.push_str("a thread ends"),
+    }
+}
+
+fn push_submit(text: &mut String, class: &str, answer: &str) -> Result<(), AllocError>
+    ensures { Pushes result text.old text.new ((codes "submits " ++ class.now) ++ answer.now) }
+{
+    push_named(text, "submits ", class)?;
+    text.push_str(answer)
+}
+
+fn push_refused(text: &mut String, class: &str, pool: &str) -> Result<(), AllocError>
+    ensures { Pushes result text.old text.new
+        ((codes "submits " ++ class.now) ++ ((codes " (refused by " ++ pool.now) ++ codes ")")) }
+{
+    push_named(text, "submits ", class)?;
+    push_named(text, " (refused by ", pool)?;
+    text.push_str(")")
+}

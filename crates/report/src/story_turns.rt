@@ -1,0 +1,147 @@
+//! Turns of actors: consecutive steps of one actor.
+
+ghost use Rattle.std.specs.Prelude.{◌≡◌, ◌<◌, ◌≤◌, ◌+◌, ◌++◌, ◌∷◌, List, length, map, codes, IfOk, OnOk};
+ghost use Rattle.support.specs.Pushed.{Pushes};
+ghost use Rattle.report.specs.declared.event_steps.EventStep.{EventStep as Step};
+ghost use Rattle.report.specs.Story as spec;
+ghost use Rattle.report.specs.StorySeen.{turn_seen};
+
+use crate::event_steps::{Actor, EventStep};
+use crate::story_steps::{push_actor, push_step};
+use job_bodies::Plan;
+use std::alloc::{AllocError, Global};
+
+/// Consecutive steps of one actor, such as `client web: works, submits page (queued)`.
+#[derive(Drop)]
+pub(crate) struct Turn {
+    pub(crate) actor: Actor,
+    pub(crate) text: String,
+    /// The number of steps up to the last one of this turn.
+    pub(crate) end: usize,
+}
+
+/// Returns the steps as turns, each as long as possible.
+///
+/// # Errors
+///
+/// Returns [`AllocError`] if memory runs out.
+pub(crate) fn turns_of(
+    alloc: Global,
+    plan: &Plan,
+    steps: &[EventStep],
+) -> Result<Vec<Turn>, AllocError>
+    ensures { IfOk result (λ turns. map turn_seen turns.items ≡ spec.turns plan.now steps.now) }
+{
+    let mut turns = Vec::new(alloc);
+    push_turns(&mut turns, alloc, plan, steps)?;
+    Ok(turns)
+}
+
+fn push_turns(
+    turns: &mut Vec<Turn>,
+    alloc: Global,
+    plan: &Plan,
+    steps: &[EventStep],
+) -> Result<(), AllocError>
+    ensures { OnOk result (map turn_seen turns.new.items
+        ≡ map turn_seen turns.old.items ++ spec.turns plan.now steps.now) }
+{
+    let Some((first, rest)) = steps.split_first() else {
+        return Ok(());
+    };
+    let turn = new_turn(alloc, plan, 0, steps.len(), *first)?;
+    push_turns_from(turns, alloc, plan, turn, rest, steps.len())
+}
+
+/// Appends this turn, with the steps that continue it, and the turns after it. `all` is the number
+/// of all steps.
+fn push_turns_from(
+    turns: &mut Vec<Turn>,
+    alloc: Global,
+    plan: &Plan,
+    mut turn: Turn,
+    mut steps: &[EventStep],
+    all: usize,
+) -> Result<(), AllocError>
+    requires { turn.end + length steps.now ≤ all }
+    ensures { OnOk result (map turn_seen turns.new.items
+        ≡ map turn_seen turns.old.items ++ spec.turns_from plan.now (turn_seen turn) steps.now) }
+{
+    while let Some((step, rest)) = steps.split_first() {
+        turn = after_step(turns, alloc, plan, turn, *step, all)?;
+        steps = rest;
+    }
+    turns.push(turn)?;
+    Ok(())
+}
+
+/// Returns the turn after one more step: the given turn with this step, or, after appending the
+/// given turn, a new one.
+fn after_step(
+    turns: &mut Vec<Turn>,
+    alloc: Global,
+    plan: &Plan,
+    mut turn: Turn,
+    step: EventStep,
+    all: usize,
+) -> Result<Turn, AllocError>
+    requires { turn.end < all }
+    ensures turns { IfOk result (λ next. (rest : List Step)
+        → map turn_seen turns.new.items ++ spec.turns_from plan.now (turn_seen next) rest
+        ≡ map turn_seen turns.old.items ++ spec.turns_from plan.now (turn_seen turn) (step ∷ rest)) }
+    ensures end { IfOk result (λ next. next.end ≡ turn.end + 1) }
+{
+    if is_same_actor(turn.actor, step.actor) {
+        push_to_turn(&mut turn.text, plan, step)?;
+        turn.end += 1;
+        Ok(turn)
+    } else {
+        let next = new_turn(alloc, plan, turn.end, all, step)?;
+        turns.push(turn)?;
+        Ok(next)
+    }
+}
+
+/// Returns the turn that the step begins, after this number of the steps, which are `all`.
+fn new_turn(
+    alloc: Global,
+    plan: &Plan,
+    before: usize,
+    all: usize,
+    step: EventStep,
+) -> Result<Turn, AllocError>
+    requires { before < all }
+    ensures { IfOk result (λ turn. turn_seen turn ≡ spec.new_turn plan.now before step) }
+{
+    let mut text = String::new(alloc);
+    push_actor(&mut text, plan, step.actor)?;
+    text.push_str(": ")?;
+    push_step(&mut text, plan, step)?;
+    Ok(Turn {
+        actor: step.actor,
+        text,
+        end: before + 1,
+    })
+}
+
+fn push_to_turn(text: &mut String, plan: &Plan, step: EventStep) -> Result<(), AllocError>
+    ensures { Pushes result text.old text.new (codes ", " ++ spec.step_text plan.now step) }
+{
+    text.push_str(", ")?;
+    push_step(text, plan, step)
+}
+
+fn is_same_actor(actor: Actor, other: Actor) -> bool
+    ensures { result ≡ spec.is_same_actor actor other }
+{
+    match (actor, other) {
+        (Actor::Client(kind, number), Actor::Client(other_kind, other_number)) => {
+            kind == other_kind && number == other_number
+        }
+        (Actor::Job(class, number), Actor::Job(other_class, other_number)) => {
+            class == other_class && number == other_number
+        }
+        (Actor::Pool(pool), Actor::Pool(other_pool)) => pool == other_pool,
+        _ => false,
+    }
+}

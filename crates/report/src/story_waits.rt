@@ -1,0 +1,155 @@
+//! The lines of a story that show what each waiting job waits for.
+
+ghost use Rattle.std.specs.Prelude.{◌≡◌, flat_map};
+ghost use Rattle.support.specs.Pushed.{Pushes};
+ghost use Rattle.report.specs.Story as spec;
+ghost use Rattle.report.specs.StorySeen as seen;
+ghost use Rattle.report.specs.WaitsSeen.{awaited_seen};
+
+use crate::json_ending::{action_at, child_of, pool_name};
+use interleaving::{Phase, World};
+use job_bodies::{Action, Plan};
+use std::alloc::AllocError;
+use weights::submitted_class;
+
+/// The maximum number of waiting jobs that are listed.
+const MAX_WAITS: usize = 20;
+
+/// Appends a line for each of the first members of a waiting set, of the form
+/// `job 0 (report) waits for job 1 (section)` or `job 1 (section) waits in the queue of p, ..`, and
+/// then how many more there are.
+///
+/// # Errors
+///
+/// Returns [`AllocError`] if memory runs out.
+pub(crate) fn push_waits(
+    text: &mut String,
+    plan: &Plan,
+    world: &World,
+    members: &[usize],
+) -> Result<(), AllocError>
+    ensures { Pushes result text.old text.new (seen.waits_text plan.now world.now.view members.now) }
+{
+    if members.len() <= MAX_WAITS {
+        return push_each(text, plan, world, members);
+    }
+    push_each(text, plan, world, &members[..MAX_WAITS])?;
+    push_more(text, members.len() - MAX_WAITS)
+}
+
+fn push_more(text: &mut String, more: usize) -> Result<(), AllocError>
+    ensures { Pushes result text.old text.new (spec.more_jobs more) }
+{
+    writeln!(text, "and {more} more jobs")
+}
+
+fn push_each(
+    text: &mut String,
+    plan: &Plan,
+    world: &World,
+    mut members: &[usize],
+) -> Result<(), AllocError>
+    ensures { Pushes result text.old text.new
+        (flat_map (seen.wait_seen plan.now world.now.view) members.now) }
+{
+    while let Some((member, rest)) = members.split_first() {
+        push_wait(text, plan, world, *member)?;
+        members = rest;
+    }
+    Ok(())
+}
+
+/// Appends what the job with this number waits for, if it waits.
+fn push_wait(text: &mut String, plan: &Plan, world: &World, number: usize) -> Result<(), AllocError>
+    ensures { Pushes result text.old text.new (seen.wait_seen plan.now world.now.view number) }
+{
+    let Some(job) = world.job(number) else {
+        return Ok(());
+    };
+    match job.phase {
+        Phase::Queued => push_queued(text, plan, number, job.class),
+        Phase::At(position) => {
+            let action = action_at(plan, job.class, position);
+            push_get(text, plan, world, number, job.class, action)
+        }
+        Phase::Done => Ok(()),
+    }
+}
+
+fn push_queued(
+    text: &mut String,
+    plan: &Plan,
+    number: usize,
+    class: usize,
+) -> Result<(), AllocError>
+    ensures { Pushes result text.old text.new (spec.queued_text plan.now number class) }
+{
+    push_job(text, plan, number, class)?;
+    push_in_queue(text, pool_name(plan, class))
+}
+
+fn push_in_queue(text: &mut String, pool: &str) -> Result<(), AllocError>
+    ensures { Pushes result text.old text.new (spec.in_queue_of pool.now) }
+{
+    writeln!(
+        text,
+        " waits in the queue of {pool}, whose threads all run jobs of these"
+    )
+}
+
+/// Appends the job for which a job of this class waits at the action, if the action is a get.
+fn push_get(
+    text: &mut String,
+    plan: &Plan,
+    world: &World,
+    number: usize,
+    class: usize,
+    action: Option<Action>,
+) -> Result<(), AllocError>
+    ensures { Pushes result text.old text.new
+        (flat_map (spec.awaited_text plan.now number class (spec.awaited_class plan.now class action))
+        (awaited_seen world.now.view number action)) }
+{
+    let Some(Action::Get(submit)) = action else {
+        return Ok(());
+    };
+    match child_of(world, number, submit) {
+        Some(child) => push_awaited(text, plan, number, class, submit, child),
+        None => Ok(()),
+    }
+}
+
+fn push_awaited(
+    text: &mut String,
+    plan: &Plan,
+    number: usize,
+    class: usize,
+    submit: usize,
+    child: usize,
+) -> Result<(), AllocError>
+    ensures { Pushes result text.old text.new
+        (spec.awaited_text plan.now number class (spec.submitted_in plan.now class submit) child) }
+{
+    push_job(text, plan, number, class)?;
+    text.push_str(" waits for ")?;
+    push_job(text, plan, child, submitted_in(plan, class, submit))?;
+    text.push('\n')
+}
+
+/// Returns the class that the submit at this position of the class's body submits.
+fn submitted_in(plan: &Plan, class: usize, submit: usize) -> usize
+    ensures { result ≡ spec.submitted_in plan.now class submit }
+{
+    match plan.class_at(class) {
+        Some(class) => submitted_class(&class.body, submit),
+        None => 0,
+    }
+}
+
+/// Appends a job with its class, such as `job 0 (report)`.
+fn push_job(text: &mut String, plan: &Plan, number: usize, class: usize) -> Result<(), AllocError>
+    ensures { Pushes result text.old text.new (spec.job_text plan.now number class) }
+{
+    let name = plan.class_name(class);
+    write!(text, "job {number} ({name})")
+}

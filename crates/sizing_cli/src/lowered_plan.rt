@@ -1,0 +1,71 @@
+//! The plan with each maximum lowered to the core size of its pool.
+
+ghost use Rattle.std.specs.Prelude.{IfOk, IfErr, IfSome, IsTrue};
+ghost use Rattle.sizing_cli.specs.Ask as spec;
+ghost use Rattle.sizing_cli.specs.ServeFault.{is_of_search};
+
+use crate::ServeFault;
+use crate::certificate::WORKERS;
+use crate::noop_gate::NoopGate;
+use cert_search::search;
+use cert_text::Cert;
+use diagnostics::{at_core, has_max_above_core};
+use job_bodies::Plan;
+use report::PlanFinding;
+use std::alloc::Global;
+use std::sync::Wait;
+use std::thread::Threads;
+
+/// A plan with each maximum lowered to the core size of its pool, and a certificate that accepts
+/// it.
+#[derive(Drop)]
+pub(crate) struct LoweredPlan {
+    pub(crate) plan: Plan,
+    pub(crate) cert: Cert,
+}
+
+/// Searches for a certificate of the plan with each maximum lowered to the core size of its pool,
+/// if the plan is not decided and some maximum is above its core size. Other plans are not searched:
+/// as long as no submit is refused with the lowered maximums, both plans behave alike, so a witness
+/// against a plan is one against the lowered plan.
+///
+/// # Errors
+///
+/// Fails with fault 20 if memory runs out or a thread cannot be started, and with the faults 42 and
+/// 43 of the search.
+pub(crate) fn lowered_plan<R: Threads + Wait + Sync>(
+    rt: &R,
+    alloc: Global,
+    plan: &Plan,
+    finding: &PlanFinding,
+) -> Result<Option<LoweredPlan>, ServeFault>
+    ensures lowered { IfOk result (spec.IsLowered plan.now finding.now) }
+    ensures fault { IfErr result (λ fault. IsTrue (is_of_search fault.number)) }
+{
+    match finding {
+        PlanFinding::NotDecided(_) => search_lowered(rt, alloc, plan),
+        PlanFinding::Safe(_) | PlanFinding::NotSafe(_, _) => Ok(None),
+    }
+}
+
+fn search_lowered<R: Threads + Wait + Sync>(
+    rt: &R,
+    alloc: Global,
+    plan: &Plan,
+) -> Result<Option<LoweredPlan>, ServeFault>
+    ensures lowered { IfOk result (λ found. IfSome found (spec.IsAcceptedAtCore plan.now)) }
+    ensures fault { IfErr result (λ fault. IsTrue (is_of_search fault.number)) }
+{
+    if !has_max_above_core(plan) {
+        return Ok(None);
+    }
+    let lowered = at_core(alloc, plan)?;
+    let cert = search(rt, alloc, &lowered, WORKERS, &NoopGate)?;
+    Ok(match cert {
+        Some(cert) => Some(LoweredPlan {
+            plan: lowered,
+            cert,
+        }),
+        None => None,
+    })
+}
