@@ -44,7 +44,7 @@ impl From<AllocError> for SearchFault {
 /// tries the plan's steady certificate, which depends only on the bodies. So `None` means that the
 /// steady certificate does not accept the plan with its own sizes. The plan can still be safe. If
 /// the sizes of a plan are large enough for its steady certificate, the result is a certificate
-/// exactly when [`cause_of`](job_bodies::cause_of) finds no cause. The number of workers does not
+/// exactly when [`cause_of`](size_search::cause_of) finds no cause. The number of workers does not
 /// change the certificate. This is tested, and not proved.
 ///
 /// In each round the workers search for the vectors of the pools without a rank. A pool whose

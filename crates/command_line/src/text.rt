@@ -14,7 +14,7 @@ pub(crate) fn text_of<'a>(options: &ArgMatches<'a>, id: &str) -> Option<&'a str>
 }
 
 /// Returns whether the value of an option that names a file is a name. `-`, which elsewhere means
-/// standard input, is none.
+/// standard input, is not a name.
 pub(crate) fn names_file(value: Option<&str>) -> bool
     ensures { result ≡ spec.names_file (option_map (λ text. text.now) value.entry) }
 {

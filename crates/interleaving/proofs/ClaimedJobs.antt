@@ -80,7 +80,7 @@ length-clients : (s : State) (a : Parent) (i' : ℕ) → length (moved_clients a
 length-clients s (parent.Client c) i' = length-set s.clients c (record (client_state s c) { position = i' })
 length-clients s (parent.Job j) i' = refl
 
--- an actor that is at a position of its body is not a queued job, and is none after a move
+-- an actor that is at a position of its body is not a queued job, before or after a move
 moved_going : (plan : Plan) (s : State) (a : Parent) (body : List Action) (i i' : ℕ) → point plan s a ≡ Some (record { body = body; position = i }) → (n : ℕ) → a ≡ parent.Job n → (get_or (moved_jobs a i' s) n no_job).stage ≢ Queued
 moved_going plan s (parent.Client c) body i i' stands n e queued = absurd cc
 moved_going plan s (parent.Job j) body i i' stands n e queued =

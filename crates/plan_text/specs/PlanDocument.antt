@@ -18,7 +18,7 @@ list_data values = array (items_of values)
 abbrev pub texts_data : List (List ℕ) → Data
 texts_data texts = list_data (map string texts)
 
--- the members `rest`, after the key `prestart` if the core threads are prestarted
+-- the members `rest`, with the key `prestart` before them if the core threads are prestarted
 abbrev pub prestart_and : Bool → Members → Members
 prestart_and prestart rest = if prestart then member (codes "prestart") (boolean true) rest else rest
 

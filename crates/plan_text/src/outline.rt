@@ -40,7 +40,7 @@ enum LineState {
     /// In a value, inside `depth` brackets. `is_next` says whether the next token begins the value
     /// or an element.
     Value { depth: usize, is_next: bool },
-    /// In the rest of a line with syntax that no plan has.
+    /// In the rest of a line whose syntax no plan uses.
     Rest,
 }
 

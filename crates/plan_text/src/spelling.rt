@@ -21,7 +21,7 @@ fn class_name(classes: &[Class], place: usize) -> &str
     }
 }
 
-/// The end of the text of a submit: ` as SLOT` if a get of the body names the submit, and otherwise
+/// The end of the text of a submit: ` as SLOT` if the body has a get of the submit, and otherwise
 /// nothing.
 #[derive(Clone, Copy)]
 struct SlotPart<'a> {

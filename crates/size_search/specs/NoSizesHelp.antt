@@ -35,7 +35,7 @@ pub record HasSizes (plan : Plan) : Type 0 where
   pub same_outline : outline other ≡ outline plan
   pub accepts : IsTrue (accepted other cert)
 
--- a plan whose steady weights are within their limit, and whose steady total is below the limit of sizes, has sizes with which some
--- certificate accepts it exactly when it has no cause
+-- for a plan whose steady weights are within their limit, and whose steady total is below the limit of sizes: sizes with
+-- which some certificate accepts the plan exist exactly when the plan has no cause
 abbrev pub SizesExist : Type 0
 SizesExist = (plan : Plan) → IsWellFormed plan → IsTrue (has_small_numbers (steady_vector plan)) → steady_total plan < MAX_SIZE → HasSizes plan ↔ IsWithoutCause plan

@@ -10,8 +10,8 @@ use weights::submitted_class;
 /// plan needs a quarter of them.
 const MAX_VECTORS: usize = 32_768;
 
-/// Everything except maximums and `enough` on which a pool's lightest vector depends: the kind of
-/// the vector, and for a blocked vector two further properties.
+/// The kind of a vector, and for a blocked vector two further properties. Together with the
+/// maximums and `enough`, this determines a pool's lightest vector.
 #[derive(PartialEq, Drop)]
 enum VectorKey {
     Standing,
@@ -24,7 +24,7 @@ enum VectorKey {
     },
 }
 
-/// A cache key: everything on which a pool's lightest vector depends.
+/// A cache key: all values that determine a pool's lightest vector.
 #[derive(Drop)]
 struct CacheKey {
     vector: VectorKey,

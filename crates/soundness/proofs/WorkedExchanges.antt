@@ -109,7 +109,7 @@ far_and_near = record {
 abbrev both_submitted : List Choice
 both_submitted = Acts (event.Client 0) ∷ Acts (event.Job 0) ∷ Acts (event.Job 0) ∷ Acts (event.Job 0) ∷ []
 
--- without an exchange the outer job waits for the far job, which runs, so the outer and the near job are no waiting set
+-- without an exchange the outer job waits for the far job, which runs, so the outer and the near job are not a waiting set
 pub far_runs : after far_and_near both_submitted (λ s. is_waiting_set far_and_near s.machine (0 ∷ 2 ∷ [])) ≡ Some false
 far_runs = refl
 

@@ -171,7 +171,7 @@ above_middle before m behind k pairs i =
     let less = pairs (length before) (length before + suc found.0) k (omega arith) (omega (arith, found.1, length-append before (m ∷ behind))) in
     omega (arith, less, get_or-append-add before (m ∷ behind) (suc found.0) k, found.2, get_or_at before m behind k (length before) refl)
 
--- replacing an element by one that fails removes its place; `before` has the places before it and `behind` those after it
+-- replacing an element by one that fails removes its place, and keeps the places before and after it
 pub places_from-set_removes : {X : Type 0} (test : X → Bool) (n : ℕ) (xs : List X) (i : ℕ) (y : X) (before behind : List ℕ) → i < length xs → test y ≡ false → places_from test n xs ≡ before ++ (n + i) ∷ behind
     → places_from test n (set xs i y) ≡ before ++ behind
 places_from-set_removes test n xs i y before behind inside fails e =

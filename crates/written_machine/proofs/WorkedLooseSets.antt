@@ -31,7 +31,7 @@ at_work = record {
 is_reached : replay works_first (Some (start works_first)) (event.Client 0 ∷ event.Job 0 ∷ []) ≡ Some at_work
 is_reached = refl
 
--- the two jobs are no waiting set, because the outer job is not at a get
+-- the two jobs are not a waiting set, because the outer job is not at a get
 not_a_waiting_set : is_waiting_set works_first at_work (0 ∷ 1 ∷ []) ≡ false
 not_a_waiting_set = refl
 

@@ -197,7 +197,7 @@ nested_one_worker-stuck = refl
 pub cross_pools_stuck-all : after (crossed 1) cross_pools_stuck-events (λ s. is_waiting_set (crossed 1) s (0 ∷ 1 ∷ 2 ∷ 3 ∷ [])) ≡ Some true
 cross_pools_stuck-all = refl
 
--- the two jobs of the list are no waiting set, because they also wait for jobs outside the list
+-- the two jobs of the list are not a waiting set, because they also wait for jobs outside the list
 pub cross_pools_stuck-two : after (crossed 1) cross_pools_stuck-events (λ s. is_waiting_set (crossed 1) s (0 ∷ 1 ∷ [])) ≡ Some false
 cross_pools_stuck-two = refl
 
