@@ -59,19 +59,19 @@ class Bench:
         (self.folder / "plan").write_text(plan.text())
         (self.folder / "numbers").write_text(numbers(plan))
         said = self.answer("never decided", 4, plan.text(), "--states", str(STATES)).decode()
-        told = int(re.fullmatch(r"not decided: (\d+) states were searched\n", said)[1])
+        reported = int(re.fullmatch(r"not decided: (\d+) states were searched\n", said)[1])
         plain = [compiled(self.folder, "walk_states"), str(STATES)]
         walked = int(subprocess.run(plain, input=numbers(plan), capture_output=True, text=True, check=True).stdout)
-        if not walked <= told <= walked + walked * OTHERS / 100:
-            raise Wrong(f"never decided: refute reports {told} states, and the plain program visits {walked}")
+        if not walked <= reported <= walked + walked * OTHERS / 100:
+            raise Wrong(f"never decided: refute reports {reported} states, and the plain program visits {walked}")
         tell_if_uncounted()
         if not has_callgrind():
             return
         refute = Program([self.sizing, "refute", "--states", str(STATES)], b"", 4, "plan")
-        of_refute = instructions(self.folder, refute) * 1e6 / told
+        of_refute = instructions(self.folder, refute) * 1e6 / reported
         of_plain = instructions(self.folder, Program(plain, b"", 0, "numbers")) * 1e6 / walked
         ratio = of_refute / of_plain
-        print(f"{told} states: {of_refute:.0f} instructions each, {of_plain:.0f} in the plain program, ratio {ratio:.2f}")
+        print(f"{reported} states: {of_refute:.0f} instructions each, {of_plain:.0f} in the plain program, ratio {ratio:.2f}")
         self.bars.hold("the ratio of instructions for a state", ratio, RATIO_BAR)
 
     def measured(self, name, plan, bar):
@@ -104,15 +104,15 @@ def ended(name, plan, bundle):
     lines = bundle.partition("\n%%\n")[2].split("\n")
     lines = [line for line in lines if line]
     machine = Machine(plan)
-    told = ""
+    outcome = ""
     for line in lines:
-        told = machine.happen(line)
-        if told is None:
+        outcome = machine.happen(line)
+        if outcome is None:
             raise Wrong(f"{name}: not possible: {line}")
-    if told.startswith("refused"):
+    if outcome.startswith("refused"):
         return "refused", len(lines)
-    if told != "stuck yes":
-        raise Wrong(f"{name}: the outcome of the last line is {told!r}")
+    if outcome != "stuck yes":
+        raise Wrong(f"{name}: the outcome of the last line is {outcome!r}")
     return "stuck", len(lines) - 1
 
 

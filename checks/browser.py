@@ -115,16 +115,16 @@ class Browser:
     def problems(self):
         """Yields a line for each error that the page reported, and for each request except that for the page itself."""
         for event in self.events:
-            method, told = event.get("method"), event.get("params", {})
+            method, params = event.get("method"), event.get("params", {})
             if method == "Runtime.exceptionThrown":
-                details = told["exceptionDetails"]
+                details = params["exceptionDetails"]
                 yield f"exception: {details.get('exception', {}).get('description', details['text'])}"
-            elif method == "Runtime.consoleAPICalled" and told["type"] in ("error", "warning", "assert"):
-                yield f"console: {' '.join(str(each.get('value', each.get('description'))) for each in told['args'])}"
-            elif method == "Log.entryAdded" and told["entry"]["level"] in ("error", "warning"):
-                yield f"log: {told['entry']['text']}"
-            elif method == "Network.requestWillBeSent" and told.get("type") != "Document":
-                yield f"request: {told['request']['url'][:200]}"
+            elif method == "Runtime.consoleAPICalled" and params["type"] in ("error", "warning", "assert"):
+                yield f"console: {' '.join(str(each.get('value', each.get('description'))) for each in params['args'])}"
+            elif method == "Log.entryAdded" and params["entry"]["level"] in ("error", "warning"):
+                yield f"log: {params['entry']['text']}"
+            elif method == "Network.requestWillBeSent" and params.get("type") != "Document":
+                yield f"request: {params['request']['url'][:200]}"
 
     def press(self, key, code, text=""):
         """Presses and releases a key, which enters this text."""

@@ -91,8 +91,8 @@ def cases_of_files(title, words, parts, folder):
         missing = folder / "none" / part
         for what, path, why in (("a directory", folder, b"it is a directory"), (f"no file {part}", missing, b"there is no such file")):
             named = [*files[:number], path, *files[number + 1 :]]
-            told = (3, b"", b"fault 60 ReadFailed at %s: %s\n" % (bytes(path), why))
-            yield f"{title}, {what} as a file", lambda named=named: ends([*words, *named], folder), told
+            expected = (3, b"", b"fault 60 ReadFailed at %s: %s\n" % (bytes(path), why))
+            yield f"{title}, {what} as a file", lambda named=named: ends([*words, *named], folder), expected
     if len(parts) == 2:
         yield f"{title}, standard input as both files", lambda: ends([*words, "-", "-"], files[0]), TWICE
 
@@ -129,16 +129,16 @@ def shown(name, run, wanted):
     except subprocess.TimeoutExpired:
         print(f"{name}: it does not end within {SECONDS} seconds")
         return False
-    is_right = told_usage(ended) if wanted is None else ended == wanted
+    is_right = is_usage_error(ended) if wanted is None else ended == wanted
     print(f"{name}: {'ok' if is_right else ended}")
     return is_right
 
 
-def told_usage(ended):
+def is_usage_error(ended):
     """Returns whether the status is 2, standard output is empty, and standard error has an error message or the usage."""
     status, printed, complained = ended
-    is_told = b"sizing" in complained or complained.startswith(b"error: ")
-    return status == 2 and printed == b"" and is_told and complained.endswith(b"\n")
+    has_message = b"sizing" in complained or complained.startswith(b"error: ")
+    return status == 2 and printed == b"" and has_message and complained.endswith(b"\n")
 
 
 def ends(words, given, stdout=subprocess.PIPE, close=None):

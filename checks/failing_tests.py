@@ -81,8 +81,8 @@ def main():
         _, failed, last = tested(bug.tests, bug.texts)
         failed &= right[bug.tests]
         found_out += bool(failed)
-        told = f"found by {', '.join(sorted(failed))}" if failed else f"no test of {bug.tests} finds it: {last}"
-        print(f"{bug.name}: {told} ({time.monotonic() - began:.0f} s)", flush=True)
+        outcome = f"found by {', '.join(sorted(failed))}" if failed else f"no test of {bug.tests} finds it: {last}"
+        print(f"{bug.name}: {outcome} ({time.monotonic() - began:.0f} s)", flush=True)
     print(f"{found_out} found by tests, {len(bugs) - found_out} not")
     return 0 if found_out == len(bugs) else 1
 

@@ -70,7 +70,7 @@ def main():
         of_small = list(threads.map(lambda plan: Fit(program, text(plan)), small))
         compared = [pair for pair in zip(small, of_small) if is_comparable(*pair)][:small_count]
         savings = list(threads.map(lambda pair: saving(program, *pair), compared))
-    wrong = told("examples and plans", fits) + told("larger plans", of_larger) + told("small plans", of_small)
+    wrong = report("examples and plans", fits) + report("larger plans", of_larger) + report("small plans", of_small)
     dearer = [saved for saved, _ in savings if saved]
     print(f"{len(compared)} small plans compared with {sum(tries for _, tries in savings)} cheaper sizes: "
           f"for {len(dearer)} smaller sizes have a certificate, by {sum(dearer)} in total")
@@ -80,7 +80,7 @@ def main():
     return 1 if wrong else 0
 
 
-def told(name, fits):
+def report(name, fits):
     """Prints the counts for these plans, and each plan with a wrong answer. Returns the number of wrong answers."""
     wrong = sum(map(Fit.is_reported, fits))
     number = sum((fit.count for fit in fits), Counter())
@@ -96,7 +96,7 @@ class Fit:
     def __init__(self, program, given):
         self.program, self.given = program, given
         self.plan = read_plan(given)
-        self.status, self.told = run(program, "fit", given)
+        self.status, self.printed = run(program, "fit", given)
         self.bundle_status, self.bundle = run(program, "fit", given, "--bundle")
         self.sizes, self.count = [], Counter()
         self.fault = self.judged()
@@ -107,18 +107,18 @@ class Fit:
         if wanted:
             self.count["helpless"] += 1
             return self.fault_of_cause(wanted)
-        if self.told.startswith(NOTHING_FOUND):
+        if self.printed.startswith(NOTHING_FOUND):
             self.count["too large"] += 1
-            return "" if ": sizes above " in self.told and is_too_large(self.plan) else "the sizes are not too large"
+            return "" if ": sizes above " in self.printed and is_too_large(self.plan) else "the sizes are not too large"
         is_certified = run(self.program, "certify", self.given)[0] == 0
         self.count["certified" if is_certified else "sized"] += 1
         return self.fault_of_sizes(is_certified)
 
     def fault_of_cause(self, wanted):
-        head, _, cause = self.told.partition("\n")
+        head, _, cause = self.printed.partition("\n")
         if self.status != 1 or head != NOTHING_FOUND or cause.removesuffix("\n") not in wanted:
             return f"expected one of {sorted(wanted)}"
-        return "" if (self.bundle_status, self.bundle) == (1, self.told) else f"the answer with --bundle differs:\n{self.bundle}"
+        return "" if (self.bundle_status, self.bundle) == (1, self.printed) else f"the answer with --bundle differs:\n{self.bundle}"
 
     def fault_of_sizes(self, is_certified):
         if self.bundle_status != 0:
@@ -129,7 +129,7 @@ class Fit:
             return f"the bundle has another plan:\n{fitted_text}"
         self.sizes = [sizes_of(pool) for pool in fitted.pools]
         lines, changes = wanted_lines(self.plan, fitted)
-        if (self.status, self.told) != (int(changes > 0), lines):
+        if (self.status, self.printed) != (int(changes > 0), lines):
             return f"the bundle has these sizes:\n{lines}"
         if is_certified and changes:
             return "a plan is changed that has a certificate"
@@ -159,7 +159,7 @@ class Fit:
 
     def is_reported(self):
         if self.fault:
-            print(f"for the plan\n{self.given}the answer, with status {self.status}, is\n{self.told}{self.fault}\n")
+            print(f"for the plan\n{self.given}the answer, with status {self.status}, is\n{self.printed}{self.fault}\n")
         return bool(self.fault)
 
 
@@ -231,7 +231,7 @@ def saving(program, plan, fit):
     cheaper = cheaper_sizes(plan, limit, is_certified)
     if cheaper is None:
         return 0, len(tried)
-    print(f"for the plan\n{fit.given}the answer is\n{fit.told}but these sizes (core, max, queue) are enough: {cheaper}\n", flush=True)
+    print(f"for the plan\n{fit.given}the answer is\n{fit.printed}but these sizes (core, max, queue) are enough: {cheaper}\n", flush=True)
     return limit - growth(plan, cheaper), len(tried)
 
 

@@ -89,21 +89,21 @@ def differences(program, dot, page, plan, *certificate):
         words = [program, "ask", *options, *files]
         return subprocess.run(words, cwd=plan.parent, capture_output=True, text=True, timeout=SECONDS, check=False)
 
-    words, told, picture = ask(), ask("--json"), ask("--dot")
+    words, as_json, picture = ask(), ask("--json"), ask("--dot")
     forms = {form: ask("--format", form) for form in ("html", "github", "sarif")}
-    for form, ran in {"json": told, "dot": picture, **forms}.items():
+    for form, ran in {"json": as_json, "dot": picture, **forms}.items():
         if ran.returncode != words.returncode:
             yield f"the status with {form} is {ran.returncode}, and without it {words.returncode}"
-    if told.stdout.count("\n") != 1 or not told.stdout.endswith("\n"):
+    if as_json.stdout.count("\n") != 1 or not as_json.stdout.endswith("\n"):
         yield "--json is not one line"
-    value = json.loads(told.stdout)
+    value = json.loads(as_json.stdout)
     if list(value) != KEYS or any(list(pool) != POOL_KEYS for pool in value["pools"]):
         yield f"the keys are {list(value)}"
     yield from differences_of_lines(value, words.stdout)
     yield from differences_of_bounds(value)
     yield from differences_of_sizes(program, plan, value)
     yield from differences_of_witness(program, plan, value)
-    yield from differences_of_page(page, told.stdout, forms["html"].stdout)
+    yield from differences_of_page(page, as_json.stdout, forms["html"].stdout)
     yield from differences_of_annotations(value, forms["github"].stdout, forms["sarif"].stdout)
     if value["answer"] != "FAULTS":
         yield from differences_of_picture(dot, value, picture.stdout)
@@ -163,9 +163,9 @@ def differences_of_sizes(program, plan, value):
             yield f"the cause is {sizes['cause']!r}, and that of fit is {fit.stdout!r}"
         return
     fitted = re.findall(r"(?m)^pool (\w+): core (\d+).*, max (\d+).*, queue (\d+)", fit.stdout)
-    told = [(it["name"], str(it["core"]), str(it["max"]), str(it["queue"])) for it in sizes["pools"]]
-    if told != fitted:
-        yield f"the sizes are {told}, and those of fit are {fitted}"
+    sizes_of_json = [(it["name"], str(it["core"]), str(it["max"]), str(it["queue"])) for it in sizes["pools"]]
+    if sizes_of_json != fitted:
+        yield f"the sizes are {sizes_of_json}, and those of fit are {fitted}"
 
 
 def differences_of_witness(program, plan, value):
@@ -227,12 +227,12 @@ def differences_of_annotations(value, github, sarif):
     if not all(found) or any(unescaped(each[2]) != value["file"] for each in found):
         yield f"a line is no workflow command for the file: {github!r}"
         return
-    told = [(each[1], each[3] and int(each[3]), each[4] and int(each[4]), unescaped(each[6])) for each in found]
+    commands = [(each[1], each[3] and int(each[3]), each[4] and int(each[4]), unescaped(each[6])) for each in found]
     wanted = list(annotations_of(value))
-    if len(told) != len(wanted) or any(
-        known is not None and known != mine for each, want in zip(told, wanted) for mine, known in zip(each, want)
+    if len(commands) != len(wanted) or any(
+        known is not None and known != mine for each, want in zip(commands, wanted) for mine, known in zip(each, want)
     ):
-        yield f"the workflow commands are {told}, and must be {wanted}"
+        yield f"the workflow commands are {commands}, and must be {wanted}"
     run = json.loads(sarif)["runs"][0]
     results = []
     for result in run["results"]:
@@ -243,8 +243,8 @@ def differences_of_annotations(value, github, sarif):
         uri = physical["artifactLocation"]["uri"]
         if not URI.fullmatch(uri) or unquote(uri.removeprefix("./")) != value["file"]:
             yield f"the log is for {uri}"
-    if results != told:
-        yield f"the log has the results {results}, and the workflow commands {told}"
+    if results != commands:
+        yield f"the log has the results {results}, and the workflow commands {commands}"
     rules = [rule["id"] for rule in run["tool"]["driver"]["rules"]]
     if len(set(rules)) != len(rules) or set(rules) != {result["ruleId"] for result in run["results"]}:
         yield f"the log has the rules {rules}"

@@ -47,17 +47,17 @@ def main():
     chance = random.Random(seed)
     plans = [plan_by_chance(chance) for _ in range(count)]
     answers = [answer(plan) for plan in plans]
-    told = each(lambda plan: told_of(program, text(plan)), plans)
-    differing = [number for number in range(count) if told[number] != answers[number]]
+    printed = each(lambda plan: output_for(program, text(plan)), plans)
+    differing = [number for number in range(count) if printed[number] != answers[number]]
     for number in differing[:3]:
-        print(f"for plan {number},\n{text(plans[number])}the answer is\n{told[number]}\ninstead of\n{answers[number]}")
-    found = sum(told != NONE for told in answers)
-    lifetimes = sum("lifetime" in told for told in answers)
+        print(f"for plan {number},\n{text(plans[number])}the answer is\n{printed[number]}\ninstead of\n{answers[number]}")
+    found = sum(printed != NONE for printed in answers)
+    lifetimes = sum("lifetime" in printed for printed in answers)
     print(f"{count} plans, {len(differing)} differ; {found} get a certificate, {lifetimes} of them with a lifetime vector")
     return 1 if differing else 0
 
 
-def told_of(program, plan):
+def output_for(program, plan):
     """Returns the output of `check` for the certificate that `certify` finds, or the output of `certify` if it finds none."""
     bundle = written(program, ["certify"], plan)
     return (written(program, ["check"], bundle) if "\n%%\n" in f"\n{bundle}" else bundle).strip()

@@ -44,29 +44,29 @@ def main():
     small = [small_plan(chance) for _ in range(small_count)]
     wrong = 0
     kinds = {"no sizes help": 0, "as it is": 0, "sizes change": 0}
-    for plan, told in zip(plans, answers(program, plans)):
-        kind, fault = fault_of(plan, told)
+    for plan, printed in zip(plans, answers(program, plans)):
+        kind, fault = fault_of(plan, printed)
         kinds[kind] += 1
-        wrong += report(plan, told, fault)
+        wrong += report(plan, printed, fault)
     tried = 0
-    for plan, told in zip(small, answers(program, small)):
-        sizes = sizes_told(told)
+    for plan, printed in zip(small, answers(program, small)):
+        sizes = sizes_in(printed)
         if sizes is None:
-            wrong += report(plan, told, "no sizes")
+            wrong += report(plan, printed, "no sizes")
             continue
         if growth(plan, sizes) > MOST_GROWTH[len(plan.pools)]:
             continue
         tried += 1
         cheaper = cheaper_sizes(plan, growth(plan, sizes), lambda other: answer(other) != NONE)
-        wrong += report(plan, told, cheaper and f"smaller sizes are enough: {cheaper}")
+        wrong += report(plan, printed, cheaper and f"smaller sizes are enough: {cheaper}")
     print(f"{count} plans: " + ", ".join(f"{kind} {number}" for kind, number in kinds.items()))
     print(f"{small_count} small plans, {tried} compared with all sizes; {wrong} of all are wrong")
     return 1 if wrong or small and not tried else 0
 
 
-def report(plan, told, fault):
+def report(plan, printed, fault):
     if fault:
-        print(f"for the plan\n{text(plan)}the answer is\n{told}\n{fault}")
+        print(f"for the plan\n{text(plan)}the answer is\n{printed}\n{fault}")
     return bool(fault)
 
 
@@ -74,13 +74,13 @@ def answers(program, plans):
     return each(lambda plan: written(program, ["fit"], text(plan)).strip(), plans)
 
 
-def fault_of(plan, told):
+def fault_of(plan, printed):
     """Returns the kind of the plan, and the fault of the answer, which is empty if the answer is right."""
     if wanted := causes(read_plan(text(plan))):
-        head, _, cause = told.partition("\n")
-        is_told = head == NOTHING_FOUND and cause in wanted
-        return "no sizes help", "" if is_told else f"expected one of {sorted(wanted)}"
-    sizes = sizes_told(told)
+        head, _, cause = printed.partition("\n")
+        is_expected = head == NOTHING_FOUND and cause in wanted
+        return "no sizes help", "" if is_expected else f"expected one of {sorted(wanted)}"
+    sizes = sizes_in(printed)
     if sizes is None:
         return "sizes change", "no sizes"
     if any(now > size for pool, found in zip(plan.pools, sizes) for now, size in zip(sizes_of(pool), found)):
@@ -96,9 +96,9 @@ def sizes_of(pool):
     return pool.core, pool.most, pool.queue
 
 
-def sizes_told(told):
-    found = [tuple(map(int, numbers)) for numbers in SIZES.findall(told)]
-    return found if "\nchanges " in told else None
+def sizes_in(printed):
+    found = [tuple(map(int, numbers)) for numbers in SIZES.findall(printed)]
+    return found if "\nchanges " in printed else None
 
 
 def with_sizes(plan, sizes):

@@ -145,9 +145,9 @@ def main():
     for bug in bugs:
         began = processor_seconds()
         with tempfile.TemporaryDirectory(prefix="headline_refuses.") as folder:
-            right, told, why = attempt(bug, Path(folder))
+            right, outcome, why = attempt(bug, Path(folder))
         refused += right
-        print(f"{bug.name}: {told} ({processor_seconds() - began:.0f} s of processor time)\n    {why}", flush=True)
+        print(f"{bug.name}: {outcome} ({processor_seconds() - began:.0f} s of processor time)\n    {why}", flush=True)
     print(f"{refused} refused by their laws, {len(bugs) - refused} not")
     return 0 if refused == len(bugs) else 1
 

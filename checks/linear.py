@@ -227,7 +227,7 @@ def live_jobs_in_random_order(lines):
     return live_jobs(lines, lambda jobs: random.Random(SEED).sample(jobs, len(jobs)))
 
 
-def jobs_that_nobody_gets(lines):
+def jobs_without_a_get(lines):
     recording = Recording()
     actor = recording.begin()
     in_turn(recording, lines, lambda n: recording.run(recording.submit(actor)))
@@ -343,7 +343,7 @@ def mixture(lines):
 
 GROWING = [
     sizes_of_a_pool, pools, labels_of_jobs, labels_of_rounds, open_rounds, rounds_that_never_end, rounds_that_timed_out, live_jobs,
-    live_jobs_backwards, live_jobs_in_random_order, jobs_that_nobody_gets, jobs_in_a_chain, refused_jobs, invalid_lines,
+    live_jobs_backwards, live_jobs_in_random_order, jobs_without_a_get, jobs_in_a_chain, refused_jobs, invalid_lines,
     gets_of_other_rounds, findings, mixture,
 ]
 

@@ -68,10 +68,10 @@ def slips(name, status, wanted):
     if found != status:
         yield f"{name}: status {found}, and not {status}"
     for line, words in wanted:
-        if not any(told.startswith(f"{path}:{line}:") and words in told for told in text.splitlines()):
+        if not any(printed.startswith(f"{path}:{line}:") and words in printed for printed in text.splitlines()):
             yield f"{name}: no line {line} with: {words}\n{text}"
     if wanted and status == 2 and not text.startswith(f"{path}:{wanted[0][0]}:"):
-        yield f"{name}: another fault is told first\n{text}"
+        yield f"{name}: another fault is printed first\n{text}"
 
 
 def sound(name):

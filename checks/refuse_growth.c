@@ -4,8 +4,8 @@
    functions are counted together, from 1. The count begins after this object's constructor, which the loader calls right
    before main, when the C library has started.
 
-   REFUSE_AT     the number of the call to refuse; no call is refused if it is 0 or too large
-   REFUSE_TOLD   a file; a line "counting" is appended to it at the start, and a line with the name of the refused call */
+   REFUSE_AT       the number of the call to refuse; no call is refused if it is 0 or too large
+   REFUSE_REPORT   a file; a line "counting" is appended to it at the start, and a line with the name of the refused call */
 
 #define _GNU_SOURCE
 #include <dlfcn.h>
@@ -33,10 +33,10 @@ static atomic_bool counting;
 static atomic_ullong calls;
 static unsigned long long refused_call;
 
-/* Appends a line to the file REFUSE_TOLD, without allocating memory. Aborts the program if that fails. */
-static void tell(const char *line)
+/* Appends a line to the file REFUSE_REPORT, without allocating memory. Aborts the program if that fails. */
+static void report(const char *line)
 {
-    const char *path = getenv("REFUSE_TOLD");
+    const char *path = getenv("REFUSE_REPORT");
     int file = path == NULL ? -1 : open(path, O_WRONLY | O_APPEND);
     ssize_t size = strlen(line);
     if (file < 0 || write(file, line, size) != size || close(file) < 0)
@@ -50,7 +50,7 @@ __attribute__((constructor)) static void start(void)
     real_pthread_create = (create_thread *)dlsym(RTLD_NEXT, "pthread_create");
     if (real_pthread_create == NULL)
         abort();
-    tell("counting\n");
+    report("counting\n");
     counting = true;
 }
 
@@ -59,7 +59,7 @@ static bool refused(const char *line)
 {
     if (!counting || ++calls != refused_call)
         return false;
-    tell(line);
+    report(line);
     errno = ENOMEM;
     return true;
 }

@@ -208,9 +208,9 @@ def contents(name):
 def run(folder, program, command, given, number):
     """Returns the end of a run in which the growth with this number is refused, and the name of the refused call, or None if the run
     does not reach this growth."""
-    told = folder / "told"
-    told.write_bytes(b"")
-    settings = {"LD_PRELOAD": f"./{SHARED_OBJECT}", "REFUSE_AT": str(number), "REFUSE_TOLD": str(told)}
+    report = folder / "report"
+    report.write_bytes(b"")
+    settings = {"LD_PRELOAD": f"./{SHARED_OBJECT}", "REFUSE_AT": str(number), "REFUSE_REPORT": str(report)}
     try:
         done = subprocess.run(
             words_of(program, command), input=given, capture_output=True, cwd=folder, env=settings, timeout=SECONDS,
@@ -220,7 +220,7 @@ def run(folder, program, command, given, number):
         ended = Ended(None, late.stdout or b"", late.stderr or b"")
     except OSError as error:
         raise Unable(f"the program cannot be run: {error}")
-    lines = told.read_text().split()
+    lines = report.read_text().split()
     if not lines:
         raise Unable(f"{SHARED_OBJECT} is not loaded: is the program statically linked? {command}: {shown(ended)}")
     return ended, lines[1] if len(lines) > 1 else None

@@ -112,15 +112,15 @@ class Machine:
         threads = self.threads(state, of)
         room = len(state.queues[of]) < pool.queue
         if threads < pool.core or (not room and threads < pool.max):
-            phase, queues, told = 0, state.queues, f"started job {number}"
+            phase, queues, outcome = 0, state.queues, f"started job {number}"
         elif room:
-            phase, queues, told = QUEUED, put(state.queues, of, state.queues[of] + (number,)), f"queued job {number}"
+            phase, queues, outcome = QUEUED, put(state.queues, of, state.queues[of] + (number,)), f"queued job {number}"
         else:
             return state, f"refused by {pool.name}"
         old = latest(state, actor, position)
         kept = tuple(entry for entry in state.jobs if not (entry[0] == old and entry[1].phase == DONE))
         jobs = kept + ((number, Job(kind, actor, position, phase)),)
-        return self.moved(state._replace(queues=queues, jobs=jobs), actor, position + 1), told
+        return self.moved(state._replace(queues=queues, jobs=jobs), actor, position + 1), outcome
 
     def moved(self, state, actor, position):
         word, number = actor
@@ -211,9 +211,9 @@ def explored(plan):
             done = machine.step(state, event, len(state.jobs))
             if done is None:
                 continue
-            after, told = done
-            if told.startswith("refused"):
-                return len(seen), f"{told} in {state}", False
+            after, outcome = done
+            if outcome.startswith("refused"):
+                return len(seen), f"{outcome} in {state}", False
             goes_on = goes_on or event[0] in ("job", "take")
             after = renamed(after)
             if after not in seen:
@@ -312,12 +312,12 @@ def walk(plan, draw):
         if done is None:
             answers.append("not possible")
             break
-        state, told = done
-        made += told.startswith(("started", "queued"))
-        answers.append(told)
-    refused = sum(told.startswith("refused") for told in answers)
+        state, outcome = done
+        made += outcome.startswith(("started", "queued"))
+        answers.append(outcome)
+    refused = sum(outcome.startswith("refused") for outcome in answers)
     unfinished = sum(job.phase != DONE for _, job in state.jobs)
-    text = "".join(f"{number}: {told}\n" for number, told in enumerate(answers, 1))
+    text = "".join(f"{number}: {outcome}\n" for number, outcome in enumerate(answers, 1))
     return "\n".join(lines), f"{text}refusals {refused}, unfinished {unfinished}\n"
 
 

@@ -49,34 +49,34 @@ def main():
     wrong, still_open = 0, plans
     for states in words[2:] or [10_000, 100_000]:
         print(f"at most {states} states")
-        of_these = asked(program, still_open, states)
-        wrong += of_these.wrong
-        still_open = of_these.still_open
-        print(f"open: {len(still_open)} of {len(plans)}, {of_these.wrong} wrong", flush=True)
+        results = results_of(program, still_open, states)
+        wrong += results.wrong
+        still_open = results.still_open
+        print(f"open: {len(still_open)} of {len(plans)}, {results.wrong} wrong", flush=True)
     print(f"{len(plans)} plans without a certificate, {wrong} wrong")
     return 1 if wrong else 0
 
 
 @dataclass
-class Asked:
+class Results:
     """The plans that are not decided, and the number of wrong answers."""
 
     still_open: list
     wrong: int
 
 
-def asked(program, plans, states):
+def results_of(program, plans, states):
     """Runs `refute` on each plan, and prints the counts of the answers by kind."""
-    came, events, found = Counter(), Counter(), Asked([], 0)
+    counts, events, found = Counter(), Counter(), Results([], 0)
     for plan, (kind, length, fault) in zip(plans, each(lambda plan: judged(program, plan, states), plans)):
-        came[kind] += 1
+        counts[kind] += 1
         events[kind] += length
         if kind.startswith(OPEN_NOW):
             found.still_open.append(plan)
         if fault:
             found.wrong += 1
             print(f"{plan}%%\n{kind}: {fault}")
-    for kind, number in sorted(came.items()):
+    for kind, number in sorted(counts.items()):
         print(f"{kind}: {number}" + (f", {events[kind] / number:.1f} events each" if events[kind] else ""))
     return found
 
@@ -103,17 +103,17 @@ def judged(program, plan, states):
     if status not in (SAFE, OPEN):
         return "no witness", 0, f"status {status}: {said}"
     _, bad, cut = explored(read_plan(plan))
-    told = "told safe" if status == SAFE else OPEN_NOW
+    reported = "reported safe" if status == SAFE else OPEN_NOW
     found = "not safe here" if bad else "too many states here" if cut else "safe here"
-    return f"{told}, {found}", 0, bad if status == SAFE else miscounted(said, states)
+    return f"{reported}, {found}", 0, bad if status == SAFE else miscounted(said, states)
 
 
 def miscounted(said, states):
     """Returns the fault of the line with the number of searched states, or None if the line is right."""
-    told = re.fullmatch(r"not decided: (?:1 state was|(\d+) states were) searched\n", said)
-    if not told:
+    reported = re.fullmatch(r"not decided: (?:1 state was|(\d+) states were) searched\n", said)
+    if not reported:
         return f"it says {said!r}"
-    return None if 1 <= int(told[1] or 1) <= states else f"with a limit of {states} states it prints {said!r}"
+    return None if 1 <= int(reported[1] or 1) <= states else f"with a limit of {states} states it prints {said!r}"
 
 
 def refuted(program, plan, states, *words):
@@ -128,11 +128,11 @@ def replayed(text_of_plan, lines):
     plan = read_plan(text_of_plan)
     pools = {pool.name: number for number, pool in enumerate(plan.pools)}
     machine = Machine(plan)
-    state, made, told, members = machine.start(), 0, "", None
+    state, made, outcome, members = machine.start(), 0, "", None
     lines = [line for line in lines if line]
     for number, line in enumerate(lines, 1):
         word, *operands = line.split()
-        if told.startswith("refused"):
+        if outcome.startswith("refused"):
             return "witness", len(lines), f"a submit before line {number} is refused"
         if word == "stuck":
             members = {int(operand) for operand in operands}
@@ -143,10 +143,10 @@ def replayed(text_of_plan, lines):
         done = machine.step(state, event, made) if event[0] != "client" or event[1] < len(machine.kinds) else None
         if done is None:
             return "witness", len(lines), f"line {number} is not possible: {line}"
-        state, told = done
-        made += told.startswith(("started", "queued"))
+        state, outcome = done
+        made += outcome.startswith(("started", "queued"))
     if members is None:
-        return "refused", len(lines), None if told.startswith("refused") else "nothing is refused"
+        return "refused", len(lines), None if outcome.startswith("refused") else "nothing is refused"
     if not wait_for_each_other(machine, state, members):
         return "stuck", len(lines), "the jobs do not wait only for each other"
     is_full = all(machine.threads(state, of) == plan.pools[of].max for of in queued_in(machine, state, members))

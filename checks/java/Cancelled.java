@@ -20,27 +20,27 @@ final class Cancelled {
     /** Prints a line for each way that is named. */
     public static void main(String[] words) throws InterruptedException {
         for (String way : words) {
-            System.out.println(new Cancelled(Permits.Way.valueOf(way)).told());
+            System.out.println(new Cancelled(Permits.Way.valueOf(way)).report());
         }
         System.exit(0);
     }
 
-    private String told() throws InterruptedException {
+    private String report() throws InterruptedException {
         CountDownLatch begun = new CountDownLatch(1);
         CountDownLatch held = new CountDownLatch(1);
-        StringBuilder told = new StringBuilder();
+        StringBuilder report = new StringBuilder();
         List<Permits.LetsGo> jobs = new ArrayList<>();
-        told.append("A ").append(submits(jobs, () -> {
+        report.append("A ").append(submits(jobs, () -> {
             begun.countDown();
             Permits.await(held);
         }));
         Permits.await(begun);
-        told.append(", B ").append(submits(jobs, () -> {}));
+        report.append(", B ").append(submits(jobs, () -> {}));
         for (Permits.LetsGo job : jobs) {
             job.letsGo();
         }
         jobs.clear();
-        told.append("; C ").append(submits(jobs, () -> {})).append(", D ").append(submits(jobs, () -> {}));
+        report.append("; C ").append(submits(jobs, () -> {})).append(", D ").append(submits(jobs, () -> {}));
         held.countDown();
         for (long turns = 0; permits.pool.getCompletedTaskCount() < served; turns++) {
             Rest.within(turns);
@@ -53,7 +53,7 @@ final class Cancelled {
         while (permits.tryAcquire()) {
             back++;
         }
-        return told + "; " + back + " of " + PERMITS + " permits come back";
+        return report + "; " + back + " of " + PERMITS + " permits come back";
     }
 
     private String submits(List<Permits.LetsGo> jobs, Runnable body) {

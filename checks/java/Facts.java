@@ -177,9 +177,9 @@ final class Facts {
                 pool.prestartAllCoreThreads();
             }
         }
-        String told = String.join(" ", answers) + ", threads " + pool.getPoolSize() + ", queued " + pool.getQueue().size();
+        String report = String.join(" ", answers) + ", threads " + pool.getPoolSize() + ", queued " + pool.getQueue().size();
         held.countDown();
-        return told;
+        return report;
     }
 
     private static boolean submitsHeld(ThreadPoolExecutor pool, CountDownLatch held) {
@@ -247,9 +247,9 @@ final class Facts {
         second.join();
         third.join();
         await(() -> started.contains("later") && (max == 2 || started.size() == 2) && pool.ended.size() == 1);
-        String told = "ended by " + pool.ended + ", threads " + pool.getPoolSize() + ", started " + started.stream().sorted().toList();
+        String report = "ended by " + pool.ended + ", threads " + pool.getPoolSize() + ", started " + started.stream().sorted().toList();
         held.countDown();
-        return told;
+        return report;
     }
 
     private static void awaitWaiting(Thread thread) throws InterruptedException {

@@ -38,11 +38,11 @@ final class Interleavings {
      * state of the pool after it.
      */
     public static void main(String[] words) throws Exception {
-        System.out.println(new Interleavings(words[0]).told(Boolean.parseBoolean(words[1]), Boolean.parseBoolean(words[2])));
+        System.out.println(new Interleavings(words[0]).report(Boolean.parseBoolean(words[1]), Boolean.parseBoolean(words[2])));
         System.exit(0);
     }
 
-    private String told(boolean four, boolean waits) throws InterruptedException, ExecutionException {
+    private String report(boolean four, boolean waits) throws InterruptedException, ExecutionException {
         CountDownLatch first = new CountDownLatch(1);
         CountDownLatch held = new CountDownLatch(1);
         Future<?> jobOfW = pool.submit(() -> await(first));

@@ -100,12 +100,12 @@ final class Replay {
             return NOT_POSSIBLE;
         }
         int before = actor.position;
-        String told = actor.step(order);
-        if (told.equals("refused")) {
+        String outcome = actor.step(order);
+        if (outcome.equals("refused")) {
             refusals++;
             return "refused by " + poolOf(actor.body.get(before).operand()).pool.name();
         }
-        return told.equals("submitted") ? submitted(actor.submitted[before]) : told;
+        return outcome.equals("submitted") ? submitted(actor.submitted[before]) : outcome;
     }
 
     /** Adds a job that the pool accepted: it is in the queue, or a new thread starts it. */

@@ -66,26 +66,26 @@ def burst(line, kind, more, slow, leaves, until_refused, clients=None):
 
 def done(tools, bursts):
     """Runs the bursts with these arguments, and returns the counts of each."""
-    return [{what: int(number) for what, number in (words.rsplit(" ", 1) for words in told.split(", "))}
-            for told in tools.run_java("Bursts", *bursts)]
+    return [{what: int(number) for what, number in (words.rsplit(" ", 1) for words in counts.split(", "))}
+            for counts in tools.run_java("Bursts", *bursts)]
 
 
 def at_the_bound(tools):
     bursts = [burst(line, kind, 0, slow, leaves, False)
               for number, line in enumerate(LINES) for slow, leaves in ((False, 0), (True, 0), (True, PART_LEFT_OUT))
               for kind in (KINDS[(number + slow) % 2],)]
-    told = done(tools, bursts)
-    wrong = [f"bursts at the bound, {words}: {found}" for words, found in zip(bursts, told, strict=True) if found["refused in"]]
-    print(f"bursts at the bound: {len(LINES)} pools, {sum(found['rounds'] for found in told)} rounds, a thread requested although the queue "
-          f"has room {sum(found['asked with room'] for found in told)} times, refused in {sum(found['refused in'] for found in told)} rounds", flush=True)
+    counts = done(tools, bursts)
+    wrong = [f"bursts at the bound, {words}: {found}" for words, found in zip(bursts, counts, strict=True) if found["refused in"]]
+    print(f"bursts at the bound: {len(LINES)} pools, {sum(found['rounds'] for found in counts)} rounds, a thread requested although the queue "
+          f"has room {sum(found['asked with room'] for found in counts)} times, refused in {sum(found['refused in'] for found in counts)} rounds", flush=True)
     return wrong
 
 
 def one_more(tools):
     bursts = [burst(line, KINDS[number % 2], 1, not line.each_round(), 0, not line.each_round()) for number, line in enumerate(LINES)]
-    told = done(tools, bursts)
+    counts = done(tools, bursts)
     wrong, sure, some = [], 0, []
-    for line, words, found in zip(LINES, bursts, told, strict=True):
+    for line, words, found in zip(LINES, bursts, counts, strict=True):
         if line.each_round():
             sure += 1
             right = found["refused in"] == found["rounds"] == ROUNDS and found["most"] == 1
@@ -102,9 +102,9 @@ def one_more(tools):
 def slips(tools):
     """Checks that bursts find a wrong bound or a wrong size of each pool."""
     planted = [(name, line, jobs) for line in LINES for name, line, jobs in slips_of(line)]
-    told = done(tools, [burst(line, KINDS[number % 2], 0, True, 0, True, jobs) for number, (_, line, jobs) in enumerate(planted)])
+    counts = done(tools, [burst(line, KINDS[number % 2], 0, True, 0, True, jobs) for number, (_, line, jobs) in enumerate(planted)])
     wanted = Counter(name for name, _, _ in planted)
-    found = Counter(name for (name, _, _), one in zip(planted, told, strict=True) if one["refused in"])
+    found = Counter(name for (name, _, _), one in zip(planted, counts, strict=True) if one["refused in"])
     print("deliberate errors, found: " + ", ".join(f"'{name}' {found[name]} of {number}" for name, number in wanted.items()), flush=True)
     return [f"bursts: the deliberate error '{name}' is found {found[name]} of {number} times" for name, number in wanted.items() if found[name] != number]
 

@@ -80,7 +80,7 @@ class Body:
 class Comparison:
     def __init__(self, plan, recording):
         self.plan, self.recording = plan, recording
-        self.findings, self.told = [], set()
+        self.findings, self.subjects = [], set()
         self.foreign = []  # the gets of futures by actors that did not submit the job, with their lines
         self.paths = {actor: [] for actor in recording.jobs + recording.rounds}
         self.fitting = {}  # for each job, the classes of the plan that it may have
@@ -90,8 +90,8 @@ class Comparison:
 
     def finds(self, sort, subject, line, text):
         """Records a finding, unless its subject already has one. Findings of one line come in the order of their sorts."""
-        if subject not in self.told:
-            self.told.add(subject)
+        if subject not in self.subjects:
+            self.subjects.add(subject)
             self.findings.append((line or math.inf, sort, f"line {line}: {text}" if line else text))
 
     # ---- paths

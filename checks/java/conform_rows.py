@@ -150,13 +150,13 @@ def wrong_stored_rows():
     wrong, rows = [], 0
     for name, given, answer in rows_of("recorded_conforms", "conform"):
         plan, bar, recording = given.partition("%%\n")
-        told, _, status = answer.rpartition("\nstatus ")
-        if not bar or status not in ("0", "1") or "not decided" in told:
+        expected, _, status = answer.rpartition("\nstatus ")
+        if not bar or status not in ("0", "1") or "not decided" in expected:
             continue
         rows += 1
         found = compared(plan, recording) or ["conforms"]
-        if found != told.split("\n"):
-            wrong.append(f"conform, row {name}: {found}, but the row has {told}")
+        if found != expected.split("\n"):
+            wrong.append(f"conform, row {name}: {found}, but the row has {expected}")
     print(f"conform: {rows} rows of tests, {len(wrong)} with other findings", flush=True)
     return wrong
 

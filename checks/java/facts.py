@@ -36,8 +36,8 @@ PAIRS = (("prestarted late", "not prestarted"), ("execute throws, max 2", "execu
 
 
 def part(tools):
-    told = dict(zip(BY_HAND, tools.run_java("Facts", *BY_HAND), strict=True))
-    wrong = [f"facts, {name}: {told[name]}, expected {wanted}" for name, wanted in BY_HAND.items() if told[name] != wanted]
-    differ = sum(told[one] != told[other] for one, other in PAIRS)
+    printed = dict(zip(BY_HAND, tools.run_java("Facts", *BY_HAND), strict=True))
+    wrong = [f"facts, {name}: {printed[name]}, expected {wanted}" for name, wanted in BY_HAND.items() if printed[name] != wanted]
+    differ = sum(printed[one] != printed[other] for one, other in PAIRS)
     print(f"facts: {len(BY_HAND)}, {len(wrong)} wrong; without the cause another outcome: {differ} of {len(PAIRS)}", flush=True)
     return wrong + ([] if differ == len(PAIRS) else ["facts: a fact does not depend on its cause"])

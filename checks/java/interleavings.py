@@ -15,9 +15,9 @@ def part(tools):
     wrong, found = [], 0
     for kind in ("array", "linked"):
         for name, wanted in BY_HAND.items():
-            told = tools.run_java("Interleavings", kind, str(name == "four clients").lower(), "true")
-            if told != [wanted]:
-                wrong.append(f"interleavings, {kind}, {name}: {told}, expected {wanted}")
+            printed = tools.run_java("Interleavings", kind, str(name == "four clients").lower(), "true")
+            if printed != [wanted]:
+                wrong.append(f"interleavings, {kind}, {name}: {printed}, expected {wanted}")
             slipped = tools.run_java("Interleavings", kind, str(name == "four clients").lower(), "false")
             found += slipped != [wanted]
     print(f"interleavings: 4, {len(wrong)} wrong; deliberate error 'the failed offer does not wait': found in {found} of 4", flush=True)

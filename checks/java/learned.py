@@ -83,7 +83,7 @@ class Ran(NamedTuple):
     """A run of a service: the requested number of rounds, the output, and the recording."""
 
     rounds: int
-    told: str
+    printed: str
     recording: str
 
 
@@ -93,7 +93,7 @@ def part(tools):
         tools.run_java("services.Services", *(word for name, file in files.items() for word in (name, "none", file)))
         recordings = {name: file.read_text() for name, file in files.items()}
     plans = {name: learned(tools, recording) for name, recording in recordings.items()}
-    wrong = [f"learned, {name}: no plan" for name, told in plans.items() if told is None]
+    wrong = [f"learned, {name}: no plan" for name, derived in plans.items() if derived is None]
     if wrong:
         return wrong
     sized, wrong = sizes_of(tools, plans)
@@ -106,8 +106,8 @@ def part(tools):
 
 def conformed(tools, plan, recording):
     """Returns the lines of `sizing conform`, or none if it prints `conforms`. Raises AssertionError if `conform.py` has other findings."""
-    status, told = tools.sizing("conform", f"{plan}%%\n{recording}")
-    lines = told.splitlines()
+    status, printed = tools.sizing("conform", f"{plan}%%\n{recording}")
+    lines = printed.splitlines()
     found = [] if lines == ["conforms"] else lines
     if status != bool(found) or found != compared(plan, recording):
         raise AssertionError(f"sizing conform ends with {status}: {lines[:3]}, conform.py says {compared(plan, recording)[:3]} of\n{plan}")
@@ -134,11 +134,11 @@ def learned(tools, recording):
 def as_recorded(tools, plans, recordings):
     """Checks that `conform` reports only the comments of the learned plan, and that these are the expected ones, derived by hand."""
     wrong = []
-    for name, told in plans.items():
-        found = conformed(tools, told.text, recordings[name])
-        if found != told.comments or deviations(found) or voids(found) != VOIDS[name]:
-            wrong.append(f"learned, {name}: conform prints {found}, but the comments are {told.comments}")
-    comments = sum(len(told.comments) for told in plans.values())
+    for name, derived in plans.items():
+        found = conformed(tools, derived.text, recordings[name])
+        if found != derived.comments or deviations(found) or voids(found) != VOIDS[name]:
+            wrong.append(f"learned, {name}: conform prints {found}, but the comments are {derived.comments}")
+    comments = sum(len(derived.comments) for derived in plans.values())
     print(f"learned: {len(plans)} plans, with {comments} comments; conform disagrees on {len(wrong)}", flush=True)
     return wrong
 
@@ -146,13 +146,13 @@ def as_recorded(tools, plans, recordings):
 def as_written(tools, plans, recordings):
     """Checks that each learned plan agrees with the plan that was written by hand, as far as a run shows it."""
     wrong, bodies, alike = [], 0, 0
-    for name, told in plans.items():
+    for name, derived in plans.items():
         written = read_plan(plan_of(name))
         found = conformed(tools, plan_of(name), recordings[name])
-        wrong += [f"learned, {name}: {difference}" for difference in differences(told.plan, written)]
+        wrong += [f"learned, {name}: {difference}" for difference in differences(derived.plan, written)]
         if deviations(found) or voids(found) != VOIDS[name]:
             wrong.append(f"learned, {name}: for the plan written by hand conform prints {found}")
-        ours, theirs = bodies_of(told.plan), bodies_of(written)
+        ours, theirs = bodies_of(derived.plan), bodies_of(written)
         bodies += len(ours)
         alike += sum(theirs.get(key) == body for key, body in ours.items())
     print(f"learned and written by hand: {len(plans)} plans, {alike} of {bodies} bodies equal, {len(wrong)} wrong", flush=True)
@@ -188,9 +188,9 @@ def is_lawful(plan):
 
 def slips_of_plans(tools, plans, recordings):
     """Checks that `conform` finds a wrong size, count or body in a plan, and that `differences` finds a wrong size or count."""
-    missed, tried, told_apart = [], 0, 0
-    for name, told in plans.items():
-        for what, other in other_plans(told.plan):
+    missed, tried, distinguished = [], 0, 0
+    for name, derived in plans.items():
+        for what, other in other_plans(derived.plan):
             other = with_room(other)
             if not is_lawful(other):
                 continue
@@ -198,17 +198,17 @@ def slips_of_plans(tools, plans, recordings):
             if not deviations(conformed(tools, text_of(other), recordings[name])):
                 missed.append(f"learned, {name}: conform does not find the error '{what}' in the plan")
             if f" {IN_BODY} " not in what:
-                told_apart += 1
-                if not list(differences(other, told.plan)):
+                distinguished += 1
+                if not list(differences(other, derived.plan)):
                     missed.append(f"learned, {name}: the comparison does not find the error '{what}' in the plan")
-    print(f"deliberate errors in learned plans: {tried} for conform and {told_apart} for the comparison, {len(missed)} not found", flush=True)
+    print(f"deliberate errors in learned plans: {tried} for conform and {distinguished} for the comparison, {len(missed)} not found", flush=True)
     return missed
 
 
 def slips_of_recordings(tools, plans, recordings):
     """Checks that a recording without a get does not conform, and that another plan is learned from it. Skips gets of hurried clients."""
     missed, tried = [], 0
-    for name, told in plans.items():
+    for name, derived in plans.items():
         lines = recordings[name].splitlines(keepends=True)
         hurried = {f"round {one.number}" for one in read(recordings[name]).rounds if one.name == "hurried"}
         gets = [at for at, line in enumerate(lines) if " got " in line and line.split(" got ")[0] not in hurried]
@@ -216,7 +216,7 @@ def slips_of_recordings(tools, plans, recordings):
             tried += 1
             shorter = "".join(lines[:at] + lines[at + 1 :])
             other = learned(tools, shorter)
-            if not deviations(conformed(tools, told.text, shorter)) or other is not None and bodies_of(other.plan) == bodies_of(told.plan):
+            if not deviations(conformed(tools, derived.text, shorter)) or other is not None and bodies_of(other.plan) == bodies_of(derived.plan):
                 missed.append(f"learned, {name}: the removal of line {at + 1}, {lines[at]!r}, is not found")
     print(f"deliberate errors in recordings: {tried} without a get, {len(missed)} not found", flush=True)
     return missed
@@ -229,16 +229,16 @@ def sizes_of(tools, plans):
     """Returns each learned plan with the sizes that `fit` finds, starting from those of the service and from 1. Checks that there are no
     sizes for the plans in NEVER_GOT if all clients repeat."""
     sized, wrong = [], []
-    for name, told in plans.items():
-        ones = told.plan._replace(pools=[pool._replace(core=1, max=1, queue=1) for pool in told.plan.pools])
-        for began, plan in (("its own sizes", told.plan), (FROM_ONE, ones)):
+    for name, derived in plans.items():
+        ones = derived.plan._replace(pools=[pool._replace(core=1, max=1, queue=1) for pool in derived.plan.pools])
+        for began, plan in (("its own sizes", derived.plan), (FROM_ONE, ones)):
             found, said = fitted(tools, plan)
             if found is None:
                 wrong.append(f"learned, {name}, {began}: fit prints {said}")
             else:
                 sized.append(Sized(name, began, found))
                 print(f"sizes of {sized[-1]}: {sizes_text(found)}", flush=True)
-        again = told.plan._replace(clients=[client._replace(repeat=True) for client in told.plan.clients])
+        again = derived.plan._replace(clients=[client._replace(repeat=True) for client in derived.plan.clients])
         found, said = fitted(tools, again)
         if (found is None) != (name in NEVER_GOT) or not re.fullmatch(NEVER_GOT.get(name, "sizes"), said):
             wrong.append(f"learned, {name}, if all clients repeat: fit prints {said}")
@@ -251,14 +251,14 @@ def sizes_text(plan):
 
 def fitted(tools, plan):
     """Returns the plan with the sizes that `fit` finds, and the word `sizes`; otherwise None, and the output of `fit` or its fault."""
-    status, told = tools.sizing("fit", text_of(plan))
-    lines = told.splitlines()
+    status, printed = tools.sizing("fit", text_of(plan))
+    lines = printed.splitlines()
     sizes = [POOL.fullmatch(line) for line in lines[:-1]]
     if not sizes or not all(sizes):
         return None, " ".join(lines)
     pools = [pool._replace(core=int(core), max=int(most), queue=int(queue))
              for pool, (name, core, most, queue) in zip(plan.pools, (size.groups() for size in sizes), strict=True) if pool.name == name]
-    changes = told.count(" (now ")
+    changes = printed.count(" (now ")
     _, bundle = tools.sizing("fit", text_of(plan), "--bundle")
     if (lines[-1] != f"changes {changes}" or status != bool(changes) or changes != numbers_changed(plan.pools, pools)
             or read_plan(bundle.split("%%\n")[0]).pools != pools or tools.sizing("check", bundle)[0]):
@@ -279,27 +279,27 @@ def runs(tools, name, plan, slow=0, seconds=SECONDS, number=None):
     sizes = " ".join(f"{pool.name} {pool.core} {pool.max} {pool.queue}" for pool in plan.pools)
     with tempfile.TemporaryDirectory() as folder:
         files = [Path(folder) / f"{at}.recording" for at in range(number or ROUNDS // rounds)]
-        told = tools.run_java("services.Sized", given="".join(f"{name} {rounds} {seconds} {slow} {file} {sizes}\n" for file in files))
-        return [Ran(rounds, line, file.read_text()) for line, file in zip(told, files, strict=True)]
+        printed = tools.run_java("services.Sized", given="".join(f"{name} {rounds} {seconds} {slow} {file} {sizes}\n" for file in files))
+        return [Ran(rounds, line, file.read_text()) for line, file in zip(printed, files, strict=True)]
 
 
 def met(run):
     """Returns a text for each event that no run of a safe plan may have, such as a refused submit, from its output and recording."""
-    told, seen = counts(run), read(run.recording)
+    printed, seen = counts(run), read(run.recording)
     cancelled = {act.job for actor in seen.rounds + seen.jobs for act in actor.acts if act.word == "cancel"}
-    found = [f"{told[what]} {what}" for what in ("refused", "failed", "stopped") if told[what]]
+    found = [f"{printed[what]} {what}" for what in ("refused", "failed", "stopped") if printed[what]]
     found += [f"{number} of {run.rounds} rounds {what}" for number, what in (
-        (told["rounds"], "told"), (len(seen.rounds), "recorded"), (sum(one.last is not None for one in seen.rounds), "ended")) if number != run.rounds]
+        (printed["rounds"], "printed"), (len(seen.rounds), "recorded"), (sum(one.last is not None for one in seen.rounds), "ended")) if number != run.rounds]
     refused = sum(job.refused for job in seen.jobs)
     open_jobs = sum(job.last is None and not job.refused and job not in cancelled for job in seen.jobs)
     found += [f"{number} jobs {what}, by the recording" for number, what in ((refused, "refused"), (open_jobs, "not done")) if number]
-    if refused != told["refused"]:
-        found.append(f"{refused} jobs refused by the recording, {told['refused']} by the pools")
+    if refused != printed["refused"]:
+        found.append(f"{refused} jobs refused by the recording, {printed['refused']} by the pools")
     return found
 
 
 def counts(run):
-    return {what: int(number) for what, number in (words.split() for words in run.told.split(", "))}
+    return {what: int(number) for what, number in (words.split() for words in run.printed.split(", "))}
 
 
 def without_refusal(tools, ran, how):
@@ -348,43 +348,43 @@ def one_less(tools, ran):
     """Lowers the first size of each plan for which `refute` then finds a witness, replays the witness, and runs the service."""
     wrong, missed, found, all_met = [], [], 0, 0
     for one, all_runs in ran:
-        safe, status, told = [], None, ""
+        safe, status, printed = [], None, ""
         for what, plan in less(one.plan):
-            status, told = tools.sizing("refute", text_of(plan))
+            status, printed = tools.sizing("refute", text_of(plan))
             if status == 1:
                 break
             if status not in NO_WITNESS:
-                wrong.append(f"learned, {one}, {what}: refute ends with {status}: {told}")
-            safe.append(f"{what} ({told.split(':')[0]})")
+                wrong.append(f"learned, {one}, {what}: refute ends with {status}: {printed}")
+            safe.append(f"{what} ({printed.split(':')[0]})")
         before = "; no witness before with " + ", ".join(safe) if safe else ""
-        if one.began == FROM_ONE and (status != 1 or not told.startswith(WITNESS[one.name])):
-            wrong.append(f"learned, {one}: refute ends with {status}: {told}")
+        if one.began == FROM_ONE and (status != 1 or not printed.startswith(WITNESS[one.name])):
+            wrong.append(f"learned, {one}: refute ends with {status}: {printed}")
         if status != 1:
             print(f"one size lowered, {one}: no witness{before}", flush=True)
             continue
         found += 1
-        wrong += [f"learned, {one}, {what}: {line}" for line in replayed(tools, one.plan, plan, told)]
+        wrong += [f"learned, {one}, {what}: {line}" for line in replayed(tools, one.plan, plan, printed)]
         tries = runs(tools, one.name, plan, SLOW, SECONDS_OF_A_TRY, TRIES)
         bad = [run for run in tries if met(run)]
         all_met += bool(bad)
-        missed += not_told_apart(one, all_runs[0], bad)
+        missed += not_distinguished(one, all_runs[0], bad)
         first = min((counts(run)["rounds"] for run in bad), default="no")
-        print(f"one size lowered, {one}, {what}: {told.splitlines()[0]}; replayed, and {len(bad)} of {len(tries)} runs are bad, the first after "
+        print(f"one size lowered, {one}, {what}: {printed.splitlines()[0]}; replayed, and {len(bad)} of {len(tries)} runs are bad, the first after "
               f"{first} rounds{before}", flush=True)
     print(f"witnesses: {found} of {len(ran)}, {all_met} of them with bad runs, {len(wrong)} wrong; deliberate errors in runs not found: {len(missed)}", flush=True)
     return wrong + missed
 
 
-def replayed(tools, right, plan, told):
+def replayed(tools, right, plan, printed):
     """Checks that the witness ends as `refute` says, in `sizing replay` and on executors, and that it does not with the right sizes."""
     status, bundle = tools.sizing("refute", text_of(plan), "--bundle")
     text, events = bundle.rsplit("%%\n", 1)
     ended, answer = tools.sizing("replay", bundle)
     lines, wrong = answer.splitlines(), []
-    is_stuck = told.startswith("stuck")
-    end = ": stuck yes" if is_stuck else ": " + told.split(",")[0]
+    is_stuck = printed.startswith("stuck")
+    end = ": stuck yes" if is_stuck else ": " + printed.split(",")[0]
     if status or ended != 1 or read_plan(text).pools != plan.pools or not lines[-2].endswith(end):
-        wrong.append(f"the witness is {told.splitlines()[0]!r}, and its replay ends in {lines[-2:]}")
+        wrong.append(f"the witness is {printed.splitlines()[0]!r}, and its replay ends in {lines[-2:]}")
     steps = [*events.splitlines(), "counts", "run free 0"]
     cases = [case(read_plan(text)._replace(pools=pools), kind, False, steps) for pools in (plan.pools, right.pools) for kind in KINDS]
     answers = on_executors(tools, cases)
@@ -398,7 +398,7 @@ def replayed(tools, right, plan, told):
     return wrong
 
 
-def not_told_apart(one, right, bad):
+def not_distinguished(one, right, bad):
     """Checks that a bad run is found if either its output or its recording is replaced by that of a good run."""
-    slips = [wrong for run in bad for wrong in (run._replace(told=right.told), run._replace(recording=right.recording))]
+    slips = [wrong for run in bad for wrong in (run._replace(printed=right.printed), run._replace(recording=right.recording))]
     return [f"learned, {one}: a bad run is not found if its output or recording is replaced" for run in slips if not met(run)]

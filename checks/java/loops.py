@@ -55,15 +55,15 @@ def loops_of(tools, name, sizes):
     wrong, jobs, less = [], 0, []
     for kind in ("array", "linked"):
         for rounds, leaves, slow in WAYS:
-            told = looped(tools, needed, kind, rounds, leaves, slow, "all", False)
-            jobs += told["completed"]
-            if told["refused"] or told["completed"] != told["jobs"] or repeats and told["rounds"] != rounds:
-                wrong.append(f"loops, {name}, {kind}, slow {slow}, skips {leaves}: {told}")
+            printed = looped(tools, needed, kind, rounds, leaves, slow, "all", False)
+            jobs += printed["completed"]
+            if printed["refused"] or printed["completed"] != printed["jobs"] or repeats and printed["rounds"] != rounds:
+                wrong.append(f"loops, {name}, {kind}, slow {slow}, skips {leaves}: {printed}")
         for pool, queue in sizes.items():
-            told = looped(tools, with_queues(needed, {pool: queue - 1}), kind, ROUNDS, 0, SLOW_LESS, pool, True)
-            less.append(f"{pool} {queue - 1} ({kind}) after {told['rounds']}")
-            if not told["refused"]:
-                wrong.append(f"loops, {name}, {kind}, {pool} {queue - 1}: none refused in {told['rounds']} rounds")
+            printed = looped(tools, with_queues(needed, {pool: queue - 1}), kind, ROUNDS, 0, SLOW_LESS, pool, True)
+            less.append(f"{pool} {queue - 1} ({kind}) after {printed['rounds']}")
+            if not printed["refused"]:
+                wrong.append(f"loops, {name}, {kind}, {pool} {queue - 1}: none refused in {printed['rounds']} rounds")
     rounds = ", ".join(str(rounds) for rounds, _, _ in WAYS) if repeats else "no"
     print(f"loops, {name}: two kinds of queue, {rounds} rounds each, {jobs} jobs, with {len(wrong)} wrong"
           + (f"; with one place fewer refused in {', '.join(less)} rounds" if less else ""), flush=True)
@@ -76,5 +76,5 @@ def with_queues(plan, sizes):
 
 def looped(tools, plan, kind, rounds, leaves, slow, slow_pool, until_refused):
     given = "\n".join(plan_lines(plan)) + "\n"
-    told = tools.run_java("Loops", kind, rounds, leaves, slow, slow_pool, str(until_refused).lower(), given=given)[0]
-    return {what: int(number) for what, number in (words.split() for words in told.split(", "))}
+    printed = tools.run_java("Loops", kind, rounds, leaves, slow, slow_pool, str(until_refused).lower(), given=given)[0]
+    return {what: int(number) for what, number in (words.split() for words in printed.split(", "))}

@@ -48,5 +48,5 @@ def path(actor, old):
 
 def on_the_paths(events, answers):
     """Returns those of the events that the plan of the paths has, and their answers."""
-    kept = [(event, told) for event, told in zip(events, answers) if told not in OFF_THE_PATHS]
-    return [event for event, _ in kept], [told for _, told in kept]
+    kept = [(event, answer) for event, answer in zip(events, answers) if answer not in OFF_THE_PATHS]
+    return [event for event, _ in kept], [answer for _, answer in kept]

@@ -35,8 +35,8 @@ def part(tools):
 
 
 def cancelled(tools):
-    told = dict(zip(BY_HAND, tools.run_java("Cancelled", *BY_HAND), strict=True))
-    wrong = [f"permits, {way}: {told[way]}, expected {wanted}" for way, wanted in BY_HAND.items() if told[way] != wanted]
+    printed = dict(zip(BY_HAND, tools.run_java("Cancelled", *BY_HAND), strict=True))
+    wrong = [f"permits, {way}: {printed[way]}, expected {wanted}" for way, wanted in BY_HAND.items() if printed[way] != wanted]
     print(f"permits: {len(BY_HAND)} ways in which they are released, {len(wrong)} wrong", flush=True)
     return wrong
 
@@ -46,14 +46,14 @@ def loops(tools):
     wrong, jobs, less, slips = [], 0, [], []
     for way in RIGHT:
         for kind in KINDS:
-            told = looped(tools, way, kind, PERMITS, ROUNDS, False)
-            jobs += told["jobs"]
-            if told["refused"] or told["jobs"] != ROUNDS or told["back"] != PERMITS:
-                wrong.append(f"permits, {way}, {kind}: {told}")
-        told = looped(tools, way, KINDS[0], PERMITS - 1, MOST_ROUNDS, True)
-        less.append(told["jobs"])
-        if not told["refused"]:
-            wrong.append(f"permits, {way}, one place fewer: {told}")
+            printed = looped(tools, way, kind, PERMITS, ROUNDS, False)
+            jobs += printed["jobs"]
+            if printed["refused"] or printed["jobs"] != ROUNDS or printed["back"] != PERMITS:
+                wrong.append(f"permits, {way}, {kind}: {printed}")
+        printed = looped(tools, way, KINDS[0], PERMITS - 1, MOST_ROUNDS, True)
+        less.append(printed["jobs"])
+        if not printed["refused"]:
+            wrong.append(f"permits, {way}, one place fewer: {printed}")
     for way in SLIPS:
         slips.append(looped(tools, way, KINDS[1], PERMITS, MOST_ROUNDS, True)["refused"] > 0)
     print(f"permits: {len(RIGHT)} ways, {jobs} jobs, {len(wrong)} wrong; with one place fewer refused after "
@@ -62,5 +62,5 @@ def loops(tools):
 
 
 def looped(tools, way, kind, places, rounds, until_refused):
-    told = tools.run_java("PermitLoops", way, kind, places, rounds, str(until_refused).lower())[0]
-    return {what: int(number) for what, number in (words.rsplit(" ", 1) for words in told.split(", "))}
+    printed = tools.run_java("PermitLoops", way, kind, places, rounds, str(until_refused).lower())[0]
+    return {what: int(number) for what, number in (words.rsplit(" ", 1) for words in printed.split(", "))}

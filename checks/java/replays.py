@@ -31,16 +31,16 @@ def part(tools):
 
 
 def numbered(answers):
-    return [f"{number}: {told}" for number, told in enumerate(answers, 1)]
+    return [f"{number}: {printed}" for number, printed in enumerate(answers, 1)]
 
 
 def on_executors(tools, cases):
     """Runs the cases on executors, and returns the answers to each case."""
-    told, found = tools.run_java("Replays", given="".join(cases)), []
+    printed, found = tools.run_java("Replays", given="".join(cases)), []
     for _ in cases:
-        end = told.index("end")
-        found.append(told[:end])
-        told = told[end + 1 :]
+        end = printed.index("end")
+        found.append(printed[:end])
+        printed = printed[end + 1 :]
     return found
 
 
@@ -59,11 +59,11 @@ def examples(tools):
             cases.append(case(read_plan(plan), kind, False, [*events.read_text().splitlines(), "counts", "run free 0"]))
             wanted.append((events.stem, kind, answer, NEVER_FINISH.get(events.stem, 0)))
     answers = 0
-    for (name, kind, answer, never), told in zip(wanted, on_executors(tools, cases)):
+    for (name, kind, answer, never), printed in zip(wanted, on_executors(tools, cases)):
         steps = len(answer)
         answers += steps - 1
-        if told[:steps] != answer or not told[-1].endswith(f"unfinished {never}"):
-            wrong.append(f"replays, {name}, {kind}: {told}, expected {answer} and in the end unfinished {never}")
+        if printed[:steps] != answer or not printed[-1].endswith(f"unfinished {never}"):
+            wrong.append(f"replays, {name}, {kind}: {printed}, expected {answer} and in the end unfinished {never}")
     print(f"replays of examples: {len(wanted)}, answers {answers}, with {len(wrong)} wrong", flush=True)
     return wrong
 
@@ -104,25 +104,25 @@ def lists(tools, chance):
         shown = one.of_program()
         if shown:
             plan, events, answers = shown
-            told = tools.sizing("replay", f"{text_of(plan)}%%\n" + "\n".join(events))[1].splitlines()
+            printed = tools.sizing("replay", f"{text_of(plan)}%%\n" + "\n".join(events))[1].splitlines()
             count["by sizing replay"] += 1
             count["of these with parts left out"] += "left out" in one.answers
-            if told != answers:
-                wrong.append(f"replays, sizing replay: {told}, expected {answers} for\n{text_of(plan)}%%\n" + "\n".join(events))
+            if printed != answers:
+                wrong.append(f"replays, sizing replay: {printed}, expected {answers} for\n{text_of(plan)}%%\n" + "\n".join(events))
     cases = [one.case(None, f"run free {PART_LEFT_OUT * one.leaving_out}") if sure else one.case() for one, sure in zip(found, certified)]
-    for one, sure, told in zip(found, certified, on_executors(tools, cases)):
+    for one, sure, printed in zip(found, certified, on_executors(tools, cases)):
         count["on executors"] += 1
         count["in steps"] += one.in_steps
         count["parts left out"] += "left out" in one.answers
         count["prestarted"] += any(pool.prestart for pool in one.plan.pools)
         count["answers"] += len(one.answers)
-        count["refused"] += sum(told.startswith("refused") for told in one.answers)
+        count["refused"] += sum(printed.startswith("refused") for printed in one.answers)
         count["stuck yes"] += one.answers.count("stuck yes")
         count["retired"] += one.answers.count("retired")
         count["certified"] += sure
         wanted = one.wanted + (["then refusals 0, unfinished 0"] if sure else [])
-        if told != wanted:
-            wrong.append(f"replays, {one.kind}, in steps {one.in_steps}: {told}, expected {wanted} for\n{one.case()}")
+        if printed != wanted:
+            wrong.append(f"replays, {one.kind}, in steps {one.in_steps}: {printed}, expected {wanted} for\n{one.case()}")
     print("random replays: " + ", ".join(f"{what} {number}" for what, number in count.items()) + f", with {len(wrong)} wrong", flush=True)
     return wrong
 
@@ -169,17 +169,17 @@ def slips(tools, chance):
     found = Counter()
     some = [List(chance, plan_by_chance(chance)) for _ in range(SLIPPED)]
     for name, change in POOL_SLIPS.items():
-        told = on_executors(tools, [one.case(with_pools(one.plan, change)) for one in some])
-        found[name] = sum(told != one.wanted for one, told in zip(some, told))
+        printed = on_executors(tools, [one.case(with_pools(one.plan, change)) for one in some])
+        found[name] = sum(printed != one.wanted for one, printed in zip(some, printed))
         shown = [one.of_program() for one in some]
         answers = [tools.sizing("replay", f"{text_of(with_pools(plan, change))}%%\n" + "\n".join(events))[1].splitlines()
                    for plan, events, _ in filter(None, shown)]
-        found[name + ", in sizing's plan"] = sum(told != wanted for told, (_, _, wanted) in zip(answers, filter(None, shown)))
-    told = on_executors(tools, [case(one.plan, one.kind, one.in_steps, [event.removeprefix("leave ") for event in one.events] + ["counts"]) for one in some])
-    found["what is left out is submitted"] = sum(told != one.wanted for one, told in zip(some, told))
-    told = on_executors(tools, [one.case() for one in some])
+        found[name + ", in sizing's plan"] = sum(printed != wanted for printed, (_, _, wanted) in zip(answers, filter(None, shown)))
+    printed = on_executors(tools, [case(one.plan, one.kind, one.in_steps, [event.removeprefix("leave ") for event in one.events] + ["counts"]) for one in some])
+    found["what is left out is submitted"] = sum(printed != one.wanted for one, printed in zip(some, printed))
+    printed = on_executors(tools, [one.case() for one in some])
     for name, rule in RULE_SLIPS.items():
-        found[name] = sum(by_rule(rule, one) != answers for one, answers in zip(some, told))
+        found[name] = sum(by_rule(rule, one) != answers for one, answers in zip(some, printed))
     print(f"deliberate errors, by the number of {SLIPPED} lists that find them: " + ", ".join(f"'{name}' {number}" for name, number in found.items()), flush=True)
     return [f"replays: the deliberate error '{name}' is not found" for name, number in found.items() if not number]
 

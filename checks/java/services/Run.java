@@ -33,7 +33,7 @@ final class Run {
     private static final long SECONDS_OF_A_SLIP = 30;
     final Recorder recorder;
     private final String slip;
-    private final Given given;
+    private final Settings settings;
     private final Map<String, ThreadPoolExecutor> executors = new LinkedHashMap<>();
     private final List<Thread> clients = new ArrayList<>();
     private final Queue<Throwable> failed = new ConcurrentLinkedQueue<>();
@@ -45,18 +45,18 @@ final class Run {
 
     /** Creates a run with the slip `none`, `path`, `count`, `size` or `change`. */
     Run(Path recording, String slip) throws IOException {
-        this(recording, slip, Given.NOTHING);
+        this(recording, slip, Settings.NONE);
     }
 
     /** Creates a run with these settings and no slip. */
-    Run(Path recording, Given given) throws IOException {
-        this(recording, "none", given);
+    Run(Path recording, Settings settings) throws IOException {
+        this(recording, "none", settings);
     }
 
-    private Run(Path recording, String slip, Given given) throws IOException {
+    private Run(Path recording, String slip, Settings settings) throws IOException {
         recorder = Recorder.toFile(recording);
         this.slip = slip;
-        this.given = given;
+        this.settings = settings;
     }
 
     /** Returns whether the service takes a path that its plan lacks. */
@@ -67,9 +67,9 @@ final class Run {
     /** Creates a pool with an `ArrayBlockingQueue`. A slip of sizes affects the first pool. */
     ExecutorService pool(String name, int core, int max, int queue) {
         int more = slip.equals("size") && executors.isEmpty() ? 1 : 0;
-        Given.Sizes sizes = given.of(name, new Given.Sizes(core, max + more, queue));
-        ThreadPoolExecutor executor = new ThreadPoolExecutor(sizes.core(), sizes.max(), 1, TimeUnit.SECONDS, given.queueOf(sizes));
-        if (given.isSomething()) {
+        Settings.Sizes sizes = settings.of(name, new Settings.Sizes(core, max + more, queue));
+        ThreadPoolExecutor executor = new ThreadPoolExecutor(sizes.core(), sizes.max(), 1, TimeUnit.SECONDS, settings.queueOf(sizes));
+        if (settings.areGiven()) {
             executor.setRejectedExecutionHandler(this::refuse);
         }
         executors.put(name, executor);
@@ -102,7 +102,7 @@ final class Run {
     }
 
     private boolean begins(int round, int own) {
-        return round == 0 || (given.isSomething() ? own > 1 && roundsLeft.getAndDecrement() > 0 : round < own);
+        return round == 0 || (settings.areGiven() ? own > 1 && roundsLeft.getAndDecrement() > 0 : round < own);
     }
 
     /** Runs a round and returns whether it completed. */
@@ -152,7 +152,7 @@ final class Run {
 
     /** Runs the clients until they and the pools end, or nothing is done for this many seconds. Returns what they met. */
     String met(long seconds) throws InterruptedException, IOException {
-        roundsLeft.set(given.rounds() - clients.size());
+        roundsLeft.set(settings.rounds() - clients.size());
         clients.forEach(Thread::start);
         boolean stopped = stops(seconds, () -> clients.stream().noneMatch(Thread::isAlive));
         if (!stopped) {

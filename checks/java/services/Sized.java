@@ -22,16 +22,16 @@ final class Sized {
         List<String> lines = new BufferedReader(new InputStreamReader(System.in)).lines().toList();
         for (String line : lines) {
             String[] words = line.split(" ");
-            Run run = new Run(Path.of(words[4]), new Given(pools(words), Integer.parseInt(words[1]), Integer.parseInt(words[3])));
+            Run run = new Run(Path.of(words[4]), new Settings(pools(words), Integer.parseInt(words[1]), Integer.parseInt(words[3])));
             Services.named(words[0]).begin(run);
             System.out.println(run.met(Long.parseLong(words[2])));
         }
     }
 
-    private static Map<String, Given.Sizes> pools(String[] words) {
-        Map<String, Given.Sizes> pools = new HashMap<>();
+    private static Map<String, Settings.Sizes> pools(String[] words) {
+        Map<String, Settings.Sizes> pools = new HashMap<>();
         for (int at = FIRST_POOL; at < words.length; at += 4) {
-            pools.put(words[at], new Given.Sizes(Integer.parseInt(words[at + 1]), Integer.parseInt(words[at + 2]), Integer.parseInt(words[at + 3])));
+            pools.put(words[at], new Settings.Sizes(Integer.parseInt(words[at + 1]), Integer.parseInt(words[at + 2]), Integer.parseInt(words[at + 3])));
         }
         return pools;
     }

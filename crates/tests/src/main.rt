@@ -7,7 +7,7 @@ mod files;
 mod found;
 mod on_threads;
 mod plan_texts;
-mod served;
+mod sequential;
 #[cfg(test)]
 mod threads;
 mod worlds;
@@ -15,7 +15,7 @@ mod worlds;
 use files::run_files;
 use on_threads::{OnThreads, answered};
 use plan_texts::PlanTexts;
-use served::Served;
+use sequential::SequentialCommands;
 use std::alloc::Global;
 use std::io;
 use worlds::Worlds;
@@ -41,17 +41,17 @@ const WORLDS: [&str; 6] = [
     "world_stuck",
 ];
 
-const SERVED: [&str; 13] = [
-    "served_replays",
-    "served_examples",
-    "served_faults",
-    "served_lines",
-    "served_numbers",
-    "served_parts",
-    "served_checks",
-    "served_explanations",
-    "served_certificates",
-    "served_words",
+const SEQUENTIAL: [&str; 13] = [
+    "sequential_replays",
+    "sequential_examples",
+    "sequential_faults",
+    "sequential_lines",
+    "sequential_numbers",
+    "sequential_parts",
+    "sequential_checks",
+    "sequential_explanations",
+    "sequential_certificates",
+    "sequential_words",
     "recorded_conforms",
     "recorded_learns",
     "recorded_learns_orders",
@@ -71,11 +71,11 @@ const ON_THREADS: [&str; 8] = [
 fn main(rt: HostRuntime) -> io::Result<()> {
     run_files(&rt, &PlanTexts, &PLAN_TEXTS)?;
     run_files(&rt, &Worlds, &WORLDS)?;
-    run_files(&rt, &Served, &SERVED)?;
+    run_files(&rt, &SequentialCommands, &SEQUENTIAL)?;
     let answer = move |alloc: Global, kind: &str, input: &[u8]| answered(&rt, alloc, kind, input);
     let suite = OnThreads::new(Box::new(rt.alloc(), answer)?);
     run_files(&rt, &suite, &ON_THREADS)?;
     run_files(&rt, &PlanTexts, &["long_plans"])?;
-    run_files(&rt, &Served, &["long_served"])?;
+    run_files(&rt, &SequentialCommands, &["long_sequential"])?;
     run_files(&rt, &suite, &["long_threads"])
 }

@@ -3,7 +3,7 @@
 ghost use Rattle.command_line.specs.Command.{IsInRange};
 
 use crate::on_threads::ended::Ended;
-use crate::on_threads::fit::served;
+use crate::on_threads::fit::output_of;
 use sizing_cli::{AskInput, AskOptions, Command, Form, Task};
 use std::alloc::{AllocError, Global};
 use std::sync::Wait;
@@ -30,22 +30,22 @@ pub fn asked<R: Threads + Wait + Sync>(
     let plan = AskInput::PlanAlone;
     let both = AskInput::WithCertificate;
     match kind {
-        "ask" => served(rt, alloc, question(plan, false, Form::Words), input),
-        "ask strict" => served(rt, alloc, question(plan, true, Form::Words), input),
+        "ask" => output_of(rt, alloc, question(plan, false, Form::Words), input),
+        "ask strict" => output_of(rt, alloc, question(plan, true, Form::Words), input),
         "ask head" => {
             let command = question(plan, false, Form::Words);
             Ended::of_input(rt, alloc, command, input)?.first_line(alloc)
         }
-        "ask with" => served(rt, alloc, question(both, false, Form::Words), input),
-        "ask with strict" => served(rt, alloc, question(both, true, Form::Words), input),
-        "ask json" => served(rt, alloc, question(plan, false, Form::Json), input),
-        "ask json strict" => served(rt, alloc, question(plan, true, Form::Json), input),
-        "ask json with" => served(rt, alloc, question(both, false, Form::Json), input),
-        "ask dot" => served(rt, alloc, question(plan, false, Form::Dot), input),
-        "ask github" => served(rt, alloc, question(plan, false, Form::Github), input),
-        "ask github with" => served(rt, alloc, question(both, false, Form::Github), input),
-        "ask sarif" => served(rt, alloc, question(plan, false, Form::Sarif), input),
-        "ask sarif with" => served(rt, alloc, question(both, false, Form::Sarif), input),
+        "ask with" => output_of(rt, alloc, question(both, false, Form::Words), input),
+        "ask with strict" => output_of(rt, alloc, question(both, true, Form::Words), input),
+        "ask json" => output_of(rt, alloc, question(plan, false, Form::Json), input),
+        "ask json strict" => output_of(rt, alloc, question(plan, true, Form::Json), input),
+        "ask json with" => output_of(rt, alloc, question(both, false, Form::Json), input),
+        "ask dot" => output_of(rt, alloc, question(plan, false, Form::Dot), input),
+        "ask github" => output_of(rt, alloc, question(plan, false, Form::Github), input),
+        "ask github with" => output_of(rt, alloc, question(both, false, Form::Github), input),
+        "ask sarif" => output_of(rt, alloc, question(plan, false, Form::Sarif), input),
+        "ask sarif with" => output_of(rt, alloc, question(both, false, Form::Sarif), input),
         _ => String::from_str(alloc, "no such kind of input"),
     }
 }

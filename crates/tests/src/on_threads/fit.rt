@@ -26,7 +26,7 @@ pub fn fitted<R: Threads + Wait + Sync>(
     alloc: Global,
     plan: &[u8],
 ) -> Result<String, AllocError> {
-    served(rt, alloc, SIZES, plan)
+    output_of(rt, alloc, SIZES, plan)
 }
 
 /// Returns the output of `fit` for a plan's text, as a bundle.
@@ -35,7 +35,7 @@ pub fn fitted_bundle<R: Threads + Wait + Sync>(
     alloc: Global,
     plan: &[u8],
 ) -> Result<String, AllocError> {
-    served(rt, alloc, BUNDLE, plan)
+    output_of(rt, alloc, BUNDLE, plan)
 }
 
 /// Returns the first line of the output of `check` for the bundle that `fit` writes for a plan's
@@ -69,7 +69,7 @@ fn fitted_again<R: Threads + Wait + Sync>(
 
 // Returns the output of the command. If the plan is short, appends a note if the result differs
 // with single bytes, or is unexpected with a source or a sink that fails.
-pub(crate) fn served<R: Threads + Wait + Sync>(
+pub(crate) fn output_of<R: Threads + Wait + Sync>(
     rt: &R,
     alloc: Global,
     command: Command,

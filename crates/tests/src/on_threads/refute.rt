@@ -1,7 +1,7 @@
 //! Inputs of the command `refute`.
 
 use crate::on_threads::ended::Ended;
-use crate::on_threads::fit::served;
+use crate::on_threads::fit::output_of;
 use sizing_cli::{Command, RefuteFormat, ReviewCommand, Status, Task};
 use std::alloc::{AllocError, Global};
 use std::sync::Wait;
@@ -28,7 +28,7 @@ pub fn refuted<R: Threads + Wait + Sync>(
     alloc: Global,
     plan: &[u8],
 ) -> Result<String, AllocError> {
-    served(rt, alloc, STORY, plan)
+    output_of(rt, alloc, STORY, plan)
 }
 
 /// Returns the first line of the output of `refute` for a plan's text.
@@ -55,7 +55,7 @@ pub fn refuted_bundle<R: Threads + Wait + Sync>(
     alloc: Global,
     plan: &[u8],
 ) -> Result<String, AllocError> {
-    served(rt, alloc, BUNDLE, plan)
+    output_of(rt, alloc, BUNDLE, plan)
 }
 
 /// Returns the output of `replay` for the bundle that `refute` writes for a plan's text.

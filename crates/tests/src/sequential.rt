@@ -7,9 +7,9 @@ mod words;
 ghost use Rattle.std.specs.Prelude.{◌<◌};
 
 use crate::files::Suite;
-use crate::served::ended::{Ended, Query, serve};
-use crate::served::failing::Case;
-use crate::served::words::asked;
+use crate::sequential::ended::{Ended, Query, serve};
+use crate::sequential::failing::Case;
+use crate::sequential::words::asked;
 use sizing_cli::{MemorySink, MemorySource, RecordingCommand, ReviewCommand};
 use std::alloc::{AllocError, Global};
 
@@ -20,11 +20,12 @@ use std::alloc::{AllocError, Global};
 ///   pieces and, if the input is short, with a source and a sink that fail at each call in turn.
 /// - `check and explain`: an input of both commands. The answer is that of `check`, followed by
 ///   that of `explain` if it differs.
-/// - `fronts of a replay`, `fronts of a check` and `fronts of an explain`: an input. The command
-///   answers each proper prefix of it. The answer of the test is the answer to the empty prefix,
-///   followed by each answer that differs from the one before, with the length of its prefix.
+/// - `prefixes of a replay`, `prefixes of a check` and `prefixes of an explain`: an input. The
+///   command answers each proper prefix of it. The answer of the test is the answer to the empty
+///   prefix, followed by each answer that differs from the one before, with the length of its
+///   prefix.
 /// - `words`: the arguments of a command line, each followed by a newline.
-pub struct Served;
+pub struct SequentialCommands;
 
 // The maximum length of a short input, in bytes.
 const SHORT: usize = 250;
@@ -33,20 +34,24 @@ const SHORT: usize = 250;
 // larger pieces.
 const LONG: usize = 20_000;
 
-impl Suite for Served {
+impl Suite for SequentialCommands {
     fn answer(&self, alloc: Global, kind: &str, input: &[u8]) -> Result<String, AllocError> {
         match kind {
             "replay" => answered(alloc, Query::ReviewCommand(ReviewCommand::Replay), input),
             "check" => answered(alloc, Query::ReviewCommand(ReviewCommand::Check), input),
             "explain" => answered(alloc, Query::ReviewCommand(ReviewCommand::Explain), input),
             "check and explain" => checked_and_explained(alloc, input),
-            "fronts of a replay" => fronts(
+            "prefixes of a replay" => prefixes(
                 alloc,
                 Query::ReviewCommand(ReviewCommand::Replay),
                 input,
             ),
-            "fronts of a check" => fronts(alloc, Query::ReviewCommand(ReviewCommand::Check), input),
-            "fronts of an explain" => fronts(
+            "prefixes of a check" => prefixes(
+                alloc,
+                Query::ReviewCommand(ReviewCommand::Check),
+                input,
+            ),
+            "prefixes of an explain" => prefixes(
                 alloc,
                 Query::ReviewCommand(ReviewCommand::Explain),
                 input,
@@ -121,7 +126,7 @@ fn checked_and_explained(alloc: Global, input: &[u8]) -> Result<String, AllocErr
     Ok(answer)
 }
 
-fn fronts(alloc: Global, query: Query, input: &[u8]) -> Result<String, AllocError> {
+fn prefixes(alloc: Global, query: Query, input: &[u8]) -> Result<String, AllocError> {
     let mut last = whole(alloc, query, &[])?;
     let mut answer = last.to_text(alloc)?;
     for length in 0..input.len() {

@@ -2,7 +2,7 @@
 
 ghost use Rattle.std.specs.Prelude.{◌<◌};
 
-use crate::served::ended::{Ended, Query, serve};
+use crate::sequential::ended::{Ended, Query, serve};
 use sizing_cli::{MemorySink, MemorySource, ServeFault, StdSink};
 use std::alloc::{AllocError, Global};
 use std::io;

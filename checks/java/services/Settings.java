@@ -8,18 +8,18 @@ import java.util.concurrent.BlockingQueue;
  * The settings that replace those of the service: the sizes of its pools by name, the number of rounds in all, and the maximum
  * number of microseconds that a thread waits before it takes a job.
  */
-record Given(Map<String, Sizes> pools, int rounds, int microseconds) {
+record Settings(Map<String, Sizes> pools, int rounds, int microseconds) {
     record Sizes(int core, int max, int queue) {}
 
     /** The service has its own sizes and rounds. */
-    static final Given NOTHING = new Given(Map.of(), 0, 0);
+    static final Settings NONE = new Settings(Map.of(), 0, 0);
 
-    boolean isSomething() {
+    boolean areGiven() {
         return rounds > 0;
     }
 
     Sizes of(String pool, Sizes own) {
-        if (isSomething() && !pools.containsKey(pool)) {
+        if (areGiven() && !pools.containsKey(pool)) {
             throw new IllegalArgumentException("no sizes of " + pool);
         }
         return pools.getOrDefault(pool, own);
