@@ -7,7 +7,7 @@ READER = bench/plan_reader/out/plan_reader
 PROGRAM_SOURCES := $(shell python3 tools/crates.py sizing)
 READER_SOURCES := $(shell python3 tools/crates.py plan_reader)
 
-.PHONY: help demo program install dist release-notes test gate gate-all rows mutants names examples checks java bench plan_reader clean
+.PHONY: help demo program install dist release-notes test gate gate-all rows mutants names examples quick-checks checks java bench plan_reader clean
 
 # Lists the commands, each with what it does.
 help:
@@ -80,6 +80,10 @@ names:
 # Runs the built program on each example, and compares what it answers.
 examples: program
 	python3 examples/check.py
+
+# Runs the checks of checks/ that take minutes, as CI does if a crate or a check changed: about five minutes.
+quick-checks: program
+	@tools/quick_checks
 
 # What no contract says of the built program: a refused growth of memory, the ends of its streams, that runs end, and how
 # cheap the sizes are that it finds; that a release is complete and runs in a fresh Debian, if root asks; and what Java's

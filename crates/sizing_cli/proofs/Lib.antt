@@ -21,3 +21,4 @@ mod Failed
 pub mod ReadParts
 mod WrittenBefore
 pub mod SavedTexts
+mod ReplaceableTexts

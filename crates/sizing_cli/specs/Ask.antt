@@ -2,6 +2,7 @@
 -- messages. This is a relation: it does not fix which certificate, witness or sizes are found, or that some are, nor the wording
 -- of faults, nor the places of a plan's entries.
 use Rattle.std.specs.Prelude.{◌≡◌, ◌≤◌, ◌<◌, ℕ, nat_lt, Bool, true, false, not, ◌&&◌, ◌==◌, if◌then◌else◌, List, [], ◌∷◌, ◌++◌, length, codes, decimal, Option, Some, None, IfSome, Result, Ok, Err, option_map, IsTrue, MatchBool}
+use Rattle.std.specs.List.{All}
 use Rattle.clap.specs.Words.{Text}
 use Rattle.job_bodies.specs.Plan.{Plan}
 use Rattle.job_bodies.specs.declared.fault.PlanFault.{PlanFault}
@@ -19,6 +20,7 @@ use Rattle.diagnostics.specs.AtCore.{at_core, has_max_above_core}
 use Rattle.diagnostics.specs.Diagnostic.{HaveSingleLines, WarnInSingleLines, faults_text, warnings_text}
 use Rattle.diagnostics.specs.Lines.{HasNoNewline}
 use Rattle.diagnostics.specs.PlanPlaces.{FitPlan}
+use Rattle.diagnostics.specs.WarningWords.{TellsWarning}
 use Rattle.diagnostics.specs.declared.entry_places.PlanPlaces.{PlanPlaces}
 use Rattle.sizing_cli.specs.declared.lowered_plan.LoweredPlan.{LoweredPlan}
 use Rattle.size_search.specs.declared.found.SizesFound.{SizesFound}
@@ -150,12 +152,14 @@ AreLintsWith plan finding (Some lowered) lints = AreLints plan (needed_places lo
 AreLintsWith plan finding None lints = AreLints plan (needed_of plan finding) false lints
 
 -- the warnings are exactly the lints of the plan, in order, with these numbers of places for the pools, and whether the plan is
--- safe with its maximums lowered; then a warning about a stale certificate, if it is stale
+-- safe with its maximums lowered; then a warning about a stale certificate, if it is stale. A circle of submits that a warning
+-- reports is one of the plan.
 pub record AreWarnings (plan : Plan) (finding : PlanFinding) (lowered : Option LoweredPlan) (stale : Bool) (warnings : List Warning) : Type 0 where
   pub lints : List Lint
   pub are_lints : AreLintsWith plan finding lowered lints
   pub warned : lints_in warnings ≡ lints ++ stale_if stale
   pub single_lines : WarnInSingleLines warnings
+  pub circles : All (TellsWarning plan) warnings
 
 -- the text reports the warnings, under the file's name, and then the finding
 pub record TellsFinding (file : Text) (plan : Plan) (warnings : List Warning) (finding : PlanFinding) (text : List ℕ) : Type 0 where

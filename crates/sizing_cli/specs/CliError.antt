@@ -9,7 +9,7 @@ use Rattle.sizing_cli.specs.Bundle.{bundle_of}
 use Rattle.sizing_cli.specs.ServeFault.{is_known_of}
 use Rattle.sizing_cli.specs.CommandResult.{WritesAnswer, WritesPrefix}
 use Rattle.sizing_cli.specs.declared.status.Status.{Status}
-use Rattle.sizing_cli.specs.SavedCertificate.{may_be_certificate}
+use Rattle.sizing_cli.specs.SavedCertificate.{is_replaceable}
 use Rattle.sizing_cli.specs.Texts.{IsBundleNamed, file_named, name_or_none}
 use Rattle.sizing_cli.specs.declared.fault.CliError.{CliError}
 use Rattle.sizing_cli.specs.declared.fault.CliError.TheVariants.{Words, NoCommand, InputTwice, Bundle, Unread, CertificateNeedsFile, Directory, Occupied, Unwritten, Serve}
@@ -149,9 +149,48 @@ IsOccupied content directory (Bundle name) = Unit {0}
 IsOccupied content directory (Unread name) = Unit {0}
 IsOccupied content directory CertificateNeedsFile = Unit {0}
 IsOccupied content directory (Directory name) = IfSome (directory name.now) (λ known. known ≡ true)
-IsOccupied content directory (Occupied name) = IfSome (content name.now) (λ text. may_be_certificate text ≡ false)
+IsOccupied content directory (Occupied name) = IfSome (content name.now) (λ text. is_replaceable text ≡ false)
 IsOccupied content directory (Unwritten name) = Unit {0}
 IsOccupied content directory (Serve fault) = Unit {0}
+
+-- an error `Unread` is reported only if the file's content is not known
+abbrev pub IsUnreadable : (Text → Option (List ℕ)) → CliError → Type 0
+IsUnreadable content (Words error) = Unit {0}
+IsUnreadable content NoCommand = Unit {0}
+IsUnreadable content InputTwice = Unit {0}
+IsUnreadable content (Bundle name) = Unit {0}
+IsUnreadable content (Unread name) = content name.now ≡ None
+IsUnreadable content CertificateNeedsFile = Unit {0}
+IsUnreadable content (Directory name) = Unit {0}
+IsUnreadable content (Occupied name) = Unit {0}
+IsUnreadable content (Unwritten name) = Unit {0}
+IsUnreadable content (Serve fault) = Unit {0}
+
+-- the error that a file of this name has this text, and a certificate may not replace it; or memory ran out
+abbrev pub IsOfText : Text → List ℕ → CliError → Type 0
+IsOfText named text (Words error) = ⊥
+IsOfText named text NoCommand = ⊥
+IsOfText named text InputTwice = ⊥
+IsOfText named text (Bundle name) = ⊥
+IsOfText named text (Unread name) = ⊥
+IsOfText named text CertificateNeedsFile = ⊥
+IsOfText named text (Directory name) = ⊥
+IsOfText named text (Occupied name) = (name.now ≡ named) × (is_replaceable text ≡ false)
+IsOfText named text (Unwritten name) = ⊥
+IsOfText named text (Serve fault) = fault.number ≡ MEMORY
+
+-- a possible error of reading the text of the file of this name that a certificate is to replace, if the file's content is known
+abbrev pub IsOfContent : Option (List ℕ) → Text → CliError → Type 0
+IsOfContent content named (Words error) = ⊥
+IsOfContent content named NoCommand = ⊥
+IsOfContent content named InputTwice = ⊥
+IsOfContent content named (Bundle name) = ⊥
+IsOfContent content named (Unread name) = (name.now ≡ named) × (content ≡ None)
+IsOfContent content named CertificateNeedsFile = ⊥
+IsOfContent content named (Directory name) = ⊥
+IsOfContent content named (Occupied name) = (name.now ≡ named) × IfSome content (λ text. is_replaceable text ≡ false)
+IsOfContent content named (Unwritten name) = ⊥
+IsOfContent content named (Serve fault) = fault.number ≡ MEMORY
 
 -- an error `Bundle` is reported only if the text that it names is a bundle, as far as that text is known
 abbrev pub IsBundled : Command → (Text → Option (List ℕ)) → Option (List ℕ) → Option Text × Option Text → CliError → Type 0

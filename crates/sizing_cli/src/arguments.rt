@@ -9,7 +9,7 @@ ghost use Rattle.sizing_cli.specs.FileWrites.{AppendsWrites, WritesAtMostOnce};
 ghost use Rattle.sizing_cli.specs.SavedCertificate.{IsReplaceable, WritesCertificateFile};
 ghost use Rattle.sizing_cli.specs.declared.status.Status.{Status as StatusValue};
 ghost use Rattle.sizing_cli.specs.Texts as spec;
-ghost use Rattle.sizing_cli.specs.CliError.{IsBundled, IsFaultOf, IsOccupied, IsOfTexts, IsWrittenBefore, count_in, is_of_sink, is_unwritten};
+ghost use Rattle.sizing_cli.specs.CliError.{IsBundled, IsFaultOf, IsOccupied, IsOfTexts, IsUnreadable, IsWrittenBefore, count_in, is_of_sink, is_unwritten};
 
 use crate::certificate_file::{ensure_replaceable, write_certificate};
 use crate::entry_points::write_answer;
@@ -31,8 +31,8 @@ use std::thread::Threads;
 /// the first holds the plan and the second the text after the line `%%`.
 ///
 /// If the arguments name a file for the certificate that the answer rests on, that file is written
-/// last. An existing file is overwritten only if it is empty or starts with `{`, as a certificate
-/// does. The name `-`, or that of a directory, is an error before anything is read.
+/// last. An existing file is overwritten only if it is empty, or a JSON object with the keys of a
+/// certificate. The name `-`, or that of a directory, is an error before anything is read.
 ///
 /// # Errors
 ///
@@ -109,6 +109,9 @@ pub fn serve_words<'a, R: Threads + Wait + Sync, F: TextFiles, S: Source, K: Sin
         (λ _. IsReplaceable (F.content files.old) (F.directory files.old) (certificate_of (map (λ word. word.now) words.now))) }
     ensures occupied { IfErr result (IsOccupied (F.content files.old) (F.directory files.old)) }
 
+    // A file whose content is known is never reported as unread.
+    ensures unread { IfErr result (IsUnreadable (F.content files.old)) }
+
     // If two texts are named, neither of them is a bundle.
     ensures alone { IfOk result (λ _.
         IfSome
@@ -183,6 +186,7 @@ fn serve_parsed<'a, R: Threads + Wait + Sync, F: TextFiles, S: Source, K: Sink>(
         spec.AreAlone cli.entry.command (F.content files.now) (S.remaining input.old) (files_of_cli cli.entry)) }
     ensures bundled { IfErr result
         (IsBundled cli.entry.command (F.content files.now) (S.remaining input.old) (files_of_cli cli.entry)) }
+    ensures unread { IfErr result (IsUnreadable (F.content files.now)) }
     ensures fault { IfErr result (IsOfTexts cli.entry.command (files_of_cli cli.entry)) }
     ensures read_failed { S.failures input.new ≡ S.failures input.old + count_in READ_FAILED result }
     ensures write_failed { K.failures sink.new ≡ K.failures sink.old + count_in WRITE_FAILED result }

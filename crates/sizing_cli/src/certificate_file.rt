@@ -1,19 +1,24 @@
 //! The file to which a certificate is written.
 
-ghost use Rattle.std.specs.Prelude.{◌≡◌, IfOk, IfErr, is_ok, option_map, true, false};
+ghost use Rattle.std.specs.Prelude.{◌≡◌, IfOk, IfErr, IfSome, is_ok, is_some, option_map, Some, true, false};
+ghost use Rattle.serde_json.specs.Find.{as_object};
+ghost use Rattle.serde_json.specs.Read.{read};
+ghost use Rattle.serde_json.specs.View.{view};
 ghost use Rattle.support.specs.declared.number.TheConstants.{READ_FAILED};
 ghost use Rattle.sizing_cli.specs.FileWrites.{AppendsWrites, file_writes};
 ghost use Rattle.sizing_cli.specs.SavedCertificate as spec;
-ghost use Rattle.sizing_cli.specs.CliError.{IsOccupied, IsOfReplacing, IsUnwritten, is_fault, is_of_sink, is_unwritten};
+ghost use Rattle.sizing_cli.specs.CliError.{IsOccupied, IsOfContent, IsOfReplacing, IsOfText, IsUnreadable, IsUnwritten, is_fault, is_of_sink, is_unwritten};
 
 use crate::fault::CliError;
 use crate::named_texts::STANDARD_INPUT;
 use crate::text_files::TextFiles;
 use byte_streams::InputError;
+use job_bodies::MAX_CERT_BYTES;
+use serde_json::Value;
 use std::alloc::{AllocError, Global};
 
 /// Returns an error if no file can have the name for the certificate, or if the file of that name
-/// holds another text, so that a misplaced argument does not overwrite a plan.
+/// holds a text that is not a certificate, so that a misplaced argument overwrites nothing else.
 pub(crate) fn ensure_replaceable<'a, F: TextFiles>(
     alloc: Global,
     files: &F,
@@ -25,6 +30,7 @@ pub(crate) fn ensure_replaceable<'a, F: TextFiles>(
     ensures fault { IfErr result (IsOfReplacing (option_map (λ name. name.now) name.entry)) }
     ensures before { IfErr result (λ fault. is_of_sink fault ≡ false) }
     ensures read { IfErr result (λ fault. is_fault READ_FAILED fault ≡ false) }
+    ensures unread { IfErr result (IsUnreadable (F.content files.now)) }
 {
     let Some(name) = name else {
         return Ok(());
@@ -35,27 +41,97 @@ pub(crate) fn ensure_replaceable<'a, F: TextFiles>(
     if files.is_directory(name) {
         return Err(CliError::Directory(name));
     }
-    match files.read_stored(alloc, name, 1) {
-        Ok(Some(text)) => {
-            if may_be_certificate(&text) {
-                Ok(())
-            } else {
-                Err(CliError::Occupied(name))
-            }
-        }
+    ensure_certificate(alloc, files, name)
+}
+
+/// Returns an error if there is a file of this name with a text that a certificate may not replace.
+fn ensure_certificate<'a, F: TextFiles>(
+    alloc: Global,
+    files: &F,
+    name: &'a str,
+) -> Result<(), CliError<'a>>
+    ensures replaceable { IfOk result (λ _.
+        IfSome (F.content files.now name.now) (λ text. spec.is_replaceable text ≡ true)) }
+    ensures fault { IfErr result (IsOfContent (F.content files.now name.now) name.now) }
+{
+    match files.read_stored(alloc, name, MAX_CERT_BYTES + 1) {
+        Ok(Some(text)) => ensure_replaceable_text(alloc, name, &text),
         Ok(None) => Ok(()),
         Err(InputError::Fault) => Err(CliError::Unread(name)),
         Err(InputError::Memory) => Err(CliError::from(AllocError)),
     }
 }
 
-/// Returns whether a text with this first byte is a certificate, or empty.
-fn may_be_certificate(text: &[u8]) -> bool
-    ensures { result ≡ spec.may_be_certificate text.now }
+/// Returns an error if a certificate may not replace this text of the file.
+fn ensure_replaceable_text<'a>(
+    alloc: Global,
+    name: &'a str,
+    text: &[u8],
+) -> Result<(), CliError<'a>>
+    ensures replaceable { IfOk result (λ _. spec.is_replaceable text.now ≡ true) }
+    ensures fault { IfErr result (IsOfText name.now text.now) }
 {
-    match text.first() {
-        Some(byte) => *byte == b'{',
-        None => true,
+    if is_replaceable(alloc, text)? {
+        Ok(())
+    } else {
+        Err(CliError::Occupied(name))
+    }
+}
+
+/// Returns whether a certificate may replace this text: it is empty, or a certificate itself. The
+/// certificate of an older plan may not fit the plan of today, so only its keys are checked.
+fn is_replaceable(alloc: Global, text: &[u8]) -> Result<bool, AllocError>
+    ensures { IfOk result (λ replaceable. replaceable ≡ spec.is_replaceable text.now) }
+{
+    if text.is_empty() {
+        Ok(true)
+    } else {
+        is_certificate(alloc, text)
+    }
+}
+
+fn is_certificate(alloc: Global, text: &[u8]) -> Result<bool, AllocError>
+    ensures { IfOk result (λ is. is ≡ spec.is_certificate text.now) }
+{
+    if text.len() > MAX_CERT_BYTES {
+        return Ok(false);
+    }
+    match str::from_utf8(text) {
+        Ok(text) => has_certificate_keys(alloc, text),
+        Err(_) => Ok(false),
+    }
+}
+
+fn has_certificate_keys(alloc: Global, text: &str) -> Result<bool, AllocError>
+    ensures { IfOk result (λ has. has ≡ spec.has_certificate_keys (read text.now)) }
+{
+    match Value::from_str(alloc, text) {
+        Ok(value) => Ok(has_keys(&value)),
+        Err(error) => {
+            if error.is_memory() {
+                Err(AllocError)
+            } else {
+                Ok(false)
+            }
+        }
+    }
+}
+
+fn has_keys(value: &Value) -> bool
+    ensures { result ≡ spec.has_certificate_keys (Some (view value.now)) }
+{
+    has_three_members(value)
+        && value.get("pools").is_some()
+        && value.get("ranks").is_some()
+        && value.get("version").is_some()
+}
+
+fn has_three_members(value: &Value) -> bool
+    ensures { result ≡ spec.has_three_members (as_object (view value.now)) }
+{
+    match value.as_object() {
+        Some(members) => members.len() == 3,
+        None => false,
     }
 }
 
@@ -70,6 +146,7 @@ pub(crate) fn write_certificate<'a, F: TextFiles>(
         (file_writes (option_map (λ text. text.items) found.now) (option_map (λ name. name.now) name.entry) (is_ok result)) }
     ensures fault { IfErr result (IsUnwritten (option_map (λ name. name.now) name.entry)) }
     ensures behind { IfErr result (λ fault. is_unwritten fault ≡ true) }
+    ensures tried { IfErr result (λ _. is_some (option_map (λ text. text.items) found.now) ≡ true) }
 {
     let Some(text) = found else {
         return Ok(());

@@ -6,7 +6,7 @@ ghost use Rattle.command_line.specs.declared.command.Command.{Command as Command
 ghost use Rattle.support.specs.declared.number.TheConstants.{READ_FAILED};
 ghost use Rattle.sizing_cli.specs.Bundle.{bundle_of};
 ghost use Rattle.sizing_cli.specs.Texts as spec;
-ghost use Rattle.sizing_cli.specs.CliError.{IsBundled, IsOfBundle, IsOfFile, IsOfReading, IsOfTexts, count_in, is_of_sink};
+ghost use Rattle.sizing_cli.specs.CliError.{IsBundled, IsOfBundle, IsOfFile, IsOfReading, IsOfTexts, IsUnreadable, count_in, is_of_sink};
 
 use crate::bundle::bundle_of;
 use crate::fault::CliError;
@@ -40,6 +40,7 @@ pub(crate) fn read_texts<'a, F: TextFiles, S: Source>(
         (IsBundled cli.entry.command (F.content files.now) (S.remaining input.old) (files_of_cli cli.entry)) }
     ensures fault { IfErr result (IsOfTexts cli.entry.command (files_of_cli cli.entry)) }
     ensures before { IfErr result (λ fault. is_of_sink fault ≡ false) }
+    ensures unread { IfErr result (IsUnreadable (F.content files.now)) }
     ensures read_failed { S.failures input.new ≡ S.failures input.old + count_in READ_FAILED result }
 {
     match cli.second {
@@ -71,6 +72,7 @@ fn read_both<'a, F: TextFiles, S: Source>(
         (IsBundled command (F.content files.now) (S.remaining input.old) (option_map (λ name. name.now) first.entry, Some second.now)) }
     ensures fault { IfErr result (λ fault. (any : CommandValue) → IsOfTexts any (option_map (λ name. name.now) first.entry, Some second.now) fault) }
     ensures before { IfErr result (λ fault. is_of_sink fault ≡ false) }
+    ensures unread { IfErr result (IsUnreadable (F.content files.now)) }
     ensures read_failed { S.failures input.new ≡ S.failures input.old + count_in READ_FAILED result }
 {
     let (plan, behind) = read_pair(alloc, command, files, input, first, second)?;
@@ -100,6 +102,7 @@ fn read_pair<'a, F: TextFiles, S: Source>(
         (IsBundled command (F.content files.now) (S.remaining input.old) (option_map (λ name. name.now) first.entry, Some second.now)) }
     ensures fault { IfErr result (λ fault. (any : CommandValue) → IsOfTexts any (option_map (λ name. name.now) first.entry, Some second.now) fault) }
     ensures before { IfErr result (λ fault. is_of_sink fault ≡ false) }
+    ensures unread { IfErr result (IsUnreadable (F.content files.now)) }
     ensures read_failed { S.failures input.new ≡ S.failures input.old + count_in READ_FAILED result }
 {
     match (file_named(first), file_named(Some(second))) {
@@ -157,6 +160,7 @@ fn read_file<'a, F: TextFiles>(
     ensures text { IfOk result (λ text.
         IfSome (F.content files.now name.now) (λ known. text.items ≡ spec.read_part command known)) }
     ensures fault { IfErr result (IsOfFile name.now) }
+    ensures unread { IfErr result (IsUnreadable (F.content files.now)) }
 {
     match files.read(alloc, name, most_bytes(command) + 1) {
         Ok(text) => Ok(text),

@@ -1,6 +1,6 @@
 //! The interface to files.
 
-ghost use Rattle.std.specs.Prelude.{◌≡◌, ℕ, Bool, [], ◌∷◌, List, Option, Some, IfOk, IfSome, is_ok, option_map, take};
+ghost use Rattle.std.specs.Prelude.{◌≡◌, ℕ, Bool, [], ◌∷◌, List, Option, Some, None, IfOk, IfErr, IfSome, is_ok, option_map, take};
 ghost use Rattle.sizing_cli.specs.FileWrites.{AppendsWrites, FileWrite};
 
 use byte_streams::{InputError, IoFault};
@@ -24,7 +24,8 @@ pub trait TextFiles {
     /// [`InputError::Fault`] if the file cannot be read, for example if it is missing or a
     /// directory. [`InputError::Memory`] if memory runs out.
     fn read(&self, alloc: Global, name: &str, limit: usize) -> Result<Vec<u8>, InputError>
-        ensures { IfOk result (λ bytes. IfSome (content self.now name.now) (λ known. bytes.items ≡ take limit known)) };
+        ensures bytes { IfOk result (λ bytes. IfSome (content self.now name.now) (λ known. bytes.items ≡ take limit known)) }
+        ensures unread { IfErr result (λ error. error ≡ InputError.Fault → content self.now name.now ≡ None) };
 
     /// Reads the first bytes of a regular file, at most `limit`. Returns `None` if there is no file
     /// of this name, or if it is not a regular file, such as a pipe or a terminal.
@@ -38,7 +39,8 @@ pub trait TextFiles {
         name: &str,
         limit: usize,
     ) -> Result<Option<Vec<u8>>, InputError>
-        ensures { IfOk result (λ found. IfSome (content self.now name.now) (λ known. option_map (λ bytes. bytes.items) found ≡ Some (take limit known))) };
+        ensures bytes { IfOk result (λ found. IfSome (content self.now name.now) (λ known. option_map (λ bytes. bytes.items) found ≡ Some (take limit known))) }
+        ensures unread { IfErr result (λ error. error ≡ InputError.Fault → content self.now name.now ≡ None) };
 
     /// Returns whether there is a directory of this name.
     fn is_directory(&self, name: &str) -> bool

@@ -21,6 +21,13 @@ const CERT: &str = r#"{"version": 1, "pools": [
      "blocked": {"workers": [0], "classes": [[0, 0, 0, 0]], "clients": [[0, 0, 0]]}}],
     "ranks": {"pools": [0], "reach": [0], "levels": [0]}}"#;
 
+// A JSON object that is no certificate.
+const PACKAGE: &str = r#"{"name": "p", "version": 1, "pools": []}"#;
+
+// A certificate of another plan, without pools.
+const OLDER_CERT: &str =
+    r#"{"version": 1, "pools": [], "ranks": {"pools": [], "reach": [], "levels": []}}"#;
+
 const EVENTS: &str = "client 0\nclient 0\n";
 
 // The bundle of the plan and the events. The plan has no newline at its end, so a newline is
@@ -49,6 +56,8 @@ impl TextFiles for FakeFiles {
             "plan.toml" => PLAN,
             "cert.json" => CERT,
             "events" => EVENTS,
+            "package.json" => PACKAGE,
+            "older.json" => OLDER_CERT,
             "both" => PLAN_AND_EVENTS,
             _ => return Err(InputError::Fault),
         };
@@ -245,6 +254,17 @@ const NO_ANSWERS: &[(&[&str], &str, u8)] = &[
         "occupied events",
         2,
     ),
+    (
+        &[
+            "sizing",
+            "ask",
+            "--certificate",
+            "package.json",
+            "plan.toml",
+        ],
+        "occupied package.json",
+        2,
+    ),
     // A name that no file can have is an error before the plan is read.
     (
         &["sizing", "ask", "--certificate", "-", "none.toml"],
@@ -313,11 +333,12 @@ fn words_without_an_answer(rt: HostRuntime) -> Result<(), Fail> {
     Ok(())
 }
 
-/// If the certificate cannot be written, because its folder is missing or its file exists, the call
-/// writes the whole answer and returns the error.
+/// If the certificate cannot be written, because its folder is missing or its file cannot be
+/// replaced, the call writes the whole answer and returns the error. A certificate of another plan
+/// may be overwritten.
 #[test]
 fn an_unwritten_certificate(rt: HostRuntime) -> Result<(), Fail> {
-    for name in ["none/kept.json", "cert.json"] {
+    for name in ["none/kept.json", "cert.json", "older.json"] {
         let words = ["sizing", "ask", "--certificate", name, "plan.toml"];
         let mut source = MemorySource::new(b"");
         let mut sink = MemorySink::new(rt.alloc());

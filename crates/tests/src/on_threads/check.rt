@@ -63,7 +63,7 @@ impl Texts<'_> {
         alone: &str,
     ) -> Result<String, AllocError> {
         let mut otherwise = String::new(alloc);
-        for workers in [1, 3, 64] {
+        for workers in [1, 2, 3, 64] {
             let found = check_on(rt, alloc, workers, self.plan, self.cert, &Open);
             let text = result_text(alloc, &self.read, found)?;
             if text.as_str() != alone {

@@ -7,4 +7,5 @@ returns c = record {
   are_lints = c.in_ok-warnings.ensures.lints;
   warned = c.in_ok-all.ensures.lints;
   single_lines = c.in_ok-all.ensures.single_lines;
+  circles = c.in_ok-all.ensures.circles c.args.plan.now c.in_ok-warnings.ensures.circles;
 }
