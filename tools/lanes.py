@@ -12,6 +12,9 @@ USUAL_GIB = 2.5
 MORE = 0.5
 # The most jobs of a check: more save little time, and each costs the reading of the libraries.
 MOST_JOBS = 4
+# The jobs of the check with the longest chain of work after it, even if other checks take all processors: the number of jobs of
+# a check is fixed when it starts, and the end of a run depends on this chain.
+JOBS_OF_CHAIN = 3
 
 
 def side_by_side(rt, gib):
@@ -52,7 +55,7 @@ def startable(tasks, waiting, running, given, lanes, memory):
         idle = lanes - sum(jobs for _, _, jobs in running.values())
         room = memory - sum(need for _, need, _ in running.values())
         need = tasks[key][2]
-        if idle == 0 or (running and need > room):
+        if idle <= 0 or (running and need > room):
             return
         if is_of_mutants(key):
             proof_is_left = any(not is_of_mutants(it) for it in [*waiting, *(it for it, _, _ in running.values())])
@@ -62,7 +65,9 @@ def startable(tasks, waiting, running, given, lanes, memory):
         else:
             others = len(proofs) - proofs.index(key)
             fitting = 1 + int((room / need - 1) / MORE)
-            yield key, max(1, min(MOST_JOBS, idle // others, fitting))
+            # `waiting` is sorted by the chains
+            wanted = max(idle // others, JOBS_OF_CHAIN if key == waiting[0] else 1)
+            yield key, max(1, min(MOST_JOBS, lanes, wanted, fitting))
 
 
 def chains(tasks):
