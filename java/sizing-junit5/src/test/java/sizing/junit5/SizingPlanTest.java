@@ -204,7 +204,7 @@ class SizingPlanTest {
         SizingAssertions.assertSafe(Path.of(SHOP));
         assertPasses(Visitors.class, 2);
         assertMatches(Pattern.quote(Path.of("target", "sizing", Hurried.class.getName() + ".recording") + " does not conform to " + SHOP
-                + " (exit status 1):\n  line ") + "\\d+: round 0 of kind visitor ended without a get of job \\d+ of class page in pool web; its body has a get before its end", failureOf(Hurried.class));
+                + " (exit status 1):\n  line ") + "\\d+: round 0 of kind visitor ended without a get of job \\d+ of class request in pool web; its body has a get before its end", failureOf(Hurried.class));
         assertMatches(Pattern.quote(SMALL_SHOP + " is not safe, or has warnings (exit status 1):\n  NOT SAFE\n  refused by web, after ")
                 + "(?s).*", failureOf(Small.class));
     }
