@@ -1,8 +1,8 @@
 -- The certificate that is written to a file.
-use Rattle.std.specs.Prelude.{◌≡◌, ◌==◌, ◌&&◌, ◌||◌, ℕ, nat_le, Bool, true, false, codes, List, length, Option, Some, None, is_some, IfSome}
+use Rattle.std.specs.Prelude.{◌≡◌, ◌==◌, ◌&&◌, ◌||◌, ℕ, nat_le, Bool, true, false, codes, List, length, Option, Some, None, is_some, option_map, IfSome}
 use Rattle.std.specs.Str.{bytes_eq, is_utf8}
 use Rattle.clap.specs.Words.{Text}
-use Rattle.serde_json.specs.Data.{Data, Members}
+use Rattle.serde_json.specs.Data.{Data}
 use Rattle.serde_json.specs.Find.{get, as_object}
 use Rattle.serde_json.specs.Read.{read}
 use Rattle.cert_text.specs.Values.{count_members}
@@ -12,21 +12,27 @@ use Rattle.sizing_cli.specs.CommandResult.{WritesWithCertificate}
 use Rattle.sizing_cli.specs.FileWrites.{AppendsWrites, FileWrite, file_writes}
 use Rattle.sizing_cli.specs.declared.status.Status.{Status}
 
--- the object has three members
-abbrev pub has_three_members : Option Members → Bool
-has_three_members (Some members) = count_members members == 3
-has_three_members None = false
+abbrev pub is_three : Option ℕ → Bool
+is_three (Some count) = count == 3
+is_three None = false
 
 -- the value is an object with the keys of a certificate, `pools`, `ranks` and `version`, and no others
-abbrev pub has_certificate_keys : Option Data → Bool
-has_certificate_keys (Some value) =
-    has_three_members (as_object value)
+abbrev pub has_keys : Data → Bool
+has_keys value =
+    is_three (option_map count_members (as_object value))
     && (is_some (get (codes "pools") value) && (is_some (get (codes "ranks") value) && is_some (get (codes "version") value)))
+
+abbrev pub has_certificate_keys : Option Data → Bool
+has_certificate_keys (Some value) = has_keys value
 has_certificate_keys None = false
 
--- the text is a JSON object with the keys of a certificate, and is not longer than a certificate may be
+-- the bytes are the text of a JSON object with these keys
+abbrev pub is_object_text : List ℕ → Bool
+is_object_text bytes = is_utf8 bytes && has_certificate_keys (read bytes)
+
+-- the text has the keys of a certificate, and is not longer than a certificate may be
 abbrev pub is_certificate : List ℕ → Bool
-is_certificate text = nat_le (length text) MAX_CERT_BYTES && (is_utf8 text && has_certificate_keys (read text))
+is_certificate text = nat_le (length text) MAX_CERT_BYTES && is_object_text text
 
 -- a certificate may replace this text: it is empty, or is a certificate itself, of this or another plan
 abbrev pub is_replaceable : List ℕ → Bool

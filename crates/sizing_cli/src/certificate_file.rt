@@ -1,9 +1,10 @@
 //! The file to which a certificate is written.
 
-ghost use Rattle.std.specs.Prelude.{◌≡◌, IfOk, IfErr, IfSome, is_ok, is_some, option_map, Some, true, false};
+ghost use Rattle.std.specs.Prelude.{◌≡◌, IfOk, IfErr, IfSome, is_ok, is_some, option_map, true, false};
 ghost use Rattle.serde_json.specs.Find.{as_object};
 ghost use Rattle.serde_json.specs.Read.{read};
 ghost use Rattle.serde_json.specs.View.{view};
+ghost use Rattle.cert_text.specs.Values.{count_members};
 ghost use Rattle.support.specs.declared.number.TheConstants.{READ_FAILED};
 ghost use Rattle.sizing_cli.specs.FileWrites.{AppendsWrites, file_writes};
 ghost use Rattle.sizing_cli.specs.SavedCertificate as spec;
@@ -94,9 +95,16 @@ fn is_certificate(alloc: Global, text: &[u8]) -> Result<bool, AllocError>
     ensures { IfOk result (λ is. is ≡ spec.is_certificate text.now) }
 {
     if text.len() > MAX_CERT_BYTES {
-        return Ok(false);
+        Ok(false)
+    } else {
+        is_object_text(alloc, text)
     }
-    match str::from_utf8(text) {
+}
+
+fn is_object_text(alloc: Global, bytes: &[u8]) -> Result<bool, AllocError>
+    ensures { IfOk result (λ is. is ≡ spec.is_object_text bytes.now) }
+{
+    match str::from_utf8(bytes) {
         Ok(text) => has_certificate_keys(alloc, text),
         Err(_) => Ok(false),
     }
@@ -118,7 +126,7 @@ fn has_certificate_keys(alloc: Global, text: &str) -> Result<bool, AllocError>
 }
 
 fn has_keys(value: &Value) -> bool
-    ensures { result ≡ spec.has_certificate_keys (Some (view value.now)) }
+    ensures { result ≡ spec.has_keys (view value.now) }
 {
     has_three_members(value)
         && value.get("pools").is_some()
@@ -127,11 +135,21 @@ fn has_keys(value: &Value) -> bool
 }
 
 fn has_three_members(value: &Value) -> bool
-    ensures { result ≡ spec.has_three_members (as_object (view value.now)) }
+    ensures { result ≡ spec.is_three (option_map count_members (as_object (view value.now))) }
+{
+    match member_count(value) {
+        Some(count) => count == 3,
+        None => false,
+    }
+}
+
+/// Returns the number of members of the value, or `None` if it is not an object.
+fn member_count(value: &Value) -> Option<usize>
+    ensures { result ≡ option_map count_members (as_object (view value.now)) }
 {
     match value.as_object() {
-        Some(members) => members.len() == 3,
-        None => false,
+        Some(members) => Some(members.len()),
+        None => None,
     }
 }
 
