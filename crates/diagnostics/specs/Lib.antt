@@ -1,6 +1,7 @@
 pub mod AtCore
 pub mod Circles
 pub mod Diagnostic
+pub mod Hints
 pub mod Lines
 pub mod Lints
 pub mod PlanPlaces

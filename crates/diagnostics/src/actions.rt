@@ -1,6 +1,7 @@
 //! The parsing of actions, and the messages for texts that are not actions.
 
 use crate::diagnostic::NumberRange;
+use crate::hints::has_separator;
 use crate::names::name_rule;
 use crate::suggestions::suggestion;
 use job_bodies::{MAX_WORK, is_valid_name};
@@ -103,7 +104,11 @@ fn is_length(text: &str) -> bool {
 /// Returns the range of the length of a `work`, if the text is a `work` with another length.
 pub(crate) fn range_of_work(text: &str) -> Option<NumberRange> {
     let words = words_of(text);
-    if words.verb == "work" && words.count > 1 && !is_spaced(text) {
+    if words.verb == "work"
+        && words.count > 1
+        && !is_spaced(text)
+        && !has_several_actions(words, text)
+    {
         Some(NumberRange {
             low: 1,
             high: MAX_WORK,
@@ -120,6 +125,10 @@ pub(crate) fn action_error(alloc: Global, text: &str) -> Result<String, AllocErr
         return String::from_str(alloc, words);
     }
     let words = words_of(text);
+    if has_several_actions(words, text) {
+        let words = "write one action in each string, and a comma between the strings";
+        return String::from_str(alloc, words);
+    }
     match words.verb {
         "work" => work_error(alloc, text),
         "get" => get_error(alloc, words.first, words.count),
@@ -139,6 +148,11 @@ fn is_spaced(text: &str) -> bool {
         last = byte;
     }
     !bytes.is_empty() && last == b' '
+}
+
+/// Returns whether the text looks like several actions: it has a separator and more than two words.
+fn has_several_actions(words: Words<'_>, text: &str) -> bool {
+    words.count > 2 && has_separator(text)
 }
 
 fn work_error(alloc: Global, text: &str) -> Result<String, AllocError> {

@@ -15,6 +15,7 @@ mod control_characters;
 mod diagnostic;
 mod entry;
 mod entry_places;
+mod hints;
 mod line_laws;
 mod lint;
 mod lint_conditions;

@@ -3,6 +3,7 @@
 use crate::collector::FaultCollector;
 use crate::diagnostic::NumberRange;
 use crate::entry::PlacedEntry;
+use crate::hints::zero_hint;
 use job_bodies::MAX_SIZE;
 use std::alloc::AllocError;
 use support::number::BAD_NUMBER;
@@ -38,7 +39,10 @@ fn report_number(
     key: &str,
     number: i64,
 ) -> Result<(), AllocError> {
-    let words = format!(in collector.alloc; "{key} is {number}, but must be from 1 to {MOST}")?;
+    let hint = if number == 0 { zero_hint(key) } else { "" };
+    let words = format!(in collector.alloc;
+        "{key} is {number}, but must be from 1 to {MOST}{hint}"
+    )?;
     let range = NumberRange {
         low: 1,
         high: MAX_SIZE,

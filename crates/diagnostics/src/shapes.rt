@@ -2,6 +2,7 @@
 
 use crate::collector::FaultCollector;
 use crate::entry::{PlacedEntry, list_of};
+use crate::hints::no_limit_hint;
 use crate::suggestions::{comma_list, suggestion};
 use job_bodies::{MAX_ACTIONS, Part};
 use std::alloc::{AllocError, Global};
@@ -171,7 +172,7 @@ fn value(
     if is_of(rule.wanted, value) {
         return Ok(());
     }
-    wrong_type(collector, entry, rule, value.type_str())
+    wrong_type(collector, entry, rule, value)
 }
 
 /// Reports the key as missing if it is required.
@@ -188,16 +189,18 @@ fn missing_key(
     entry.report(collector, MISSING_KEY, entry.place(), &words)
 }
 
-/// Reports a value whose type is `found`, and not that of the rule.
+/// Reports a value whose type is not that of the rule.
 fn wrong_type(
     collector: &mut FaultCollector,
     entry: &PlacedEntry<'_>,
     rule: KeyRule,
-    found: &str,
+    value: &Value,
 ) -> Result<(), AllocError> {
     let key = rule.key;
     let rule = rule_of(rule.wanted);
-    let words = format!(in collector.alloc; "{key} is a {found}, but must be {rule}")?;
+    let found = value.type_str();
+    let hint = no_limit_hint(key, value.as_str().unwrap_or(""));
+    let words = format!(in collector.alloc; "{key} is a {found}, but must be {rule}{hint}")?;
     entry.report(collector, WRONG_TYPE, entry.value_place(key), &words)
 }
 

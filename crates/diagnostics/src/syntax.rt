@@ -2,6 +2,7 @@
 //! mistake.
 
 use crate::diagnostic::Diagnostic;
+use crate::hints::{ends_with_semicolon, kind_hint, word_hint};
 use crate::unclosed_lists::unclosed_list;
 use job_bodies::PlanFault;
 use plan_text::{TextPlace, place_at};
@@ -55,6 +56,11 @@ fn message_at(
     words: &str,
 ) -> Result<String, AllocError> {
     let line = line_of(text, place);
+    if place.line == 1
+        && let Some(hint) = kind_hint(line)
+    {
+        return format!(in alloc; "{hint} ({words})");
+    }
     if let Some(hint) = character_hint(line) {
         return format!(in alloc; "{hint} ({words})");
     }
@@ -100,12 +106,16 @@ fn character_hint(line: &str) -> Option<&'static str> {
     None
 }
 
-/// Returns a hint for the header of an entry, or for a value that is not TOML.
+/// Returns a hint for the header of an entry, for a semicolon after a value, or for a value that is
+/// not TOML.
 fn entry_hint(line: &str) -> Option<&'static str> {
-    match bracket_hint(line) {
-        Some(hint) => Some(hint),
-        None => value_hint(line),
+    if let Some(hint) = bracket_hint(line) {
+        return Some(hint);
     }
+    if ends_with_semicolon(line.trim_end()) {
+        return Some("write no ; at the end of a line");
+    }
+    value_hint(line)
 }
 
 /// Returns a hint if the line is the header of an entry. Such a line is a fault if it has one pair of
@@ -123,12 +133,22 @@ fn bracket_hint(line: &str) -> Option<&'static str> {
 }
 
 fn value_hint(line: &str) -> Option<&'static str> {
-    let (_, value) = line.split_once('=')?;
+    let (key, value) = line.split_once('=')?;
     match value.trim() {
         "yes" | "no" | "on" | "off" | "True" | "False" | "TRUE" | "FALSE" | "Yes" | "No" => {
             Some("write true or false")
         }
         "" => Some("a value is missing after ="),
+        value if is_word(value) => word_hint(key.trim()),
         _ => None,
     }
+}
+
+/// Returns whether the value is a word without quotes that is not TOML.
+fn is_word(value: &str) -> bool {
+    let word = value.split('#').next().unwrap_or("").trim();
+    word.bytes().any(|byte| byte.is_ascii_alphabetic())
+        && word.bytes().all(|byte| byte.is_ascii_alphanumeric() || byte == b'_' || byte == b'-')
+        && word != "true"
+        && word != "false"
 }

@@ -1,0 +1,43 @@
+-- Hints about mistakes that newcomers make.
+use Rattle.std.specs.Prelude.{ℕ, Bool, ◌==◌, ◌&&◌, ◌||◌, nat_eq, if◌then◌else◌, List, [], ◌∷◌, codes, Option, Some, None}
+use Rattle.std.specs.List.{list_any, starts_with, ends_with}
+use Rattle.std.specs.Str.{bytes_eq}
+
+-- the end of the message for a size of 0
+abbrev pub zero_hint : List ℕ → List ℕ
+zero_hint key =
+    if bytes_eq key (codes "queue") then codes "; a SynchronousQueue is not covered (docs/PATTERNS.md)"
+    else (if bytes_eq key (codes "core") then codes "; write the number of threads that you want (docs/PATTERNS.md)"
+    else codes "")
+
+abbrev pub names_no_limit : List ℕ → Bool
+names_no_limit text =
+    bytes_eq text (codes "unbounded") || (bytes_eq text (codes "unlimited") || (bytes_eq text (codes "infinite") || bytes_eq text (codes "none")))
+
+-- the end of the message for a text in place of a number
+abbrev pub no_limit_hint : List ℕ → List ℕ → List ℕ
+no_limit_hint key text =
+    if bytes_eq key (codes "queue") && names_no_limit text then codes "; write the longest queue that you allow (docs/PATTERNS.md)" else codes ""
+
+-- the hint if the first line of a text is that of a recording or of a certificate
+abbrev pub kind_hint : List ℕ → Option (List ℕ)
+kind_hint line =
+    if bytes_eq line (codes "recording 1") then Some (codes "this is a recording, not a plan: `sizing learn` derives a plan from it")
+    else (if starts_with nat_eq line (123 ∷ []) then Some (codes "this is JSON, not a plan: a certificate comes after its plan")
+    else None)
+
+-- the hint for a value of this key that is a word without quotes
+abbrev pub word_hint : List ℕ → Option (List ℕ)
+word_hint key =
+    if bytes_eq key (codes "name") || bytes_eq key (codes "pool") then Some (codes "write quotes around the value, as in pool = \"web\"")
+    else (if bytes_eq key (codes "core") || (bytes_eq key (codes "max") || bytes_eq key (codes "count")) then Some (codes "write a number")
+    else (if bytes_eq key (codes "queue") then Some (codes "write a number, the longest queue that you allow")
+    else (if bytes_eq key (codes "repeat") || bytes_eq key (codes "prestart") then Some (codes "write true or false")
+    else None)))
+
+abbrev pub ends_with_semicolon : List ℕ → Bool
+ends_with_semicolon line = ends_with nat_eq line (59 ∷ [])
+
+-- whether the text has a comma or a semicolon
+abbrev pub has_separator : List ℕ → Bool
+has_separator text = list_any (λ b. b == 44) text || list_any (λ b. b == 59) text

@@ -1,0 +1,75 @@
+//! Hints about mistakes that newcomers make.
+
+ghost use Rattle.std.specs.Prelude.{◌≡◌, option_map};
+ghost use Rattle.diagnostics.specs.Hints as spec;
+
+/// Returns the end of the message for a size of 0, which says what to do about such a pool. It is
+/// empty if there is nothing to say.
+pub(crate) fn zero_hint(key: &str) -> &'static str
+    ensures { result.now ≡ spec.zero_hint key.now }
+{
+    match key {
+        "queue" => "; a SynchronousQueue is not covered (docs/PATTERNS.md)",
+        "core" => "; write the number of threads that you want (docs/PATTERNS.md)",
+        _ => "",
+    }
+}
+
+/// Returns the end of the message for a text in place of a number, which says what to write for a
+/// queue without a bound. It is empty if the text is not about one.
+pub(crate) fn no_limit_hint(key: &str, text: &str) -> &'static str
+    ensures { result.now ≡ spec.no_limit_hint key.now text.now }
+{
+    if key == "queue" && names_no_limit(text) {
+        "; write the longest queue that you allow (docs/PATTERNS.md)"
+    } else {
+        ""
+    }
+}
+
+fn names_no_limit(text: &str) -> bool
+    ensures { result ≡ spec.names_no_limit text.now }
+{
+    matches!(text, "unbounded" | "unlimited" | "infinite" | "none")
+}
+
+/// Returns a hint if the first line of a text is that of a recording or of a certificate.
+pub(crate) fn kind_hint(line: &str) -> Option<&'static str>
+    ensures { option_map (λ hint. hint.now) result ≡ spec.kind_hint line.now }
+{
+    if line == "recording 1" {
+        return Some("this is a recording, not a plan: `sizing learn` derives a plan from it");
+    }
+    if line.as_bytes().starts_with(b"{") {
+        return Some("this is JSON, not a plan: a certificate comes after its plan");
+    }
+    None
+}
+
+/// Returns a hint for a value of this key that is a word without quotes.
+pub(crate) fn word_hint(key: &str) -> Option<&'static str>
+    ensures { option_map (λ hint. hint.now) result ≡ spec.word_hint key.now }
+{
+    match key {
+        "name" | "pool" => Some("write quotes around the value, as in pool = \"web\""),
+        "core" | "max" | "count" => Some("write a number"),
+        "queue" => Some("write a number, the longest queue that you allow"),
+        "repeat" | "prestart" => Some("write true or false"),
+        _ => None,
+    }
+}
+
+/// Returns whether the line ends with a semicolon.
+pub(crate) fn ends_with_semicolon(line: &str) -> bool
+    ensures { result ≡ spec.ends_with_semicolon line.now }
+{
+    line.as_bytes().ends_with(b";")
+}
+
+/// Returns whether the text has a comma or a semicolon, which no action has.
+pub(crate) fn has_separator(text: &str) -> bool
+    ensures { result ≡ spec.has_separator text.now }
+{
+    let bytes = text.as_bytes();
+    bytes.contains(&b',') || bytes.contains(&b';')
+}
