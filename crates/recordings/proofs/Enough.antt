@@ -5,10 +5,9 @@ use Rattle.std.specs.Option.{option_to_list}
 use Rattle.std.specs.List.{list_any, filter}
 use Rattle.recordings.specs.RecordingLine.{RecordedLine}
 use Rattle.recordings.proofs.Tests.{filter_filter}
-use Rattle.recordings.specs.declared.invalidation_entry.InvalidationEntry.{InvalidationEntry}
 use Rattle.recordings.specs.declared.invalidation.Invalidation.{Invalidation}
 use Rattle.recordings.specs.Invalidations.{keyword_of, has_type, first_of_each}
-use Rattle.recordings.specs.InvalidationList.{invalidations_in, closed_with, IsEnough, none, keep, leave, is_certain_first, with_entry, ends_pending, remains_after, with_pending_ended, entries_after_line}
+use Rattle.recordings.specs.InvalidationList.{InvalidationEntry, invalidations_in, closed_with, IsEnough, none, keep, leave, is_certain_first, IsWithFirst, appended, skipped, IsWithEntry, ends_pending, remains_after, with_pending_ended, entries_after_line}
 use Rattle.recordings.proofs.Firsts.{same_text, unlike}
 
 -- ---- events that a line discards
@@ -93,16 +92,16 @@ enough_skip one _ _ _ (leave closed kept all first is_closed e) h = leave closed
 abbrev pub no_word : List ℕ → Bool
 no_word word = false
 
-first_if : (one : InvalidationEntry) (kept all : List InvalidationEntry) → IsEnough no_word kept all → (there : Bool) → list_any (is_certain_first one.invalidation.event) kept ≡ there → IsEnough no_word (if there then kept else kept ++ one ∷ []) (all ++ one ∷ [])
-first_if one kept all h true there = enough_skip one no_word kept all h there
-first_if one kept all h false there = enough_push one no_word kept all h
+enough_first : (one : InvalidationEntry) (kept new all : List InvalidationEntry) → IsEnough no_word kept all → IsWithFirst one kept new → IsEnough no_word new (all ++ one ∷ [])
+enough_first one kept new all h (appended is) = subst (λ (xs : List InvalidationEntry). IsEnough no_word xs (all ++ one ∷ [])) (sym is) (enough_push one no_word kept all h)
+enough_first one kept new all h (skipped there is) = subst (λ (xs : List InvalidationEntry). IsEnough no_word xs (all ++ one ∷ [])) (sym is) (enough_skip one no_word kept all h there)
 
-enough_with : (more : Option InvalidationEntry) (kept all : List InvalidationEntry) → IsEnough no_word kept all → IsEnough no_word (with_entry more kept) (all ++ option_to_list more)
-enough_with None kept all h = subst (λ (xs : List InvalidationEntry). IsEnough no_word kept xs) (sym (append-nil all)) h
-enough_with (Some one) kept all h = first_if one kept all h (list_any (is_certain_first one.invalidation.event) kept) refl
+enough_with : (more : Option InvalidationEntry) (kept new all : List InvalidationEntry) → IsEnough no_word kept all → IsWithEntry more kept new → IsEnough no_word new (all ++ option_to_list more)
+enough_with None kept new all h is = subst (λ (xs : List InvalidationEntry). IsEnough no_word new xs) (sym (append-nil all)) (subst (λ (xs : List InvalidationEntry). IsEnough no_word xs all) (sym is) h)
+enough_with (Some one) kept new all h is = enough_first one kept new all h is
 
-pub enough_more : (line : RecordedLine) (more : Option InvalidationEntry) (kept all : List InvalidationEntry) → IsEnough no_word kept all → IsEnough no_word (with_entry more (entries_after_line line kept)) (entries_after_line line all ++ option_to_list more)
-enough_more line more kept all h = enough_with more (entries_after_line line kept) (entries_after_line line all) (enough_settled line no_word kept all h)
+pub enough_more : (line : RecordedLine) (more : Option InvalidationEntry) (kept new all : List InvalidationEntry) → IsEnough no_word kept all → IsWithEntry more (entries_after_line line kept) new → IsEnough no_word new (entries_after_line line all ++ option_to_list more)
+enough_more line more kept new all h is = enough_with more (entries_after_line line kept) new (entries_after_line line all) (enough_settled line no_word kept all h) is
 
 -- ---- the first events
 abbrev is_new : (List ℕ → Bool) → Invalidation → Bool

@@ -6,11 +6,10 @@ use Rattle.recordings.specs.declared.recording_line.RecordedActor.{RecordedActor
 use Rattle.recordings.specs.RecordingLine.{RecordedLine, Got, TimedOut, Interrupted}
 use Rattle.recordings.specs.LineParts.{is_of}
 use Rattle.recordings.proofs.Tests.{and_first, filter_more, not_weaker}
-use Rattle.recordings.specs.declared.invalidation_entry.InvalidationEntry.{InvalidationEntry}
 use Rattle.recordings.specs.declared.invalidation.InvalidatingEvent.{InvalidatingEvent}
 use Rattle.recordings.specs.declared.invalidation.InvalidatingEvent.TheVariants as event
 use Rattle.recordings.specs.Invalidations.{repeats_get, next_of, is_repeated_next, event_of, is_excused, invalidation_of, invalidations_from}
-use Rattle.recordings.specs.InvalidationList.{invalidations_in, is_pending, entry_unless_excused, entry_at, entries_from, can_be_excused, entry_of, excuses, ends_pending, remains_after, with_pending_ended, entries_after_line}
+use Rattle.recordings.specs.InvalidationList.{InvalidationEntry, invalidations_in, is_pending, entry_unless_excused, entry_at, entries_from, can_be_excused, entry_of, excuses, ends_pending, remains_after, with_pending_ended, entries_after_line}
 
 -- ---- the next line of an actor
 abbrev or_else : Option RecordedLine → Option RecordedLine → Option RecordedLine
@@ -31,7 +30,7 @@ none_after : (actor : RecordedActor) → next_of actor [] ≡ None
 unfolding next_of
 none_after actor = refl
 
-asked_by : (actor : RecordedActor) (job : ℕ) (line : RecordedLine) → repeats_get actor job line ≡ true → is_of actor line ≡ true
+pub asked_by : (actor : RecordedActor) (job : ℕ) (line : RecordedLine) → repeats_get actor job line ≡ true → is_of actor line ≡ true
 asked_by actor job (Got who one) h = and_first _ _ h
 asked_by actor job (TimedOut who one) h = and_first _ _ h
 asked_by actor job (Interrupted who one) h = and_first _ _ h

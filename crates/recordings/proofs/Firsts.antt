@@ -1,14 +1,14 @@
 -- The first event of each type, after one more event.
-use Rattle.std.proofs.Common.{◌≡◌, ℕ, ◌||◌, not, Bool, true, false, if◌then◌else◌, List, [], ◌∷◌, ◌++◌, length, take, get_or, ◌+◌, ◌<◌, refl, ap, sym, subst, ◌∙◌}
+use Rattle.std.proofs.Common.{◌≡◌, ℕ, ◌||◌, not, Bool, true, false, if◌then◌else◌, List, [], ◌∷◌, ◌++◌, refl, ap, sym, subst, ◌∙◌, map, Bor}
 use Rattle.std.specs.Str.{bytes_eq}
 use Rattle.std.specs.List.{list_any, filter}
-use Rattle.std.proofs.lemmas.List.{map-append, take_more}
+use Rattle.std.specs.Map.Iter.{deref}
+use Rattle.std.proofs.lemmas.List.{map-append}
 use Rattle.std.proofs.lemmas.Slice.Eq.{bytes_eq-Decides}
 use Rattle.recordings.proofs.Tests.{filter_more}
 use Rattle.recordings.specs.declared.invalidation.Invalidation.{Invalidation}
-use Rattle.recordings.specs.declared.invalidation_entry.InvalidationEntry.{InvalidationEntry}
 use Rattle.recordings.specs.Invalidations.{keyword_of, has_type, first_of_each}
-use Rattle.recordings.specs.InvalidationList.{invalidations_in, with_new_type}
+use Rattle.recordings.specs.InvalidationList.{with_new_type}
 
 pub same_text : (xs ys : List ℕ) → bytes_eq xs ys ≡ true → xs ≡ ys
 same_text xs ys h = (bytes_eq-Decides xs ys).0 h
@@ -71,8 +71,6 @@ firsts_more (invalidation ∷ invalidations) one =
     ap (λ (xs : List Invalidation). invalidation ∷ filter (unlike invalidation) xs) (firsts_more invalidations one)
     ∙ step invalidation one (first_of_each invalidations) (has_type one.event invalidation) refl
 
--- The list of first events after a loop has read the entry at index i.
-pub firsts_next : (kept : List InvalidationEntry) (i : ℕ) (d : InvalidationEntry) → i < length kept → with_new_type (get_or kept i d).invalidation (first_of_each (invalidations_in (take i kept))) ≡ first_of_each (invalidations_in (take (i + 1) kept))
-firsts_next kept i d within =
-    let one = get_or kept i d in
-    sym (ap (λ (xs : List InvalidationEntry). first_of_each (invalidations_in xs)) (take_more kept i d within) ∙ (ap first_of_each (map-append (λ (stored : InvalidationEntry). stored.invalidation) (take i kept) (one ∷ [])) ∙ firsts_more (invalidations_in (take i kept)) one.invalidation))
+-- The list of first events after a loop has read one more event.
+pub firsts_next : (read : List (Bor Invalidation)) (one : Bor Invalidation) → with_new_type one.now (first_of_each (map deref read)) ≡ first_of_each (map deref (read ++ one ∷ []))
+firsts_next read one = sym (ap first_of_each (map-append deref read (one ∷ [])) ∙ firsts_more (map deref read) one.now)

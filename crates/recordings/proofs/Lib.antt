@@ -34,5 +34,6 @@ mod LastPath
 pub mod Firsts
 pub mod Enough
 pub mod EventsAfter
+pub mod KeptEvents
 pub mod GetsAfter
 pub mod NotesAfter

@@ -1,15 +1,28 @@
 -- The invalidating events, as they are stored while lines are read.
-use Rattle.std.specs.Prelude.{◌≡◌, ℕ, ◌+◌, ◌&&◌, ◌||◌, not, Bool, true, false, if◌then◌else◌, List, [], ◌∷◌, ◌++◌, map, is_none, Option, Some, None}
+use Rattle.std.specs.Prelude.{◌≡◌, ◌<◌, ℕ, ◌+◌, ◌==◌, ◌&&◌, ◌||◌, not, Bool, true, false, if◌then◌else◌, List, [], ◌∷◌, ◌++◌, map, is_none, Option, Some, None}
 use Rattle.std.specs.Str.{bytes_eq}
-use Rattle.std.specs.List.{list_any, filter, cons_option}
+use Rattle.std.specs.List.{AllByRecursion, list_any, filter, cons_option}
 use Rattle.std.specs.Option.{option_and_then, option_map}
+use Rattle.std.specs.BTreeMap.{BTreeMap, IsOrdered, get, keys, is_at}
+use Rattle.std.specs.Map.{remove_entry}
+use Rattle.std.specs.Ordering.{nat_cmp}
+use Rattle.support.specs.Numbered.{value_at}
+use Rattle.recordings.specs.declared.recording_line.RecordedActor.{RecordedActor}
+use Rattle.recordings.specs.declared.recording_line.RecordedActor.TheVariants.{Job, Round}
 use Rattle.recordings.specs.RecordingLine.{RecordedLine}
-use Rattle.recordings.specs.LineParts.{is_of}
-use Rattle.recordings.specs.declared.invalidation_entry.InvalidationEntry.{InvalidationEntry}
+use Rattle.recordings.specs.LineParts.{actor_of, is_of, is_same_actor}
+use Rattle.recordings.specs.declared.pending_lines.PendingLines.{PendingLines}
+use Rattle.recordings.specs.declared.invalidation_list.InvalidationList.{InvalidationList}
 use Rattle.recordings.specs.declared.invalidation.Invalidation.{Invalidation}
 use Rattle.recordings.specs.declared.invalidation.InvalidatingEvent.{InvalidatingEvent}
 use Rattle.recordings.specs.declared.invalidation.InvalidatingEvent.TheVariants as event
 use Rattle.recordings.specs.Invalidations.{keyword_of, is_same_type, has_type, repeats_get, next_of, event_of, is_excused}
+
+-- An event that invalidates a SAFE answer, as far as the lines read so far show. It is pending if the next line of its actor
+-- can discard it and has not been read yet.
+pub record InvalidationEntry : Type 0 where
+  pub invalidation : Invalidation
+  pub pending : Bool
 
 -- ---- the entries, from all lines read
 -- The next line of the event's actor can discard the event, and has not been read yet.
@@ -60,13 +73,6 @@ entry_of number line = option_map (λ event. record { invalidation = record { li
 abbrev pub is_certain_first : InvalidatingEvent → InvalidationEntry → Bool
 is_certain_first event stored = not stored.pending && is_same_type stored.invalidation.event event
 
-abbrev pub with_first : InvalidationEntry → List InvalidationEntry → List InvalidationEntry
-with_first one kept = if list_any (is_certain_first one.invalidation.event) kept then kept else kept ++ one ∷ []
-
-abbrev pub with_entry : Option InvalidationEntry → List InvalidationEntry → List InvalidationEntry
-with_entry None kept = kept
-with_entry (Some one) kept = with_first one kept
-
 -- The line repeats the get of the event, and so discards the event.
 abbrev pub excuses : RecordedLine → InvalidatingEvent → Bool
 excuses line (event.TimedOut actor job) = repeats_get actor job line
@@ -90,3 +96,87 @@ with_pending_ended line stored = record stored { pending = stored.pending && not
 
 abbrev pub entries_after_line : RecordedLine → List InvalidationEntry → List InvalidationEntry
 entries_after_line line kept = map (with_pending_ended line) (filter (remains_after line) kept)
+
+-- ---- the list
+-- The actor whose next line can discard the event.
+abbrev pub getter_of : InvalidatingEvent → Option RecordedActor
+getter_of (event.TimedOut actor job) = Some actor
+getter_of (event.Interrupted actor job) = Some actor
+getter_of event = None
+
+-- The line of the pending event of an actor.
+abbrev pub line_in : PendingLines → RecordedActor → Option ℕ
+line_in pending (Job job) = value_at pending.jobs job
+line_in pending (Round round) = value_at pending.rounds round
+
+abbrev pub is_line : ℕ → Option ℕ → Bool
+is_line number None = false
+is_line number (Some line) = line == number
+
+abbrev pub is_pending_in : PendingLines → ℕ × Invalidation → Bool
+is_pending_in pending stored = is_line stored.0 (option_and_then (line_in pending) (getter_of stored.1.event))
+
+abbrev pub entry_in : PendingLines → ℕ × Invalidation → InvalidationEntry
+entry_in pending stored = record { invalidation = stored.1; pending = is_pending_in pending stored }
+
+-- The entries of the list, in the order of their lines.
+abbrev pub kept_in : InvalidationList → List InvalidationEntry
+kept_in list = map (entry_in list.pending) list.events.entries
+
+abbrev pub is_of_type : InvalidatingEvent → InvalidatingEvent → Bool
+is_of_type event other = is_same_type other event
+
+-- The list has only events of lines before this one, and it has an event that is not pending of each type that it calls
+-- certain.
+pub record IsBefore (number : ℕ) (list : InvalidationList) : Type 0 where
+  pub ordered : IsOrdered nat_cmp list.events
+  pub earlier : AllByRecursion (λ line. line < number) (keys list.events)
+  pub certain : (event : InvalidatingEvent) → list_any (is_of_type event) list.certain.items ≡ true → list_any (is_certain_first event) (kept_in list) ≡ true
+
+-- The types of the new list are those of the old one and that of the event.
+abbrev pub AddsType : InvalidatingEvent → List InvalidatingEvent → List InvalidatingEvent → Type 0
+AddsType event old new = (one : InvalidatingEvent) → list_any (is_of_type one) new ≡ true → (list_any (is_of_type one) old || is_same_type event one) ≡ true
+
+-- ---- the pending event of the line's actor
+-- The event of line `number` is removed if the line repeats its get, and is certain otherwise.
+pub data SettlesEvent (line : RecordedLine) (number : ℕ) (old : BTreeMap ℕ Invalidation) (certain : List InvalidatingEvent) (new : BTreeMap ℕ Invalidation) (after : List InvalidatingEvent) : Type 0 where
+  discards : (one : Invalidation) → get nat_cmp old number ≡ Some one → excuses line one.event ≡ true → new.entries ≡ remove_entry (is_at (nat_cmp number)) old.entries → IsOrdered nat_cmp new → after ≡ certain
+      → SettlesEvent line number old certain new after
+  ends : (one : Invalidation) → get nat_cmp old number ≡ Some one → excuses line one.event ≡ false → ends_pending line one.event ≡ true → new ≡ old → AddsType one.event certain after
+      → SettlesEvent line number old certain new after
+  stays : ((one : Invalidation) → get nat_cmp old number ≡ Some one → excuses line one.event ≡ false) → new ≡ old → after ≡ certain → SettlesEvent line number old certain new after
+
+-- The line's actor has no pending event.
+abbrev pub HasNoPending : RecordedLine → PendingLines → Type 0
+HasNoPending line pending = option_and_then (line_in pending) (actor_of line) ≡ None
+
+pub record IsSettledBy (number : ℕ) (line : RecordedLine) (old new : InvalidationList) : Type 0 where
+  pub kept : kept_in new ≡ entries_after_line line (kept_in old)
+  pub none : HasNoPending line new.pending
+  pub before : IsBefore number new
+
+-- ---- a new event
+abbrev pub IsNotPending : PendingLines → InvalidatingEvent → Type 0
+IsNotPending pending event = option_and_then (line_in pending) (getter_of event) ≡ None
+
+abbrev pub new_entry : Invalidation → InvalidationEntry
+new_entry one = record { invalidation = one; pending = can_be_excused one.event }
+
+-- The event is appended, or left out because the list has an event of the same type that is not pending.
+pub data IsWithFirst (one : InvalidationEntry) (kept new : List InvalidationEntry) : Type 0 where
+  appended : new ≡ kept ++ one ∷ [] → IsWithFirst one kept new
+  skipped : list_any (is_certain_first one.invalidation.event) kept ≡ true → new ≡ kept → IsWithFirst one kept new
+
+abbrev pub IsWithEntry : Option InvalidationEntry → List InvalidationEntry → List InvalidationEntry → Type 0
+IsWithEntry None kept new = new ≡ kept
+IsWithEntry (Some one) kept new = IsWithFirst one kept new
+
+-- It is stored whether a later line can discard the event of this line.
+pub data IsNoted (event : InvalidatingEvent) (line : ℕ) (old : PendingLines) (certain : List InvalidatingEvent) (new : PendingLines) (after : List InvalidatingEvent) : Type 0 where
+  noted_pending : (actor : RecordedActor) → getter_of event ≡ Some actor → ((one : RecordedActor) → line_in new one ≡ (if is_same_actor actor one then Some line else line_in old one)) → after ≡ certain
+      → IsNoted event line old certain new after
+  noted_certain : getter_of event ≡ None → new ≡ old → AddsType event certain after → IsNoted event line old certain new after
+
+pub record IsPushed (one : Invalidation) (old new : InvalidationList) : Type 0 where
+  pub kept : IsWithFirst (new_entry one) (kept_in old) (kept_in new)
+  pub before : IsBefore (one.line + 1) new

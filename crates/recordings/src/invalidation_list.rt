@@ -1,30 +1,47 @@
 //! The events that invalidate a SAFE answer, as far as the lines read so far show.
 
-ghost use Rattle.std.specs.Prelude.{◌≡◌, [], OnOk, IfOk, map};
-ghost use Rattle.std.specs.List.{list_any, filter};
+ghost use Rattle.std.specs.Prelude.{◌≡◌, ◌+◌, [], ℕ, None, OnOk, IfOk};
+ghost use Rattle.std.specs.List.{list_any};
+ghost use Rattle.std.specs.BTreeMap.{values};
 ghost use Rattle.recordings.specs.RecordingLine.{line_view};
+ghost use Rattle.recordings.specs.LineParts as parts;
 ghost use Rattle.recordings.specs.Invalidations as spec;
 ghost use Rattle.recordings.specs.InvalidationList as stored;
 
-use crate::Line;
 use crate::invalidation::{InvalidatingEvent, Invalidation};
-use crate::invalidation_entry::{InvalidationEntry, can_be_excused, event_of, is_same_type};
+use crate::line_events::{ends_pending, event_of, excuses, getter_of, is_same_type};
+use crate::line_parts::actor_of;
+use crate::pending_lines::PendingLines;
+use crate::{Line, RecordedActor};
 use std::alloc::{AllocError, Global};
+use std::collections::BTreeMap;
 
 /// The invalidating events that may be the first of their type: for each type the first event that
 /// no later line can discard, and the pending events before it.
+///
+/// The next line of its actor can discard a pending event. A line takes a look-up of its actor, and
+/// of an event only if the actor has a pending one.
 #[derive(Drop)]
 pub(crate) struct InvalidationList {
-    kept: Vec<InvalidationEntry>,
+    // The events, by the numbers of their lines.
+    events: BTreeMap<usize, Invalidation>,
+    // The lines of the pending events.
+    pending: PendingLines,
+    // Events of different types. For each of them, `events` has an event of its type that is not
+    // pending.
+    certain: Vec<InvalidatingEvent>,
 }
 
 impl InvalidationList {
     /// Creates an empty list.
     pub(crate) fn new(alloc: Global) -> InvalidationList
-        ensures { result.kept.items ≡ [] }
+        ensures kept { stored.kept_in result ≡ [] }
+        ensures valid { (number : ℕ) → stored.IsBefore number result }
     {
         InvalidationList {
-            kept: Vec::new(alloc),
+            events: BTreeMap::new(alloc),
+            pending: PendingLines::new(alloc),
+            certain: Vec::new(alloc),
         }
     }
 
@@ -34,24 +51,20 @@ impl InvalidationList {
     ///
     /// Returns `AllocError` if memory runs out.
     pub(crate) fn take(&mut self, number: usize, line: &Line<'_>) -> Result<(), AllocError>
-        ensures { OnOk result
-            (self.new.kept.items
-            ≡ stored.with_entry (stored.entry_of number (line_view line.now))
-            (stored.entries_after_line (line_view line.now) self.old.kept.items)) }
+        ensures kept { stored.IsBefore number self.old
+            → OnOk result
+            (stored.IsWithEntry (stored.entry_of number (line_view line.now))
+            (stored.entries_after_line (line_view line.now) (stored.kept_in self.old))
+            (stored.kept_in self.new)) }
+        ensures valid { stored.IsBefore number self.old
+            → OnOk result (stored.IsBefore (number + 1) self.new) }
     {
-        excuse(&mut self.kept, line);
-        end_pending(&mut self.kept, line);
+        self.settle_line(line)?;
         match event_of(line) {
-            Some(event) => push_first(
-                &mut self.kept,
-                InvalidationEntry {
-                    invalidation: Invalidation {
-                        line: number,
-                        event,
-                    },
-                    pending: can_be_excused(event),
-                },
-            ),
+            Some(event) => self.push(Invalidation {
+                line: number,
+                event,
+            }),
             None => Ok(()),
         }
     }
@@ -63,50 +76,120 @@ impl InvalidationList {
     /// Returns `AllocError` if memory runs out.
     pub(crate) fn firsts(&self, alloc: Global) -> Result<Vec<Invalidation>, AllocError>
         ensures { IfOk result
-            (λ firsts. firsts.items ≡ spec.first_of_each (stored.invalidations_in self.now.kept.items)) }
+            (λ firsts. firsts.items ≡ spec.first_of_each (stored.invalidations_in (stored.kept_in self.now))) }
     {
-        firsts_of(alloc, &self.kept)
+        firsts_of(alloc, &self.events)
+    }
+
+    // Decides the pending event of the line's actor: this line discards the event, or no line does.
+    fn settle_line(&mut self, line: &Line<'_>) -> Result<(), AllocError>
+        ensures { (number : ℕ)
+            → stored.IsBefore number self.old
+            → OnOk result (stored.IsSettledBy number (line_view line.now) self.old self.new) }
+    {
+        match actor_of(line) {
+            Some(actor) => self.settle(actor, line),
+            None => Ok(()),
+        }
+    }
+
+    fn settle(&mut self, actor: RecordedActor, line: &Line<'_>) -> Result<(), AllocError>
+        ensures { (number : ℕ)
+            → parts.actor_of (line_view line.now) ≡ Some actor
+            → stored.IsBefore number self.old
+            → OnOk result (stored.IsSettledBy number (line_view line.now) self.old self.new) }
+    {
+        match self.pending.remove(actor) {
+            Some(number) => { settle_event(&mut self.events, &mut self.certain, number, line) }
+            None => Ok(()),
+        }
+    }
+
+    // Appends the event, unless the list has an event of the same type that is not pending.
+    fn push(&mut self, one: Invalidation) -> Result<(), AllocError>
+        ensures { stored.IsBefore one.line self.old
+            → stored.IsNotPending self.old.pending one.event
+            → OnOk result (stored.IsPushed one self.old self.new) }
+    {
+        if has_type(&self.certain, one.event) {
+            return Ok(());
+        }
+        note_event(&mut self.pending, &mut self.certain, one.event, one.line)?;
+        self.events.insert(one.line, one)?;
+        Ok(())
     }
 }
 
-/// Removes the pending events that this line discards.
-fn excuse(kept: &mut Vec<InvalidationEntry>, line: &Line<'_>)
-    ensures { kept.new.items ≡ filter (stored.remains_after (line_view line.now)) kept.old.items }
+// Stores whether a later line can discard the event, which is of this line.
+fn note_event(
+    pending: &mut PendingLines,
+    certain: &mut Vec<InvalidatingEvent>,
+    event: InvalidatingEvent,
+    line: usize,
+) -> Result<(), AllocError>
+    ensures { OnOk result
+        (stored.IsNoted event line pending.old certain.old.items pending.new certain.new.items) }
 {
-    kept.retain(|one| !one.is_excused_by(line));
-}
-
-/// Marks the pending events of the line's actor as no longer pending.
-fn end_pending(kept: &mut [InvalidationEntry], line: &Line<'_>)
-    ensures { kept.new ≡ map (stored.with_pending_ended (line_view line.now)) kept.old }
-{
-    for one in kept.iter_mut() {
-        *one = one.after(line);
+    match getter_of(event) {
+        Some(actor) => pending.insert(actor, line),
+        None => push_type(certain, event),
     }
 }
 
-/// Appends the event, unless the list has an event of the same type that is not pending.
-fn push_first(kept: &mut Vec<InvalidationEntry>, one: InvalidationEntry) -> Result<(), AllocError>
-    ensures { OnOk result (kept.new.items ≡ stored.with_first one kept.old.items) }
+// Decides the event of line `number`, which was pending: the line discards the event, or the event
+// is certain now.
+fn settle_event(
+    events: &mut BTreeMap<usize, Invalidation>,
+    certain: &mut Vec<InvalidatingEvent>,
+    number: usize,
+    line: &Line<'_>,
+) -> Result<(), AllocError>
+    ensures { OnOk result
+        (stored.SettlesEvent (line_view line.now) number events.old certain.old.items events.new certain.new.items) }
 {
-    if !has_first(kept, one.invalidation.event) {
-        kept.push(one)?;
+    match events.get(&number).copied() {
+        Some(one) => {
+            if excuses(one.event, line) {
+                events.remove(&number);
+                Ok(())
+            } else if ends_pending(one.event, line) {
+                push_type(certain, one.event)
+            } else {
+                Ok(())
+            }
+        }
+        None => Ok(()),
+    }
+}
+
+/// Appends the event, unless the list has an event of the same type.
+fn push_type(
+    certain: &mut Vec<InvalidatingEvent>,
+    event: InvalidatingEvent,
+) -> Result<(), AllocError>
+    ensures { OnOk result (stored.AddsType event certain.old.items certain.new.items) }
+{
+    if !has_type(certain, event) {
+        certain.push(event)?;
     }
     Ok(())
 }
 
-fn has_first(kept: &[InvalidationEntry], event: InvalidatingEvent) -> bool
-    ensures { result ≡ list_any (stored.is_certain_first event) kept.now }
+fn has_type(certain: &[InvalidatingEvent], event: InvalidatingEvent) -> bool
+    ensures { result ≡ list_any (stored.is_of_type event) certain.now }
 {
-    kept.iter().any(|one| one.is_certain_first(event))
+    certain.iter().any(|one| is_same_type(*one, event))
 }
 
-fn firsts_of(alloc: Global, kept: &[InvalidationEntry]) -> Result<Vec<Invalidation>, AllocError>
-    ensures { IfOk result (λ firsts. firsts.items ≡ spec.first_of_each (stored.invalidations_in kept.now)) }
+fn firsts_of(
+    alloc: Global,
+    events: &BTreeMap<usize, Invalidation>,
+) -> Result<Vec<Invalidation>, AllocError>
+    ensures { IfOk result (λ firsts. firsts.items ≡ spec.first_of_each (values events.now)) }
 {
     let mut firsts = Vec::new(alloc);
-    for one in kept {
-        push_new_type(&mut firsts, one.invalidation)?;
+    for one in events.values() {
+        push_new_type(&mut firsts, *one)?;
     }
     Ok(firsts)
 }
@@ -118,13 +201,13 @@ fn push_new_type(
 ) -> Result<(), AllocError>
     ensures { OnOk result (invalidations.new.items ≡ stored.with_new_type invalidation invalidations.old.items) }
 {
-    if !has_type(invalidations, invalidation.event) {
+    if !has_event_of_type(invalidations, invalidation.event) {
         invalidations.push(invalidation)?;
     }
     Ok(())
 }
 
-fn has_type(invalidations: &[Invalidation], event: InvalidatingEvent) -> bool
+fn has_event_of_type(invalidations: &[Invalidation], event: InvalidatingEvent) -> bool
     ensures { result ≡ list_any (spec.has_type event) invalidations.now }
 {
     invalidations

@@ -20,8 +20,8 @@ use std::alloc::{AllocError, Global};
 ///
 /// The notes store an entry for each event type, an entry for each actor whose last line is a
 /// `timeout` or `interrupted`, and the submitter of each job that its submitter has not got. So the
-/// size grows with the jobs that are never got. Processing a line takes one look-up in a table and
-/// a scan of the stored entries. No contract states the size or the time.
+/// size grows with the jobs that are never got. Processing a line takes a constant number of
+/// look-ups. No contract states the size or the time.
 #[derive(Drop)]
 pub struct RecordedNotes {
     pub(crate) invalidations: InvalidationList,

@@ -24,7 +24,7 @@ pub struct PoolSizes {
 
 /// The kind of a pool's queue. A subclass of `ArrayBlockingQueue` or `LinkedBlockingQueue` is
 /// [`Other`](QueueKind::Other).
-#[derive(Clone, Copy, PartialEq, Eq)]
+#[derive(Clone, Copy, PartialEq, Eq, Hash)]
 pub enum QueueKind {
     Array,
     Linked,

@@ -4,7 +4,7 @@ use crate::pool_sizes::PoolSizes;
 
 /// An actor, which submits jobs and gets them: a running job, or a round of a thread outside the
 /// pools.
-#[derive(Clone, Copy, PartialEq, Eq)]
+#[derive(Clone, Copy, PartialEq, Eq, Hash)]
 pub enum RecordedActor {
     Job(usize),
     Round(usize),

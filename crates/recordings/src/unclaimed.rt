@@ -5,7 +5,7 @@ ghost use Rattle.recordings.specs.RecordingLine.{line_view};
 ghost use Rattle.recordings.specs.UnclaimedJobs.{submitter_in, entry_after_line, entry_after_get};
 ghost use Rattle.recordings.specs.ForeignGets as spec;
 
-use crate::invalidation_entry::is_same_actor;
+use crate::line_events::is_same_actor;
 use crate::{Line, RecordedActor};
 use std::alloc::{AllocError, Global};
 use support::IdMap;

@@ -1,4 +1,4 @@
-//! One entry in the list of events that invalidate a SAFE answer.
+//! The events that lines report, and the later lines on which they depend.
 
 ghost use Rattle.std.specs.Prelude.{◌≡◌};
 ghost use Rattle.recordings.specs.RecordingLine.{line_view};
@@ -6,47 +6,10 @@ ghost use Rattle.recordings.specs.LineParts.{is_same_actor, is_of};
 ghost use Rattle.recordings.specs.Invalidations as spec;
 ghost use Rattle.recordings.specs.InvalidationList as stored;
 
-use crate::invalidation::{InvalidatingEvent, Invalidation};
+use crate::invalidation::InvalidatingEvent;
 use crate::{Line, RecordedActor};
 
-/// An event that invalidates a SAFE answer, as far as the lines read so far show.
-#[derive(Clone, Copy)]
-pub(crate) struct InvalidationEntry {
-    pub(crate) invalidation: Invalidation,
-    /// True if the actor's next line can discard the event and has not been read yet.
-    pub(crate) pending: bool,
-}
-
-impl InvalidationEntry {
-    /// Returns true if the entry is not pending and has the type of this event.
-    pub(crate) fn is_certain_first(self, event: InvalidatingEvent) -> bool
-        ensures { result ≡ stored.is_certain_first event self }
-    {
-        !self.pending && is_same_type(self.invalidation.event, event)
-    }
-
-    /// Returns true if the event is pending and this line discards it, because the line repeats the
-    /// actor's get.
-    pub(crate) fn is_excused_by(self, line: &Line<'_>) -> bool
-        ensures { result ≡ stored.is_excused_by (line_view line.now) self }
-    {
-        self.pending && excuses(self.invalidation.event, line)
-    }
-
-    /// Returns the entry after this line. The entry is no longer pending if the line belongs to its
-    /// actor.
-    pub(crate) fn after(self, line: &Line<'_>) -> InvalidationEntry
-        ensures { result ≡ stored.with_pending_ended (line_view line.now) self }
-    {
-        InvalidationEntry {
-            invalidation: self.invalidation,
-            pending: self.pending && !ends_pending(self.invalidation.event, line),
-        }
-    }
-}
-
-/// Returns the invalidating event that the line reports, if any. The actor's next line may discard
-/// the event.
+/// Returns the invalidating event that the line reports, if any. A later line may discard the event.
 pub(crate) fn event_of(line: &Line<'_>) -> Option<InvalidatingEvent>
     ensures { result ≡ spec.event_of (line_view line.now) }
 {
@@ -63,14 +26,15 @@ pub(crate) fn event_of(line: &Line<'_>) -> Option<InvalidatingEvent>
     }
 }
 
-/// Returns true if the next line of the event's actor can discard the event.
-pub(crate) fn can_be_excused(event: InvalidatingEvent) -> bool
-    ensures { result ≡ stored.can_be_excused event }
+/// Returns the actor whose next line can discard the event, if there is such an actor.
+pub(crate) fn getter_of(event: InvalidatingEvent) -> Option<RecordedActor>
+    ensures { result ≡ stored.getter_of event }
 {
-    matches!(
-        event,
-        InvalidatingEvent::TimedOut { .. } | InvalidatingEvent::Interrupted { .. }
-    )
+    match event {
+        InvalidatingEvent::TimedOut { actor, .. } | InvalidatingEvent::Interrupted { actor, .. } =>
+            Some(actor),
+        _ => None,
+    }
 }
 
 /// Returns true if both events have the same type.
@@ -80,7 +44,8 @@ pub(crate) fn is_same_type(one: InvalidatingEvent, other: InvalidatingEvent) -> 
     one.word() == other.word()
 }
 
-fn excuses(event: InvalidatingEvent, line: &Line<'_>) -> bool
+/// Returns true if the line discards the event, because it repeats the get of the event.
+pub(crate) fn excuses(event: InvalidatingEvent, line: &Line<'_>) -> bool
     ensures { result ≡ stored.excuses (line_view line.now) event }
 {
     match event {
@@ -90,7 +55,8 @@ fn excuses(event: InvalidatingEvent, line: &Line<'_>) -> bool
     }
 }
 
-fn ends_pending(event: InvalidatingEvent, line: &Line<'_>) -> bool
+/// Returns true if the line belongs to the actor whose next line can discard the event.
+pub(crate) fn ends_pending(event: InvalidatingEvent, line: &Line<'_>) -> bool
     ensures { result ≡ stored.ends_pending (line_view line.now) event }
 {
     match event {
