@@ -74,9 +74,7 @@ def cases(program, folder):
     for options in BAD_ROUNDS:
         yield " ".join(["run", *options]), lambda: ends([program, "run", *options], folder / "run"), None
     yield from cases_of_certificates(program, folder)
-    plan = EXAMPLES / "two-clients.toml"
-    missing = b"%s has no line `%%%%`: name a second file with the certificate\n" % bytes(plan)
-    yield "check, the plan alone", lambda: ends([program, "check", plan], folder), (2, b"fault 50 NoSeparator\n", missing)
+    yield from cases_of_misplaced_files(program, folder)
     given = folder / "check"
     yield "no command", lambda: ends([program], given), NO_COMMAND
     yield "a bad word", lambda: ends([program, "chek"], given), None
@@ -95,6 +93,41 @@ def cases_of_files(title, words, parts, folder):
             yield f"{title}, {what} as a file", lambda named=named: ends([*words, *named], folder), expected
     if len(parts) == 2:
         yield f"{title}, standard input as both files", lambda: ends([*words, "-", "-"], files[0]), TWICE
+
+
+def cases_of_misplaced_files(program, folder):
+    """Yields the cases in which a file is missing, is in the place of another one, or has carriage returns."""
+    plan, certificate, events = (EXAMPLES / f"two-clients.{ending}" for ending in ("toml", "json", "events"))
+    recording = EXAMPLES / "recordings/web-and-database.recording"
+    bundle, returns, bad_events = (folder / name for name in ("bundle", "returns", "bad-events"))
+    text = b"%%\n".join(file.read_bytes() for file in (plan, certificate))
+    bundle.write_bytes(text)
+    returns.write_bytes(text.replace(b"\n", b"\r\n"))
+    bad_events.write_bytes(events.read_bytes().replace(b"\n", b"\r\n"))
+    a_bundle = b"%s is a bundle: a line `%%%%` separates its two texts; pass each text as a file of its own\n"
+    alone = b"%s has no line `%%%%`: name a second file with the certificate\n"
+    with_return = b"the line `%%%%` of %s ends with a carriage return: convert the file from CRLF to newlines alone\n"
+    with_returns = b"the lines of %s end with a carriage return: convert the file from CRLF to newlines alone\n"
+    like_a_certificate = b"%s looks like a certificate: name a plan in its place\n"
+    like_a_recording = b"%s looks like a recording: name a plan in its place\n"
+    no_recording = b"%s is not a recording: the first line of a recording is `recording 1`\n"
+    no_plan, no_line, no_separator = b"fault 1 NotToml\n", b"fault 53 BadRecording at line 1: it is not a valid line\n", b"fault 50 NoSeparator\n"
+    for words, printed, hint, file in (
+        (["check", plan], no_separator, alone, plan),
+        (["check", returns], no_separator, with_return, returns),
+        (["check", bundle, certificate], b"", a_bundle, bundle),
+        (["check", plan, bundle], b"", a_bundle, bundle),
+        (["check", certificate, plan], no_plan, like_a_certificate, certificate),
+        (["certify", certificate], no_plan, like_a_certificate, certificate),
+        (["fit", recording], no_plan, like_a_recording, recording),
+        (["conform", recording, plan], no_plan, like_a_recording, recording),
+        (["conform", plan, plan], no_line, no_recording, plan),
+        (["learn", plan], no_line, no_recording, plan),
+        (["replay", plan, bad_events], b"fault 51 BadEvent at line 1\n", with_returns, bad_events),
+        (["replay", "-", bad_events], b"fault 51 BadEvent at line 1\n", with_returns, bad_events),
+    ):
+        title = " ".join([words[0], *(Path(word).name for word in words[1:])])
+        yield title, lambda words=words: ends([program, *words], plan), (2, printed, hint % bytes(file))
 
 
 def cases_of_certificates(program, folder):

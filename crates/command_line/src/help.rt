@@ -211,7 +211,7 @@ sizing ask [--strict] [--format FORMAT] [--certificate FILE] PLAN [CERTIFICATE]
     notes: "\
 CERTIFICATE is one of an earlier run: if it still holds, nothing is searched.
 
-If the plan is invalid, the answer lists up to about 100 faults:
+If the plan is invalid, the answer lists its faults, at most 100:
   shop.toml:17:40: class page, action 2 \"get row\": nothing was submitted as row; did you mean rows?
 Otherwise it lists the warnings, and then says
   SAFE         no submit is ever refused, and no jobs wait only for each other; how many jobs can

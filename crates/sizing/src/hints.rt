@@ -1,5 +1,5 @@
-//! What standard error says in addition to an answer or a fault: what is missing, and why a file
-//! could not be read.
+//! What standard error says in addition to an answer or a fault: which text is missing or in the
+//! place of another one, and why a file could not be read.
 
 use sizing_cli::{
     Command, RecordingCommand, ReviewCommand, StdFiles, Task, TextFiles, bundle_of, most_bytes,
@@ -8,6 +8,21 @@ use sizing_cli::{
 use std::alloc::Global;
 use std::fs::{self, File, Files};
 use std::io::ErrorKind;
+
+/// What is wrong with a named file, if its command found a fault in a text.
+#[derive(Clone, Copy)]
+pub(crate) enum Hint {
+    /// The file holds one text, and its command needs this text too.
+    MissingText(&'static str),
+    /// The line `%%` of the file ends with a carriage return.
+    ReturnAfterSeparator,
+    /// The file is in the place of a plan, and holds this text.
+    NotPlan(&'static str),
+    /// The file is in the place of a recording, and does not begin as one.
+    NotRecording,
+    /// The file is in the place of events, and its lines end with a carriage return.
+    ReturnsInEvents,
+}
 
 /// Returns why the file could not be read, or an empty text if that is not known.
 pub(crate) fn reason_of(rt: &impl Files, name: &str) -> &'static str {
@@ -29,26 +44,95 @@ fn is_directory(rt: &impl Files, name: &str) -> bool {
     }
 }
 
-/// Returns the name of the only file, and what its command reads in addition, if the file holds one
-/// text and the command needs two.
-pub(crate) fn missing_text<'a>(
+/// Returns what is wrong with a file that the arguments name, and the file's name. Their command
+/// found a fault in a text.
+pub(crate) fn hint_of<'a>(
     rt: &impl Files,
     alloc: Global,
     words: &'a [&'a str],
-) -> Option<(&'a str, &'static str)> {
+) -> Option<(&'a str, Hint)> {
     let cli = read_words(alloc, words).ok()??;
-    if cli.second.is_some() {
+    if let Some(name) = cli.first
+        && let Some(text) = text_of(rt, alloc, cli.command, name)
+        && let Some(hint) = hint_of_first(cli.command, &text, cli.second.is_none())
+    {
+        return Some((name, hint));
+    }
+    let name = cli.second?;
+    let text = text_of(rt, alloc, cli.command, name)?;
+    Some((name, hint_of_second(cli.command, &text)?))
+}
+
+/// Returns the content of the file, or `None` if it cannot be read.
+fn text_of(rt: &impl Files, alloc: Global, command: Command, name: &str) -> Option<Vec<u8>> {
+    StdFiles::new(rt)
+        .read(alloc, name, most_bytes(command) + 1)
+        .ok()
+}
+
+/// Returns what is wrong with the first file, which has this text. `is_alone` says that there is no
+/// second file.
+fn hint_of_first(command: Command, text: &[u8], is_alone: bool) -> Option<Hint> {
+    if let Command::OnRecording(RecordingCommand::Learn { .. }) = command {
+        return hint_of_recording(text);
+    }
+    if is_alone
+        && let Some(second) = second_text(command)
+        && bundle_of(text).is_none()
+    {
+        return Some(missing_text(text, second));
+    }
+    // The answer of `ask` says so itself.
+    if let Command::OnThreads(Task::Ask { .. }) = command {
         return None;
     }
-    let name = cli.first?;
-    let second = second_text(cli.command)?;
-    let text = StdFiles::new(rt)
-        .read(alloc, name, most_bytes(cli.command) + 1)
-        .ok()?;
-    if bundle_of(&text).is_some() {
-        return None;
+    if text.starts_with(b"recording 1") {
+        return Some(Hint::NotPlan("a recording"));
     }
-    Some((name, second))
+    if text.starts_with(b"{") {
+        return Some(Hint::NotPlan("a certificate"));
+    }
+    None
+}
+
+/// Returns that this text is missing, or why the file's line `%%` separates nothing.
+fn missing_text(text: &[u8], second: &'static str) -> Hint {
+    if has_line(text, b"%%\r") {
+        Hint::ReturnAfterSeparator
+    } else {
+        Hint::MissingText(second)
+    }
+}
+
+fn has_line(text: &[u8], wanted: &[u8]) -> bool {
+    text.split(|byte| *byte == b'\n').any(|line| line == wanted)
+}
+
+fn hint_of_recording(text: &[u8]) -> Option<Hint> {
+    if text.starts_with(b"recording 1") {
+        None
+    } else {
+        Some(Hint::NotRecording)
+    }
+}
+
+/// Returns what is wrong with the second file, which has this text.
+fn hint_of_second(command: Command, text: &[u8]) -> Option<Hint> {
+    match command {
+        Command::OnRecording(RecordingCommand::Conform) => hint_of_recording(text),
+        Command::Sequential(ReviewCommand::Replay) if ends_with_return(text) => {
+            Some(Hint::ReturnsInEvents)
+        }
+        _ => None,
+    }
+}
+
+/// Returns whether the first line of the text ends with a carriage return.
+fn ends_with_return(text: &[u8]) -> bool {
+    match text.split(|byte| *byte == b'\n').next() {
+        Some(line) => line.ends_with(b"\r"),
+        None => false,
+    }
 }
 
 /// Returns the second text that the command reads, if it needs two.

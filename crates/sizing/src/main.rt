@@ -5,7 +5,7 @@
 mod hints;
 mod version;
 
-use crate::hints::{missing_text, reason_of};
+use crate::hints::{Hint, hint_of, reason_of};
 use crate::version::VERSION;
 use clap::error::ErrorKind;
 use sizing_cli::{CliError, ServeFault, Status, StdFiles, StdSink, StdSource, serve_words};
@@ -45,10 +45,37 @@ fn main(rt: HostRuntime) -> ExitCode {
     }
 }
 
-/// Reports on standard error that a text is missing, if the only named file holds one of two.
+/// Reports on standard error what is wrong with a named file, if a text is missing or in the place
+/// of another one.
 fn advise(rt: &HostRuntime, words: &[&str]) {
-    if let Some((name, second)) = missing_text(rt, rt.alloc(), words) {
-        let _ = eprintln!(rt; "{name} has no line `%%`: name a second file with {second}");
+    if let Some((name, hint)) = hint_of(rt, rt.alloc(), words) {
+        let _ = print_hint(rt, name, hint);
+    }
+}
+
+fn print_hint(rt: &impl Eprint, name: &str, hint: Hint) -> io::Result<()> {
+    match hint {
+        Hint::MissingText(second) => {
+            eprintln!(rt; "{name} has no line `%%`: name a second file with {second}")
+        }
+        Hint::ReturnAfterSeparator => {
+            eprintln!(rt;
+                "the line `%%` of {name} ends with a carriage return: convert the file from CRLF to newlines alone"
+            )
+        }
+        Hint::NotPlan(kind) => {
+            eprintln!(rt; "{name} looks like {kind}: name a plan in its place")
+        }
+        Hint::NotRecording => {
+            eprintln!(rt;
+                "{name} is not a recording: the first line of a recording is `recording 1`"
+            )
+        }
+        Hint::ReturnsInEvents => {
+            eprintln!(rt;
+                "the lines of {name} end with a carriage return: convert the file from CRLF to newlines alone"
+            )
+        }
     }
 }
 

@@ -26,11 +26,12 @@ use Rattle.sizing_cli.specs.declared.status.Status.{Status}
 use Rattle.sizing_cli.specs.declared.status.Status.TheVariants.{Done, Refused, Undecided}
 use Rattle.sizing_cli.specs.Answer.{Answer, fault, input_too_long, no_separator}
 use Rattle.sizing_cli.specs.Bundle.{Bundle, bundle_of}
+use Rattle.sizing_cli.specs.LineEnds.{line_end_hint}
 
 -- ---- the text and the status
 -- the answer to a recording with this malformed line
-abbrev pub bad_recording : RecordingFault → Answer
-bad_recording found = fault (head BAD_RECORDING ++ (codes " at " ++ fault_text found))
+abbrev pub bad_recording : List ℕ → RecordingFault → Answer
+bad_recording recording found = fault (head BAD_RECORDING ++ (codes " at " ++ (fault_text found ++ line_end_hint recording found.line)))
 
 abbrev pub is_undecided : Finding → Bool
 is_undecided (finding.NotDecided actor name) = true
@@ -51,9 +52,9 @@ conform_text plan findings = if length findings == 0 then codes "conforms" ++ 10
 abbrev pub findings_answer : Plan → List Finding → Answer
 findings_answer plan findings = record { text = conform_text plan findings; status = status_of findings }
 
-abbrev pub answer_of : Plan → Conformance → Answer
-answer_of plan (Invalid found) = bad_recording found
-answer_of plan (Compared findings) = findings_answer plan findings.items
+abbrev pub answer_of : Plan → List ℕ → Conformance → Answer
+answer_of plan recording (Invalid found) = bad_recording recording found
+answer_of plan recording (Compared findings) = findings_answer plan findings.items
 
 -- ---- the findings
 -- if there are no findings, the recording conforms and no line of it invalidates that result
@@ -71,7 +72,7 @@ pub record IsConformance (plan : Plan) (recording : List ℕ) (outcome : Conform
 pub record AnswersRecording (plan : Plan) (recording : List ℕ) (answer : Answer) : Type 0 where
   pub outcome : Conformance
   pub is_outcome : IsConformance plan recording outcome
-  pub answer_is : answer ≡ answer_of plan outcome
+  pub answer_is : answer ≡ answer_of plan recording outcome
 
 abbrev pub AnswersReading : List ℕ → Result Plan PlanFault → Answer → Type 0
 AnswersReading recording (Err f) answer = answer ≡ fault (fault_line f)

@@ -131,7 +131,7 @@ pub record IsNotLearned (recording : List ℕ) (answer : Answer) : Type 0 where
 pub record IsBadRecording (recording : List ℕ) (answer : Answer) : Type 0 where
   pub found : RecordingFault
   pub is_first : IsFirstFault (lines_read recording) (Some found)
-  pub answer_is : answer ≡ bad_recording found
+  pub answer_is : answer ≡ bad_recording recording found
 
 abbrev pub AnswersLines : Bool → List ℕ → Answer → Type 0
 AnswersLines strict recording answer = IsBadRecording recording answer ⊎ (IsNotLearned recording answer ⊎ IsLearned strict recording answer)

@@ -9,6 +9,7 @@ pub mod Refute
 pub mod Ask
 pub mod InputLength
 pub mod Conform
+pub mod LineEnds
 pub mod Learn
 pub mod CertifiedSplit
 pub mod CommandResult

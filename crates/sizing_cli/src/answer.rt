@@ -9,6 +9,7 @@ ghost use Rattle.sizing_cli.specs.Report.{limit_words, too_large};
 ghost use Rattle.sizing_cli.specs.Transcript.{is_no, reply_answer};
 
 use crate::Status;
+use crate::line_ends::line_end_hint;
 use cert_text::CertFault;
 use event_lines::{Reply, push_reply};
 use interleaving::Outcome;
@@ -121,10 +122,15 @@ pub fn bad_event(alloc: Global, line: u64) -> Result<Answer, AllocError>
 }
 
 /// Returns the answer to a recording with this malformed line.
-pub fn bad_recording(alloc: Global, found: RecordingFault) -> Result<Answer, AllocError>
-    ensures { IfOk result (λ answer. answer ≡ bad_recording_spec found) }
+pub fn bad_recording(
+    alloc: Global,
+    recording: &[u8],
+    found: RecordingFault,
+) -> Result<Answer, AllocError>
+    ensures { IfOk result (λ answer. answer ≡ bad_recording_spec recording.now found) }
 {
-    fault(format!(in alloc; "{} at {found}", FaultHead(number::BAD_RECORDING))?)
+    let hint = line_end_hint(recording, found.line);
+    fault(format!(in alloc; "{} at {found}{hint}", FaultHead(number::BAD_RECORDING))?)
 }
 
 /// Returns the answer to a plan's text with this fault.

@@ -38,7 +38,7 @@ fn compare(alloc: Global, plan: &Plan, recording: &[u8]) -> Result<Answer, Alloc
     ensures { IfOk result (spec.AnswersRecording plan.now recording.now) }
 {
     match conform(alloc, plan, recording)? {
-        Conformance::Invalid(fault) => bad_recording(alloc, fault),
+        Conformance::Invalid(fault) => bad_recording(alloc, recording, fault),
         Conformance::Compared(findings) => findings_answer(alloc, plan, &findings),
     }
 }

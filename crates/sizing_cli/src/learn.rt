@@ -50,7 +50,7 @@ fn learn_from_start(
     ensures { IfOk result (λ found. IfSome found (spec.AnswersLines strict recording.now)) }
 {
     match learn(alloc, recording, Extent::Start)? {
-        InferenceResult::Invalid(fault) => Ok(Some(bad_recording(alloc, fault)?)),
+        InferenceResult::Invalid(fault) => Ok(Some(bad_recording(alloc, recording, fault)?)),
         InferenceResult::InferenceLimit(_) => Ok(None),
         InferenceResult::Inferred(seen) => plan_answer(alloc, strict, recording, &seen),
     }
@@ -61,7 +61,7 @@ fn learn_from_all(alloc: Global, strict: bool, recording: &[u8]) -> Result<Answe
     ensures { IfOk result (spec.AnswersLines strict recording.now) }
 {
     match learn(alloc, recording, Extent::Whole)? {
-        InferenceResult::Invalid(fault) => bad_recording(alloc, fault),
+        InferenceResult::Invalid(fault) => bad_recording(alloc, recording, fault),
         InferenceResult::InferenceLimit(reason) => not_learned(alloc, reason),
         InferenceResult::Inferred(seen) => match plan_answer(alloc, strict, recording, &seen)? {
             Some(answer) => Ok(answer),

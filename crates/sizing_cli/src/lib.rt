@@ -27,6 +27,7 @@ mod input_length;
 mod join;
 mod join_laws;
 mod learn;
+mod line_ends;
 mod lowered_plan;
 mod named_texts;
 mod noop_gate;

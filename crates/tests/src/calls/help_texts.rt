@@ -102,6 +102,7 @@ const TABLE: &[(&[&str], &[&str])] = &[
             "\n  html    ",
             "\n  github  ",
             "\n  sarif   ",
+            "\nIf the plan is invalid, the answer lists its faults, at most 100:\n",
             "\n  NOT SAFE     steps that end in",
             "\nIn a build: sizing ask --strict shop.toml ",
             "\nsizing ask <<'END'\n[[pool]]\n",
