@@ -78,3 +78,4 @@ pub mod CollectedLists
 pub mod Steps
 pub mod AllFound
 pub mod NoneUndecided
+pub mod SameDifferences
