@@ -79,3 +79,4 @@ pub mod Steps
 pub mod AllFound
 pub mod NoneUndecided
 pub mod SameDifferences
+pub mod FirstLinesAfter
