@@ -10,11 +10,10 @@ use Rattle.recordings.specs.contracts.recording_line.RecordedActorPartialEq.TheI
 use Rattle.recordings.specs.RecordingLine.{RecordedLine, Submits, RoundBegins, RoundEnds, JobEnds, JobThrew, Got, InvokesAny, Unseen}
 use Rattle.recordings.specs.LineParts.{is_same_actor, submits_job, begins_round, ends_round, finishes_job}
 use Rattle.recordings.specs.LineSteps.{gets_by}
-use Rattle.conformance.specs.declared.actor_label.ActorLabel.{ActorLabel}
 use Rattle.conformance.specs.declared.first_lines.FoundLine.{FoundLine}
 use Rattle.conformance.specs.declared.line_query.LineQuery.{LineQuery}
 use Rattle.conformance.specs.declared.line_query.LineQuery.TheVariants as line_query
-use Rattle.conformance.specs.LineQuery.{is_match, is_any, is_unseen, is_last, query_of, IsFirstLine, IsFirstAt, IsLabelOf, label_in, pool_in}
+use Rattle.conformance.specs.LineQuery.{is_match, is_any, is_unseen, query_of, IsFirstLine, IsLabelOf}
 use Rattle.conformance.specs.FirstLines.{is_same_query, IsSeenAs, IsFound, nowhere, somewhere, AreFirst, is_sought, is_without_line, NotesMatch, noted, passed, IsCopy, neither, both}
 use Rattle.conformance.specs.Description.{number_seen}
 
