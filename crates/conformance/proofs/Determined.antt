@@ -1,26 +1,18 @@
 -- The lines determine the classes that a job can belong to.
-use Rattle.std.proofs.Common.{◌≡◌, ◌==◌, ℕ, zero, suc, true, List, [], ◌∷◌, length, slice_index_or, Option, Some, None, refl, ap, sym, subst, ◌∙◌, arith}
-use Rattle.std.specs.Prelude.{Contains, slice_get, ⊤}
+use Rattle.std.proofs.Common.{◌≡◌, ℕ, List, [], ◌∷◌, Some, refl, ap, sym, subst}
+use Rattle.std.specs.Prelude.{Contains}
 use Rattle.std.specs.declared.alloc.Global.{Global}
 use Rattle.std.specs.declared.vec.Vec.{Vec}
-use Rattle.std.proofs.lemmas.List.Folds.{list_any_at, Any-from_list_any}
 use Rattle.recordings.specs.declared.recording_line.RecordedActor.TheVariants.{Job, Round}
 use Rattle.recordings.specs.RecordingLine.{RecordedLine}
 use Rattle.recordings.specs.declared.step.RecordedStep.{RecordedStep}
 use Rattle.recordings.specs.declared.step.RecordedStep.TheVariants as recorded
 use Rattle.recordings.specs.Path.{path_of}
-use Rattle.recordings.proofs.SubmitIndices.{same_self}
-use Rattle.job_bodies.specs.declared.action.Action.{Action}
 use Rattle.job_bodies.specs.Plan.{Plan}
-use Rattle.conformance.specs.declared.step.ActorKind.{ActorKind}
 use Rattle.conformance.specs.declared.step.ActorKind.TheVariants as actor_kind
 use Rattle.conformance.specs.declared.step.PathStep.{PathStep}
 use Rattle.conformance.specs.declared.step.PathStep.TheVariants as step
 use Rattle.conformance.specs.declared.step.PathState.{PathState}
-use Rattle.conformance.specs.declared.step.PathState.TheVariants.{Whole, Prefix}
-use Rattle.conformance.specs.PathStep.{submits}
-use Rattle.conformance.specs.Path.{IsPathOf, Walks, starts, body_moves, both_submit, path_gets}
-use Rattle.conformance.specs.declared.open_job.OpenJob.{OpenJob}
 use Rattle.conformance.specs.FamilyMatch.{IsClassOf, IsKindOf, AreExactly, class_body, client_body}
 use Rattle.conformance.specs.PathState.{path_state_of}
 use Rattle.conformance.specs.Label.{label_of, kind_of}

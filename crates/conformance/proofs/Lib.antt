@@ -78,3 +78,5 @@ pub mod CollectedLists
 pub mod Steps
 pub mod AllFound
 pub mod NoneUndecided
+pub mod SameDifferences
+pub mod FirstLinesAfter

@@ -29,6 +29,7 @@ pub mod RoundComparison
 pub mod ComparisonLaws
 pub mod Lines
 pub mod LineQuery
+pub mod FirstLines
 pub mod LabelSet
 pub mod JobSet
 pub mod PathMismatch

@@ -4,7 +4,7 @@ use Rattle.std.specs.List.{list_any}
 use Rattle.recordings.specs.declared.recording_line.RecordedActor.{RecordedActor}
 use Rattle.recordings.specs.declared.recording_line.RecordedActor.TheVariants.{Job, Round}
 use Rattle.recordings.specs.declared.recording_line.Line.{Line}
-use Rattle.recordings.specs.RecordingLine.{RecordedLine, Submits, RoundBegins, InvokesAny, Unseen, line_view}
+use Rattle.recordings.specs.RecordingLine.{RecordedLine, Submits, RoundBegins, RoundEnds, JobEnds, JobThrew, Got, InvokesAny, Unseen, line_view}
 use Rattle.recordings.specs.LineParts as parts
 use Rattle.recordings.specs.LineParts.{submits_job, begins_round, ends_round, finishes_job}
 use Rattle.recordings.specs.LineSteps.{gets_by}
@@ -34,6 +34,18 @@ is_match (line_query.Got actor job) line = gets_by actor job line
 is_match (line_query.Last actor) line = is_last actor line
 is_match line_query.InvokesAny line = is_any line
 is_match line_query.Unseen line = is_unseen line
+
+-- The condition that the line meets, if any.
+abbrev pub query_of : RecordedLine → Option LineQuery
+query_of (Submits actor job class pool) = Some (line_query.Submit job)
+query_of (RoundBegins round kind) = Some (line_query.Begin round)
+query_of (Got actor job) = Some (line_query.Got actor job)
+query_of (RoundEnds round) = Some (line_query.Last (Round round))
+query_of (JobEnds job) = Some (line_query.Last (Job job))
+query_of (JobThrew job) = Some (line_query.Last (Job job))
+query_of (InvokesAny actor pool) = Some line_query.InvokesAny
+query_of (Unseen pool jobs) = Some line_query.Unseen
+query_of line = None
 
 -- The condition for the line that gives the actor its label.
 abbrev pub label_line : RecordedActor → LineQuery

@@ -1,7 +1,6 @@
 -- The state of a comparison of pools, as a function of the lines read.
-use Rattle.std.specs.Prelude.{◌≡◌, ℕ, ◌==◌, ◌&&◌, Bool, List, ◌++◌, ◌||◌, map}
-use Rattle.std.specs.List.{list_any}
-use Rattle.std.specs.HashSet.{contains_text}
+use Rattle.std.specs.Prelude.{◌≡◌, ℕ, Bool, List, ◌++◌, ◌||◌, map}
+use Rattle.std.specs.HashSet.{contains, contains_text}
 use Rattle.job_bodies.specs.Plan.{Plan}
 use Rattle.recordings.specs.RecordingLine.{RecordedLine}
 use Rattle.recordings.specs.LineParts.{is_end, declares}
@@ -10,19 +9,20 @@ use Rattle.conformance.specs.declared.pool_names.PoolNames.{PoolNames}
 use Rattle.conformance.specs.declared.difference.Difference.{Difference}
 use Rattle.conformance.specs.declared.reported.PoolDifference.{PoolDifference}
 use Rattle.conformance.specs.declared.reported.ReportedDifferences.{ReportedDifferences}
+use Rattle.conformance.specs.contracts.reported.PoolDifferencePartialEq.TheImpl as element_eq
 use Rattle.conformance.specs.declared.pool_comparison.PoolDeviation.{PoolDeviation}
 use Rattle.conformance.specs.declared.pool_comparison.PoolComparison.{PoolComparison}
-use Rattle.conformance.specs.Difference.{is_same_difference}
 use Rattle.conformance.specs.PoolDeviations.{Deviation, deviation_seen, has_difference, was_reported}
 
 abbrev pub has_name : PoolNames → List ℕ → Bool
 has_name names name = contains_text names.names name
 
-abbrev pub is_difference : ℕ → Difference → PoolDifference → Bool
-is_difference pool difference reported = reported.pool == pool && is_same_difference reported.difference difference
+-- The equality of the elements of the set.
+abbrev pub is_same_element : PoolDifference → PoolDifference → Bool
+is_same_element = (element_eq.ghosts).eq
 
 abbrev pub is_reported : ReportedDifferences → ℕ → Difference → Bool
-is_reported reported pool difference = list_any (is_difference pool difference) reported.items.items
+is_reported reported pool difference = contains is_same_element reported.items (record { pool = pool; difference = difference })
 
 -- The state has the pools with a line, their reported differences, and whether the recording is whole.
 pub record IsPoolComparisonOf (plan : Plan) (comparison_state : PoolComparison) (lines : List RecordedLine) : Type 0 where

@@ -10,8 +10,9 @@ ghost use Rattle.conformance.specs.Lines.{lines_of};
 ghost use Rattle.conformance.specs.declared.finding.Finding.TheVariants as kinds;
 
 use crate::actor_label::{ActorLabel, label_of, pool_of_first};
-use crate::describe_mismatch::describe_mismatch;
+use crate::describe_mismatch::{describe_mismatch, push_queries};
 use crate::finding::Finding;
+use crate::first_lines::FirstLines;
 use crate::job_set::JobSet;
 use crate::line_query::LineQuery;
 use crate::survey::{ActorSurvey, LineSurvey, Survey};
@@ -150,8 +151,35 @@ fn push_mismatches(
         (spec.AreMismatchesOf plan.now (lines_of recording.now) (has_job classless.now) mismatches.now)
         findings.new.items) }
 {
+    let queries = queries_of(alloc, mismatches)?;
+    let first = FirstLines::new(alloc, recording, &queries)?;
+    push_described(findings, alloc, plan, &first, classless, mismatches)
+}
+
+// Returns the conditions of the lines that the descriptions of these actors look up.
+fn queries_of(alloc: Global, mismatches: &[ClassifiedActor]) -> Result<Vec<LineQuery>, AllocError> {
+    let mut queries = Vec::new(alloc);
     for reported in mismatches {
-        let (line, mismatch) = describe_mismatch(alloc, plan, recording, classless, reported)?;
+        push_queries(&mut queries, reported)?;
+    }
+    Ok(queries)
+}
+
+fn push_described(
+    findings: &mut Vec<Finding>,
+    alloc: Global,
+    plan: &Plan,
+    first: &FirstLines<'_>,
+    classless: &JobSet,
+    mismatches: &[ClassifiedActor],
+) -> Result<(), AllocError>
+    ensures { OnOk result
+        (spec.Adds findings.old.items
+        (spec.AreMismatchesOf plan.now (lines_of first.now) (has_job classless.now) mismatches.now)
+        findings.new.items) }
+{
+    for reported in mismatches {
+        let (line, mismatch) = describe_mismatch(alloc, plan, first, classless, reported)?;
         findings.push(Finding::PathMismatch { line, mismatch })?;
     }
     Ok(())

@@ -1,22 +1,22 @@
-//! The first deviating step of an actor, looked up in the text of the recording.
+//! The first deviating step of an actor, looked up in the lines of the recording.
 
 ghost use Rattle.std.specs.Prelude.{◌≡◌, IfOk, string_bytes};
 ghost use Rattle.std.specs.List.{list_any};
-ghost use Rattle.std.specs.Option.{option_to_list};
+ghost use Rattle.std.specs.Option.{option_map, option_to_list};
 ghost use Rattle.recordings.specs.ActorPath.{gets};
 ghost use Rattle.conformance.specs.JobSet.{has_job};
 ghost use Rattle.conformance.specs.Lines.{lines_of};
-ghost use Rattle.conformance.specs.LineQuery.{found_seen};
 ghost use Rattle.conformance.specs.Verdicts.{is_planned_class};
 ghost use Rattle.conformance.specs.Description as spec;
 
-use crate::actor_label::{ActorLabel, label_of};
+use crate::actor_label::ActorLabel;
+use crate::first_lines::{FirstLines, FoundLine};
 use crate::job_set::JobSet;
-use crate::line_query::{LineQuery, first_line};
+use crate::line_query::LineQuery;
 use crate::mismatch::{DeviatingStep, NamedStep, PathMismatch};
 use crate::{ClassifiedActor, first_class};
 use job_bodies::Plan;
-use recordings::{Line, RecordedActor, RecordedStep};
+use recordings::{RecordedActor, RecordedStep};
 use std::alloc::{AllocError, Global};
 
 /// Describes the actor by the step after the longest prefix of its path that a body explains.
@@ -29,36 +29,78 @@ use std::alloc::{AllocError, Global};
 pub(crate) fn describe_mismatch(
     alloc: Global,
     plan: &Plan,
-    recording: &[u8],
+    first: &FirstLines<'_>,
     classless: &JobSet,
     reported: &ClassifiedActor,
 ) -> Result<(Option<usize>, PathMismatch), AllocError>
     ensures { IfOk result (λ found.
-        spec.IsDescriptionOf plan.now (lines_of recording.now) (has_job classless.now) reported.now
+        spec.IsDescriptionOf plan.now (lines_of first.now) (has_job classless.now) reported.now
         found.0 found.1) }
 {
     let explained = reported.family.explained;
     let step = step_at(&reported.path, explained);
-    let line = number_of(first_line(recording, line_query_of(reported.actor, step)));
+    let line = first.find(alloc, line_query_of(reported.actor, step))?;
     let after = match explained.checked_sub(1) {
         None => None,
-        Some(last) => named_step(alloc, recording, step_at(&reported.path, last))?,
+        Some(last) => named_step(alloc, first, step_at(&reported.path, last))?,
     };
     let mismatch = PathMismatch {
         actor: reported.actor,
         label: label_of_classified(reported)?,
-        step: deviating_step(alloc, plan, recording, classless, &reported.path, step)?,
+        step: deviating_step(alloc, plan, first, classless, &reported.path, step)?,
         after,
     };
-    Ok((line, mismatch))
+    Ok((number_of(&line), mismatch))
 }
 
 /// Returns the number of the line that was found.
-fn number_of(found: Option<(usize, Line<'_>)>) -> Option<usize>
-    ensures { result ≡ spec.number_seen (found_seen found.entry) }
+fn number_of(found: &Option<FoundLine>) -> Option<usize>
+    ensures { result ≡ option_map (λ found. found.number) found.now }
 {
-    let (number, _) = found?;
-    Some(number)
+    match found {
+        Some(found) => Some(found.number),
+        None => None,
+    }
+}
+
+/// Appends the conditions of the lines that [`describe_mismatch`] looks up for this actor.
+///
+/// No contract states them, because they affect only the time: a line whose condition is missing is
+/// searched for in the text.
+///
+/// # Errors
+///
+/// Returns `AllocError` if memory runs out.
+pub(crate) fn push_queries(
+    queries: &mut Vec<LineQuery>,
+    reported: &ClassifiedActor,
+) -> Result<(), AllocError> {
+    let explained = reported.family.explained;
+    let step = step_at(&reported.path, explained);
+    queries.push(line_query_of(reported.actor, step))?;
+    match step {
+        None => push_submit_query(queries, open_job(&reported.path))?,
+        Some(step) => push_submit_query(queries, Some(job_of(step)))?,
+    }
+    if let Some(last) = explained.checked_sub(1) {
+        if let Some(step) = step_at(&reported.path, last) {
+            push_submit_query(queries, Some(job_of(step)))?;
+        }
+    }
+    Ok(())
+}
+
+fn push_submit_query(queries: &mut Vec<LineQuery>, job: Option<usize>) -> Result<(), AllocError> {
+    if let Some(job) = job {
+        queries.push(LineQuery::Submit(job))?;
+    }
+    Ok(())
+}
+
+fn job_of(step: JobStep) -> usize {
+    match step {
+        JobStep::Submits(job) | JobStep::Gets(job) => job,
+    }
 }
 
 /// A step of an actor: what it did with a job.
@@ -111,25 +153,25 @@ fn label_of_classified(reported: &ClassifiedActor) -> Result<ActorLabel, AllocEr
 fn deviating_step(
     alloc: Global,
     plan: &Plan,
-    recording: &[u8],
+    first: &FirstLines<'_>,
     classless: &JobSet,
     path: &[RecordedStep],
     step: Option<JobStep>,
 ) -> Result<DeviatingStep, AllocError>
     ensures { IfOk result
-        (spec.IsDeviatingStep plan.now (lines_of recording.now) (has_job classless.now) path.now step) }
+        (spec.IsDeviatingStep plan.now (lines_of first.now) (has_job classless.now) path.now step) }
 {
     match step {
         None => {
-            let end = deviating_end(alloc, recording, open_job(path))?;
+            let end = deviating_end(alloc, first, open_job(path))?;
             Ok(end)
         }
         Some(JobStep::Submits(job)) => {
-            let label = label_of(alloc, recording, RecordedActor::Job(job))?;
+            let label = first.label_of(alloc, job)?;
             Ok(deviating_submit(plan, classless, job, label))
         }
         Some(JobStep::Gets(job)) => {
-            let label = label_of(alloc, recording, RecordedActor::Job(job))?;
+            let label = first.label_of(alloc, job)?;
             Ok(DeviatingStep::Gets(label))
         }
     }
@@ -138,15 +180,15 @@ fn deviating_step(
 /// Returns the deviation of an actor that ended, with its first open job if there is one.
 fn deviating_end(
     alloc: Global,
-    recording: &[u8],
-    first: Option<usize>,
+    first: &FirstLines<'_>,
+    job: Option<usize>,
 ) -> Result<DeviatingStep, AllocError>
-    ensures { IfOk result (spec.IsDeviatingEnd (lines_of recording.now) first) }
+    ensures { IfOk result (spec.IsDeviatingEnd (lines_of first.now) job) }
 {
-    match first {
+    match job {
         None => Ok(DeviatingStep::Ends),
         Some(job) => {
-            let label = label_of(alloc, recording, RecordedActor::Job(job))?;
+            let label = first.label_of(alloc, job)?;
             Ok(DeviatingStep::EndsOpen { job, label })
         }
     }
@@ -208,19 +250,19 @@ fn is_planned_class(plan: &Plan, class: &str, pool: &str) -> bool
 
 fn named_step(
     alloc: Global,
-    recording: &[u8],
+    first: &FirstLines<'_>,
     step: Option<JobStep>,
 ) -> Result<Option<NamedStep>, AllocError>
-    ensures { IfOk result (spec.IsNamed (lines_of recording.now) step) }
+    ensures { IfOk result (spec.IsNamed (lines_of first.now) step) }
 {
     match step {
         None => Ok(None),
         Some(JobStep::Submits(job)) => {
-            let label = label_of(alloc, recording, RecordedActor::Job(job))?;
+            let label = first.label_of(alloc, job)?;
             Ok(Some(NamedStep::Submits(label.name)))
         }
         Some(JobStep::Gets(job)) => {
-            let label = label_of(alloc, recording, RecordedActor::Job(job))?;
+            let label = first.label_of(alloc, job)?;
             Ok(Some(NamedStep::Gets(label.name)))
         }
     }

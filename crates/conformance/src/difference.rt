@@ -10,7 +10,7 @@ use std::fmt;
 /// A difference between a recorded pool and the plan's pool.
 ///
 /// It formats as a short phrase without the pool's name, such as `max 20, plan 10`.
-#[derive(Clone, Copy, PartialEq, Eq)]
+#[derive(Clone, Copy, PartialEq, Eq, Hash)]
 pub enum Difference {
     /// The core pool size, in threads.
     Core { recorded: u64, planned: u64 },
@@ -25,15 +25,6 @@ pub enum Difference {
     /// The number of threads when the recording began. A plan with `prestart` has all core threads
     /// then, and one without it has none.
     Prestarted { recorded: u64, planned: u64 },
-}
-
-impl Difference {
-    /// Returns true if both are of the same variant, with the same numbers.
-    pub(crate) fn is_same(self, other: Difference) -> bool
-        ensures { result ≡ spec.is_same_difference self other }
-    {
-        self == other
-    }
 }
 
 impl fmt::Display for Difference {

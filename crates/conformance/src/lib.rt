@@ -27,6 +27,7 @@ mod finding;
 mod finding_lines;
 mod finish;
 mod first_actors;
+mod first_lines;
 mod job_classes;
 mod job_set;
 mod labels;

@@ -9,7 +9,7 @@ use crate::well_formed_lines::WellFormedLines;
 use recordings::{Line, RecordedActor};
 
 /// The condition of a search.
-#[derive(Clone, Copy)]
+#[derive(Clone, Copy, PartialEq, Eq, Hash)]
 pub(crate) enum LineQuery {
     /// The line that submits this job.
     Submit(usize),
@@ -59,6 +59,24 @@ impl LineQuery {
             (LineQuery::Unseen, Line::Unseen { .. }) => true,
             _ => false,
         }
+    }
+}
+
+/// Returns the condition that the line meets, if any. A line meets at most one.
+pub(crate) fn query_of(line: &Line<'_>) -> Option<LineQuery>
+    ensures { result ≡ spec.query_of (line_view line.now) }
+{
+    match *line {
+        Line::Submits { job, .. } => Some(LineQuery::Submit(job)),
+        Line::RoundBegins { round, .. } => Some(LineQuery::Begin(round)),
+        Line::Got { actor, job } => Some(LineQuery::Got { actor, job }),
+        Line::RoundEnds { round } => Some(LineQuery::Last(RecordedActor::Round(round))),
+        Line::JobEnds { job } | Line::JobThrew { job } => {
+            Some(LineQuery::Last(RecordedActor::Job(job)))
+        }
+        Line::InvokesAny { .. } => Some(LineQuery::InvokesAny),
+        Line::Unseen { .. } => Some(LineQuery::Unseen),
+        _ => None,
     }
 }
 

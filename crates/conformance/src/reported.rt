@@ -4,13 +4,14 @@ ghost use Rattle.std.specs.Prelude.{◌≡◌, ◌&&◌, ◌||◌, ◌==◌, ℕ
 ghost use Rattle.conformance.specs.declared.difference.Difference as SettledPaths;
 ghost use Rattle.conformance.specs.Difference.{is_same_difference};
 ghost use Rattle.conformance.specs.PoolDeviations.{is_among};
-ghost use Rattle.conformance.specs.PoolComparison.{is_difference, is_reported};
+ghost use Rattle.conformance.specs.PoolComparison.{is_reported};
 
 use crate::Difference;
 use std::alloc::{AllocError, Global};
+use std::collections::HashSet;
 
 /// A difference of the plan's pool of this number.
-#[derive(Clone, Copy)]
+#[derive(Clone, Copy, PartialEq, Eq, Hash)]
 pub(crate) struct PoolDifference {
     pool: usize,
     difference: Difference,
@@ -19,7 +20,7 @@ pub(crate) struct PoolDifference {
 /// A set of the differences that were reported for the pools of the plan.
 #[derive(Drop)]
 pub(crate) struct ReportedDifferences {
-    items: Vec<PoolDifference>,
+    items: HashSet<PoolDifference>,
 }
 
 impl ReportedDifferences {
@@ -29,16 +30,14 @@ impl ReportedDifferences {
             → is_reported result pool difference ≡ false }
     {
         ReportedDifferences {
-            items: Vec::new(alloc),
+            items: HashSet::new(alloc),
         }
     }
 
     pub(crate) fn contains(&self, pool: usize, difference: Difference) -> bool
         ensures { result ≡ is_reported self.now pool difference }
     {
-        self.items
-            .iter()
-            .any(|reported| reported.is_of(pool, difference))
+        self.items.contains(&PoolDifference { pool, difference })
     }
 
     /// Adds these differences of the pool.
@@ -70,17 +69,7 @@ impl ReportedDifferences {
             ≡ (is_reported self.old one other ||
             (pool == one && is_same_difference difference other))) }
     {
-        if !self.contains(pool, difference) {
-            self.items.push(PoolDifference { pool, difference })?;
-        }
+        self.items.insert(PoolDifference { pool, difference })?;
         Ok(())
-    }
-}
-
-impl PoolDifference {
-    fn is_of(&self, pool: usize, difference: Difference) -> bool
-        ensures { result ≡ is_difference pool difference self.now }
-    {
-        self.pool == pool && self.difference.is_same(difference)
     }
 }
