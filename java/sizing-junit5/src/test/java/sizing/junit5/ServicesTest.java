@@ -123,6 +123,8 @@ class ServicesTest {
                 // pools
                 new Case("spring_defaults_unbounded", "spring-defaults", PoolServices::springDefaultsUnbounded,
                         "pool tasks: queue 1000000000, plan 200"),
+                new Case("fixed_thread_pool_unbounded", "fixed-thread-pool", PoolServices::fixedThreadPoolUnbounded,
+                        "pool queries: queue 1000000000, plan 1000000"),
                 new Case("fixed_thread_pool_without_get", "fixed-thread-pool", PoolServices::fixedThreadPoolWithoutGet,
                         "round 0 of kind request " + NO_GET),
                 new Case("cached_pool", "cached-pool-replaced", PoolServices::cachedPool,
