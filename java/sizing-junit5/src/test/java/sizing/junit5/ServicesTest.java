@@ -285,10 +285,8 @@ class ServicesTest {
         return recording;
     }
 
-    /** Returns the plan of this name in examples/, or otherwise in the resources of the tests. */
     private static Path planOf(Case one) {
-        Path example = ROOT.resolve("examples").resolve(one.plan + ".toml");
-        return Files.exists(example) ? example : Path.of("src", "test", "resources", one.plan + ".toml");
+        return ROOT.resolve("examples").resolve(one.plan + ".toml");
     }
 
     /** Compares with the program, or without one with the second implementation. */
