@@ -139,18 +139,33 @@ final class ChainServices {
         });
     }
 
-    /** The second chain overtakes the first: the order of the gets is not that of the plan. */
     static void chainsInAJob(ServiceRun run) throws Exception {
         ExecutorService web = run.pool("web");
         ExecutorService io = run.pool("io");
         ExecutorService load = label("load", io);
         ExecutorService render = label("render", io);
+        // the second chain overtakes the first
         CountDownLatch overtaken = new CountDownLatch(1);
-        run.rounds("request", 1, 1, () -> web.submit(label("page", () -> {
+        run.rounds("user", 1, 1, () -> web.submit(label("page", () -> {
             CompletableFuture<Void> first = CompletableFuture.runAsync(() -> run.await(overtaken), load).thenRunAsync(() -> work(1), render);
             CompletableFuture<Void> second = CompletableFuture.runAsync(() -> work(1), load).thenRunAsync(overtaken::countDown, render);
-            CompletableFuture.allOf(first, second).join();
-            return 1;
+            return CompletableFuture.allOf(first, second).join();
+        })).get());
+        // the second chain begins after the second stage of the first
+        run.rounds("user", 1, 1, () -> web.submit(label("page", () -> {
+            CountDownLatch loaded = new CountDownLatch(1);
+            CompletableFuture<Void> first = CompletableFuture.runAsync(() -> work(1), load).thenRunAsync(loaded::countDown, render);
+            run.await(loaded);
+            CompletableFuture<Void> second = CompletableFuture.runAsync(() -> work(1), load).thenRunAsync(() -> work(1), render);
+            return CompletableFuture.allOf(first, second).join();
+        })).get());
+        run.rounds("user", 20, 5, () -> web.submit(label("page", () -> {
+            CompletableFuture<Void> first = CompletableFuture.runAsync(() -> work(1), load).thenRunAsync(() -> work(1), render);
+            if (chance()) {
+                work(1);
+            }
+            CompletableFuture<Void> second = CompletableFuture.runAsync(() -> work(1), load).thenRunAsync(() -> work(1), render);
+            return CompletableFuture.allOf(first, second).join();
         })).get());
     }
 

@@ -1,9 +1,12 @@
 package sizing.junit5;
 
+import static org.junit.jupiter.api.Assertions.assertThrows;
 import static sizing.Recorder.label;
 import static sizing.junit5.ServiceRun.task;
 import static sizing.junit5.ServiceRun.work;
 
+import java.io.IOException;
+import java.io.UncheckedIOException;
 import java.util.ArrayDeque;
 import java.util.Collections;
 import java.util.Deque;
@@ -23,6 +26,7 @@ import java.util.concurrent.ThreadLocalRandom;
 import java.util.concurrent.TimeUnit;
 import java.util.concurrent.TimeoutException;
 import java.util.stream.IntStream;
+import java.util.stream.Stream;
 
 /** Services for the entries of docs/PATTERNS.md on clients: right uses, and uses that the page does not cover and a recording shows. */
 final class ClientServices {
@@ -140,22 +144,47 @@ final class ClientServices {
     /** A window that gets the oldest job first. */
     static void importWindowOfFutures(ServiceRun run) throws Exception {
         ExecutorService load = run.pool("load");
+        run.threads("importer", 1, 1, () -> importRows(run, load, Collections.nCopies(500, task("row", 1))));
+    }
+
+    private static void importRows(ServiceRun run, ExecutorService load, Iterable<Callable<Integer>> rows) throws Exception {
         Semaphore places = run.permits("place", 32);
-        run.threads("importer", 1, 1, () -> {
-            Deque<Future<?>> open = new ArrayDeque<>();
-            for (int row = 0; row < 500; row++) {
-                if (open.size() == 32) {
-                    open.removeFirst().get();
-                    places.release();
-                }
-                places.acquire();
-                open.add(load.submit(task("row", 1)));
-            }
-            for (Future<?> each : open) {
-                each.get();
+        Deque<Future<?>> open = new ArrayDeque<>();
+        for (Callable<Integer> row : rows) {
+            if (open.size() == 32) {
+                open.removeFirst().get();
                 places.release();
             }
+            places.acquire();
+            open.add(load.submit(row));
+        }
+        for (Future<?> each : open) {
+            each.get();
+            places.release();
+        }
+    }
+
+    /** The import ends with a job open, and the next one assumes that all places are free. */
+    private static void importTwice(ServiceRun run, Iterable<Callable<Integer>> rows, Class<? extends Exception> planned) throws Exception {
+        ExecutorService load = run.pool("load");
+        run.threads("importer", 1, 1, () -> {
+            assertThrows(planned, () -> importRows(run, load, rows));
+            importRows(run, load, Collections.nCopies(32, task("row", 1)));
         });
+    }
+
+    static void importThatIsLeft(ServiceRun run) throws Exception {
+        Callable<Integer> row = label("row", run::valueAtEnd);
+        importTwice(run, () -> Stream.iterate(row, before -> {
+            throw new UncheckedIOException(new IOException("planned"));
+        }).iterator(), UncheckedIOException.class);
+    }
+
+    static void importWindowWithAGetThatThrows(ServiceRun run) throws Exception {
+        Callable<Integer> failing = label("row", () -> {
+            throw new IllegalStateException("planned");
+        });
+        importTwice(run, List.of(failing, label("row", run::valueAtEnd)), ExecutionException.class);
     }
 
     static void importAllAtOnce(ServiceRun run) throws Exception {

@@ -119,6 +119,25 @@ final class OrderServices {
         });
     }
 
+    /** A get that throws leaves the loop while the second quote is open. */
+    static void completionServiceWithAGetThatThrows(ServiceRun run) throws Exception {
+        ExecutorService pool = run.pool("quotes");
+        run.rounds("request", 1, 1, () -> {
+            ExecutorCompletionService<Integer> quotes = new ExecutorCompletionService<>(pool);
+            quotes.submit(label("quote", () -> {
+                throw new IllegalStateException("planned");
+            }));
+            quotes.submit(label("quote", run::valueAtEnd));
+            try {
+                for (int shop = 0; shop < 2; shop++) {
+                    quotes.take().get();
+                }
+            } catch (ExecutionException planned) {
+                return;
+            }
+        });
+    }
+
     static void completionServiceWithTimedPoll(ServiceRun run) throws Exception {
         ExecutorService pool = run.pool("quotes");
         run.rounds("request", 1, 1, () -> {
@@ -137,10 +156,43 @@ final class OrderServices {
         run.rounds("user", 20, 5, () -> reports.submit(label("report", () -> report(sections, upTo(TOPICS), WINDOW))).get());
     }
 
-    static void windowOfFour(ServiceRun run) throws Exception {
+    /** How a report makes its sections. */
+    private interface Report {
+        int make(ExecutorService sections) throws Exception;
+    }
+
+    private static void oneReport(ServiceRun run, Report report) throws Exception {
         ExecutorService reports = run.pool("reports");
         ExecutorService sections = run.pool("sections");
-        run.rounds("user", 1, 1, () -> reports.submit(label("report", () -> report(sections, TOPICS, WINDOW + 1))).get());
+        run.rounds("user", 1, 1, () -> reports.submit(label("report", () -> report.make(sections))).get());
+    }
+
+    static void windowOfFour(ServiceRun run) throws Exception {
+        oneReport(run, sections -> report(sections, TOPICS, WINDOW + 1));
+    }
+
+    static void reportOfSevenTopics(ServiceRun run) throws Exception {
+        oneReport(run, sections -> report(sections, TOPICS + 1, WINDOW));
+    }
+
+    /** A job of another class between two sections is a submit of its own. */
+    static void reportWithASummary(ServiceRun run) throws Exception {
+        oneReport(run, sections -> {
+            ExecutorCompletionService<Integer> made = new ExecutorCompletionService<>(sections);
+            made.submit(task("section", 1));
+            made.submit(task("summary", 1));
+            made.submit(task("section", 2));
+            return made.take().get() + made.take().get() + made.take().get();
+        });
+    }
+
+    static void reportThatReturnsWithAnOpenSection(ServiceRun run) throws Exception {
+        oneReport(run, sections -> {
+            ExecutorCompletionService<Integer> made = new ExecutorCompletionService<>(sections);
+            made.submit(label("section", run::valueAtEnd));
+            made.submit(task("section", 1));
+            return made.take().get();
+        });
     }
 
     private static int report(ExecutorService sections, int topics, int window) throws InterruptedException, ExecutionException {
@@ -178,9 +230,7 @@ final class OrderServices {
 
     /** The recorder writes a get when it is called, so the window looks greater than it is. */
     static void windowThatIsReadAtItsEnd(ServiceRun run) throws Exception {
-        ExecutorService reports = run.pool("reports");
-        ExecutorService sections = run.pool("sections");
-        run.rounds("user", 1, 1, () -> reports.submit(label("report", () -> {
+        oneReport(run, sections -> {
             ExecutorCompletionService<Integer> made = new ExecutorCompletionService<>(sections);
             List<Future<Integer>> taken = new ArrayList<>();
             for (int topic = 0; topic < TOPICS; topic++) {
@@ -193,7 +243,7 @@ final class OrderServices {
                 taken.add(made.take());
             }
             return sum(taken);
-        })).get());
+        });
     }
 
     private static int sum(List<Future<Integer>> futures) throws InterruptedException, ExecutionException {
@@ -260,6 +310,13 @@ final class OrderServices {
         ExecutorService quotes = label("quote", run.pool("quotes"));
         run.rounds("request", 1, 1, () -> CompletableFuture.anyOf(CompletableFuture.supplyAsync(() -> work(1), quotes),
                 CompletableFuture.supplyAsync(run::valueAtEnd, quotes)).join());
+    }
+
+    /** A stage that the loop adds to a future is one more submit. */
+    static void futuresWithAFurtherStage(ServiceRun run) throws Exception {
+        ExecutorService quotes = run.pool("quotes");
+        run.rounds("request", 1, 1, () -> CompletableFuture.supplyAsync(() -> work(1), label("quote", quotes))
+                .thenRunAsync(() -> work(1), label("use", quotes)).join());
     }
 
     // ---- a get that comes sooner on one path
@@ -349,6 +406,27 @@ final class OrderServices {
             TimeUnit.MILLISECONDS.sleep(1);
         }
         return sum;
+    }
+
+    /** The loop submits a fifth part when the first one is done. */
+    static void pollLoopThatSubmits(ServiceRun run) throws Exception {
+        ExecutorService pages = run.pool("pages");
+        run.rounds("user", 1, 1, () -> pages.submit(label("page", () -> {
+            List<Future<Integer>> open = new ArrayList<>();
+            addParts(pages, open, PARTS);
+            boolean isFirst = true;
+            while (!open.isEmpty()) {
+                if (open.get(0).isDone()) {
+                    open.remove(0).get();
+                    if (isFirst) {
+                        addParts(pages, open, 1);
+                    }
+                    isFirst = false;
+                }
+                TimeUnit.MILLISECONDS.sleep(1);
+            }
+            return 1;
+        })).get());
     }
 
     static void pollLoopThatGivesUp(ServiceRun run) throws Exception {

@@ -15,6 +15,7 @@ import java.util.concurrent.ScheduledExecutorService;
 import java.util.concurrent.Semaphore;
 import java.util.concurrent.TimeUnit;
 import java.util.concurrent.TimeoutException;
+import java.util.concurrent.atomic.AtomicInteger;
 import sizing.junit5.PermitServices.Mails;
 
 /** Services with permits that docs/PERMITS.md does not cover and that a recording shows. */
@@ -86,7 +87,32 @@ final class PermitMisuses {
     static void releaseWithoutAcquire(ServiceRun run) throws Exception {
         Mails mails = Mails.of(run);
         mails.permits().release();
-        run.threads("client", 21, 1, () -> {
+        sendUntilEnd(run, mails, 21);
+    }
+
+    /** The job gives the permit back, and then the submitter does so once more. */
+    static void releaseInTheJobAndInTheSubmitter(ServiceRun run) throws Exception {
+        Mails mails = Mails.of(run);
+        run.threads("client", 1, 1, () -> {
+            mails.permits().acquire();
+            try {
+                mails.pool().submit(label("send", () -> {
+                    try {
+                        return work(1);
+                    } finally {
+                        mails.permits().release();
+                    }
+                })).get();
+            } finally {
+                mails.permits().release();
+            }
+        });
+        sendUntilEnd(run, mails, 21);
+    }
+
+    /** Submits this number of mails, each with a permit, which are in flight until the run ends. */
+    private static void sendUntilEnd(ServiceRun run, Mails mails, int count) throws InterruptedException {
+        run.threads("client", count, 1, () -> {
             mails.permits().acquire();
             mails.pool().execute(label("send", () -> {
                 run.awaitEnd();
@@ -249,6 +275,21 @@ final class PermitMisuses {
                 run.awaitEnd();
             })).cancel(true);
             places.release();
+        });
+    }
+
+    /** A job for each batch of rows, as {@code publishOn} submits it: the source gets none of them. */
+    static void jobForEachBatch(ServiceRun run) throws Exception {
+        ExecutorService load = run.pool("load");
+        AtomicInteger waiting = new AtomicInteger();
+        run.threads("source", 1, 3, () -> {
+            if (waiting.getAndIncrement() == 0) {
+                load.execute(label("row", () -> {
+                    do {
+                        work(1);
+                    } while (waiting.decrementAndGet() > 0);
+                }));
+            }
         });
     }
 

@@ -43,6 +43,11 @@ final class PoolServices {
         run.rounds("request", 40, 5, () -> queries.submit(task("query", 1)).get());
     }
 
+    static void fixedThreadPoolUnbounded(ServiceRun run) throws Exception {
+        ExecutorService queries = run.pool("queries", (ThreadPoolExecutor) Executors.newFixedThreadPool(16));
+        run.rounds("request", 40, 5, () -> queries.submit(task("query", 1)).get());
+    }
+
     static void fixedThreadPoolWithoutGet(ServiceRun run) throws Exception {
         ExecutorService queries = run.pool("queries");
         run.rounds("request", 2, 2, () -> queries.submit(task("query", 1)));

@@ -123,6 +123,8 @@ class ServicesTest {
                 // pools
                 new Case("spring_defaults_unbounded", "spring-defaults", PoolServices::springDefaultsUnbounded,
                         "pool tasks: queue 1000000000, plan 200"),
+                new Case("fixed_thread_pool_unbounded", "fixed-thread-pool", PoolServices::fixedThreadPoolUnbounded,
+                        "pool queries: queue 1000000000, plan 1000000"),
                 new Case("fixed_thread_pool_without_get", "fixed-thread-pool", PoolServices::fixedThreadPoolWithoutGet,
                         "round 0 of kind request " + NO_GET),
                 new Case("cached_pool", "cached-pool-replaced", PoolServices::cachedPool,
@@ -168,6 +170,11 @@ class ServicesTest {
                         "round 0 of kind place submitted row to pool load; " + NO_SUBMIT + "after submit row"),
                 new Case("import_that_overlaps", "import-window", ClientServices::importThatOverlaps,
                         "kind place: 33 at once, count is 32"),
+                new Case("import_that_is_left", "import-window", ClientServices::importThatIsLeft,
+                        "kind place: 33 at once, count is 32"),
+                new Case("import_window_with_a_get_that_throws", "import-window", ClientServices::importWindowWithAGetThatThrows,
+                        "kind place: 33 at once, count is 32"),
+                new Case("job_for_each_batch", "import-window", PermitMisuses::jobForEachBatch, "kind source: not in the plan"),
                 new Case("cancelled_place", "import-window", PermitMisuses::cancelledPlace, "job 0 of class row in pool load was cancelled"),
                 new Case("virtual_threads_timed", "virtual-threads", ClientServices::virtualThreadsTimed,
                         "round 0 of kind permit " + NO_GET),
@@ -208,20 +215,32 @@ class ServicesTest {
                         "round 0 of kind request submitted quote to pool quotes; " + NO_SUBMIT + "after submit quote"),
                 new Case("completion_service_that_is_left", "completion-service", OrderServices::completionServiceThatIsLeft,
                         "round 0 of kind request " + NO_GET),
+                new Case("completion_service_with_a_get_that_throws", "completion-service", OrderServices::completionServiceWithAGetThatThrows,
+                        "round 0 of kind request " + NO_GET + "1 of class quote in pool quotes"),
                 new Case("completion_service_with_timed_poll", "completion-service", OrderServices::completionServiceWithTimedPoll,
                         "round 0 of kind request " + NO_GET),
                 new Case("window_of_four", "window-in-a-job", OrderServices::windowOfFour,
                         "job 0 of class report in pool reports submitted section to pool sections; " + NO_SUBMIT + "after submit section"),
+                new Case("report_of_seven_topics", "window-in-a-job", OrderServices::reportOfSevenTopics,
+                        "job 0 of class report in pool reports submitted section to pool sections; " + NO_SUBMIT + "after get section"),
+                new Case("report_with_a_summary", "window-in-a-job", OrderServices::reportWithASummary,
+                        "job 0 of class report in pool reports submitted summary to pool sections as job 2, which is of no class of the plan"),
+                new Case("report_that_returns_with_an_open_section", "window-in-a-job", OrderServices::reportThatReturnsWithAnOpenSection,
+                        "job 0 of class report in pool reports " + NO_GET + "1 of class section in pool sections"),
                 new Case("window_that_is_read_at_its_end", "window-in-a-job", OrderServices::windowThatIsReadAtItsEnd,
                         "job 0 of class report in pool reports submitted section to pool sections; " + NO_SUBMIT + "after submit section"),
                 new Case("futures_that_are_left", "completion-service", OrderServices::futuresThatAreLeft,
                         "round 0 of kind request " + NO_GET),
+                new Case("futures_with_a_further_stage", "completion-service", OrderServices::futuresWithAFurtherStage,
+                        "round 0 of kind request submitted use to pool quotes as job 1, which is of no class of the plan"),
                 new Case("submits_in_another_order", "sooner-on-one-path", OrderServices::submitsInAnotherOrder,
                         "round 0 of kind request submitted stock to pool shop; " + NO_SUBMIT + "after submit price"),
                 new Case("exception_beside_an_open_price", "sooner-on-one-path", OrderServices::exceptionBesideAnOpenPrice,
                         "round 0 of kind request " + NO_GET),
                 new Case("poll_loop_that_gives_up", "poll-loop", OrderServices::pollLoopThatGivesUp,
                         "job 0 of class page in pool pages " + NO_GET),
+                new Case("poll_loop_that_submits", "poll-loop", OrderServices::pollLoopThatSubmits,
+                        "job 0 of class page in pool pages submitted part to pool pages; " + NO_SUBMIT + "after get part"),
                 new Case("hedged_try", "permits", PermitMisuses::hedgedTry, "kind client: not in the plan"),
                 new Case("retry_beside_an_open_stage", "async-joined", ChainServices::retryBesideAnOpenStage,
                         "round 0 of kind request submitted profile to pool tasks; " + NO_SUBMIT + "after get profile"),
@@ -259,6 +278,8 @@ class ServicesTest {
                         "kind pool_thread: not in the plan"),
                 new Case("release_without_acquire", "permits", PermitMisuses::releaseWithoutAcquire,
                         "kind permit: 21 at once, count is 20"),
+                new Case("release_in_the_job_and_in_the_submitter", "permits", PermitMisuses::releaseInTheJobAndInTheSubmitter,
+                        "kind permit: 21 at once, count is 20"),
                 new Case("submit_without_a_permit", "permits", PermitMisuses::submitWithoutAPermit, "kind client: not in the plan"),
                 new Case("submit_after_the_release", "permits", PermitMisuses::submitAfterTheRelease,
                         "kind pool_thread: not in the plan"),
@@ -283,10 +304,8 @@ class ServicesTest {
         return recording;
     }
 
-    /** Returns the plan of this name in examples/, or otherwise in the resources of the tests. */
     private static Path planOf(Case one) {
-        Path example = ROOT.resolve("examples").resolve(one.plan + ".toml");
-        return Files.exists(example) ? example : Path.of("src", "test", "resources", one.plan + ".toml");
+        return ROOT.resolve("examples").resolve(one.plan + ".toml");
     }
 
     /** Compares with the program, or without one with the second implementation. */
