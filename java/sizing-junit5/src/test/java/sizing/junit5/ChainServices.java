@@ -4,6 +4,7 @@ import static sizing.Recorder.label;
 import static sizing.junit5.ServiceRun.chance;
 import static sizing.junit5.ServiceRun.work;
 
+import java.util.Arrays;
 import java.util.concurrent.CancellationException;
 import java.util.concurrent.CompletableFuture;
 import java.util.concurrent.CompletionException;
@@ -166,6 +167,19 @@ final class ChainServices {
             }
             CompletableFuture<Void> second = CompletableFuture.runAsync(() -> work(1), load).thenRunAsync(() -> work(1), render);
             return CompletableFuture.allOf(first, second).join();
+        })).get());
+    }
+
+    static void threeChainsInAJob(ServiceRun run) throws Exception {
+        ExecutorService web = run.pool("web");
+        ExecutorService io = run.pool("io");
+        CountDownLatch submitted = new CountDownLatch(1);
+        run.rounds("user", 1, 1, () -> web.submit(label("page", () -> {
+            CompletableFuture<?>[] chains = new CompletableFuture<?>[3];
+            Arrays.setAll(chains, number -> CompletableFuture.runAsync(() -> run.await(submitted), label("load", io))
+                    .thenRunAsync(() -> work(1), label("render", io)));
+            submitted.countDown();
+            return CompletableFuture.allOf(chains).join();
         })).get());
     }
 

@@ -263,6 +263,8 @@ class ServicesTest {
                 new Case("chain_with_a_stage_beside", "future-chain", ChainServices::chainWithAStageBeside, "kind chain"),
                 new Case("chain_with_a_submit_in_no_pool", "future-chain", ChainServices::chainWithASubmitInNoPool,
                         "kind pool_thread: not in the plan"),
+                new Case("three_chains_in_a_job", "two-chains-in-a-job", ChainServices::threeChainsInAJob,
+                        "job 0 of class page in pool web submitted load to pool io; " + NO_SUBMIT + "after submit load"),
                 new Case("composed_stage_that_is_dropped", "future-chain", ChainServices::composedStageThatIsDropped,
                         "round 0 of kind chain " + NO_GET),
                 // permits
