@@ -103,6 +103,7 @@ checks: program
 	python3 checks/dist.py
 	python3 checks/fresh_system.py
 	python3 checks/java/check.py
+	python3 checks/java/jars.py
 
 # Builds and tests the Java modules with Maven, offline, from Debian's packages: about a minute. java/README.md names them.
 java:
