@@ -136,7 +136,9 @@ def cases_of_certificates(program, folder):
     occupied = b"%s exists and is not a certificate, so it was not changed: name another file for --certificate\n"
     for what, before, is_kept in (
         ("its own plan", plan, True), ("a recording", b"recording 1\n", True), ("a blank", b" {}", True),
-        ("nothing", None, False), ("an empty file", b"", False), ("an older certificate", b'{"version":1}\n', False),
+        ("another JSON object", b'{"name": "p", "version": 1, "pools": []}\n', True),
+        ("nothing", None, False), ("an empty file", b"", False),
+        ("an older certificate", b'{"version": 1, "pools": [], "ranks": {"levels": [], "pools": [], "reach": []}}\n', False),
     ):
         path = folder / f"certificate-{what.replace(' ', '-')}"
         if before is not None:
