@@ -1,7 +1,12 @@
 //! The steps of a path, each with its job.
 
 use conformance::PathStep;
+use job_bodies::MAX_ACTIONS;
 use std::alloc::{AllocError, Global};
+
+/// The maximum length of a path that a body can cover: each submit of the path is one of the body,
+/// and each get of the path names a submit of its own.
+const MAX_STEPS: usize = 2 * MAX_ACTIONS;
 
 /// A job of a path, without its index. A body does not distinguish equal jobs.
 #[derive(Clone, Copy, PartialEq, Eq)]
@@ -22,7 +27,8 @@ pub(crate) enum JobStep {
 /// belong to. If `marks_gets`, the body has a get of a job only if the path has one, and otherwise
 /// it may have a get of each job.
 ///
-/// Returns `None` if the job of a submit cannot belong to any class, or if a get names no submit.
+/// Returns `None` if the job of a submit cannot belong to any class, if a get names no submit, or if
+/// no body can cover the path because it is too long.
 ///
 /// # Errors
 ///
@@ -32,6 +38,9 @@ pub(crate) fn job_steps(
     path: &[PathStep],
     marks_gets: bool,
 ) -> Result<Option<Vec<JobStep>>, AllocError> {
+    if path.len() > MAX_STEPS {
+        return Ok(None);
+    }
     let mut steps = Vec::new(alloc);
     for place in 0..path.len() {
         match job_step(path, place, marks_gets) {
