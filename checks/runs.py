@@ -37,7 +37,7 @@ EVENTS = [100, 1_000, 10_000, 30_000]
 UNITS = [1, 2, 7, 1_000_000]
 MOST_WRONG = 3
 SECONDS = 10
-TOO_LARGE = (2, "fault 40 RunTooLarge\n", "")
+TOO_LARGE = (2, f"fault 40 RunTooLarge: more than {MOST_EVENTS} events\n", "")
 
 
 def main():
