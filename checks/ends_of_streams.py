@@ -40,7 +40,10 @@ SECONDS = 20
 NOT_WRITTEN = (3, b"", b"fault 61 WriteFailed\n")
 NOT_READ = (3, b"", b"fault 60 ReadFailed\n")
 TWICE = (2, b"", b"`-` names standard input for both texts: name a file for one of them\n")
-NO_COMMAND = (2, b"", b"no command\n")
+NO_COMMAND = (
+    2, b"",
+    b"no command\n\nUsage: sizing <COMMAND>\n\nAsk about a plan with `sizing ask PLAN`. `sizing --help` lists the commands\n",
+)
 NOT_UTF_8 = (2, b"", b"the arguments must be UTF-8\n")
 
 

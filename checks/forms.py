@@ -233,11 +233,18 @@ def differences_of_annotations(value, github, sarif):
         known is not None and known != mine for each, want in zip(commands, wanted) for mine, known in zip(each, want)
     ):
         yield f"the workflow commands are {commands}, and must be {wanted}"
-    run = json.loads(sarif)["runs"][0]
+    log = json.loads(sarif)
+    (run,) = log["runs"]
+    driver = run["tool"]["driver"]
+    # what SARIF 2.1.0 requires of a log, a run, a tool and a rule
+    if log["version"] != "2.1.0" or not driver["name"] or not all(rule["id"] for rule in driver["rules"]):
+        yield f"the log lacks its version, or the name of its tool or of a rule: {sarif!r}"
     results = []
     for result in run["results"]:
         physical = result["locations"][0]["physicalLocation"]
         region = physical.get("region", {})
+        if not result["message"]["text"] or any(region[key] < 1 for key in region):
+            yield f"a result has no text, or a place below 1: {result}"
         level = "notice" if result["level"] == "note" else result["level"]
         results.append((level, region.get("startLine"), region.get("startColumn"), result["message"]["text"]))
         uri = physical["artifactLocation"]["uri"]
@@ -245,7 +252,7 @@ def differences_of_annotations(value, github, sarif):
             yield f"the log is for {uri}"
     if results != commands:
         yield f"the log has the results {results}, and the workflow commands {commands}"
-    rules = [rule["id"] for rule in run["tool"]["driver"]["rules"]]
+    rules = [rule["id"] for rule in driver["rules"]]
     if len(set(rules)) != len(rules) or set(rules) != {result["ruleId"] for result in run["results"]}:
         yield f"the log has the rules {rules}"
 

@@ -121,17 +121,21 @@ fn unread_words(rt: &(impl Eprint + Files), kind: io::ErrorKind) -> ExitCode {
 /// Reports an error and returns its exit status. If standard error fails too, only the status
 /// reports it.
 fn ended(rt: &(impl Eprint + Files), fault: &CliError<'_>) -> ExitCode {
-    let _ = tell(rt, fault);
+    let _ = print_error(rt, fault);
     ExitCode::from(fault.code())
 }
 
-fn tell(rt: &(impl Eprint + Files), fault: &CliError<'_>) -> io::Result<()> {
+fn print_error(rt: &(impl Eprint + Files), fault: &CliError<'_>) -> io::Result<()> {
     match fault {
         CliError::Words(error) if error.kind() == ErrorKind::OutOfMemory => {
             eprintln!(rt; "{}", ServeFault::from(AllocError))
         }
         CliError::Words(error) => eprint!(rt; "{error}"),
-        CliError::NoCommand => eprintln!(rt; "no command"),
+        CliError::NoCommand => {
+            eprintln!(rt;
+                "no command\n\nUsage: sizing <COMMAND>\n\nAsk about a plan with `sizing ask PLAN`. `sizing --help` lists the commands"
+            )
+        }
         CliError::InputTwice => {
             eprintln!(rt; "`-` names standard input for both texts: name a file for one of them")
         }

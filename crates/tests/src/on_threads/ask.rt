@@ -41,6 +41,10 @@ pub fn asked<R: Threads + Wait + Sync>(
         "ask json" => output_of(rt, alloc, question(plan, false, Form::Json), input),
         "ask json strict" => output_of(rt, alloc, question(plan, true, Form::Json), input),
         "ask json with" => output_of(rt, alloc, question(both, false, Form::Json), input),
+        "ask html" => {
+            let command = question(plan, false, Form::Html);
+            Ended::of_input(rt, alloc, command, input)?.object_in_page(alloc)
+        }
         "ask dot" => output_of(rt, alloc, question(plan, false, Form::Dot), input),
         "ask github" => output_of(rt, alloc, question(plan, false, Form::Github), input),
         "ask github with" => output_of(rt, alloc, question(both, false, Form::Github), input),

@@ -76,10 +76,26 @@ impl Ended {
         Ok(text)
     }
 
+    /// Returns the object in the page that was written, and how the run ended.
+    pub fn object_in_page(&self, alloc: Global) -> Result<String, AllocError> {
+        let written = String::from_utf8_lossy(alloc, &self.written)?;
+        let mut text = String::new(alloc);
+        writeln!(text, "{}", element(written.as_str()).unwrap_or("no object"))?;
+        self.push_outcome(&mut text)?;
+        Ok(text)
+    }
+
     fn push_outcome(&self, text: &mut String) -> Result<(), AllocError> {
         match self.outcome {
             Ok(status) => write!(text, "status {}", status.code()),
             Err(fault) => write!(text, "{fault}"),
         }
     }
+}
+
+// Returns the content of the page's script element that has the answer.
+fn element(page: &str) -> Option<&str> {
+    let (_, after) = page.split_once("<script id=\"answer\" type=\"application/json\">")?;
+    let (object, _) = after.split_once("</script>")?;
+    Some(object)
 }
