@@ -10,6 +10,7 @@ Exit status: 0 if all cases end as they should, 1 if one does not, 2 if there is
 """
 
 import os
+import re
 import subprocess
 import sys
 import tempfile
@@ -80,9 +81,19 @@ def cases(program, folder):
     yield from cases_of_misplaced_files(program, folder)
     given = folder / "check"
     yield "no command", lambda: ends([program], given), NO_COMMAND
+    yield "the version", lambda: version_of(program, given), (0, True, b"")
+    directory = [program, "ask", "--certificate", folder, EXAMPLES / "two-clients.toml"]
+    complaint = b"%s is a directory: --certificate needs the name of a file\n" % bytes(folder)
+    yield "a directory as the certificate's file", lambda: ends(directory, given), (2, b"", complaint)
     yield "a bad word", lambda: ends([program, "chek"], given), None
     yield "help", lambda: ends([program, "--help"], given), None
     yield "words that are not UTF-8", lambda: ends([program, b"check\xff"], given), NOT_UTF_8
+
+
+def version_of(program, given):
+    """Runs `--version`. Returns the status, whether the output is a version with a commit, and standard error."""
+    status, printed, complained = ends([program, "--version"], given)
+    return status, bool(re.fullmatch(rb"sizing \d+\.\d+\.\d+ \([0-9a-f]{12}\)\n", printed)), complained
 
 
 def cases_of_files(title, words, parts, folder):
