@@ -75,12 +75,14 @@ def is_there(path):
 
 
 def leads_somewhere(page, path, heading):
-    """Returns whether a link of this page leads to a page, and to a heading of it."""
+    """Returns whether a link of this page leads to a file, and to a heading of it if the link names one."""
     target = page.parent / path if path else page
     if path.startswith(("http:", "https:")) or not target.is_file():
         return path.startswith("http")
+    if not heading:
+        return True
     headings = re.findall(r"(?m)^#+ (.*)$", target.read_text(encoding="utf-8"))
-    return not heading or heading in [re.sub(r"[^\w -]", "", line.lower()).replace(" ", "-") for line in headings]
+    return heading in [re.sub(r"[^\w -]", "", line.lower()).replace(" ", "-") for line in headings]
 
 
 def main():
