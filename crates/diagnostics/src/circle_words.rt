@@ -15,7 +15,7 @@ pub(crate) fn words_of_circle(
     plan: &Plan,
     class: usize,
 ) -> Result<String, AllocError>
-    ensures { IfOk result (λ words. spec.TellsCircle plan.now class (string_bytes words)) }
+    ensures { IfOk result (λ words. spec.ReportsCircle plan.now class (string_bytes words)) }
 {
     let between = classes_between(alloc, plan, class)?;
     let circle = checked_circle(plan, class, &between);

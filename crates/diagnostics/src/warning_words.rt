@@ -21,7 +21,7 @@ pub(crate) fn words_of(
     plan: &Plan,
     lint: Lint,
 ) -> Result<String, AllocError>
-    ensures { IfOk result (λ words. spec.TellsLint plan.now lint (string_bytes words)) }
+    ensures { IfOk result (λ words. spec.AreWordsFor plan.now lint (string_bytes words)) }
 {
     match lint {
         Lint::SafeAtCore => words_of_core(alloc, plan),
