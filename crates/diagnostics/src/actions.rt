@@ -150,9 +150,15 @@ fn is_spaced(text: &str) -> bool {
     !bytes.is_empty() && last == b' '
 }
 
-/// Returns whether the text looks like several actions: it has a separator and more than two words.
+/// Returns whether the text looks like several actions: it has more than two words, and a separator
+/// or a second verb.
 fn has_several_actions(words: Words<'_>, text: &str) -> bool {
-    words.count > 2 && has_separator(text)
+    words.count > 2 && (has_separator(text) || has_two_verbs(words, text))
+}
+
+fn has_two_verbs(words: Words<'_>, text: &str) -> bool {
+    matches!(words.verb, "work" | "submit" | "get")
+        && (text.contains(" work ") || text.contains(" submit ") || text.contains(" get "))
 }
 
 fn work_error(alloc: Global, text: &str) -> Result<String, AllocError> {

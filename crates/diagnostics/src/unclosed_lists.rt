@@ -54,7 +54,8 @@ fn is_key(key: &str) -> bool {
             .all(|byte| byte.is_ascii_alphanumeric() || byte == b'_')
 }
 
-/// Returns the list that is open after this line.
+/// Returns the list that is open after this line. Outside of a list, an equals sign in a comment does
+/// not count.
 fn after_line(open: OpenList, number: usize, line: &str) -> OpenList {
     if open.depth > 0 {
         return OpenList {
@@ -63,11 +64,11 @@ fn after_line(open: OpenList, number: usize, line: &str) -> OpenList {
         };
     }
     match line.split_once('=') {
-        Some((_, value)) => OpenList {
+        Some((key, value)) if !key.contains('#') => OpenList {
             start: number,
             depth: depth_after(0, value),
         },
-        None => open,
+        _ => open,
     }
 }
 
