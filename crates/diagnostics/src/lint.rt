@@ -4,7 +4,7 @@ use job_bodies::Part;
 
 /// A lint: a part of a valid plan that is probably a mistake. Pools, classes, client kinds and
 /// actions are numbered from 0.
-#[derive(Clone, Copy, PartialEq, Eq)]
+#[derive(Clone, Copy)]
 pub enum Lint {
     /// A certificate accepts the plan with each maximum lowered to the core size of its pool. The
     /// caller that searched for the certificate provides this fact.
