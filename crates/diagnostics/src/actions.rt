@@ -215,7 +215,7 @@ fn submit_form(alloc: Global, class: &str) -> Result<String, AllocError> {
     format!(in alloc; "write submit {class}, or submit {class} as NAME if its result is needed")
 }
 
-/// Returns the message for a text that begins with another word than those of actions.
+/// Returns the message for a text whose first word is not the verb of an action.
 fn verb_error(alloc: Global, verb: &str, first: &str) -> Result<String, AllocError> {
     match verb {
         "execute" | "invoke" | "start" | "schedule" => submit_form(alloc, first),

@@ -239,7 +239,7 @@ fn body(
     Ok(())
 }
 
-/// Reports an element of a body whose type is `found`, and not that of a string.
+/// Reports an element of a body that has the type `found` and is not a string.
 fn wrong_element(
     collector: &mut FaultCollector,
     entry: &PlacedEntry<'_>,

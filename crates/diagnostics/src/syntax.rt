@@ -204,7 +204,7 @@ fn value_hint(line: &str) -> Option<&'static str> {
     }
 }
 
-/// Returns whether the value is a word without quotes that is not TOML.
+/// Returns whether the value is a word without quotes, which is not valid TOML.
 fn is_word(value: &str) -> bool {
     let word = value.split('#').next().unwrap_or("").trim();
     word.bytes().any(|byte| byte.is_ascii_alphabetic())

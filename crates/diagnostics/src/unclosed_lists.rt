@@ -9,9 +9,9 @@ struct OpenList {
     depth: usize,
 }
 
-/// Returns the line at which a list begins that has no `]`: in it there is a line of another entry
-/// or of another key, or the end of the text. `error` is the line of the parser's error, which must
-/// be in that part of the text.
+/// Returns the line at which the first list without a `]` begins. Such a list ends at the next
+/// header or key, or at the end of the text. Returns `None` if the line `error`, where the parser
+/// found an error, is not between the beginning and the end of this list.
 pub(crate) fn unclosed_list(text: &str, error: usize) -> Option<usize> {
     let mut open = OpenList { start: 0, depth: 0 };
     let mut number = 0usize;

@@ -131,8 +131,8 @@ fn declared_warnings(
     Ok(warnings)
 }
 
-/// Returns how many places each pool needs, by the certificate of the plan or of the sizes that were
-/// found. The list is empty if there is none.
+/// Returns how many queue places each pool needs. The certificate of the plan, or of the sizes that
+/// were found, shows the number. The list is empty if there is no certificate.
 fn needed_of(
     alloc: Global,
     plan: &Plan,
@@ -336,8 +336,8 @@ fn certificate_text(alloc: Global, finding: &PlanFinding) -> Result<Option<Vec<u
     }
 }
 
-/// Returns the text of a certificate with a newline at its end, unless that is too long to be read
-/// back.
+/// Returns the text of a certificate with a newline at its end, or `None` if that is too long to be
+/// read back.
 fn readable_text(alloc: Global, cert: &Cert) -> Result<Option<Vec<u8>>, AllocError>
     ensures { IfOk result (λ left.
         (plan : PlanValue)
