@@ -1,4 +1,4 @@
-//! The cause why no sizes were found as JSON.
+//! The cause for which no sizes were found, as JSON.
 
 ghost use Rattle.std.specs.Prelude.{◌≡◌, IfOk, string_bytes};
 ghost use Rattle.serde_json.specs.Data.{null, string};

@@ -73,7 +73,8 @@ fn taken_name(plan: &Plan, taken: Option<usize>) -> &str
     }
 }
 
-/// Appends what an actor did that submitted a job of one class or took a job of another.
+/// Appends what an actor did. `submitted` is the class of the job that it submitted, and `taken` that
+/// of the job that it took.
 fn push_act(
     text: &mut String,
     plan: &Plan,

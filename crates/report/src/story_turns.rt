@@ -57,8 +57,8 @@ fn push_turns(
     push_turns_from(turns, alloc, plan, turn, rest, steps.len())
 }
 
-/// Appends this turn, with the steps that continue it, and the turns after it. `all` is the number
-/// of all steps.
+/// Appends this turn, with those of the steps that continue it, and the turns after it. `all` is the
+/// number of all steps of the story.
 fn push_turns_from(
     turns: &mut Vec<Turn>,
     alloc: Global,
@@ -79,8 +79,8 @@ fn push_turns_from(
     Ok(())
 }
 
-/// Returns the turn after one more step: the given turn with this step, or, after appending the
-/// given turn, a new one.
+/// Returns the open turn after one more step. If the step continues the given turn, this is that turn
+/// with the step. Otherwise appends the given turn, and returns the one that the step begins.
 fn after_step(
     turns: &mut Vec<Turn>,
     alloc: Global,
@@ -107,7 +107,8 @@ fn after_step(
     }
 }
 
-/// Returns the turn that the step begins, after this number of the steps, which are `all`.
+/// Returns the turn that the step begins. There are `all` steps, and `before` of them precede this
+/// one.
 fn new_turn(
     alloc: Global,
     plan: &Plan,
