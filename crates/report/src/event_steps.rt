@@ -14,7 +14,7 @@ use job_bodies::Plan;
 use std::alloc::{AllocError, Global};
 
 /// The actor of an event.
-#[derive(Clone, Copy, PartialEq, Eq)]
+#[derive(Clone, Copy)]
 pub(crate) enum Actor {
     /// The client with the second number, which is of the client kind with the first number.
     Client(usize, usize),

@@ -22,7 +22,8 @@ pub(crate) fn push_actor(text: &mut String, plan: &Plan, actor: Actor) -> Result
     }
 }
 
-fn push_named(text: &mut String, words: &str, name: &str) -> Result<(), AllocError>
+/// Appends the words, and then the name.
+pub(crate) fn push_named(text: &mut String, words: &str, name: &str) -> Result<(), AllocError>
     ensures { Pushes result text.old text.new (words.now ++ name.now) }
 {
     text.push_str(words)?;
