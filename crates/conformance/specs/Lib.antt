@@ -1,5 +1,6 @@
 pub mod PathStep
 pub mod Path
+pub mod LaggingRun
 pub mod BodyGets
 pub mod Candidate
 pub mod WalkState
