@@ -1,4 +1,4 @@
--- A walk of a path and a body, and a state of the machine whose actor lags behind it.
+-- A walk of a path and a body, and a state of the machine in which the actor lags.
 use Rattle.std.proofs.Common.{◌≡◌, ◌≢◌, ℕ, suc, ◌<◌, ◌≤◌, ◌⊎◌, inl, inr, ⊎_elim, Bool, true, false, ◌&&◌, not, eqb, List, length, get_or, map, slice_get, Option, Some, None, refl, sym, ap, ◌∙◌, arith}
 use Rattle.std.specs.List.{list_any}
 use Rattle.std.proofs.lemmas.Bool.{false≢true, and_parts, and_from, eqb-true, eq-eqb, not-true}

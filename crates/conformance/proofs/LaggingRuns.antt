@@ -42,7 +42,7 @@ use Rattle.conformance.proofs.OpenCounts.{within_without}
 use Rattle.conformance.proofs.Undisturbed.{KeepsJobs, at_not_claimed, Stands, stands_moved, stands_pushed}
 use Rattle.conformance.proofs.OthersAct.{IsQuiet, IsUndisturbed, same_machine, choice_other}
 use Rattle.conformance.proofs.Lagging.{HasSlot, IsOwn, Lags, slot_kept, own_kept, undisturbed_lags, others_lag}
-use Rattle.conformance.proofs.LaggingSteps.{submission_of_actor, slot_new, keeps_submit, HasCome, comes}
+use Rattle.conformance.proofs.LaggingSteps.{submission_of_actor, slot_new, keeps_submit, HasReached, reaches}
 
 -- ---- the end of a submit
 -- The pool has taken the job: a thread runs it, or it is queued. The call of the actor is over.
@@ -203,9 +203,9 @@ module _ (plan : Plan) (cert : Cert) (a : Parent) (body : List Action) (is_order
     slots = lags.slots;
   }
 
-  -- The actor can come to the index of the walk.
-  can_come : (jobs : List MachineJob) (m q : ℕ) (s : JavaState) → Lags plan cert a body jobs m q s → IsQuiet a s → HasCome plan cert a body is_ordered laws jobs m q s
-  can_come jobs m q s lags quiet = comes plan cert a body is_ordered laws (q - m) jobs m q s (let le = lags.behind in omega (arith, le)) lags quiet
+  -- The actor can reach the index of the walk.
+  can_reach : (jobs : List MachineJob) (m q : ℕ) (s : JavaState) → Lags plan cert a body jobs m q s → IsQuiet a s → HasReached plan cert a body is_ordered laws jobs m q s
+  can_reach jobs m q s lags quiet = reaches plan cert a body is_ordered laws (q - m) jobs m q s (let le = lags.behind in omega (arith, le)) lags quiet
 
   module _ (kind : ActorKind) (path_state : PathState) (path : List PathStep) where
     -- The machine can follow the rest of the path from each state in the relation with this place of the walk.
@@ -220,17 +220,17 @@ module _ (plan : Plan) (cert : Cert) (a : Parent) (body : List Action) (is_order
     follow_submit (step.Gets job) steps jobs opens m q p k s same lags quiet e of_class within next = absurd (false≢true of_class)
     follow_submit (step.Submits classes) steps jobs opens m q p k s same lags quiet e of_class within next = λ s' others.
         let now = others_lag plan cert a body is_ordered laws jobs m q others lags quiet in
-        let come = can_come jobs m q s' now.0 now.1 in
+        let reach = can_reach jobs m q s' now.0 now.1 in
         record {
           index = q;
           class = k;
-          comes = record { position = m; stands = now.0.stands; after = come.after; passes = come.passes };
+          reaches = record { position = m; stands = now.0.stands; after = reach.after; passes = reach.passes };
           submit = e;
           of_class = of_class;
           onward = λ number s'' submitted.
               let new : MachineJob = record { job = p; class = k; number = number } in
               let opened : map as_open (jobs ++ new ∷ []) ≡ opens ++ record { job = p; class = k } ∷ [] = push-as jobs new ∙ ap (λ (xs : List OpenJob). xs ++ as_open new ∷ []) same in
-              let after = submitted_lags jobs p q k submitted come.lags e (subst (λ (xs : List OpenJob). IsWithin xs body (suc q)) (sym opened) within) in
+              let after = submitted_lags jobs p q k submitted reach.lags e (subst (λ (xs : List OpenJob). IsWithin xs body (suc q)) (sym opened) within) in
               next (jobs ++ new ∷ []) (suc q) s'' opened after.0 after.1;
         }
 
@@ -280,8 +280,8 @@ module _ (plan : Plan) (cert : Cert) (a : Parent) (body : List Action) (is_order
       subst (λ (xs : List PathStep). Follows plan a kind path_state.Whole body (length path) jobs xs s) (sym (drop_end path))
       (λ s' others.
       let now = others_lag plan cert a body is_ordered laws jobs m (length body) others lags quiet in
-      let come = can_come jobs m (length body) s' now.0 now.1 in
-      record { position = m; stands = now.0.stands; after = come.after; passes = come.passes })
+      let reach = can_reach jobs m (length body) s' now.0 now.1 in
+      record { position = m; stands = now.0.stands; after = reach.after; passes = reach.passes })
 
   end_prefix : (kind : ActorKind) (path : List PathStep) (jobs : List MachineJob) (s : JavaState) → Follows plan a kind path_state.Prefix body (length path) jobs (drop (length path) path) s
   end_prefix kind path jobs s = subst (λ (xs : List PathStep). Follows plan a kind path_state.Prefix body (length path) jobs xs s) (sym (drop_end path)) tt

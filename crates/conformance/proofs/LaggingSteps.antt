@@ -278,19 +278,19 @@ module _ (plan : Plan) (cert : Cert) (a : Parent) (body : List Action) (ordered 
       let slot = lags.slots t (get_is_open plan body m t (valid_point plan s.machine a body m ordered lags.stands) e) in
       pass_get (is_open slot.number jobs) jobs m q t s lags quiet lt e slot refl
 
-  -- The actor has come to the index of the walk.
-  pub record HasCome (jobs : List MachineJob) (m q : ℕ) (s : JavaState) : Type 0 where
+  -- The actor has reached the index of the walk.
+  pub record HasReached (jobs : List MachineJob) (m q : ℕ) (s : JavaState) : Type 0 where
     pub after : JavaState
     pub lags : Lags plan cert a body jobs q q after
     pub quiet : IsQuiet a after
     pub passes : Passes plan a body jobs m s q after
 
-  pub comes : (more : ℕ) (jobs : List MachineJob) (m q : ℕ) (s : JavaState) → q ≡ m + more → Lags plan cert a body jobs m q s → IsQuiet a s → HasCome jobs m q s
-  comes zero jobs m q s all lags quiet =
+  pub reaches : (more : ℕ) (jobs : List MachineJob) (m q : ℕ) (s : JavaState) → q ≡ m + more → Lags plan cert a body jobs m q s → IsQuiet a s → HasReached jobs m q s
+  reaches zero jobs m q s all lags quiet =
       let same : m ≡ q = omega (arith, all) in
-      subst (λ (n : ℕ). HasCome jobs n q s) (sym same) (record { after = s; lags = subst (λ (n : ℕ). Lags plan cert a body jobs n q s) same lags; quiet = quiet; passes = arrives })
-  comes (suc more) jobs m q s all lags quiet =
+      subst (λ (n : ℕ). HasReached jobs n q s) (sym same) (record { after = s; lags = subst (λ (n : ℕ). Lags plan cert a body jobs n q s) same lags; quiet = quiet; passes = arrives })
+  reaches (suc more) jobs m q s all lags quiet =
       let lt : m < q = omega (arith, all) in
       let passed = pass_if (slice_get body m) jobs m q s lags quiet lt refl in
-      let rest = comes more jobs (suc m) q passed.after (omega (arith, all)) passed.lags passed.quiet in
+      let rest = reaches more jobs (suc m) q passed.after (omega (arith, all)) passed.lags passed.quiet in
       record { after = rest.after; lags = rest.lags; quiet = rest.quiet; passes = passed.passes q rest.after rest.passes }

@@ -14,6 +14,8 @@ pub mod OthersAct
 pub mod Lagging
 pub mod LaggingSteps
 pub mod LaggingRuns
+pub mod ReachableRuns
+pub mod FollowedActors
 mod WorkedPaths
 pub mod Names
 pub mod OneByOne

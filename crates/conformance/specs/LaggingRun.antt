@@ -1,6 +1,5 @@
--- Runs of the machine that follow the path of an actor. Such a run lags behind the path: the machine's actor submits a job when
--- the path does. Directly before that it passes the actions of its body up to this submit. So each get of the machine comes no
--- sooner than the path's get of the same job.
+-- Runs of the machine that follow the path of an actor. In such a run the machine's actor lags: it submits a job when the path
+-- does, and passes the actions of its body before this submit directly before it. So it gets each job no sooner than the path.
 use Rattle.std.specs.Prelude.{◌≡◌, ◌≢◌, ℕ, suc, ◌==◌, Bool, true, false, if◌then◌else◌, IsTrue, List, [], ◌∷◌, ◌++◌, Option, None, Some, ⊤, length, slice_get}
 use Rattle.std.specs.List.{list_any}
 use Rattle.job_bodies.specs.declared.action.Action.{Action}
@@ -88,15 +87,15 @@ pub data Passes (plan : Plan) (actor : Parent) (body : List Action) (jobs : List
       → Passes plan actor body jobs i next j s'
       → Passes plan actor body jobs i s j s'
 
--- The actor can come to this index of its body by its own choices, without a submit.
-pub record CanCome (plan : Plan) (actor : Parent) (body : List Action) (jobs : List MachineJob) (index : ℕ) (s : JavaState) : Type 0 where
+-- The actor can reach this index of its body by its own choices, without a submit.
+pub record CanReach (plan : Plan) (actor : Parent) (body : List Action) (jobs : List MachineJob) (index : ℕ) (s : JavaState) : Type 0 where
   pub position : ℕ
   pub stands : point plan s.machine actor ≡ Some (record { body = body; position = position })
   pub after : JavaState
   pub passes : Passes plan actor body jobs position s index after
 
 -- The actor submits one job, which gets this number. A submit is one or more events of the actor. Only the last of them changes
--- the machine. Others may act in between.
+-- the machine. Others may act in between. (That the pool refuses the job is not covered: in an accepted plan none does.)
 pub data IsSubmitted (plan : Plan) (actor : Parent) : JavaState → ℕ → JavaState → Type 0 where
   others_act : {s next s' : JavaState} {number : ℕ} (x : Choice) → is_choice_of actor x ≡ false
       → choice_step plan s x ≡ Some next
@@ -111,17 +110,17 @@ pub data IsSubmitted (plan : Plan) (actor : Parent) : JavaState → ℕ → Java
       → IsSubmitted plan actor s (length s.machine.jobs) s'
 
 -- ---- steps of the path
--- The path submits a job: the actor can come to a submit of a class of this job. Whenever the submit ends, the next holds.
+-- The path submits a job: the actor can reach a submit of a class of this job. Once the pool has taken the job, `next` holds.
 pub record CanSubmit (plan : Plan) (actor : Parent) (body : List Action) (jobs : List MachineJob) (one : PathStep) (s : JavaState) (next : ℕ → ℕ → JavaState → Type 0) : Type 0 where
   pub index : ℕ
   pub class : ℕ
-  pub comes : CanCome plan actor body jobs index s
+  pub reaches : CanReach plan actor body jobs index s
   pub submit : slice_get body index ≡ Some (action.Submit class)
   pub of_class : submits one class ≡ true
-  pub onward : (number : ℕ) (s' : JavaState) → IsSubmitted plan actor comes.after number s' → next class number s'
+  pub onward : (number : ℕ) (s' : JavaState) → IsSubmitted plan actor reaches.after number s' → next class number s'
 
 -- The path gets a job that is open: the actor submitted it, and has not got it in the machine. If the actor is a job, its body
--- has a get of a job of that class at its position or later. Once the job is done, the next holds, without a choice of the actor.
+-- has a get of a job of that class at its position or later. Once the job is done, `next` holds, without a choice of the actor.
 pub record AwaitsJob (plan : Plan) (actor : Parent) (kind : ActorKind) (body : List Action) (jobs : List MachineJob) (job : ℕ) (s : JavaState) (next : Type 0) : Type 0 where
   pub one : MachineJob
   pub is_one : open_job job jobs ≡ Some one
@@ -134,25 +133,39 @@ pub record AwaitsJob (plan : Plan) (actor : Parent) (kind : ActorKind) (body : L
   pub onward : (job_at s.machine one.number).stage ≡ Stage.Done → next
 
 -- From this state on, the machine can follow the steps of a path, whatever others do in between. The index is that of the first
--- of these steps in the path. At the end of a whole path, the actor can come to the end of its body.
+-- of these steps in the path. At the end of a whole path, the actor can reach the end of its body.
 abbrev pub Follows : Plan → Parent → ActorKind → PathState → List Action → ℕ → List MachineJob → List PathStep → JavaState → Type 0
 Follows plan actor kind path_state.Prefix body index jobs [] s = ⊤
-Follows plan actor kind path_state.Whole body index jobs [] s = (s' : JavaState) → OthersAct plan actor s s' → CanCome plan actor body jobs (length body) s'
-Follows plan actor kind path_state body index jobs (step.Submits classes ∷ steps) s = (s' : JavaState) → OthersAct plan actor s s'
+Follows plan actor kind path_state.Whole body index jobs [] s = (s' : JavaState) → OthersAct plan actor s s' → CanReach plan actor body jobs (length body) s'
+Follows plan actor kind state body index jobs (step.Submits classes ∷ steps) s = (s' : JavaState) → OthersAct plan actor s s'
     → CanSubmit plan actor body jobs (step.Submits classes) s'
-    (λ class number after. Follows plan actor kind path_state body (suc index) (jobs ++ record { job = index; class = class; number = number } ∷ []) steps after)
-Follows plan actor kind path_state body index jobs (step.Gets job ∷ steps) s = (s' : JavaState) → OthersAct plan actor s s'
-    → AwaitsJob plan actor kind body jobs job s' (Follows plan actor kind path_state body (suc index) (without_job job jobs) steps s')
+    (λ class number after. Follows plan actor kind state body (suc index) (jobs ++ record { job = index; class = class; number = number } ∷ []) steps after)
+Follows plan actor kind state body index jobs (step.Gets job ∷ steps) s = (s' : JavaState) → OthersAct plan actor s s'
+    → AwaitsJob plan actor kind body jobs job s' (Follows plan actor kind state body (suc index) (without_job job jobs) steps s')
 
--- ---- the law
--- The actor is at the begin of the body, and no call of it is in progress.
-pub record Begins (plan : Plan) (actor : Parent) (body : List Action) (s : JavaState) : Type 0 where
+-- ---- the laws
+-- The actor is at the start of the body, and no call of it is in progress.
+pub record IsAtStart (plan : Plan) (actor : Parent) (body : List Action) (s : JavaState) : Type 0 where
   pub stands : point plan s.machine actor ≡ Some (record { body = body; position = 0 })
   pub not_offering : (p : ℕ) → is_calling s.offering actor p ≡ false
   pub not_requesting : (p : ℕ) → is_calling s.requesting actor p ≡ false
 
 -- If a certificate accepts a well-formed plan, the machine can follow each path that matches the body of an actor, from each
--- reachable state in which the actor begins.
+-- reachable state in which the actor is at the start of its body.
 abbrev pub PathsAreFollowed : Type 0
-PathsAreFollowed = (plan : Plan) (cert : Cert) (actor : Parent) (kind : ActorKind) (path_state : PathState) (body : List Action) (path : List PathStep) (choices : List Choice) (s : JavaState) → IsWellFormed plan → IsTrue (accepted plan cert)
-    → ChoicesReach plan choices s → Begins plan actor body s → IsPathOf kind path_state body path → Follows plan actor kind path_state body 0 [] path s
+PathsAreFollowed = (plan : Plan) (cert : Cert) (actor : Parent) (kind : ActorKind) (state : PathState) (body : List Action) (path : List PathStep) (choices : List Choice) (s : JavaState) → IsWellFormed plan → IsTrue (accepted plan cert)
+    → ChoicesReach plan choices s → IsAtStart plan actor body s → IsPathOf kind state body path → Follows plan actor kind state body 0 [] path s
+
+-- Some choices lead from the initial state to this one.
+abbrev pub IsReachedByChoices : Plan → JavaState → Type 0
+IsReachedByChoices plan s = (choices : List Choice) × ChoicesReach plan choices s
+
+-- The states of a run that follows a path are reachable: those after choices of others, those after actions that the actor
+-- passes, and those after a submit.
+pub record StaysReachable (plan : Plan) (actor : Parent) : Type 0 where
+  pub others : (s s' : JavaState) → OthersAct plan actor s s' → IsReachedByChoices plan s → IsReachedByChoices plan s'
+  pub passes : (body : List Action) (jobs : List MachineJob) (i j : ℕ) (s s' : JavaState) → Passes plan actor body jobs i s j s' → IsReachedByChoices plan s → IsReachedByChoices plan s'
+  pub submits : (number : ℕ) (s s' : JavaState) → IsSubmitted plan actor s number s' → IsReachedByChoices plan s → IsReachedByChoices plan s'
+
+abbrev pub RunsStayReachable : Type 0
+RunsStayReachable = (plan : Plan) (actor : Parent) → StaysReachable plan actor

@@ -46,6 +46,7 @@ pub mod ExcessTracker
 pub mod Survey
 pub mod Description
 pub mod Conforms
+pub mod FollowedActors
 pub mod CollectedFindings
 pub mod Findings
 pub mod Outcome

@@ -73,7 +73,7 @@ pub use members::{classes_of_path, kinds_of_path};
 pub use mismatch::{DeviatingStep, NamedStep, PathMismatch};
 pub use open_job::OpenJob;
 pub use path::match_path;
-pub use path_laws::paths_are_followed;
+pub use path_laws::{paths_are_followed, planned_actors_are_followed};
 pub use path_match::PathMatch;
 pub use pool_comparison::{PoolComparison, PoolDeviation};
 pub use round_comparison::{RoundComparison, RoundExcess};
