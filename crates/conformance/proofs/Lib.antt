@@ -6,6 +6,8 @@ pub mod BodyGets
 pub mod Candidates
 pub mod WalkStates
 pub mod WalkSteps
+pub mod BlockingGet
+pub mod StoppedWalks
 pub mod WalkProgress
 mod WorkedPaths
 pub mod Names

@@ -4,6 +4,8 @@ pub mod BodyGets
 pub mod Candidate
 pub mod WalkState
 pub mod Narrowing
+pub mod BlockingGet
+pub mod OpenExcess
 pub mod PathMatch
 pub mod Family
 pub mod FamilyMatch
