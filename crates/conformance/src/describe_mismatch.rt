@@ -20,9 +20,9 @@ use job_bodies::Plan;
 use recordings::{RecordedActor, RecordedStep};
 use std::alloc::{AllocError, Global};
 
-/// Describes the actor by the step after the longest prefix of its path that a body explains.
-/// Returns the number of the line of that step, and the description. `classless` has the jobs whose
-/// path matches no class of the plan.
+/// Describes the first step of the actor that deviates from each body of its label. Returns the
+/// number of the line of that step, and the description. `classless` has the jobs whose path matches
+/// no class of the plan.
 ///
 /// # Errors
 ///
@@ -138,7 +138,7 @@ fn got_at(path: &[RecordedStep], submit: usize) -> Option<JobStep>
     }
 }
 
-/// Returns the line to search for: that of the step or, without a step, that of the actor's end.
+/// Returns the condition for the line of the step or, if there is no step, for the actor's last line.
 fn line_query_of(actor: RecordedActor, step: Option<JobStep>) -> LineQuery
     ensures { result ≡ spec.line_query_of actor step }
 {

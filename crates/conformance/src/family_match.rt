@@ -17,8 +17,8 @@ use std::alloc::{AllocError, Global};
 pub struct FamilyMatch {
     /// The numbers of the members whose body the path matches, in ascending order.
     pub members: Vec<usize>,
-    /// The longest prefix of the path that a body of the family explains. It is the path if there is a
-    /// member, and empty if the family is.
+    /// The longest prefix of the path that a body of the family explains. It is the whole path if there
+    /// is a member, and it is empty if the family is empty.
     pub explained: ExplainedPrefix,
     /// True if it was decided for each body of the family. Otherwise there may be more members, and
     /// a longer prefix may be explained.

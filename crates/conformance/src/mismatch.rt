@@ -16,9 +16,9 @@ use support::push_number;
 pub struct PathMismatch {
     pub actor: RecordedActor,
     pub label: ActorLabel,
-    /// The step after the longest prefix of its path that a body explains.
+    /// The first step of its path that deviates from each body of the label.
     pub step: DeviatingStep,
-    /// The last step of that prefix, or `None` if the prefix is empty.
+    /// The step before it, or `None` if it is the first step of the path.
     pub after: Option<NamedStep>,
 }
 

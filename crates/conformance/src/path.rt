@@ -137,7 +137,7 @@ fn fits_narrowed(
     Ok(fits)
 }
 
-/// Returns true if the path matches when each job has the class that the rule picks.
+/// Returns true if the path matches after each job is assigned the class that the rule picks.
 ///
 /// # Errors
 ///
