@@ -87,7 +87,8 @@ fn submitted_class(body: &[Action], submit: usize) -> usize
     }
 }
 
-/// Returns the index of the body before which an actor of this kind may get a job of the class.
+/// Returns an index of the body such that an actor of this kind may get a job of the class exactly
+/// while its body is before the index.
 pub(crate) fn end_of_gets(kind: ActorKind, gets: &[Option<BodyGet>], class: usize) -> usize
     ensures { (body : List Action)
         → spec.AreGets body gets.now

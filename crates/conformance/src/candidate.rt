@@ -1,4 +1,4 @@
-//! The class of a submit among those of a body.
+//! The classes of a submit that a body submits.
 
 ghost use Rattle.std.specs.Prelude.{◌≡◌, Some};
 ghost use Rattle.conformance.specs.Path as spec;
@@ -7,18 +7,18 @@ ghost use Rattle.conformance.specs.Candidate.{IsCandidate, next_candidate, with_
 
 use job_bodies::Action;
 
-/// The class of a submit among those that a body submits.
+/// The classes of a submit that a body submits: none, one, or several.
 #[derive(Clone, Copy)]
 pub(crate) enum Candidate {
-    /// The body submits none of its classes.
+    /// The body submits none of the classes.
     None,
-    /// The body submits only this one of its classes.
+    /// The body submits only this one of the classes.
     One(usize),
-    /// The body submits several of its classes.
+    /// The body submits several of the classes.
     Several,
 }
 
-/// Returns the class of a submit among those that the body submits.
+/// Returns which of these classes the body submits.
 pub(crate) fn candidate_of(body: &[Action], classes: &Vec<usize>) -> Candidate
     ensures { IsCandidate body.now (Submits classes.now) result }
 {
@@ -29,7 +29,7 @@ pub(crate) fn candidate_of(body: &[Action], classes: &Vec<usize>) -> Candidate
     found
 }
 
-/// Returns the candidate after one more class of the submit.
+/// Adds a class of the submit to those found before, if the body submits it.
 fn next_candidate(body: &[Action], found: Candidate, class: usize) -> Candidate
     ensures { result ≡ next_candidate body.now found class }
 {

@@ -294,8 +294,8 @@ fn push_invalidation(
 }
 
 /// Returns the class and the pool of the job of an event. For a call of `invokeAny`, returns the
-/// label of the actor and the pool of the first call; for jobs without lines, the first pool that
-/// reports some.
+/// label of the actor and the pool of the recording's first call. For jobs without lines, returns
+/// the first pool that an `unseen` line names.
 fn subject_of(
     alloc: Global,
     recording: &[u8],

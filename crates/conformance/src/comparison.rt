@@ -42,7 +42,8 @@ pub enum Conformance {
 ///   pool of the plan that the recording lacks;
 /// - every label that is not in the plan, with the first line that has it;
 /// - for each label of the plan, the actor with the smallest number whose path matches no body,
-///   with its first step that no body explains and the line of that step;
+///   with its first step that no body explains and the line of that step. If the step is a submit
+///   that the body still has, the open jobs that keep the body from it are part of the finding;
 /// - for each label of the plan, the actor with the smallest number for which this is undecided. If
 ///   each label is one class in each pool, there is none;
 /// - for each client kind, the first line at which it has more rounds than the plan allows. Each

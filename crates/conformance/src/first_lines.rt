@@ -27,7 +27,7 @@ pub(crate) struct FoundLine {
     pool: String,
 }
 
-/// The first line that meets each of some conditions, or `None` if no line meets it.
+/// For each of some conditions, the first line that meets it, or `None` if no line does.
 pub(crate) type LineTable = HashMap<LineQuery, Option<FoundLine>>;
 
 /// The text of a recording, and the first lines that meet some conditions.

@@ -16,7 +16,8 @@ pub(crate) enum Pick {
     First,
     /// The last of the job's classes.
     Last,
-    /// The class of the body's next submit, after those picked before, of one of the job's classes.
+    /// The class of the body's first submit of one of the job's classes, after the submit that was
+    /// picked before.
     InOrder,
 }
 

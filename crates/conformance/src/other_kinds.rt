@@ -1,4 +1,4 @@
-//! The rounds that count as another kind than the first of their label, or as none.
+//! The rounds that do not count as the first kind of their label.
 
 ghost use Rattle.std.specs.Prelude.{◌≡◌, ◌++◌, ◌∷◌, [], List, OnOk, false};
 ghost use Rattle.job_bodies.specs.Plan as plans;
@@ -12,8 +12,8 @@ use recordings::RecordedActor;
 use std::alloc::{AllocError, Global};
 use support::IdMap;
 
-/// The kinds of the rounds that count as another kind than the first of their label. A round for
-/// which it is undecided which kinds it can belong to counts as none.
+/// The kinds of the rounds that do not count as the first kind of their label. A round counts as no
+/// kind if it is undecided which kinds it can belong to.
 #[derive(Drop)]
 pub(crate) struct OtherKinds {
     kinds: IdMap<Option<usize>>,

@@ -1,4 +1,4 @@
-//! Rows: at which indices a body can be.
+//! Rows, which say for each index of a body whether the body can be there.
 
 ghost use Rattle.std.specs.Prelude.{◌≡◌, ◌<◌, ℕ, ◌+◌, false, ◌&&◌, ◌||◌, None, nat_lt, length, slice_get, slice_index_or};
 ghost use Rattle.std.specs.Option.{option_copied};
@@ -8,7 +8,8 @@ ghost use Rattle.conformance.specs.Path as spec;
 use crate::body_gets::BodyGet;
 use job_bodies::Action;
 
-/// Moves the body over a submit of the class. It can no longer be where no such submit is next.
+/// Moves each index where the body can be over the submit of the class that is next there, and
+/// removes the index if another action is next.
 pub(crate) fn shift_row(row: &mut [bool], body: &[Action], class: usize)
     requires { length row.old ≡ length body.now + 1 }
     ensures first { slice_index_or row.new 0 false ≡ false }
@@ -23,6 +24,13 @@ pub(crate) fn shift_row(row: &mut [bool], body: &[Action], class: usize)
         row[index] = before;
         before = here && is_submit_of(class, body.get(index));
     }
+}
+
+/// Returns true if the body submits a job of the class at this index.
+pub(crate) fn has_submit_at(body: &[Action], index: usize, class: usize) -> bool
+    ensures { result ≡ spec.is_submit_of class (slice_get body.now index) }
+{
+    is_submit_of(class, body.get(index))
 }
 
 fn is_submit_of(class: usize, action: Option<&Action>) -> bool
@@ -46,8 +54,8 @@ pub(crate) fn cut_row(row: &mut [bool], end: usize)
     }
 }
 
-/// Adds the indices that the body can reach alone. `passes` says for each action whether the body
-/// may pass it.
+/// Adds the indices that the body can reach while the path makes no step. `passes` says for each
+/// action whether the body may pass it.
 pub(crate) fn close_row(row: &mut [bool], passes: &[bool])
     requires { length row.old ≡ length passes.now + 1 }
     ensures first { slice_index_or row.new 0 false ≡ slice_index_or row.old 0 false }
@@ -64,7 +72,8 @@ pub(crate) fn close_row(row: &mut [bool], passes: &[bool])
     }
 }
 
-/// Computes again which gets of the class the body may pass, if this number of jobs is open.
+/// Updates the entries of the gets of the class: the body may pass such a get if at least `count` jobs
+/// of the class are open in the body after it.
 pub(crate) fn update_passes(
     passes: &mut [bool],
     gets: &[Option<BodyGet>],

@@ -2,9 +2,9 @@
 
 use job_bodies::Action;
 
-/// Returns true if the body is preferred to the other one. Preferred are fewer open jobs, as the
-/// sum over the classes of the most jobs of the class that are open at once, and then fewer
-/// actions.
+/// Returns true if the body is preferred to the other one: it has fewer open jobs or, if the numbers
+/// are the same, fewer actions. The number of open jobs is the sum, over all classes, of the most
+/// jobs of the class that are open at once.
 pub(crate) fn is_preferred(body: &[Action], other: &[Action]) -> bool {
     let peaks = sum_of_peaks(body);
     let other_peaks = sum_of_peaks(other);

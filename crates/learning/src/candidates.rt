@@ -13,16 +13,19 @@ pub(crate) const CANDIDATES: usize = 8;
 /// The choices by which a candidate is made.
 #[derive(Clone, Copy)]
 pub(crate) struct Choices {
-    /// True if jobs that their path gets and jobs that it does not get have different submits.
+    /// True if no submit of the body is shared by a job that its path gets and a job that its path
+    /// does not get.
     pub(crate) marks_gets: bool,
     /// True if the submits of the paths are joined from the last path to the first.
     pub(crate) is_reversed: bool,
-    /// True if each path makes the last possible submits of the body.
+    /// True if each submit of a path goes together with the last submit of the body that is possible
+    /// for it, and false if with the first one.
     pub(crate) is_late: bool,
 }
 
 impl Choices {
-    /// Returns the choices with this number, below [`CANDIDATES`].
+    /// Returns the choices that a number below [`CANDIDATES`] stands for. Each number stands for
+    /// different choices.
     pub(crate) fn with_number(number: usize) -> Choices {
         Choices {
             marks_gets: number % 8 >= 4,
@@ -69,8 +72,8 @@ fn all_job_steps(
     Ok(Some(all))
 }
 
-/// Returns the body that submits these jobs and gets each of them after the submit with the index
-/// in `times`.
+/// Returns the body that submits these jobs in order. It gets each job directly after the submit
+/// whose index is the job's entry in `times`, and never if the entry is `None`.
 fn body_with_gets(
     alloc: Global,
     common: &[PathJob],
@@ -86,8 +89,8 @@ fn body_with_gets(
     Ok(body)
 }
 
-/// Appends the gets at this time, in the order of their submits. `submits` has the indices of the
-/// submits in the body.
+/// Appends the gets of the jobs whose entry in `times` is `time`, in the order of their submits.
+/// `submits` has the indices of the submits in the body.
 fn push_gets(
     body: &mut Vec<Action>,
     submits: &[usize],

@@ -3,13 +3,13 @@
 use crate::path_jobs::{JobStep, PathJob, submitted_jobs};
 use std::alloc::{AllocError, Global};
 
-/// Returns for each submit of a body after which of its submits the job may be got: the index of
-/// the earliest one, or `None` if the body must not get the job. `common` has the jobs of the
-/// submits, and the submits of each path are a subsequence.
+/// Returns, for each submit of a body, the earliest time at which the body may get its job: the
+/// index of the submit after which the get comes, or `None` if the body must not get the job.
+/// `common` has the jobs of the body's submits, of which the submits of each path are a subsequence.
 ///
-/// The submits of the body that a path makes are the first possible ones, or the last possible ones
-/// if `is_late`. At each moment the body then has at least as many open jobs as each path. Equal
-/// jobs are got in the order of their submits.
+/// Each submit of a path goes together with the first submit of the body that is possible for it, or
+/// with the last one if `is_late`. With gets at these times, the body has at each moment at least as
+/// many open jobs as each path. It gets equal jobs in the order of their submits.
 ///
 /// # Errors
 ///
@@ -30,7 +30,8 @@ pub(crate) fn get_times(
     Ok(times)
 }
 
-/// Replaces each time by the later one of the two.
+/// Replaces each of the times by the later one of it and its entry in `others`, or by `None` if one of
+/// them is `None`.
 fn delay(times: &mut [Option<usize>], others: &[Option<usize>]) {
     for (time, other) in times.iter_mut().zip(others) {
         *time = later(*time, *other);
@@ -44,7 +45,8 @@ fn later(time: Option<usize>, other: Option<usize>) -> Option<usize> {
     }
 }
 
-/// Returns for each submit of the body whether it is the submit of one of these jobs.
+/// Returns, for each submit of the body, true if a submit of the path goes together with it. `jobs`
+/// has the jobs that the path submits, in order.
 fn made_submits(
     alloc: Global,
     common: &[PathJob],
@@ -86,8 +88,8 @@ fn mark(made: &mut [bool], index: usize) {
     }
 }
 
-/// Returns the times for a single path. A job of a submit that the path does not make may be got at
-/// once, and each other job when the path gets it.
+/// Returns the earliest times for a single path. The body may get a job that the path does not submit
+/// directly after its submit, and each other job when the path gets it.
 fn times_of_path(
     alloc: Global,
     common: &[PathJob],
@@ -126,7 +128,8 @@ fn record_gets(
     place
 }
 
-/// Records the time of a get for the first equal job that has none.
+/// Sets the time of the first job of the body that equals the given one and has no time yet. Does
+/// nothing if the body has no get of the job.
 fn record_get(common: &[PathJob], job: PathJob, time: usize, times: &mut [Option<usize>]) {
     if !job.is_got {
         return;

@@ -57,11 +57,11 @@ impl Entries {
         Ok(None)
     }
 
-    /// Changes the body of the first entry with this label and pool for which a body is found that
-    /// the path and the entry's paths match. If there is none, adds an entry for the path alone.
-    /// Skips each entry that is marked in `reachable`, because a job of that class would submit
-    /// jobs of its own class without end. Returns `None` if no body was found for the path, or if
-    /// no entry has this label and pool.
+    /// Makes the path match the body of an entry with this label and pool. Changes the first entry for
+    /// which a body is found that the path and the entry's earlier paths match. If there is none, adds
+    /// an entry for the path alone. Skips each entry that is marked in `reachable`, because a job of
+    /// that class would submit jobs of its own class without end. Returns `None` if no body was found
+    /// for the path, or if no entry has this label and pool.
     ///
     /// # Errors
     ///

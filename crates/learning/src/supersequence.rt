@@ -55,8 +55,8 @@ fn is_subsequence(jobs: &[PathJob], of: &[PathJob]) -> bool {
     found >= jobs.len()
 }
 
-/// Returns a shortest common supersequence of two lists. If a job of either list may be the next
-/// one, it is the job of the first list.
+/// Returns a shortest common supersequence of two lists. If it may continue with the next job of
+/// either list, it continues with that of the first list.
 fn merged(
     alloc: Global,
     first: &[PathJob],
@@ -91,8 +91,8 @@ fn push_from(jobs: &mut Vec<PathJob>, more: &[PathJob], index: usize) -> Result<
     Ok(())
 }
 
-/// Returns true if the suffixes that follow the next job of the first list have a common
-/// subsequence that is at least as long as without the next job of the second list.
+/// Returns true if a shortest common supersequence of two suffixes may begin with the first job of
+/// the first one. `left` and `other_left` are the lengths of the suffixes, whose first jobs differ.
 fn continues_first(lengths: &[Vec<usize>], left: usize, other_left: usize) -> bool {
     length_at(lengths, left.saturating_sub(1), other_left)
         >= length_at(lengths, left, other_left.saturating_sub(1))
@@ -106,7 +106,8 @@ fn length_at(lengths: &[Vec<usize>], left: usize, other_left: usize) -> usize {
 }
 
 /// Returns the length of the longest common subsequence of each suffix of the first list and each
-/// suffix of the second one. The outer index is the length of the first list's suffix.
+/// suffix of the second one. The outer index is the length of the first suffix, and the inner one
+/// that of the second.
 fn common_lengths(
     alloc: Global,
     first: &[PathJob],
