@@ -120,11 +120,31 @@ class Comparison:
         """Returns None if the actor's path matches the body, and otherwise how many of its first steps match."""
         walks = body.moves([Walk(0, ())])
         for at, step in enumerate(self.paths[actor]):
-            walks = body.moves(new for walk in walks for new in self.stepped(walk, step, body, actor.sort))
+            walks = self.walks_after(walks, step, body, actor)
             if not walks:
                 return at
         is_whole = actor.last is None or any(walk.position == len(body.actions) for walk in walks)
         return None if is_whole else len(self.paths[actor])
+
+    def walks_after(self, walks, step, body, actor):
+        return body.moves(new for walk in walks for new in self.stepped(walk, step, body, actor.sort))
+
+    def excess(self, actor, body, most):
+        """Returns the class, the number of its open jobs and the limit, if these jobs keep the body from a submit of the class of the
+        path's step `most`, and None otherwise."""
+        path = self.paths[actor]
+        walks = body.moves([Walk(0, ())])
+        for step in path[:most]:
+            walks = self.walks_after(walks, step, body, actor)
+        positions = [walk.position for walk in walks]
+        ahead = [place for place, (what, operand) in enumerate(body.actions)
+                 if what == "submit" and operand in self.fits(path[most].job) and place >= min(positions)]
+        if not ahead:
+            return None
+        jobs = Counter(number for _, number in next(iter(walks)).open)
+        way = body.open[max(place for place in positions if place <= ahead[0]):ahead[0] + 1]
+        number = next(number for counts in way for number in jobs if jobs[number] > counts[number])
+        return number, jobs[number], min(counts[number] for counts in way)
 
     def stepped(self, walk, step, body, sort):
         """Yields the walk after the step, which a submit of the path makes together with the body's next action. A job gets only what its
@@ -183,6 +203,7 @@ class Comparison:
         """Reports an actor whose path matches no body, if it is the first of its label, by the body that matches most of the path."""
         path = self.paths[actor]
         most = max(self.walk(actor, body) for body in bodies)
+        body = [body for body in bodies if self.walk(actor, body) == most][-1]
         after = f"after {path[most - 1].what} {path[most - 1].job.name}" if most else "at its begin"
         if most == len(path):
             got = {step.job for step in path if step.what == "get"}
@@ -197,6 +218,12 @@ class Comparison:
             did = f"submitted {name} to pool {pool} as {step.job}, which is of no class of the plan"
         elif not self.fits(step.job):
             did = f"submitted {name} to pool {pool} as {step.job}, whose own path matches no such class"
+        elif excess := self.excess(actor, body, most):
+            number, count, limit = excess
+            jobs = "1 job" if count == 1 else f"{count} jobs"
+            are = "is" if count == 1 else "are"
+            did = (f"submitted {name} to pool {pool}; {after}, {jobs} of class {self.plan.classes[number].name} {are} open; "
+                   f"its body has at most {limit} before such a submit")
         else:
             did = f"submitted {name} to pool {pool}; its body has no such submit {after}"
         self.finds(PATHS, subject, step.line, f"{described(actor)} {did}")

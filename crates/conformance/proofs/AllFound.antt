@@ -12,6 +12,7 @@ use Rattle.conformance.specs.declared.describe_mismatch.JobStep.{JobStep}
 use Rattle.conformance.specs.declared.describe_mismatch.JobStep.TheVariants as step
 use Rattle.conformance.specs.declared.finding.Finding.{Finding}
 use Rattle.conformance.specs.declared.mismatch.DeviatingStep.{DeviatingStep}
+use Rattle.conformance.specs.declared.open_excess.OpenExcess.{OpenExcess}
 use Rattle.conformance.specs.declared.survey.Survey.{Survey}
 use Rattle.conformance.specs.Description.{IsDeviatingStep}
 use Rattle.conformance.specs.Description as steps
@@ -23,11 +24,11 @@ use Rattle.conformance.specs.JobSet.{has_job}
 use Rattle.conformance.specs.Survey.{IsSurveyOf}
 
 -- ---- equal tests describe the same step
-same_step : (plan : Plan) (lines : List RecordedLine) (one other : ℕ → Bool) → ((job : ℕ) → one job ≡ other job) → (path : List RecordedStep) (did : Option JobStep) (found : DeviatingStep) → IsDeviatingStep plan lines one path did found → IsDeviatingStep plan lines other path did found
-same_step plan lines one other same path _ _ (steps.ends found end) = steps.ends found end
-same_step plan lines one other same path _ _ (steps.submits job label so) =
-    subst (λ (is_classless : Bool). IsDeviatingStep plan lines other path (Some (step.Submits job)) (steps.deviating_submit is_classless (is_planned_class plan (string_bytes label.name) (string_bytes label.pool)) job label)) (sym (same job)) (steps.submits job label so)
-same_step plan lines one other same path _ _ (steps.gets job label so) = steps.gets job label so
+same_step : (plan : Plan) (lines : List RecordedLine) (one other : ℕ → Bool) → ((job : ℕ) → one job ≡ other job) → (path : List RecordedStep) (excess : Option OpenExcess) (did : Option JobStep) (found : DeviatingStep) → IsDeviatingStep plan lines one path excess did found → IsDeviatingStep plan lines other path excess did found
+same_step plan lines one other same path excess _ _ (steps.ends found end) = steps.ends found end
+same_step plan lines one other same path excess _ _ (steps.submits job label so) =
+    subst (λ (is_classless : Bool). IsDeviatingStep plan lines other path excess (Some (step.Submits job)) (steps.deviating_submit is_classless (is_planned_class plan (string_bytes label.name) (string_bytes label.pool)) job label excess)) (sym (same job)) (steps.submits job label so)
+same_step plan lines one other same path excess _ _ (steps.gets job label so) = steps.gets job label so
 
 same_reported : (plan : Plan) (lines : List RecordedLine) (one other : ℕ → Bool) → ((job : ℕ) → one job ≡ other job) → (reported : ClassifiedActor) (found : Finding) → IsMismatchFinding plan lines one reported found → IsMismatchFinding plan lines other reported found
 same_reported plan lines one other same reported _ (made.mismatches number mismatch so) =
@@ -38,7 +39,7 @@ same_reported plan lines one other same reported _ (made.mismatches number misma
       line = so.line;
       first = so.first;
       number_is = so.number_is;
-      did = same_step plan lines one other same _ _ _ so.did;
+      did = same_step plan lines one other same _ _ _ _ so.did;
       after = so.after;
     })
 

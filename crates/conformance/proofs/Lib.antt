@@ -6,6 +6,8 @@ pub mod BodyGets
 pub mod Candidates
 pub mod WalkStates
 pub mod WalkSteps
+pub mod BlockingGet
+pub mod StoppedWalks
 pub mod WalkProgress
 pub mod MachineJobs
 pub mod OpenSubmits

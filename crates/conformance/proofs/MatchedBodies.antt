@@ -1,5 +1,5 @@
 -- The result after each body of a family.
-use Rattle.std.proofs.Common.{◌≡◌, ℕ, ◌+◌, ◌<◌, ◌≤◌, max, Bool, false, List, [], ◌∷◌, ◌++◌, length, length-append, get_or, take, map, filter, refl, sym, subst, ◌∙◌, arith, IsTrue}
+use Rattle.std.proofs.Common.{◌≡◌, ℕ, ◌+◌, ◌<◌, ◌≤◌, Bool, false, None, List, [], ◌∷◌, ◌++◌, length, length-append, get_or, take, map, filter, refl, sym, subst, ◌∙◌, arith, IsTrue}
 use Rattle.std.specs.List.{All, AllPairs, Contains, range_with_len}
 use Rattle.std.specs.List.Sorted.{IsStrictlyIncreasing}
 use Rattle.std.proofs.lemmas.List.{map-append, take_all, get_or_append_left, get_or_push}
@@ -8,11 +8,12 @@ use Rattle.std.proofs.lemmas.List.Kept.{AllPairs-from_increasing, IsStrictlyIncr
 use Rattle.std.proofs.lemmas.List.Quantifiers.{all_pairs_push}
 use Rattle.std.proofs.lemmas.List.Elements.{All-push, All-weaker, All-contains, Contains-append_left, Contains-push}
 use Rattle.job_bodies.specs.declared.action.Action.{Action}
+use Rattle.conformance.specs.declared.explained_prefix.ExplainedPrefix.{ExplainedPrefix}
 use Rattle.conformance.specs.declared.step.ActorKind.{ActorKind}
 use Rattle.conformance.specs.declared.step.PathStep.{PathStep}
 use Rattle.conformance.specs.declared.step.PathState.{PathState}
 use Rattle.conformance.specs.Path.{IsPathOf}
-use Rattle.conformance.specs.PathMatch.{IsExplained, IsUnambiguous}
+use Rattle.conformance.specs.PathMatch.{IsExplained, IsUnambiguous, longer}
 use Rattle.conformance.specs.FamilyMatch.{IsMostExplained}
 use Rattle.conformance.specs.FamilyResult.{IsCorrectResult}
 use Rattle.conformance.proofs.OneClassEach.{one_class_each}
@@ -56,8 +57,8 @@ bodies_more : (body_of : ℕ → List Action) (matched : List ℕ) (n : ℕ) →
 bodies_more body_of matched n = map-append body_of matched (n ∷ [])
 
 -- The path matches the next body.
-pub reported_fits : (kind : ActorKind) (body_of : ℕ → List Action) (path_state : PathState) (path : List PathStep) (matched members : List ℕ) (longest : ℕ) (is_decided : Bool) (n : ℕ) → IsCorrectResult kind body_of path_state path matched members longest is_decided → IsPathOf kind path_state (body_of n) path
-    → IsCorrectResult kind body_of path_state path (matched ++ n ∷ []) (members ++ n ∷ []) (length path) is_decided
+pub reported_fits : (kind : ActorKind) (body_of : ℕ → List Action) (path_state : PathState) (path : List PathStep) (matched members : List ℕ) (longest : ExplainedPrefix) (is_decided : Bool) (n : ℕ) → IsCorrectResult kind body_of path_state path matched members longest is_decided → IsPathOf kind path_state (body_of n) path
+    → IsCorrectResult kind body_of path_state path (matched ++ n ∷ []) (members ++ n ∷ []) (record { length = length path; excess = None }) is_decided
 reported_fits kind body_of path_state path matched members longest is_decided n reported of =
     let P : ℕ → Type 0 = λ m. IsPathOf kind path_state (body_of m) path → Contains members m in
     let Q : ℕ → Type 0 = λ m. IsPathOf kind path_state (body_of m) path → Contains (members ++ n ∷ []) m in
@@ -67,7 +68,7 @@ reported_fits kind body_of path_state path matched members longest is_decided n 
       sound = All-push (IsMember kind body_of path_state path (matched ++ n ∷ [])) members n (members_stay kind body_of path_state path matched members n reported.sound) (Contains-push matched n, of);
       complete = λ all. All-push Q matched n (All-weaker P Q (λ m there one. Contains-append_left members (n ∷ []) m (there one)) matched (reported.complete all)) (λ _. Contains-push members n);
       sure = All-push S matched n (All-weaker R S (λ m there only one. Contains-append_left members (n ∷ []) m (there only one)) matched reported.sure) (λ _ _. Contains-push members n);
-      explained = λ all. subst (λ (bodies : List (List Action)). IsMostExplained kind bodies path (length path)) (sym (bodies_more body_of matched n)) (explained_fits kind path_state (map body_of matched) path (body_of n) of);
+      explained = λ all. subst (λ (bodies : List (List Action)). IsMostExplained kind bodies path (record { length = length path; excess = None })) (sym (bodies_more body_of matched n)) (explained_fits kind path_state (map body_of matched) path (body_of n) of);
       decided = reported.decided;
       few = omega (arith, reported.few, length-append members (n ∷ []), length-append matched (n ∷ []));
       ascending = λ pairs. all_pairs_push (λ l m. l < m) members n (reported.ascending (pairs_front matched n pairs)) (λ k d inside. below_last matched n (get_or members k d) pairs (reported.sound k d inside).0);
@@ -80,20 +81,20 @@ reported_not kind body_of path_state path matched members n complete not_of =
     All-push (λ m. IsPathOf kind path_state (body_of m) path → Contains members m) matched n complete (λ of. absurd (not_of of))
 
 -- The path does not match the next body.
-pub reported_deviates : (kind : ActorKind) (body_of : ℕ → List Action) (path_state : PathState) (path : List PathStep) (matched members : List ℕ) (longest : ℕ) (is_decided : Bool) (n explained : ℕ) → IsCorrectResult kind body_of path_state path matched members longest is_decided → ¬ IsPathOf kind path_state (body_of n) path → IsExplained kind (body_of n) path explained
-    → IsCorrectResult kind body_of path_state path (matched ++ n ∷ []) members (max longest explained) is_decided
+pub reported_deviates : (kind : ActorKind) (body_of : ℕ → List Action) (path_state : PathState) (path : List PathStep) (matched members : List ℕ) (longest : ExplainedPrefix) (is_decided : Bool) (n : ℕ) (explained : ExplainedPrefix) → IsCorrectResult kind body_of path_state path matched members longest is_decided → ¬ IsPathOf kind path_state (body_of n) path → IsExplained kind (body_of n) path explained
+    → IsCorrectResult kind body_of path_state path (matched ++ n ∷ []) members (longer longest explained) is_decided
 reported_deviates kind body_of path_state path matched members longest is_decided n explained reported not_of by = record {
   sound = members_stay kind body_of path_state path matched members n reported.sound;
   complete = λ all. reported_not kind body_of path_state path matched members n (reported.complete all) not_of;
   sure = All-push (IsSure kind body_of path_state path members) matched n reported.sure (λ only of. absurd (not_of of));
-  explained = λ all. subst (λ (bodies : List (List Action)). IsMostExplained kind bodies path (max longest explained)) (sym (bodies_more body_of matched n)) (explained_deviates kind (map body_of matched) path (body_of n) longest explained (reported.explained all) by);
+  explained = λ all. subst (λ (bodies : List (List Action)). IsMostExplained kind bodies path (longer longest explained)) (sym (bodies_more body_of matched n)) (explained_deviates kind (map body_of matched) path (body_of n) longest explained (reported.explained all) by);
   decided = reported.decided;
   few = omega (arith, reported.few, length-append matched (n ∷ []));
   ascending = λ pairs. reported.ascending (pairs_front matched n pairs);
 }
 
 -- It is undecided whether the path matches the next body.
-pub reported_undecided : (kind : ActorKind) (body_of : ℕ → List Action) (path_state : PathState) (path : List PathStep) (matched members : List ℕ) (longest : ℕ) (is_decided : Bool) (n : ℕ) → IsCorrectResult kind body_of path_state path matched members longest is_decided → ¬ IsUnambiguous (body_of n) path
+pub reported_undecided : (kind : ActorKind) (body_of : ℕ → List Action) (path_state : PathState) (path : List PathStep) (matched members : List ℕ) (longest : ExplainedPrefix) (is_decided : Bool) (n : ℕ) → IsCorrectResult kind body_of path_state path matched members longest is_decided → ¬ IsUnambiguous (body_of n) path
     → IsCorrectResult kind body_of path_state path (matched ++ n ∷ []) members longest false
 reported_undecided kind body_of path_state path matched members longest is_decided n reported several = record {
   sound = members_stay kind body_of path_state path matched members n reported.sound;
@@ -107,18 +108,18 @@ reported_undecided kind body_of path_state path matched members longest is_decid
 
 -- ---- the whole family
 -- After the last body, all were matched.
-pub reported_whole : (kind : ActorKind) (body_of : ℕ → List Action) (path_state : PathState) (path : List PathStep) (items family : List ℕ) (index : ℕ) (members : List ℕ) (longest : ℕ) (is_decided : Bool) → IsCorrectResult kind body_of path_state path (take index items) members longest is_decided → length items ≤ index → items ≡ family
+pub reported_whole : (kind : ActorKind) (body_of : ℕ → List Action) (path_state : PathState) (path : List PathStep) (items family : List ℕ) (index : ℕ) (members : List ℕ) (longest : ExplainedPrefix) (is_decided : Bool) → IsCorrectResult kind body_of path_state path (take index items) members longest is_decided → length items ≤ index → items ≡ family
     → IsCorrectResult kind body_of path_state path family members longest is_decided
 reported_whole kind body_of path_state path items family index members longest is_decided reported over same =
     subst (λ (matched : List ℕ). IsCorrectResult kind body_of path_state path matched members longest is_decided) (take_all index items over ∙ same) reported
 
 -- Each entry of the family whose body the path matches is a member.
-pub reported_complete : (kind : ActorKind) (body_of : ℕ → List Action) (path_state : PathState) (path : List PathStep) (family members : List ℕ) (longest : ℕ) (is_decided : Bool) → IsCorrectResult kind body_of path_state path family members longest is_decided → IsTrue is_decided → (n : ℕ) → Contains family n → IsPathOf kind path_state (body_of n) path → Contains members n
+pub reported_complete : (kind : ActorKind) (body_of : ℕ → List Action) (path_state : PathState) (path : List PathStep) (family members : List ℕ) (longest : ExplainedPrefix) (is_decided : Bool) → IsCorrectResult kind body_of path_state path family members longest is_decided → IsTrue is_decided → (n : ℕ) → Contains family n → IsPathOf kind path_state (body_of n) path → Contains members n
 reported_complete kind body_of path_state path family members longest is_decided reported all n among of =
     All-contains (λ m. IsPathOf kind path_state (body_of m) path → Contains members m) family n (reported.complete all) among of
 
 -- The members of an ascending family are in ascending order.
-pub reported_ascending : (kind : ActorKind) (body_of : ℕ → List Action) (path_state : PathState) (path : List PathStep) (family members : List ℕ) (longest : ℕ) (is_decided : Bool) → IsCorrectResult kind body_of path_state path family members longest is_decided → IsStrictlyIncreasing family → IsStrictlyIncreasing members
+pub reported_ascending : (kind : ActorKind) (body_of : ℕ → List Action) (path_state : PathState) (path : List PathStep) (family members : List ℕ) (longest : ExplainedPrefix) (is_decided : Bool) → IsCorrectResult kind body_of path_state path family members longest is_decided → IsStrictlyIncreasing family → IsStrictlyIncreasing members
 reported_ascending kind body_of path_state path family members longest is_decided reported up k inside =
     reported.ascending (AllPairs-from_increasing family up) k (k + 1) 0 (omega arith) inside
 
@@ -129,5 +130,5 @@ range_ascends test count = IsStrictlyIncreasing-filter test (range_with_len 0 co
     omega (arith, get_or-range_with_len 0 count k 0 (omega arith), get_or-range_with_len 0 count (k + 1) 0 (omega arith)))
 
 -- Each entry of the family of which each job of the path has one class at most, and whose body the path matches, is a member.
-pub reported_sure : (kind : ActorKind) (body_of : ℕ → List Action) (path_state : PathState) (path : List PathStep) (family members : List ℕ) (longest : ℕ) (is_decided : Bool) → IsCorrectResult kind body_of path_state path family members longest is_decided → (n : ℕ) → Contains family n → IsSure kind body_of path_state path members n
+pub reported_sure : (kind : ActorKind) (body_of : ℕ → List Action) (path_state : PathState) (path : List PathStep) (family members : List ℕ) (longest : ExplainedPrefix) (is_decided : Bool) → IsCorrectResult kind body_of path_state path family members longest is_decided → (n : ℕ) → Contains family n → IsSure kind body_of path_state path members n
 reported_sure kind body_of path_state path family members longest is_decided reported n among = All-contains (IsSure kind body_of path_state path members) family n reported.sure among

@@ -7,6 +7,7 @@ use Rattle.std.proofs.lemmas.Option.{same_Some, none-some}
 use Rattle.job_bodies.specs.declared.action.Action.{Action}
 use Rattle.job_bodies.specs.declared.action.Action.TheVariants.{Work, Submit, Get}
 use Rattle.job_bodies.specs.Plan.{submitted_class, class_of_submit}
+use Rattle.conformance.specs.declared.body_gets.BodyGet.{BodyGet}
 use Rattle.conformance.specs.declared.open_job.OpenJob.{OpenJob}
 use Rattle.conformance.specs.Path.{open_after_action, open_in_body, count_in_body, count_in, open_class, without, IsWithin}
 use Rattle.conformance.specs.BodyGets.{get_with, get_at, can_pass}
@@ -126,3 +127,39 @@ within_submit jobs body q job of e before = λ class.
 -- The path gets a job.
 pub within_without : (jobs : List OpenJob) (body : List Action) (q job : ℕ) → IsWithin jobs body q → IsWithin (without job jobs) body q
 within_without jobs body q job before = λ class. let h = before class in let w = count_without class job jobs in omega (arith, h, w)
+
+-- ---- the gets of a body
+same_get_limit : (class limit q : ℕ) (body : List Action) (get : BodyGet) → ◌≡◌ {A = Option BodyGet} (Some (record { class = class; limit = limit })) (Some get) → limit ≡ count_in_body class body (suc q) → count_in_body get.class body (suc q) ≡ get.limit
+same_get_limit class limit q body get e limit_is =
+    subst (λ (g : BodyGet). count_in_body g.class body (suc q) ≡ g.limit) (same_Some (record { class = class; limit = limit }) get e) (sym limit_is)
+
+get_limit_at : (o : Option Action) (body : List Action) (q : ℕ) (get : BodyGet) → get_with o body (open_in_body body (suc q)) ≡ Some get → count_in_body get.class body (suc q) ≡ get.limit
+get_limit_at None body q get e = absurd (none-some get e)
+get_limit_at (Some (Work units)) body q get e = absurd (none-some get e)
+get_limit_at (Some (Submit k)) body q get e = absurd (none-some get e)
+get_limit_at (Some (Get t)) body q get e = same_get_limit (submitted_class body t) (count_in_body (submitted_class body t) body (suc q)) q body get e refl
+
+-- The number of jobs of its class that are open after a get.
+pub get_limit : (body : List Action) (q : ℕ) (get : BodyGet) → get_at body q ≡ Some get → count_in_body get.class body (suc q) ≡ get.limit
+get_limit body q = get_limit_at (slice_get body q) body q
+
+stays_at_get : (b : Bool) (class t : ℕ) (body : List Action) (q : ℕ) → slice_get body q ≡ Some (Get t) → eqb (submitted_class body t) class ≡ b → (submitted_class body t ≡ class → ⊥) → count_in_body class body q ≤ count_in_body class body (suc q)
+stays_at_get true class t body q e is_same other = absurd (other (eqb-true (submitted_class body t) class is_same))
+stays_at_get false class t body q e is_other other =
+    let next = body_count_next (Some (Get t)) class body q e in
+    let same = count_other (λ submit. eqb (submitted_class body submit) class) t (open_in_body body q) is_other in
+    let all = next ∙ same in
+    omega (arith, all)
+
+stays_at : (o : Option Action) (class : ℕ) (body : List Action) (q : ℕ) → slice_get body q ≡ o → ((get : BodyGet) → get_with o body (open_in_body body (suc q)) ≡ Some get → get.class ≡ class → ⊥) → count_in_body class body q ≤ count_in_body class body (suc q)
+stays_at None class body q e other = let next = body_count_next None class body q e in omega (arith, next)
+stays_at (Some (Work units)) class body q e other = let next = body_count_next (Some (Work units)) class body q e in omega (arith, next)
+stays_at (Some (Submit k)) class body q e other =
+    let next = body_count_next (Some (Submit k)) class body q e in
+    let more = count_push (λ submit. eqb (submitted_class body submit) class) (open_in_body body q) q in
+    omega (arith, next, more)
+stays_at (Some (Get t)) class body q e other = stays_at_get (eqb (submitted_class body t) class) class t body q e refl (λ same. other _ refl same)
+
+-- Only a get of the class lowers the number of its open jobs.
+pub count_stays : (class : ℕ) (body : List Action) (q : ℕ) → ((get : BodyGet) → get_at body q ≡ Some get → get.class ≡ class → ⊥) → count_in_body class body q ≤ count_in_body class body (suc q)
+count_stays class body q = stays_at (slice_get body q) class body q refl

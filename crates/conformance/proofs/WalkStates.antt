@@ -27,13 +27,13 @@ at_in_body body state tables q h =
     (λ past. absurd (false≢true (sym (get_or_past state.row.items q false past) ∙ h)))
     (cases_lt q (length state.row.items))
 
-submit_is : (class : ℕ) (o : Option Action) → is_submit_of class o ≡ true → o ≡ Some (Submit class)
+pub submit_is : (class : ℕ) (o : Option Action) → is_submit_of class o ≡ true → o ≡ Some (Submit class)
 submit_is class None h = absurd (false≢true h)
 submit_is class (Some (Work units)) h = absurd (false≢true h)
 submit_is class (Some (Submit other)) h = ap (λ k. Some (Submit k)) (eqb-true other class h)
 submit_is class (Some (Get submit)) h = absurd (false≢true h)
 
-no_submit_of_get : (job class : ℕ) (one : PathStep) → one ≡ step.Gets job → submits one class ≡ true → ⊥
+pub no_submit_of_get : (job class : ℕ) (one : PathStep) → one ≡ step.Gets job → submits one class ≡ true → ⊥
 no_submit_of_get job class one e h = false≢true (sym (ap (λ s. submits s class) e) ∙ h)
 
 same_get : (job other : ℕ) → ◌≡◌ {A = Option PathStep} (Some (step.Gets job)) (Some (step.Gets other)) → job ≡ other

@@ -1,5 +1,5 @@
 -- Walks: their bounds, their beginnings, and paths that begin alike.
-use Rattle.std.proofs.Common.{◌≡◌, ℕ, zero, suc, ◌<◌, ◌≤◌, ⊎_elim, true, List, [], ◌∷◌, ◌++◌, length, take, Some, refl, sym, subst, ◌∙◌, length-take-le, arith}
+use Rattle.std.proofs.Common.{◌≡◌, ℕ, zero, suc, ◌<◌, ◌≤◌, ⊎_elim, true, List, [], ◌∷◌, ◌++◌, length, take, Option, Some, None, refl, sym, subst, ◌∙◌, length-take-le, arith}
 use Rattle.std.proofs.lemmas.Bool.{cases_lt}
 use Rattle.std.specs.Prelude.{slice_get}
 use Rattle.std.proofs.lemmas.Option.{slice_get_within}
@@ -13,6 +13,8 @@ use Rattle.conformance.specs.declared.step.PathState.{PathState}
 use Rattle.conformance.specs.declared.step.PathState.TheVariants.{Whole, Prefix}
 use Rattle.conformance.specs.PathStep.{submits}
 use Rattle.conformance.specs.Path.{Walks, starts, body_moves, both_submit, path_gets, IsWithin, MayGet, open_class, without, IsPathOf}
+use Rattle.conformance.specs.declared.open_excess.OpenExcess.{OpenExcess}
+use Rattle.conformance.specs.OpenExcess.{IsReason}
 use Rattle.conformance.specs.PathMatch.{IsExplained}
 
 module _ (kind : ActorKind) (body : List Action) (path : List PathStep) where
@@ -94,22 +96,24 @@ walk_from_begins kind body path n h of =
 
 -- If no walk goes over the step at this index, the path is explained up to it.
 pub explained_from_walks : (kind : ActorKind) (body : List Action) (path : List PathStep) (n q : ℕ) (jobs : List OpenJob) → n < length path → Walks kind body path q n jobs
-    → ((index : ℕ) (others : List OpenJob) → ¬ Walks kind body path index (suc n) others) → IsExplained kind body path n
-explained_from_walks kind body path n q jobs lt w none = record {
+    → ((index : ℕ) (others : List OpenJob) → ¬ Walks kind body path index (suc n) others) → (excess : Option OpenExcess) → IsReason kind body path n excess → IsExplained kind body path (record { length = n; excess = excess })
+explained_from_walks kind body path n q jobs lt w none excess reason = record {
   within = omega (arith, lt);
   front = begins_from_walk kind body path n q jobs (omega (arith, lt)) w;
   longest = λ more above within of.
       let longer = walk_from_begins kind body path more within of in
       let next = walk_begins kind body path longer.2 (suc n) (omega (arith, above)) in
       none next.0 next.1 next.2;
+  reason = reason;
 }
 
 -- A path whose steps are all walked is explained to its end.
-pub explained_to_end : (kind : ActorKind) (body : List Action) (path : List PathStep) (q : ℕ) (jobs : List OpenJob) → Walks kind body path q (length path) jobs → IsExplained kind body path (length path)
-explained_to_end kind body path q jobs w = record {
+pub explained_to_end : (kind : ActorKind) (body : List Action) (path : List PathStep) (q : ℕ) (jobs : List OpenJob) → Walks kind body path q (length path) jobs → IsReason kind body path (length path) None → IsExplained kind body path (record { length = length path; excess = None })
+explained_to_end kind body path q jobs w reason = record {
   within = omega arith;
   front = begins_from_walk kind body path (length path) q jobs (omega arith) w;
   longest = λ more above within of. omega (arith, above, within);
+  reason = reason;
 }
 
 -- A path that matches is walked to its end.

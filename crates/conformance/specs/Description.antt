@@ -16,6 +16,7 @@ use Rattle.conformance.specs.declared.actor_label.ActorLabel.{ActorLabel}
 use Rattle.conformance.specs.declared.classified_actor.ClassifiedActor.{ClassifiedActor}
 use Rattle.conformance.specs.declared.describe_mismatch.JobStep.{JobStep}
 use Rattle.conformance.specs.declared.describe_mismatch.JobStep.TheVariants as step
+use Rattle.conformance.specs.declared.open_excess.OpenExcess.{OpenExcess}
 use Rattle.conformance.specs.declared.mismatch.NamedStep.{NamedStep}
 use Rattle.conformance.specs.declared.mismatch.NamedStep.TheVariants as named
 use Rattle.conformance.specs.declared.mismatch.PathMismatch.{PathMismatch}
@@ -80,10 +81,15 @@ pub data IsNamed (lines : List RecordedLine) : Option JobStep → Option NamedSt
 abbrev pub IsLabelOfJob : List RecordedLine → ℕ → ActorLabel → Type 0
 IsLabelOfJob lines job label = IsLabelOf lines (Job job) (string_bytes label.name) (string_bytes label.pool)
 
+-- A submit of a job whose own path matches a class.
+abbrev pub submit_of_body : ActorLabel → Option OpenExcess → DeviatingStep
+submit_of_body label None = mismatch.Submits label
+submit_of_body label (Some excess) = mismatch.SubmitsWhileOpen label excess
+
 -- A submit of a job whose own path matches no class is reported as such: either the plan has classes of its label, or it has none.
-abbrev pub deviating_submit : Bool → Bool → ℕ → ActorLabel → DeviatingStep
-deviating_submit is_classless is_planned job label =
-    if not is_classless then mismatch.Submits label
+abbrev pub deviating_submit : Bool → Bool → ℕ → ActorLabel → Option OpenExcess → DeviatingStep
+deviating_submit is_classless is_planned job label excess =
+    if not is_classless then submit_of_body label excess
     else (if is_planned then mismatch.SubmitsMismatched job label else mismatch.SubmitsUnplanned job label)
 
 -- The end of an actor, with the label of its first open job if there is one.
@@ -92,11 +98,11 @@ pub data IsDeviatingEnd (lines : List RecordedLine) : Option ℕ → DeviatingSt
   while_open : (job : ℕ) (label : ActorLabel) → IsLabelOfJob lines job label → IsDeviatingEnd lines (Some job) (mismatch.EndsOpen job label)
 
 -- The first deviating step: the actor's end, with its first open job if there is one; a submit; or a get.
-pub data IsDeviatingStep (plan : Plan) (lines : List RecordedLine) (is_classless : ℕ → Bool) (path : List RecordedStep) : Option JobStep → DeviatingStep → Type 0 where
-  ends : (found : DeviatingStep) → IsDeviatingEnd lines (first_open path) found → IsDeviatingStep plan lines is_classless path None found
+pub data IsDeviatingStep (plan : Plan) (lines : List RecordedLine) (is_classless : ℕ → Bool) (path : List RecordedStep) (excess : Option OpenExcess) : Option JobStep → DeviatingStep → Type 0 where
+  ends : (found : DeviatingStep) → IsDeviatingEnd lines (first_open path) found → IsDeviatingStep plan lines is_classless path excess None found
   submits : (job : ℕ) (label : ActorLabel) → IsLabelOfJob lines job label
-      → IsDeviatingStep plan lines is_classless path (Some (step.Submits job)) (deviating_submit (is_classless job) (is_planned_class plan (string_bytes label.name) (string_bytes label.pool)) job label)
-  gets : (job : ℕ) (label : ActorLabel) → IsLabelOfJob lines job label → IsDeviatingStep plan lines is_classless path (Some (step.Gets job)) (mismatch.Gets label)
+      → IsDeviatingStep plan lines is_classless path excess (Some (step.Submits job)) (deviating_submit (is_classless job) (is_planned_class plan (string_bytes label.name) (string_bytes label.pool)) job label excess)
+  gets : (job : ℕ) (label : ActorLabel) → IsLabelOfJob lines job label → IsDeviatingStep plan lines is_classless path excess (Some (step.Gets job)) (mismatch.Gets label)
 
 abbrev pub number_seen : Option (ℕ × RecordedLine) → Option ℕ
 number_seen found = option_map (λ (number, line). number) found
@@ -108,7 +114,7 @@ pub record IsDescriptionOf (plan : Plan) (lines : List RecordedLine) (is_classle
   pub label_is : string_bytes found.label.name ≡ string_bytes reported.label
   pub pool_is : string_bytes found.label.pool ≡ string_bytes reported.pool
   pub line : Option (ℕ × RecordedLine)
-  pub first : IsFirstLine lines (line_query_of reported.actor (step_at reported.path.items reported.family.explained)) line
+  pub first : IsFirstLine lines (line_query_of reported.actor (step_at reported.path.items reported.family.explained.length)) line
   pub number_is : number ≡ number_seen line
-  pub did : IsDeviatingStep plan lines is_classless reported.path.items (step_at reported.path.items reported.family.explained) found.step
-  pub after : IsNamed lines (step_before reported.path.items reported.family.explained) found.after
+  pub did : IsDeviatingStep plan lines is_classless reported.path.items reported.family.explained.excess (step_at reported.path.items reported.family.explained.length) found.step
+  pub after : IsNamed lines (step_before reported.path.items reported.family.explained.length) found.after

@@ -2,6 +2,7 @@
 use Rattle.std.specs.Prelude.{◌≡◌, ◌≤◌, ◌<◌, ◌↔◌, ℕ, List, length, take, map, All, Any, Contains, ⊤}
 use Rattle.job_bodies.specs.declared.action.Action.{Action}
 use Rattle.job_bodies.specs.Plan.{Plan, class_at, client_at}
+use Rattle.conformance.specs.declared.explained_prefix.ExplainedPrefix.{ExplainedPrefix}
 use Rattle.conformance.specs.declared.step.ActorKind.{ActorKind}
 use Rattle.conformance.specs.declared.step.ActorKind.TheVariants as actor_kind
 use Rattle.conformance.specs.declared.step.PathStep.{PathStep}
@@ -10,6 +11,7 @@ use Rattle.conformance.specs.declared.step.PathState.{PathState}
 use Rattle.conformance.specs.declared.step.PathState.TheVariants.{Prefix}
 use Rattle.conformance.specs.Path.{IsPathOf}
 use Rattle.conformance.specs.Family.{class_family, client_family}
+use Rattle.conformance.specs.OpenExcess.{IsReason}
 
 -- ---- one class, or one client kind
 abbrev pub class_body : Plan → ℕ → List Action
@@ -39,13 +41,17 @@ class_bodies plan label pool = map (class_body plan) (class_family plan label po
 abbrev pub client_bodies : Plan → List ℕ → List (List Action)
 client_bodies plan label = map (client_body plan) (client_family plan label)
 
--- `explained` is the length of the longest prefix of the path that begins a path of one of these bodies, or 0 if there are
--- no bodies.
-pub record IsMostExplained (kind : ActorKind) (bodies : List (List Action)) (path : List PathStep) (explained : ℕ) : Type 0 where
-  pub within : explained ≤ length path
-  pub front : 0 < length bodies → Any (λ body. IsPathOf kind Prefix body (take explained path)) bodies
-  pub longest : (more : ℕ) → explained < more → more ≤ length path → All (λ body. ¬ IsPathOf kind Prefix body (take more path)) bodies
-  pub none : length bodies ≡ 0 → explained ≡ 0
+-- The body explains the prefix of the path, for this reason not more.
+abbrev pub Explains : ActorKind → List PathStep → ExplainedPrefix → List Action → Type 0
+Explains kind path explained body = IsPathOf kind Prefix body (take explained.length path) × IsReason kind body path explained.length explained.excess
+
+-- `explained` is the longest prefix of the path that begins a path of one of these bodies, with the reason why the next step
+-- does not extend it. It is empty if there are no bodies.
+pub record IsMostExplained (kind : ActorKind) (bodies : List (List Action)) (path : List PathStep) (explained : ExplainedPrefix) : Type 0 where
+  pub within : explained.length ≤ length path
+  pub front : 0 < length bodies → Any (Explains kind path explained) bodies
+  pub longest : (more : ℕ) → explained.length < more → more ≤ length path → All (λ body. ¬ IsPathOf kind Prefix body (take more path)) bodies
+  pub none : length bodies ≡ 0 → explained.length ≡ 0
 
 -- Each job of the path can belong to at most one class.
 abbrev pub HasAtMostOneClass : PathStep → Type 0

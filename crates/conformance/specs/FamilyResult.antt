@@ -1,6 +1,7 @@
 -- The result for the first bodies of a family.
 use Rattle.std.specs.Prelude.{◌≤◌, ◌<◌, ℕ, Bool, List, length, map, All, AllPairs, Contains, IsTrue}
 use Rattle.job_bodies.specs.declared.action.Action.{Action}
+use Rattle.conformance.specs.declared.explained_prefix.ExplainedPrefix.{ExplainedPrefix}
 use Rattle.conformance.specs.declared.step.ActorKind.{ActorKind}
 use Rattle.conformance.specs.declared.step.PathStep.{PathStep}
 use Rattle.conformance.specs.declared.step.PathState.{PathState}
@@ -9,8 +10,8 @@ use Rattle.conformance.specs.PathMatch.{IsUnambiguous}
 use Rattle.conformance.specs.declared.family_match.FamilyMatch.{FamilyMatch}
 use Rattle.conformance.specs.FamilyMatch.{IsMostExplained, AreOneClassEach}
 
--- The members, the explained length and the flag are correct after these numbers, each with its body, were matched.
-pub record IsCorrectResult (kind : ActorKind) (body_of : ℕ → List Action) (path_state : PathState) (path : List PathStep) (matched : List ℕ) (members : List ℕ) (longest : ℕ) (is_decided : Bool) : Type 0 where
+-- The members, the explained prefix and the flag are correct after these numbers, each with its body, were matched.
+pub record IsCorrectResult (kind : ActorKind) (body_of : ℕ → List Action) (path_state : PathState) (path : List PathStep) (matched : List ℕ) (members : List ℕ) (longest : ExplainedPrefix) (is_decided : Bool) : Type 0 where
   pub sound : All (λ n. Contains matched n × IsPathOf kind path_state (body_of n) path) members
   pub complete : IsTrue is_decided → All (λ n. IsPathOf kind path_state (body_of n) path → Contains members n) matched
   pub sure : All (λ n. IsUnambiguous (body_of n) path → IsPathOf kind path_state (body_of n) path → Contains members n) matched

@@ -82,7 +82,7 @@ invalidation_text invalidation name = codes "a yes is void from here on: " ++ ev
 abbrev pub found_text : Plan → Finding → List ℕ
 found_text plan (finding.Pool deviation) = deviation_text plan deviation
 found_text plan (finding.NotPlanned name) = not_planned_text name
-found_text plan (finding.PathMismatch line mismatch) = mismatch_text mismatch
+found_text plan (finding.PathMismatch line mismatch) = mismatch_text plan mismatch
 found_text plan (finding.NotDecided actor name) = label_text actor name ++ codes ": not decided, it submitted a job that may be of several classes of its body"
 found_text plan (finding.TooMany excess) = kind_excess_text plan excess
 found_text plan (finding.ForeignGet get name job) = foreign_get_text get name job

@@ -5,6 +5,8 @@ pub mod BodyGets
 pub mod Candidate
 pub mod WalkState
 pub mod Narrowing
+pub mod BlockingGet
+pub mod OpenExcess
 pub mod PathMatch
 pub mod Family
 pub mod FamilyMatch

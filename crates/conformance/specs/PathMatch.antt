@@ -1,13 +1,15 @@
 -- Results of matching.
-use Rattle.std.specs.Prelude.{◌≤◌, ◌<◌, ℕ, List, ⊤, length, take, All}
+use Rattle.std.specs.Prelude.{◌≤◌, ◌<◌, ℕ, nat_le, if◌then◌else◌, List, ⊤, length, take, All}
 use Rattle.job_bodies.specs.declared.action.Action.{Action}
 use Rattle.conformance.specs.declared.step.ActorKind.{ActorKind}
 use Rattle.conformance.specs.declared.step.PathStep.{PathStep}
 use Rattle.conformance.specs.declared.step.PathState.{PathState}
 use Rattle.conformance.specs.declared.step.PathState.TheVariants.{Prefix}
+use Rattle.conformance.specs.declared.explained_prefix.ExplainedPrefix.{ExplainedPrefix}
 use Rattle.conformance.specs.declared.path_match.PathMatch.{PathMatch}
 use Rattle.conformance.specs.declared.path_match.PathMatch.TheVariants.{Fits, Deviates, Undecided}
 use Rattle.conformance.specs.Path.{IsPathOf, HasOneClass}
+use Rattle.conformance.specs.OpenExcess.{IsReason}
 
 -- `P` holds if the path matches.
 abbrev pub OnFits : PathMatch → Type 0 → Type 0
@@ -15,8 +17,8 @@ OnFits Fits P = P
 OnFits (Deviates explained) P = ⊤
 OnFits Undecided P = ⊤
 
--- `P` holds of the explained length, if the path does not match.
-abbrev pub IfDeviates : PathMatch → (ℕ → Type 0) → Type 0
+-- `P` holds of the explained prefix, if the path does not match.
+abbrev pub IfDeviates : PathMatch → (ExplainedPrefix → Type 0) → Type 0
 IfDeviates Fits P = ⊤
 IfDeviates (Deviates explained) P = P explained
 IfDeviates Undecided P = ⊤
@@ -25,11 +27,17 @@ IfDeviates Undecided P = ⊤
 abbrev pub OnDeviates : PathMatch → Type 0 → Type 0
 OnDeviates path_match P = IfDeviates path_match (λ explained. P)
 
--- `explained` is the length of the longest prefix of the path that begins a path of the body.
-pub record IsExplained (kind : ActorKind) (body : List Action) (path : List PathStep) (explained : ℕ) : Type 0 where
-  pub within : explained ≤ length path
-  pub front : IsPathOf kind Prefix body (take explained path)
-  pub longest : (more : ℕ) → explained < more → more ≤ length path → ¬ IsPathOf kind Prefix body (take more path)
+-- `explained` is the longest prefix of the path that begins a path of the body, with the reason why the next step does not
+-- extend it.
+pub record IsExplained (kind : ActorKind) (body : List Action) (path : List PathStep) (explained : ExplainedPrefix) : Type 0 where
+  pub within : explained.length ≤ length path
+  pub front : IsPathOf kind Prefix body (take explained.length path)
+  pub longest : (more : ℕ) → explained.length < more → more ≤ length path → ¬ IsPathOf kind Prefix body (take more path)
+  pub reason : IsReason kind body path explained.length explained.excess
+
+-- The longer of two prefixes, or the second one if their lengths are the same.
+abbrev pub longer : ExplainedPrefix → ExplainedPrefix → ExplainedPrefix
+longer one other = if nat_le one.length other.length then other else one
 
 -- The result says whether the path matches the body.
 abbrev pub IsDecided : PathMatch → Type 0

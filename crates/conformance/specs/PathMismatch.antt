@@ -1,7 +1,9 @@
 -- The description of an actor whose path matches no body of the plan.
-use Rattle.std.specs.Prelude.{ℕ, ◌++◌, List, codes, decimal, string_bytes, Option, Some, None}
+use Rattle.std.specs.Prelude.{ℕ, ◌==◌, if◌then◌else◌, ◌++◌, List, codes, decimal, string_bytes, Option, Some, None}
+use Rattle.job_bodies.specs.Plan.{Plan, class_at}
 use Rattle.recordings.specs.declared.recording_line.RecordedActor.{RecordedActor}
 use Rattle.recordings.specs.declared.recording_line.RecordedActor.TheVariants.{Job, Round}
+use Rattle.conformance.specs.declared.open_excess.OpenExcess.{OpenExcess}
 use Rattle.conformance.specs.declared.mismatch.PathMismatch.{PathMismatch}
 use Rattle.conformance.specs.declared.mismatch.DeviatingStep.{DeviatingStep}
 use Rattle.conformance.specs.declared.mismatch.DeviatingStep.TheVariants as step
@@ -31,6 +33,18 @@ get_text class pool = codes " got " ++ class ++ codes " of pool " ++ pool
 abbrev pub missing_text : List ℕ → List ℕ
 missing_text step = codes "; its body has no such " ++ step
 
+abbrev pub several_jobs_text : ℕ → List ℕ → List ℕ
+several_jobs_text jobs class = codes ", " ++ (decimal jobs ++ (codes " jobs of class " ++ (class ++ codes " are open")))
+
+abbrev pub open_jobs_text : ℕ → List ℕ → List ℕ
+open_jobs_text jobs class = if jobs == 1 then codes ", 1 job of class " ++ class ++ codes " is open" else several_jobs_text jobs class
+
+abbrev pub limit_text : ℕ → List ℕ
+limit_text limit = codes "; its body has at most " ++ decimal limit ++ codes " before such a submit"
+
+abbrev pub excess_text : Plan → OpenExcess → List ℕ
+excess_text plan excess = open_jobs_text excess.open_jobs (class_at plan excess.class).name ++ limit_text excess.limit
+
 abbrev pub end_text : List ℕ
 end_text = codes " ended; its body has a get before its end"
 
@@ -54,14 +68,18 @@ position_text None = codes " at its begin"
 position_text (Some (Submits class)) = codes " after submit " ++ string_bytes class
 position_text (Some (Gets class)) = codes " after get " ++ string_bytes class
 
--- The first deviating step.
-abbrev pub deviating_step_text : DeviatingStep → Option NamedStep → List ℕ
-deviating_step_text (step.Submits label) after = (submit_text (string_bytes label.name) (string_bytes label.pool) ++ missing_text (codes "submit")) ++ position_text after
-deviating_step_text (step.Gets label) after = (get_text (string_bytes label.name) (string_bytes label.pool) ++ missing_text (codes "get")) ++ position_text after
-deviating_step_text (step.SubmitsMismatched job label) after = submit_text (string_bytes label.name) (string_bytes label.pool) ++ cause_text job
-deviating_step_text (step.SubmitsUnplanned job label) after = submit_text (string_bytes label.name) (string_bytes label.pool) ++ unplanned_job_text job
-deviating_step_text (step.EndsOpen job label) after = open_end_text job (string_bytes label.name) (string_bytes label.pool)
-deviating_step_text step.Ends after = end_text
+abbrev pub too_many_text : Plan → Option NamedStep → OpenExcess → List ℕ
+too_many_text plan after excess = (codes ";" ++ position_text after) ++ excess_text plan excess
 
-abbrev pub mismatch_text : PathMismatch → List ℕ
-mismatch_text mismatch = actor_text mismatch.actor (string_bytes mismatch.label.name) (string_bytes mismatch.label.pool) ++ deviating_step_text mismatch.step mismatch.after
+-- The first deviating step.
+abbrev pub deviating_step_text : Plan → DeviatingStep → Option NamedStep → List ℕ
+deviating_step_text plan (step.Submits label) after = (submit_text (string_bytes label.name) (string_bytes label.pool) ++ missing_text (codes "submit")) ++ position_text after
+deviating_step_text plan (step.SubmitsWhileOpen label excess) after = submit_text (string_bytes label.name) (string_bytes label.pool) ++ too_many_text plan after excess
+deviating_step_text plan (step.Gets label) after = (get_text (string_bytes label.name) (string_bytes label.pool) ++ missing_text (codes "get")) ++ position_text after
+deviating_step_text plan (step.SubmitsMismatched job label) after = submit_text (string_bytes label.name) (string_bytes label.pool) ++ cause_text job
+deviating_step_text plan (step.SubmitsUnplanned job label) after = submit_text (string_bytes label.name) (string_bytes label.pool) ++ unplanned_job_text job
+deviating_step_text plan (step.EndsOpen job label) after = open_end_text job (string_bytes label.name) (string_bytes label.pool)
+deviating_step_text plan step.Ends after = end_text
+
+abbrev pub mismatch_text : Plan → PathMismatch → List ℕ
+mismatch_text plan mismatch = actor_text mismatch.actor (string_bytes mismatch.label.name) (string_bytes mismatch.label.pool) ++ deviating_step_text plan mismatch.step mismatch.after

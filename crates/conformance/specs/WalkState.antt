@@ -10,6 +10,7 @@ use Rattle.conformance.specs.declared.walk_state.Progress.{Progress}
 use Rattle.conformance.specs.declared.walk_state.Progress.TheVariants as progress
 use Rattle.conformance.specs.Path.{Walks, MayGet, HasOneClass, is_submit_of, open_class, without}
 use Rattle.conformance.specs.BodyGets.{get_at, can_pass}
+use Rattle.conformance.specs.OpenExcess.{IsReason}
 
 -- The body can be at this index.
 abbrev pub is_at : WalkState → ℕ → Bool
@@ -53,11 +54,15 @@ pub record IsStateAt (kind : ActorKind) (body : List Action) (path : List PathSt
 abbrev pub IsBegun : WalkState → Type 0
 IsBegun state = (index : ℕ) × (is_at state index ≡ true)
 
+-- A submit of the class is next at an index where the body can be.
+abbrev pub CanSubmit : List Action → ℕ → WalkState → Type 0
+CanSubmit body class state = (index : ℕ) × (is_at state index ≡ true) × (is_submit_of class (slice_get body index) ≡ true)
+
 abbrev pub progress_of : WalkState → Progress
-progress_of state = if list_any (λ at. at) state.row.items then progress.Walked else progress.Stops
+progress_of state = if list_any (λ at. at) state.row.items then progress.Walked else progress.Stops None
 
 -- The walks after a further step of the path.
 abbrev pub IsProgress : ActorKind → List Action → List PathStep → ℕ → PathStep → WalkState → Progress → Type 0
 IsProgress kind body path place step new progress.Walked = IsStateAt kind body path (place + 1) new × IsBegun new
-IsProgress kind body path place step new progress.Stops = (index : ℕ) (jobs : List OpenJob) → ¬ Walks kind body path index (place + 1) jobs
+IsProgress kind body path place step new (progress.Stops excess) = ((index : ℕ) (jobs : List OpenJob) → ¬ Walks kind body path index (place + 1) jobs) × IsReason kind body path place excess
 IsProgress kind body path place step new progress.Undecided = ¬ HasOneClass body step

@@ -14,6 +14,7 @@ use crate::first_lines::{FirstLines, FoundLine};
 use crate::job_set::JobSet;
 use crate::line_query::LineQuery;
 use crate::mismatch::{DeviatingStep, NamedStep, PathMismatch};
+use crate::open_excess::OpenExcess;
 use crate::{ClassifiedActor, first_class};
 use job_bodies::Plan;
 use recordings::{RecordedActor, RecordedStep};
@@ -38,16 +39,24 @@ pub(crate) fn describe_mismatch(
         found.0 found.1) }
 {
     let explained = reported.family.explained;
-    let step = step_at(&reported.path, explained);
+    let step = step_at(&reported.path, explained.length);
     let line = first.find(alloc, line_query_of(reported.actor, step))?;
-    let after = match explained.checked_sub(1) {
+    let after = match explained.length.checked_sub(1) {
         None => None,
         Some(last) => named_step(alloc, first, step_at(&reported.path, last))?,
     };
     let mismatch = PathMismatch {
         actor: reported.actor,
         label: label_of_classified(reported)?,
-        step: deviating_step(alloc, plan, first, classless, &reported.path, step)?,
+        step: deviating_step(
+            alloc,
+            plan,
+            first,
+            classless,
+            &reported.path,
+            explained.excess,
+            step,
+        )?,
         after,
     };
     Ok((number_of(&line), mismatch))
@@ -75,7 +84,7 @@ pub(crate) fn push_queries(
     queries: &mut Vec<LineQuery>,
     reported: &ClassifiedActor,
 ) -> Result<(), AllocError> {
-    let explained = reported.family.explained;
+    let explained = reported.family.explained.length;
     let step = step_at(&reported.path, explained);
     queries.push(line_query_of(reported.actor, step))?;
     match step {
@@ -156,10 +165,11 @@ fn deviating_step(
     first: &FirstLines<'_>,
     classless: &JobSet,
     path: &[RecordedStep],
+    excess: Option<OpenExcess>,
     step: Option<JobStep>,
 ) -> Result<DeviatingStep, AllocError>
     ensures { IfOk result
-        (spec.IsDeviatingStep plan.now (lines_of first.now) (has_job classless.now) path.now step) }
+        (spec.IsDeviatingStep plan.now (lines_of first.now) (has_job classless.now) path.now excess step) }
 {
     match step {
         None => {
@@ -168,7 +178,7 @@ fn deviating_step(
         }
         Some(JobStep::Submits(job)) => {
             let label = first.label_of(alloc, job)?;
-            Ok(deviating_submit(plan, classless, job, label))
+            Ok(deviating_submit(plan, classless, job, label, excess))
         }
         Some(JobStep::Gets(job)) => {
             let label = first.label_of(alloc, job)?;
@@ -226,17 +236,34 @@ fn is_got(path: &[RecordedStep], submit: usize) -> bool
     path.iter().any(|step| step.gets(submit))
 }
 
-fn deviating_submit(plan: &Plan, classless: &JobSet, job: usize, label: ActorLabel) -> DeviatingStep
+fn deviating_submit(
+    plan: &Plan,
+    classless: &JobSet,
+    job: usize,
+    label: ActorLabel,
+    excess: Option<OpenExcess>,
+) -> DeviatingStep
     ensures { result
         ≡ spec.deviating_submit (has_job classless.now job)
-        (is_planned_class plan.now (string_bytes label.name) (string_bytes label.pool)) job label }
+        (is_planned_class plan.now (string_bytes label.name) (string_bytes label.pool)) job label
+        excess }
 {
     if !classless.contains(job) {
-        DeviatingStep::Submits(label)
+        submit_of_body(label, excess)
     } else if is_planned_class(plan, &label.name, &label.pool) {
         DeviatingStep::SubmitsMismatched { job, label }
     } else {
         DeviatingStep::SubmitsUnplanned { job, label }
+    }
+}
+
+/// Returns the deviation of a submit of a job whose own path matches a class.
+fn submit_of_body(label: ActorLabel, excess: Option<OpenExcess>) -> DeviatingStep
+    ensures { result ≡ spec.submit_of_body label excess }
+{
+    match excess {
+        Some(excess) => DeviatingStep::SubmitsWhileOpen { label, excess },
+        None => DeviatingStep::Submits(label),
     }
 }
 

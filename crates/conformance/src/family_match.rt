@@ -7,6 +7,7 @@ ghost use Rattle.conformance.specs.declared.step.PathStep.{PathStep};
 ghost use Rattle.conformance.specs.declared.step.PathState.{PathState};
 ghost use Rattle.conformance.specs.FamilyResult.{IsCorrectMatch};
 
+use crate::explained_prefix::{ExplainedPrefix, longer};
 use crate::{ActorKind, PathMatch, PathState, PathStep, match_path};
 use job_bodies::Action;
 use std::alloc::{AllocError, Global};
@@ -16,9 +17,9 @@ use std::alloc::{AllocError, Global};
 pub struct FamilyMatch {
     /// The numbers of the members whose body the path matches, in ascending order.
     pub members: Vec<usize>,
-    /// The length of the longest prefix of the path that a body of the family explains. It is the
-    /// length of the path if there is a member, and 0 if the family is empty.
-    pub explained: usize,
+    /// The longest prefix of the path that a body of the family explains. It is the path if there is a
+    /// member, and empty if the family is.
+    pub explained: ExplainedPrefix,
     /// True if it was decided for each body of the family. Otherwise there may be more members, and
     /// a longer prefix may be explained.
     pub is_decided: bool,
@@ -32,7 +33,10 @@ impl FamilyMatch {
     {
         FamilyMatch {
             members: Vec::new(alloc),
-            explained: 0,
+            explained: ExplainedPrefix {
+                length: 0,
+                excess: None,
+            },
             is_decided: true,
         }
     }
@@ -55,12 +59,15 @@ impl FamilyMatch {
         let path_match = match_path(alloc, body, path, kind, path_state)?;
         match path_match {
             PathMatch::Fits => {
-                self.explained = path.len();
+                self.explained = ExplainedPrefix {
+                    length: path.len(),
+                    excess: None,
+                };
                 self.members.push(number)?;
                 Ok(())
             }
             PathMatch::Deviates(explained) => {
-                self.explained = self.explained.max(explained);
+                self.explained = longer(self.explained, explained);
                 Ok(())
             }
             PathMatch::Undecided => {

@@ -42,7 +42,7 @@ pub fn push_finding(text: &mut String, plan: &Plan, finding: &Finding) -> Result
     match finding {
         Finding::Pool(deviation) => push_deviation(text, plan, deviation),
         Finding::NotPlanned(label) => push_not_planned(text, label),
-        Finding::PathMismatch { mismatch, .. } => push_mismatch(text, mismatch),
+        Finding::PathMismatch { mismatch, .. } => push_mismatch(text, plan, mismatch),
         Finding::NotDecided { actor, label } => {
             push_actor(text, *actor, label)?;
             text.push_str(

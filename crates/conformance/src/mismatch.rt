@@ -5,6 +5,8 @@ ghost use Rattle.support.specs.Pushed.{Pushes};
 ghost use Rattle.conformance.specs.PathMismatch as spec;
 
 use crate::actor_label::ActorLabel;
+use crate::open_excess::OpenExcess;
+use job_bodies::Plan;
 use recordings::RecordedActor;
 use std::alloc::AllocError;
 use support::push_number;
@@ -23,18 +25,33 @@ pub struct PathMismatch {
 /// The first deviating step of an actor.
 #[derive(Drop)]
 pub enum DeviatingStep {
-    /// The actor submitted a job of this class to this pool.
+    /// The actor submitted a job of this class to this pool. Its body has no such submit left.
     Submits(ActorLabel),
+    /// The actor submitted a job of this class to this pool, while too many of its jobs were open. Its
+    /// body has such a submit left.
+    SubmitsWhileOpen {
+        label: ActorLabel,
+        excess: OpenExcess,
+    },
     /// The actor got a job of this class and pool.
     Gets(ActorLabel),
     /// The actor submitted this job, whose own path matches no class of its label. The plan has such
     /// a class in the pool.
-    SubmitsMismatched { job: usize, label: ActorLabel },
+    SubmitsMismatched {
+        job: usize,
+        label: ActorLabel,
+    },
     /// The actor submitted this job, and the plan has no such class in the pool.
-    SubmitsUnplanned { job: usize, label: ActorLabel },
+    SubmitsUnplanned {
+        job: usize,
+        label: ActorLabel,
+    },
     /// The actor ended before a get of its body, while this job was open: the first of its jobs that
     /// it did not get.
-    EndsOpen { job: usize, label: ActorLabel },
+    EndsOpen {
+        job: usize,
+        label: ActorLabel,
+    },
     /// The actor ended before a get of its body, and got all its jobs.
     Ends,
 }
@@ -50,25 +67,35 @@ pub enum NamedStep {
 
 /// Appends a description of the mismatch, such as `job 44 of class order in pool web submitted price
 /// to pool database; its body has no such submit after get stock`.
-pub(crate) fn push_mismatch(text: &mut String, mismatch: &PathMismatch) -> Result<(), AllocError>
-    ensures { Pushes result text.old text.new (spec.mismatch_text mismatch.now) }
+pub(crate) fn push_mismatch(
+    text: &mut String,
+    plan: &Plan,
+    mismatch: &PathMismatch,
+) -> Result<(), AllocError>
+    ensures { Pushes result text.old text.new (spec.mismatch_text plan.now mismatch.now) }
 {
     push_actor(text, mismatch.actor, &mismatch.label)?;
-    push_deviation(text, &mismatch.step, &mismatch.after)
+    push_deviation(text, plan, &mismatch.step, &mismatch.after)
 }
 
 fn push_deviation(
     text: &mut String,
+    plan: &Plan,
     step: &DeviatingStep,
     after: &Option<NamedStep>,
 ) -> Result<(), AllocError>
-    ensures { Pushes result text.old text.new (spec.deviating_step_text step.now after.now) }
+    ensures { Pushes result text.old text.new
+        (spec.deviating_step_text plan.now step.now after.now) }
 {
     match step {
         DeviatingStep::Submits(label) => {
             push_submit(text, label)?;
             push_missing(text, "submit")?;
             push_position(text, after)
+        }
+        DeviatingStep::SubmitsWhileOpen { label, excess } => {
+            push_submit(text, label)?;
+            push_too_many(text, plan, after, *excess)
         }
         DeviatingStep::Gets(label) => {
             push_get(text, label)?;
@@ -144,6 +171,48 @@ fn push_missing(text: &mut String, step: &str) -> Result<(), AllocError>
     ensures { Pushes result text.old text.new (spec.missing_text step.now) }
 {
     write!(text, "; its body has no such {step}")
+}
+
+fn push_too_many(
+    text: &mut String,
+    plan: &Plan,
+    after: &Option<NamedStep>,
+    excess: OpenExcess,
+) -> Result<(), AllocError>
+    ensures { Pushes result text.old text.new (spec.too_many_text plan.now after.now excess) }
+{
+    text.push_str(";")?;
+    push_position(text, after)?;
+    push_excess(text, plan, excess)
+}
+
+fn push_excess(text: &mut String, plan: &Plan, excess: OpenExcess) -> Result<(), AllocError>
+    ensures { Pushes result text.old text.new (spec.excess_text plan.now excess) }
+{
+    push_open_jobs(text, excess.open_jobs, plan.class_name(excess.class))?;
+    push_limit(text, excess.limit)
+}
+
+fn push_open_jobs(text: &mut String, jobs: usize, class: &str) -> Result<(), AllocError>
+    ensures { Pushes result text.old text.new (spec.open_jobs_text jobs class.now) }
+{
+    if jobs == 1 {
+        write!(text, ", 1 job of class {class} is open")
+    } else {
+        push_several_jobs(text, jobs, class)
+    }
+}
+
+fn push_several_jobs(text: &mut String, jobs: usize, class: &str) -> Result<(), AllocError>
+    ensures { Pushes result text.old text.new (spec.several_jobs_text jobs class.now) }
+{
+    write!(text, ", {jobs} jobs of class {class} are open")
+}
+
+fn push_limit(text: &mut String, limit: usize) -> Result<(), AllocError>
+    ensures { Pushes result text.old text.new (spec.limit_text limit) }
+{
+    write!(text, "; its body has at most {limit} before such a submit")
 }
 
 fn push_end(text: &mut String) -> Result<(), AllocError>

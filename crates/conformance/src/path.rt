@@ -7,6 +7,7 @@ ghost use Rattle.conformance.specs.PathMatch.{OnFits, OnDeviates, IfDeviates, Is
 ghost use Rattle.conformance.specs.WalkState.{IsStateAt, IsBegun};
 
 use crate::body_gets::body_gets;
+use crate::explained_prefix::ExplainedPrefix;
 use crate::narrowing::{Pick, narrowed};
 use crate::path_match::PathMatch;
 use crate::step::{ActorKind, PathState, PathStep};
@@ -44,7 +45,8 @@ pub fn match_path(
     ensures deviates { IfOk result (λ path_match.
         OnDeviates path_match (¬ IsPathOf kind path_state body.now path.now)) }
 
-    // The number is the length of the longest prefix of the path that begins a path of the body.
+    // It is the longest prefix of the path that begins a path of the body, with the reason why the
+    // next step is not walked.
     ensures explained { IfOk result
         (λ path_match. IfDeviates path_match (IsExplained kind body.now path.now)) }
 
@@ -84,7 +86,8 @@ fn match_exactly(
     ensures deviates { IfOk result (λ path_match.
         OnDeviates path_match (¬ IsPathOf kind path_state body.now path.now)) }
 
-    // The number is the length of the longest prefix of the path that begins a path of the body.
+    // It is the longest prefix of the path that begins a path of the body, with the reason why the
+    // next step is not walked.
     ensures explained { IfOk result
         (λ path_match. IfDeviates path_match (IsExplained kind body.now path.now)) }
 
@@ -97,7 +100,12 @@ fn match_exactly(
     for (place, step) in path.iter().enumerate() {
         match state.take_step(kind, body, &gets, place, step)? {
             Progress::Walked => {}
-            Progress::Stops => return Ok(PathMatch::Deviates(place)),
+            Progress::Stops(excess) => {
+                return Ok(PathMatch::Deviates(ExplainedPrefix {
+                    length: place,
+                    excess,
+                }));
+            }
             Progress::Undecided => return Ok(PathMatch::Undecided),
         }
     }
@@ -171,7 +179,10 @@ fn match_at_end(
             if state.is_at(body.len()) {
                 PathMatch::Fits
             } else {
-                PathMatch::Deviates(path.len())
+                PathMatch::Deviates(ExplainedPrefix {
+                    length: path.len(),
+                    excess: None,
+                })
             }
         }
     }

@@ -25,6 +25,13 @@ pub(crate) fn shift_row(row: &mut [bool], body: &[Action], class: usize)
     }
 }
 
+/// Returns true if the body submits a job of the class at this index.
+pub(crate) fn has_submit_at(body: &[Action], index: usize, class: usize) -> bool
+    ensures { result ≡ spec.is_submit_of class (slice_get body.now index) }
+{
+    is_submit_of(class, body.get(index))
+}
+
 fn is_submit_of(class: usize, action: Option<&Action>) -> bool
     ensures { result ≡ spec.is_submit_of class (option_copied action.entry) }
 {

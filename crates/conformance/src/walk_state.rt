@@ -1,16 +1,21 @@
 //! The state of the walks of a body and a path.
 
-ghost use Rattle.std.specs.Prelude.{◌≡◌, ℕ, List, Some, IfOk, OnOk, slice_get};
+ghost use Rattle.std.specs.Prelude.{◌≡◌, ℕ, false, List, Some, IfOk, OnOk, IsTrue, slice_get};
 ghost use Rattle.std.specs.List.{list_any};
 ghost use Rattle.conformance.specs.declared.step.ActorKind.{ActorKind};
 ghost use Rattle.conformance.specs.declared.step.PathStep.{PathStep};
+ghost use Rattle.conformance.specs.declared.candidate.Candidate.TheVariants as candidate;
 ghost use Rattle.conformance.specs.BodyGets.{AreGets};
+ghost use Rattle.conformance.specs.Candidate.{IsCandidate};
+ghost use Rattle.conformance.specs.OpenExcess.{IsReason};
 ghost use Rattle.conformance.specs.WalkState as spec;
 
+use crate::blocking_get::blocking_get;
 use crate::body_gets::{BodyGet, end_of_gets};
 use crate::candidate::{Candidate, candidate_of};
+use crate::open_excess::OpenExcess;
 use crate::open_job::{OpenJob, count_in, take_job};
-use crate::row::{close_row, cut_row, shift_row, update_passes};
+use crate::row::{close_row, cut_row, has_submit_at, shift_row, update_passes};
 use crate::step::{ActorKind, PathStep};
 use job_bodies::Action;
 use std::alloc::{AllocError, Global};
@@ -31,8 +36,8 @@ pub(crate) struct WalkState {
 pub(crate) enum Progress {
     /// The path and the body can be walked together up to this step.
     Walked,
-    /// They cannot.
-    Stops,
+    /// They cannot. If the step is a submit that the body still has, too many jobs are open.
+    Stops(Option<OpenExcess>),
     /// The job may be of several classes of the body.
     Undecided,
 }
@@ -78,10 +83,15 @@ impl WalkState {
     {
         match step {
             PathStep::Submits(classes) => match candidate_of(body, classes) {
-                Candidate::None => Ok(Progress::Stops),
+                Candidate::None => Ok(Progress::Stops(None)),
                 Candidate::One(class) => {
-                    self.submit(body, gets, place, class)?;
-                    Ok(self.progress())
+                    if self.can_submit(body, class) {
+                        self.submit(body, gets, place, class)?;
+                        Ok(Progress::Walked)
+                    } else {
+                        let excess = self.open_excess(body, gets, class);
+                        Ok(Progress::Stops(excess))
+                    }
                 }
                 Candidate::Several => Ok(Progress::Undecided),
             },
@@ -89,6 +99,46 @@ impl WalkState {
                 self.get(kind, body, gets, *job);
                 Ok(self.progress())
             }
+        }
+    }
+
+    /// Returns true if a submit of the class is next at an index where the body can be.
+    fn can_submit(&self, body: &[Action], class: usize) -> bool
+        ensures can { IsTrue result → spec.CanSubmit body.now class self.now }
+        ensures cannot { result ≡ false → ¬ spec.CanSubmit body.now class self.now }
+    {
+        for index in 0..body.len() {
+            if self.is_at(index) && has_submit_at(body, index, class) {
+                return true;
+            }
+        }
+        false
+    }
+
+    /// Returns the open jobs that keep the body from its next submit of the class, or `None` if it has
+    /// no such submit where it can be or later.
+    fn open_excess(
+        &self,
+        body: &[Action],
+        gets: &[Option<BodyGet>],
+        class: usize,
+    ) -> Option<OpenExcess>
+        requires gets { AreGets body.now gets.now }
+        requires tables { spec.HasTables body.now self.now }
+        ensures { (kind : ActorKind) (path : List PathStep) (place : ℕ) (step : PathStep)
+            → slice_get path place ≡ Some step
+            → IsCandidate body.now step (candidate.One class)
+            → spec.IsStateAt kind body.now path place self.now
+            → ¬ spec.CanSubmit body.now class self.now
+            → IsReason kind body.now path place result }
+    {
+        match blocking_get(&self.row, &self.passes, gets, body, class) {
+            Some(get) => Some(OpenExcess {
+                class: get.class,
+                open_jobs: count_in(get.class, &self.jobs),
+                limit: get.limit,
+            }),
+            None => None,
         }
     }
 
@@ -136,7 +186,7 @@ impl WalkState {
         if self.is_begun() {
             Progress::Walked
         } else {
-            Progress::Stops
+            Progress::Stops(None)
         }
     }
 

@@ -16,7 +16,7 @@ pub returns : goal.returns
 returns c =
     let lines = lines_of c.args.first.now in
     let reported = c.args.reported.now in
-    let did : c.step_at-step.result ≡ spec.step_at reported.path.items reported.family.explained = c.step_at-step.ensures ∙ ap (λ (path : List RecordedStep). spec.step_at path reported.family.explained) c.deref.ensures.value in
+    let did : c.step_at-step.result ≡ spec.step_at reported.path.items reported.family.explained.length = c.step_at-step.ensures ∙ ap (λ (path : List RecordedStep). spec.step_at path reported.family.explained.length) c.deref.ensures.value in
     let found = line_found lines c.line_query_of.result c.in_ok-line.line c.in_ok-line.ensures in
     record {
       actor_is = refl;
@@ -25,13 +25,13 @@ returns c =
       line = found.line;
       first = subst (λ (w : LineQuery). IsFirstLine lines w found.line) (c.line_query_of.ensures ∙ ap (spec.line_query_of reported.actor) did) found.first;
       number_is = c.number_of.ensures ∙ found.number_is;
-      did = subst (λ (d : Option JobStep). spec.IsDeviatingStep c.args.plan.now lines (has_job c.args.classless.now) reported.path.items d c.in_ok-deviating_step.field-0) did
-          (subst (λ (path : List RecordedStep). spec.IsDeviatingStep c.args.plan.now lines (has_job c.args.classless.now) path c.step_at-step.result c.in_ok-deviating_step.field-0) c.deref-2.ensures.value c.in_ok-deviating_step.ensures);
+      did = subst (λ (d : Option JobStep). spec.IsDeviatingStep c.args.plan.now lines (has_job c.args.classless.now) reported.path.items reported.family.explained.excess d c.in_ok-deviating_step.field-0) did
+          (subst (λ (path : List RecordedStep). spec.IsDeviatingStep c.args.plan.now lines (has_job c.args.classless.now) path reported.family.explained.excess c.step_at-step.result c.in_ok-deviating_step.field-0) c.deref-2.ensures.value c.in_ok-deviating_step.ensures);
       after = elim c.match-checked_sub.branch [
-        | in-None w ↦ after_begin_line lines reported.path.items reported.family.explained _ w.in-None.ensures w.after-is
+        | in-None w ↦ after_begin_line lines reported.path.items reported.family.explained.length _ w.in-None.ensures w.after-is
         | in-Some+in_ok-after-in-Some w ↦
             let before : w.step_at.result ≡ spec.step_at reported.path.items w.in-Some.last = w.step_at.ensures ∙ ap (λ (path : List RecordedStep). spec.step_at path w.in-Some.last) w.deref-in-Some.ensures.value in
             let named = subst (λ (d : Option JobStep). spec.IsNamed lines d w.in_ok-after-in-Some.after) before w.in_ok-after-in-Some.ensures in
-            after_step lines reported.path.items reported.family.explained w.in-Some.last _ w.in-Some.ensures.0 w.in-Some.ensures.1 (subst (λ (b : Option NamedStep). spec.IsNamed lines (spec.step_at reported.path.items w.in-Some.last) b) (sym w.after-is) named)
+            after_step lines reported.path.items reported.family.explained.length w.in-Some.last _ w.in-Some.ensures.0 w.in-Some.ensures.1 (subst (λ (b : Option NamedStep). spec.IsNamed lines (spec.step_at reported.path.items w.in-Some.last) b) (sym w.after-is) named)
       ];
     }

@@ -14,14 +14,14 @@ returns-in-Stops-clause-deviates c =
     let at = slice_get_read c.args.path.now (length c.args.path.now) c.loop-place.place c.index-path-place.result refl c.loop-place-test.true c.index-path-place.is in
     let progress = c.in_ok-take_step.ensures c.args.path.now at c.loop-place.invariant.is_state in
     let stops = subst (λ p. IsProgress c.args.kind c.args.body.now c.args.path.now c.loop-place.place c.index-path-place.result c.take_step.new.self p) c.in-Stops.is progress in
-    (result_if_stops c.args.kind c.args.body.now c.args.path.now c.args.path_state c.loop-place.place c.index-path-place.result c.loop-place.state at c.loop-place.invariant.is_state c.loop-place.invariant.begun stops).0
+    (result_if_stops c.args.kind c.args.body.now c.args.path.now c.args.path_state c.loop-place.place c.index-path-place.result c.loop-place.state at c.loop-place.invariant.is_state c.loop-place.invariant.begun c.in-Stops.excess stops.0 stops.1).0
 
 pub returns-in-Stops-clause-explained : goal.returns-in-Stops-clause-explained
 returns-in-Stops-clause-explained c =
     let at = slice_get_read c.args.path.now (length c.args.path.now) c.loop-place.place c.index-path-place.result refl c.loop-place-test.true c.index-path-place.is in
     let progress = c.in_ok-take_step.ensures c.args.path.now at c.loop-place.invariant.is_state in
     let stops = subst (λ p. IsProgress c.args.kind c.args.body.now c.args.path.now c.loop-place.place c.index-path-place.result c.take_step.new.self p) c.in-Stops.is progress in
-    (result_if_stops c.args.kind c.args.body.now c.args.path.now c.args.path_state c.loop-place.place c.index-path-place.result c.loop-place.state at c.loop-place.invariant.is_state c.loop-place.invariant.begun stops).1
+    (result_if_stops c.args.kind c.args.body.now c.args.path.now c.args.path_state c.loop-place.place c.index-path-place.result c.loop-place.state at c.loop-place.invariant.is_state c.loop-place.invariant.begun c.in-Stops.excess stops.0 stops.1).1
 
 pub returns-in-Undecided-clause-decided : goal.returns-in-Undecided-clause-decided
 returns-in-Undecided-clause-decided c =

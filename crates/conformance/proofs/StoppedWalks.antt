@@ -1,0 +1,243 @@
+-- Where the walks stop at a submit of the path, and why.
+use Rattle.std.proofs.Common.{◌≡◌, ℕ, zero, suc, ◌<◌, ◌≤◌, inl, inr, true, false, eqb, List, length, get_or, Option, Some, None, refl, sym, ap, subst, ◌∙◌, arith}
+use Rattle.std.specs.Prelude.{slice_get}
+use Rattle.std.proofs.lemmas.Bool.{cases_lt, cases_Bool, false≢true, leb-false, eqb-true, eqb-false, eq-eqb}
+use Rattle.std.proofs.lemmas.Option.{slice_get_within, get_or_from_slice_get, same_Some, none-some}
+use Rattle.support.proofs.Members.{In-slice_get, list_any_at_In}
+use Rattle.job_bodies.specs.declared.action.Action.{Action}
+use Rattle.job_bodies.specs.declared.action.Action.TheVariants.{Submit}
+use Rattle.conformance.specs.declared.body_gets.BodyGet.{BodyGet}
+use Rattle.conformance.specs.declared.open_job.OpenJob.{OpenJob}
+use Rattle.conformance.specs.declared.open_excess.OpenExcess.{OpenExcess}
+use Rattle.conformance.specs.declared.candidate.Candidate.TheVariants as candidate
+use Rattle.conformance.specs.declared.step.ActorKind.{ActorKind}
+use Rattle.conformance.specs.declared.step.PathStep.{PathStep}
+use Rattle.conformance.specs.declared.step.PathStep.TheVariants as step
+use Rattle.conformance.specs.declared.walk_state.WalkState.{WalkState}
+use Rattle.conformance.specs.PathStep.{submits}
+use Rattle.conformance.specs.Path.{Walks, IsWithin, count_in, count_in_body, is_submit_of, has_submit_of}
+use Rattle.conformance.specs.BodyGets.{AreGets, get_at, can_pass}
+use Rattle.conformance.specs.BlockingGet.{may_pass, IsFree, IsBlocked, IsFreeFrom, AreReached, IsBlockingGet, IsBlocking}
+use Rattle.conformance.specs.Candidate.{IsCandidate}
+use Rattle.conformance.specs.OpenExcess.{IsSubmitAhead, IsOpenExcess, IsReason}
+use Rattle.conformance.specs.WalkState.{is_at, IsStateAt, CanSubmit}
+use Rattle.conformance.proofs.OpenCounts.{get_limit, count_stays}
+use Rattle.conformance.proofs.Walks.{walk_within, walk_last}
+use Rattle.conformance.proofs.WalkStates.{walk_moves, submit_is, no_submit_of_get}
+
+-- If none of the indices before the end of the body is such a submit, there is none.
+pub cannot_at_end : (body : List Action) (class n : ℕ) (state : WalkState) → length body ≤ n → ((index : ℕ) → index < n → is_at state index ≡ true → is_submit_of class (slice_get body index) ≡ true → ⊥) → CanSubmit body class state → ⊥
+cannot_at_end body class n state past none can =
+    let lt = slice_get_within body can.0 (Submit class) (submit_is class (slice_get body can.0) can.2) in
+    none can.0 (omega (arith, past, lt)) can.1 can.2
+
+-- ---- no submit is ahead
+module _ (kind : ActorKind) (body : List Action) (path : List PathStep) (place : ℕ) where
+  -- A get is no submit.
+  pub none_ahead_of_get : (job : ℕ) → slice_get path place ≡ Some (step.Gets job) → IsReason kind body path place None
+  none_ahead_of_get job at_path submit ahead = no_submit_of_get job ahead.class ahead.step (same_Some ahead.step (step.Gets job) (sym ahead.step_is ∙ at_path)) ahead.may_be
+
+  -- Past the end of the path there is no step.
+  pub none_ahead_at_end : place ≡ length path → IsReason kind body path place None
+  none_ahead_at_end end submit ahead = let lt = slice_get_within path place ahead.step ahead.step_is in omega (arith, lt, end)
+
+  -- The body submits the class of a submit that is ahead.
+  ahead_has : (submit class : ℕ) → slice_get body submit ≡ Some (Submit class) → has_submit_of body class ≡ true
+  ahead_has submit class e = list_any_at_In (λ (a : Action). is_submit_of class (Some a)) (In-slice_get body submit (Submit class) e) (eq-eqb class class refl)
+
+  pub none_ahead_of_none : (one : PathStep) → slice_get path place ≡ Some one → IsCandidate body one candidate.None → IsReason kind body path place None
+  none_ahead_of_none one at_path none submit ahead =
+      let same : ahead.step ≡ one = same_Some ahead.step one (sym ahead.step_is ∙ at_path) in
+      let never = none ahead.class (subst (λ (s : PathStep). submits s ahead.class ≡ true) same ahead.may_be) in
+      false≢true (sym never ∙ ahead_has submit ahead.class ahead.submit_is)
+
+  -- ---- a submit of one class
+  module _ (class : ℕ) (one : PathStep) (state : WalkState) (at_path : slice_get path place ≡ Some one) (is : IsCandidate body one (candidate.One class)) (is_state : IsStateAt kind body path place state)
+      (cannot : CanSubmit body class state → ⊥) where
+    ahead_submits : (submit : ℕ) → IsSubmitAhead kind body path place submit → is_submit_of class (slice_get body submit) ≡ true
+    ahead_submits submit ahead =
+        let same : ahead.step ≡ one = same_Some ahead.step one (sym ahead.step_is ∙ at_path) in
+        let may : submits one ahead.class ≡ true = subst (λ (s : PathStep). submits s ahead.class ≡ true) same ahead.may_be in
+        let only : ahead.class ≡ class = is.1 ahead.class may (ahead_has submit ahead.class ahead.submit_is) in
+        ap (is_submit_of class) ahead.submit_is ∙ eq-eqb ahead.class class only
+
+    ahead_at : (submit : ℕ) (ahead : IsSubmitAhead kind body path place submit) → is_at state ahead.reached ≡ true
+    ahead_at submit ahead = (is_state.complete ahead.reached ahead.jobs ahead.walk).1
+
+    -- If the body can be at no such submit, no walk goes over the step.
+    pub no_walk_if_cannot : {q : ℕ} {jobs : List OpenJob} → Walks kind body path q (suc place) jobs → ⊥
+    no_walk_if_cannot =
+        walk_last kind body path (λ q jobs. ⊥)
+        (λ q jobs action e within before. before)
+        (λ q jobs other k w e s c.
+        let same : other ≡ one = same_Some other one (sym s ∙ at_path) in
+        let only : k ≡ class = is.1 k (subst (λ (x : PathStep). submits x k ≡ true) same c) (ahead_has q k e) in
+        cannot (q, (is_state.complete q jobs w).1, ap (is_submit_of class) e ∙ eq-eqb k class only))
+        (λ q jobs job k w s o m.
+        let same : one ≡ step.Gets job = same_Some one (step.Gets job) (sym at_path ∙ s) in
+        no_submit_of_get job class one same is.0)
+
+    -- ---- moves of the body alone
+    module _ (gets : List (Option BodyGet)) (are_gets : AreGets body gets) where
+      get_here : (q : ℕ) → q < length body → get_or gets q None ≡ get_at body q
+      get_here q lt = get_or_from_slice_get gets q (get_at body q) None (are_gets.each q lt)
+
+      pass_here : (q : ℕ) (get : Option BodyGet) → get_at body q ≡ get → q < length body → may_pass get (get_or state.passes.items q false) ≡ true → can_pass (get_at body q) state.jobs.items ≡ true
+      pass_here q None e lt may = ap (λ g. can_pass g state.jobs.items) e
+      pass_here q (Some get) e lt may = sym (is_state.tables.passes q lt) ∙ may
+
+      -- The walk goes on to each index up to which the body may pass.
+      walk_over : (reached : ℕ) → is_at state reached ≡ true → (m : ℕ) → IsFreeFrom state.passes.items gets reached m → (index : ℕ) → reached ≤ index → index ≤ m → index ≤ length body → Walks kind body path index place state.jobs.items
+      walk_over reached at m free zero above within in_body =
+          subst (λ n. Walks kind body path n place state.jobs.items) (omega (arith, above)) (is_state.sound reached at)
+      walk_over reached at m free (suc q) above within in_body = elim (cases_lt q reached) [
+        | inl less ↦ subst (λ n. Walks kind body path n place state.jobs.items) (omega (arith, above, less)) (is_state.sound reached at)
+        | inr more ↦
+            let lt : q < length body = omega (arith, in_body) in
+            let may = subst (λ g. may_pass g (get_or state.passes.items q false) ≡ true) (get_here q lt) (free q more (omega (arith, within))) in
+            walk_moves kind body path q place state.jobs.items (walk_over reached at m free q more (omega (arith, within)) (omega (arith, in_body))) lt (pass_here q (get_at body q) refl lt may)
+      ]
+
+      submit_in_body : (submit : ℕ) → is_submit_of class (slice_get body submit) ≡ true → submit < length body
+      submit_in_body submit is_submit = slice_get_within body submit (Submit class) (submit_is class (slice_get body submit) is_submit)
+
+      -- The body can be at no such submit.
+      not_free : (submit : ℕ) → is_submit_of class (slice_get body submit) ≡ true → IsFree state.row.items state.passes.items gets (suc submit) submit → ⊥
+      not_free submit is_submit free =
+          let in_body = submit_in_body submit is_submit in
+          let before = free.from.before in
+          let walk = walk_over free.reached free.from.at submit free.free submit (omega (arith, before)) (omega arith) (omega (arith, in_body)) in
+          cannot (submit, (is_state.complete submit state.jobs.items walk).1, is_submit)
+
+      not_reached : (end : ℕ) → AreReached state.row.items state.passes.items gets body class end → (submit : ℕ) → submit < end → IsSubmitAhead kind body path place submit → ⊥
+      not_reached end reached submit lt ahead =
+          let is_submit = ahead_submits submit ahead in
+          not_free submit is_submit (reached submit ahead.reached lt is_submit ahead.ahead (ahead_at submit ahead))
+
+      -- ---- the way to the next submit
+      module _ (get : BodyGet) (found : IsBlockingGet state.row.items state.passes.items gets body class get) where
+        way : IsBlocked state.row.items state.passes.items gets (suc found.submit) found.submit get
+        way = found.blocked
+
+        in_body : found.submit < length body
+        in_body = submit_in_body found.submit found.is_submit
+
+        way_ahead : way.reached ≤ found.submit
+        way_ahead = let lt = way.from.before in omega (arith, lt)
+
+        way_walk : Walks kind body path way.reached place state.jobs.items
+        way_walk = is_state.sound way.reached way.from.at
+
+        found_ahead : IsSubmitAhead kind body path place found.submit
+        found_ahead = record {
+          reached = way.reached;
+          jobs = state.jobs.items;
+          walk = way_walk;
+          ahead = way_ahead;
+          step = one;
+          class = class;
+          step_is = at_path;
+          may_be = is.0;
+          submit_is = submit_is class (slice_get body found.submit) found.is_submit;
+        }
+
+        fits_before : (index : ℕ) → way.reached ≤ index → index ≤ way.stop → IsWithin state.jobs.items body index
+        fits_before index above within =
+            let stop_lt = way.within in
+            let long = in_body in
+            walk_within kind body path (walk_over way.reached way.from.at way.stop way.free index above within (omega (arith, within, stop_lt, long)))
+
+        first_at : get_at body way.stop ≡ Some way.first
+        first_at = let stop_lt = way.within in let long = in_body in sym (get_here way.stop (omega (arith, stop_lt, long))) ∙ way.first_is
+
+        -- Too many jobs are open for the first get.
+        first_exceeds : way.first.limit < count_in get.class state.jobs.items
+        first_exceeds =
+            let stop_lt = way.within in
+            let long = in_body in
+            let stops : can_pass (Some way.first) state.jobs.items ≡ false = ap (λ g. can_pass g state.jobs.items) (sym first_at) ∙ (sym (is_state.tables.passes way.stop (omega (arith, stop_lt, long))) ∙ way.stops) in
+            let less : way.first.limit < count_in way.first.class state.jobs.items = leb-false (count_in way.first.class state.jobs.items) way.first.limit stops in
+            subst (λ k. way.first.limit < count_in k state.jobs.items) way.same_class less
+
+        least_first : get.limit ≤ way.first.limit
+        least_first = way.least way.stop way.first (omega arith) way.within way.first_is way.same_class
+
+        first_count : count_in_body get.class body (suc way.stop) ≡ way.first.limit
+        first_count = subst (λ k. count_in_body k body (suc way.stop) ≡ way.first.limit) way.same_class (get_limit body way.stop way.first first_at)
+
+        limit_at_get : (q : ℕ) (other : BodyGet) → way.stop ≤ q → q < found.submit → get_at body q ≡ Some other → other.class ≡ get.class → get.limit ≤ count_in_body get.class body (suc q)
+        limit_at_get q other above lt at same =
+            let long = in_body in
+            let less = way.least q other above lt (get_here q (omega (arith, lt, long)) ∙ at) same in
+            let count = subst (λ k. count_in_body k body (suc q) ≡ other.limit) same (get_limit body q other at) in
+            omega (arith, less, count)
+
+        -- Over one more action.
+        least_next : (q : ℕ) → way.stop < q → suc q ≤ found.submit → (o : Option BodyGet) → get_at body q ≡ o → get.limit ≤ count_in_body get.class body q → get.limit ≤ count_in_body get.class body (suc q)
+        least_next q later within None e before =
+            let stays = count_stays get.class body q (λ other at same. none-some other (sym e ∙ at)) in
+            omega (arith, stays, before)
+        least_next q later within (Some other) e before = elim (cases_Bool (eqb other.class get.class)) [
+          | inl same ↦ limit_at_get q other (omega (arith, later)) (omega (arith, within)) e (eqb-true other.class get.class same)
+          | inr differs ↦
+              let stays = count_stays get.class body q (λ one at same. eqb-false other.class get.class differs (ap (λ (g : BodyGet). g.class) (same_Some other one (sym e ∙ at)) ∙ same)) in
+              omega (arith, stays, before)
+        ]
+
+        -- Past the first get, each index has at least the limit.
+        least_after_stop : (index : ℕ) → way.stop < index → index ≤ found.submit → get.limit ≤ count_in_body get.class body index
+        least_after_stop zero above within = absurd (omega (arith, above))
+        least_after_stop (suc q) above within = elim (cases_lt way.stop q) [
+          | inl later ↦ least_next q later within (get_at body q) refl (least_after_stop q later (omega (arith, within)))
+          | inr at_stop ↦
+              let same : way.stop ≡ q = omega (arith, above, at_stop) in
+              let count = subst (λ n. count_in_body get.class body (suc n) ≡ way.first.limit) same first_count in
+              let less = least_first in
+              omega (arith, count, less)
+        ]
+
+        pub found_excess : (excess : OpenExcess) → excess.class ≡ get.class → excess.open_jobs ≡ count_in get.class state.jobs.items → excess.limit ≡ get.limit → IsOpenExcess kind body path place excess
+        found_excess excess class_is open_is limit_is = record {
+          submit = found.submit;
+          ahead = found_ahead;
+          next = λ other ahead. elim (cases_lt other found.submit) [
+            | inl less ↦ absurd (not_reached found.submit found.earlier other less ahead)
+            | inr more ↦ more
+          ];
+          reached = way.reached;
+          jobs = state.jobs.items;
+          walk = way_walk;
+          before = way_ahead;
+          last = λ index others w within. elim (cases_lt way.reached index) [
+            | inl later ↦ absurd (false≢true (sym (way.from.last index later (omega (arith, within))) ∙ (is_state.complete index others w).1))
+            | inr less ↦ less
+          ];
+          open_is = open_is ∙ ap (λ k. count_in k state.jobs.items) (sym class_is);
+          stop = suc way.stop;
+          after = let lt = way.after in omega (arith, lt);
+          within = let lt = way.within in omega (arith, lt);
+          fits = λ index above lt. fits_before index above (omega (arith, lt));
+          exceeds =
+              let count = subst (λ k. count_in_body k body (suc way.stop) ≡ way.first.limit) (sym class_is) first_count in
+              let less = first_exceeds in
+              omega (arith, count, less, open_is);
+          least = λ index above within. subst (λ k. excess.limit ≤ count_in_body k body index) (sym class_is) (elim (cases_lt way.stop index) [
+            | inl later ↦ let h = least_after_stop index later within in omega (arith, h, limit_is)
+            | inr early ↦
+                let h = fits_before index above early get.class in
+                let less = first_exceeds in
+                let least = least_first in
+                omega (arith, h, less, least, limit_is)
+          ]);
+          least_at = suc way.place;
+          least_after = let lt = way.after in let after = way.place_after in omega (arith, lt, after);
+          least_within = let lt = way.place_within in omega (arith, lt);
+          least_is =
+              let place_lt = way.place_within in
+              let long = in_body in
+              let at : get_at body way.place ≡ Some get = sym (get_here way.place (omega (arith, place_lt, long))) ∙ way.place_is in
+              subst (λ k. count_in_body k body (suc way.place) ≡ excess.limit) (sym class_is) (get_limit body way.place get at ∙ sym limit_is);
+        }
+
+      pub reason_if_none : IsBlocking state.row.items state.passes.items gets body class None → IsReason kind body path place None
+      reason_if_none reached submit ahead = not_reached (suc submit) (reached (suc submit)) submit (omega arith) ahead

@@ -1,0 +1,85 @@
+-- The get that keeps a body from its next submit of a class.
+use Rattle.std.specs.Prelude.{◌≡◌, ◌≤◌, ◌<◌, ℕ, suc, Bool, true, false, ◌==◌, ◌&&◌, nat_lt, if◌then◌else◌, List, Option, Some, None, slice_get, slice_index_or}
+use Rattle.job_bodies.specs.declared.action.Action.{Action}
+use Rattle.conformance.specs.declared.body_gets.BodyGet.{BodyGet}
+use Rattle.conformance.specs.declared.blocking_get.Way.{Way}
+use Rattle.conformance.specs.declared.blocking_get.Way.TheVariants as way
+use Rattle.conformance.specs.Path.{is_submit_of}
+
+-- The body may pass the action: it is no get, or `passes` holds.
+abbrev pub may_pass : Option BodyGet → Bool → Bool
+may_pass None passes = true
+may_pass (Some get) passes = passes
+
+-- ---- the way to a later index
+-- Below `n`, the body can be at this index last. `row` says where it can be.
+pub record IsLastReached (row : List Bool) (n reached : ℕ) : Type 0 where
+  pub before : reached < n
+  pub at : slice_index_or row reached false ≡ true
+  pub last : (index : ℕ) → reached < index → index < n → slice_index_or row index false ≡ false
+
+-- The body may pass each action from this index to `m`.
+abbrev pub IsFreeFrom : List Bool → List (Option BodyGet) → ℕ → ℕ → Type 0
+IsFreeFrom passes gets reached m = (index : ℕ) → reached ≤ index → index < m → may_pass (slice_index_or gets index None) (slice_index_or passes index false) ≡ true
+
+pub record IsFree (row passes : List Bool) (gets : List (Option BodyGet)) (n m : ℕ) : Type 0 where
+  pub reached : ℕ
+  pub from : IsLastReached row n reached
+  pub free : IsFreeFrom passes gets reached m
+
+-- `stop` is the first get below `m` that the body may not pass. Of the gets of its class from there on, `get` leaves the
+-- fewest jobs open.
+pub record IsBlocked (row passes : List Bool) (gets : List (Option BodyGet)) (n m : ℕ) (get : BodyGet) : Type 0 where
+  pub reached : ℕ
+  pub from : IsLastReached row n reached
+  pub stop : ℕ
+  pub first : BodyGet
+  pub after : reached ≤ stop
+  pub within : stop < m
+  pub free : IsFreeFrom passes gets reached stop
+  pub stops : slice_index_or passes stop false ≡ false
+  pub first_is : slice_index_or gets stop None ≡ Some first
+  pub same_class : first.class ≡ get.class
+  pub least : (index : ℕ) (other : BodyGet) → stop ≤ index → index < m → slice_index_or gets index None ≡ Some other → other.class ≡ get.class → get.limit ≤ other.limit
+  pub place : ℕ
+  pub place_after : stop ≤ place
+  pub place_within : place < m
+  pub place_is : slice_index_or gets place None ≡ Some get
+
+-- ---- the next submit
+-- The body can reach each submit of the class below `end` that comes after an index where it can be.
+abbrev pub AreReached : List Bool → List Bool → List (Option BodyGet) → List Action → ℕ → ℕ → Type 0
+AreReached row passes gets body class end = (submit index : ℕ) → submit < end → is_submit_of class (slice_get body submit) ≡ true
+    → index ≤ submit → slice_index_or row index false ≡ true → IsFree row passes gets (suc submit) submit
+
+-- The get keeps the body from the first submit of the class that it cannot reach.
+pub record IsBlockingGet (row passes : List Bool) (gets : List (Option BodyGet)) (body : List Action) (class : ℕ) (get : BodyGet) : Type 0 where
+  pub submit : ℕ
+  pub is_submit : is_submit_of class (slice_get body submit) ≡ true
+  pub earlier : AreReached row passes gets body class submit
+  pub blocked : IsBlocked row passes gets (suc submit) submit get
+
+abbrev pub IsBlocking : List Bool → List Bool → List (Option BodyGet) → List Action → ℕ → Option BodyGet → Type 0
+IsBlocking row passes gets body class None = (end : ℕ) → AreReached row passes gets body class end
+IsBlocking row passes gets body class (Some get) = IsBlockingGet row passes gets body class get
+
+-- ---- one more index
+abbrev pub way_at : Way → Bool → Way
+way_at before is_at = if is_at then way.Free else before
+
+abbrev pub blocking_at : Way → Bool → Option BodyGet
+blocking_at (way.Blocked get) is_submit = if is_submit then Some get else None
+blocking_at _ is_submit = None
+
+abbrev pub least_get : BodyGet → Option BodyGet → BodyGet
+least_get least None = least
+least_get least (Some get) = if (get.class == least.class) && nat_lt get.limit least.limit then get else least
+
+abbrev pub free_after : Bool → Option BodyGet → Way
+free_after passes None = way.Free
+free_after passes (Some get) = if passes then way.Free else way.Blocked get
+
+abbrev pub way_after : Way → Bool → Option BodyGet → Way
+way_after way.Unreached passes get = way.Unreached
+way_after way.Free passes get = free_after passes get
+way_after (way.Blocked least) passes get = way.Blocked (least_get least get)

@@ -1,0 +1,99 @@
+//! The get that keeps a body from its next submit of a class.
+
+ghost use Rattle.std.specs.Prelude.{◌≡◌, ◌+◌, ◌==◌, ◌&&◌, nat_lt, if◌then◌else◌, length};
+ghost use Rattle.conformance.specs.BlockingGet as spec;
+
+use crate::body_gets::BodyGet;
+use crate::row::has_submit_at;
+use job_bodies::Action;
+
+/// The part of a body between the last index where the body can be and a later index.
+#[derive(Clone, Copy)]
+enum Way {
+    /// The body can be at no earlier index.
+    Unreached,
+    /// The body may pass each get of the part.
+    Free,
+    /// The body may not pass a get of the part. Of the gets of that class, from the first that it may
+    /// not pass, this is the one after which the fewest jobs are open.
+    Blocked(BodyGet),
+}
+
+/// Returns the get that keeps the body from its next submit of the class. `row` says for each index
+/// whether the body can be there, and `passes` for each get whether the body may pass it.
+///
+/// The next submit is the first that the body cannot reach, after an index where it can be. If the
+/// body may not pass gets of several classes before the submit, the class is that of the first one.
+/// Of its gets, the one after which the fewest jobs are open is returned.
+pub(crate) fn blocking_get(
+    row: &[bool],
+    passes: &[bool],
+    gets: &[Option<BodyGet>],
+    body: &[Action],
+    class: usize,
+) -> Option<BodyGet>
+    requires row { length row.now ≡ length body.now + 1 }
+    requires passes { length passes.now ≡ length body.now }
+    requires gets { length gets.now ≡ length body.now }
+    ensures { spec.IsBlocking row.now passes.now gets.now body.now class result }
+{
+    let mut way = Way::Unreached;
+    for index in 0..body.len() {
+        let here = way_at(way, row[index]);
+        match blocking_at(here, has_submit_at(body, index, class)) {
+            Some(get) => return Some(get),
+            None => way = way_after(here, passes[index], gets[index]),
+        }
+    }
+    None
+}
+
+/// Returns the way to an index, by the way from earlier indices. `is_at` says whether the body can be
+/// at the index.
+fn way_at(before: Way, is_at: bool) -> Way
+    ensures { result ≡ spec.way_at before is_at }
+{
+    if is_at { Way::Free } else { before }
+}
+
+/// Returns the get that keeps the body from this index, if the index is a submit of the class.
+fn blocking_at(way: Way, is_submit: bool) -> Option<BodyGet>
+    ensures { result ≡ spec.blocking_at way is_submit }
+{
+    match way {
+        Way::Blocked(get) => { if is_submit { Some(get) } else { None } }
+        Way::Unreached | Way::Free => None,
+    }
+}
+
+/// Returns the way over one more action. `get` is the action, if it is a get, and `passes` says
+/// whether the body may pass it.
+fn way_after(way: Way, passes: bool, get: Option<BodyGet>) -> Way
+    ensures { result ≡ spec.way_after way passes get }
+{
+    match way {
+        Way::Unreached => Way::Unreached,
+        Way::Free => match get {
+            Some(get) => { if passes { Way::Free } else { Way::Blocked(get) } }
+            None => Way::Free,
+        },
+        Way::Blocked(least) => Way::Blocked(least_get(least, get)),
+    }
+}
+
+/// Returns the second get if fewer jobs of the same class are open after it, and the first one
+/// otherwise.
+fn least_get(least: BodyGet, get: Option<BodyGet>) -> BodyGet
+    ensures { result ≡ spec.least_get least get }
+{
+    match get {
+        Some(get) => {
+            if get.class == least.class && get.limit < least.limit {
+                get
+            } else {
+                least
+            }
+        }
+        None => least,
+    }
+}
