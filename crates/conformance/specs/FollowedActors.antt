@@ -1,4 +1,4 @@
--- The machine can follow the actors of a service that does as planned.
+-- The machine can follow each actor of a recording in which all jobs and rounds behave as planned.
 use Rattle.std.specs.Prelude.{◌≡◌, ℕ, true, List, [], Some, Contains, IsTrue}
 use Rattle.recordings.specs.declared.recording_line.RecordedActor.TheVariants.{Job, Round}
 use Rattle.recordings.specs.RecordingLine.{RecordedLine}
@@ -52,8 +52,8 @@ pub record IsFollowedRound (plan : Plan) (lines : List RecordedLine) (round : �
   pub path : AreStepsOf plan lines (path_of lines (Round round)) steps
   pub followed : IsFollowed plan actor_kind.Round (path_state_of lines (Round round)) (client_body plan kind) steps
 
--- If a certificate accepts a well-formed plan, and a service does as planned, the machine can follow each job and each round of
--- the recording.
+-- If a certificate accepts a well-formed plan, and all jobs and rounds of a recording behave as planned, the machine can follow
+-- each of them.
 pub record AreActorsFollowed (plan : Plan) (lines : List RecordedLine) : Type 0 where
   pub jobs : (job : ℕ) → is_submitted lines job ≡ true → IsFollowedJob plan lines job
   pub rounds : (round : ℕ) → is_begun lines round ≡ true → IsFollowedRound plan lines round

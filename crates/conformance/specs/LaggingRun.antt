@@ -95,7 +95,8 @@ pub record CanReach (plan : Plan) (actor : Parent) (body : List Action) (jobs : 
   pub passes : Passes plan actor body jobs position s index after
 
 -- The actor submits one job, which gets this number. A submit is one or more events of the actor. Only the last of them changes
--- the machine. Others may act in between. (That the pool refuses the job is not covered: in an accepted plan none does.)
+-- the machine. Others may act in between. (That the pool refuses the job is not covered: in an accepted plan none does. That it
+-- takes the job is a condition of the law.)
 pub data IsSubmitted (plan : Plan) (actor : Parent) : JavaState → ℕ → JavaState → Type 0 where
   others_act : {s next s' : JavaState} {number : ℕ} (x : Choice) → is_choice_of actor x ≡ false
       → choice_step plan s x ≡ Some next
@@ -110,7 +111,7 @@ pub data IsSubmitted (plan : Plan) (actor : Parent) : JavaState → ℕ → Java
       → IsSubmitted plan actor s (length s.machine.jobs) s'
 
 -- ---- steps of the path
--- The path submits a job: the actor can reach a submit of a class of this job. Once the pool has taken the job, `next` holds.
+-- The path submits a job: the actor can reach a submit of a class of this job. If the pool takes the job, `next` holds then.
 pub record CanSubmit (plan : Plan) (actor : Parent) (body : List Action) (jobs : List MachineJob) (one : PathStep) (s : JavaState) (next : ℕ → ℕ → JavaState → Type 0) : Type 0 where
   pub index : ℕ
   pub class : ℕ
@@ -120,7 +121,7 @@ pub record CanSubmit (plan : Plan) (actor : Parent) (body : List Action) (jobs :
   pub onward : (number : ℕ) (s' : JavaState) → IsSubmitted plan actor reaches.after number s' → next class number s'
 
 -- The path gets a job that is open: the actor submitted it, and has not got it in the machine. If the actor is a job, its body
--- has a get of a job of that class at its position or later. Once the job is done, `next` holds, without a choice of the actor.
+-- has a get of a job of that class at its position or later. If the job is done, `next` holds, without a choice of the actor.
 pub record AwaitsJob (plan : Plan) (actor : Parent) (kind : ActorKind) (body : List Action) (jobs : List MachineJob) (job : ℕ) (s : JavaState) (next : Type 0) : Type 0 where
   pub one : MachineJob
   pub is_one : open_job job jobs ≡ Some one

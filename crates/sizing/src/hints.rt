@@ -44,8 +44,9 @@ pub(crate) fn reason_of(rt: &impl Files, name: &str) -> &'static str {
     }
 }
 
-/// Returns why the file could not be written, or an empty text if that is not known. Opens a regular
-/// or missing file for writing again, and keeps its content. Opening a pipe could block.
+/// Returns why the file could not be written, or an empty text if that is not known. Opens the file
+/// for writing again: keeps the content of a regular file, and creates a missing one. Does not open
+/// another kind of file, because opening a pipe could block.
 pub(crate) fn reason_unwritten(rt: &impl Files, name: &str) -> &'static str {
     if is_special(rt, name) {
         return "";
