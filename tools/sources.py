@@ -7,7 +7,7 @@ from crates import ROOT
 FUNCTION = re.compile(r"(?m)^( *)(pub )?(?:pub\([a-z]+\) )?(?:const )?fn (\w+)")
 PROMISE = re.compile(r"\s+ensures(?: (\w+))? \{")
 BLOCK = re.compile(r"(?m)^(?:impl(?:<.*?>)? (\S+ for \w+)|impl|(?:pub )?trait)")
-CONSTANT = re.compile(r"(?m)^(?:pub )?const (\w+):")
+CONSTANT = re.compile(r"(?m)^(?:pub(?:\([a-z]+\))? )?const (\w+):")
 KINDS = "pub|abbrev|unfoldable|record|data"
 DEFINITION = re.compile(rf"(?m)^(?:(?:{KINDS}) )+(?!(?:{KINDS}|mod|use) )(\S+)")
 

@@ -20,12 +20,10 @@ use std::alloc::{AllocError, Global};
 /// The version of the object's members.
 const FORMAT: u8 = 1;
 
-/// The members of an answer, without its name, its file, and those that all answers share.
+/// The members of an answer about a plan that depend on more than its name and its file.
 #[derive(Drop)]
 pub(crate) struct AnswerParts {
     pub(crate) assumptions: Value,
-    pub(crate) faults: Value,
-    pub(crate) omitted: usize,
     pub(crate) plan: Value,
     pub(crate) pools: Value,
     pub(crate) sizes: Value,
@@ -109,43 +107,7 @@ fn word_of(finding: &PlanFinding) -> &'static str
     }
 }
 
-/// Creates the object of an answer that has only these faults. `omitted` is the number of faults that
-/// are left out.
-fn faulty_value(
-    alloc: Global,
-    file: &str,
-    text: &[u8],
-    faults: Value,
-    omitted: usize,
-) -> Result<Value, AllocError>
-    ensures { IfOk result
-        (λ value. data_of value ≡ spec.faulty_data file.now text.now (data_of faults) omitted) }
-{
-    let plan = text_only_value(alloc, text)?;
-    answer_value(
-        alloc,
-        "FAULTS",
-        file,
-        fault_parts(alloc, plan, faults, omitted),
-    )
-}
-
-fn fault_parts(alloc: Global, plan: Value, faults: Value, omitted: usize) -> AnswerParts
-    ensures { spec.parts_of result ≡ spec.fault_parts (data_of plan) (data_of faults) omitted }
-{
-    AnswerParts {
-        assumptions: Value::Array(Vec::new(alloc)),
-        faults,
-        omitted,
-        plan,
-        pools: Value::Array(Vec::new(alloc)),
-        sizes: Value::Null,
-        warnings: Value::Array(Vec::new(alloc)),
-        witness: Value::Null,
-    }
-}
-
-/// Creates the object of an answer with this name.
+/// Creates the object of an answer about a plan, with this name.
 #[tactic(auto, unfolding(crate::specs::Json::answer_data))]
 fn answer_value(
     alloc: Global,
@@ -158,8 +120,6 @@ fn answer_value(
 {
     let AnswerParts {
         assumptions,
-        faults,
-        omitted,
         plan,
         pools,
         sizes,
@@ -169,15 +129,44 @@ fn answer_value(
     json!(in alloc; {
         "answer": word,
         "assumptions": assumptions,
-        "faults": faults,
+        "faults": [],
         "file": file,
         "format": FORMAT,
-        "omitted": omitted,
+        "omitted": 0_u64,
         "plan": plan,
         "pools": pools,
         "sizes": sizes,
         "version": VERSION,
         "warnings": warnings,
         "witness": witness
+    })
+}
+
+/// Creates the object of an answer that has only these faults. `omitted` is the number of faults that
+/// are left out.
+#[tactic(auto, unfolding(crate::specs::Json::answer_data))]
+fn faulty_value(
+    alloc: Global,
+    file: &str,
+    text: &[u8],
+    faults: Value,
+    omitted: usize,
+) -> Result<Value, AllocError>
+    ensures { IfOk result
+        (λ value. data_of value ≡ spec.faulty_data file.now text.now (data_of faults) omitted) }
+{
+    json!(in alloc; {
+        "answer": "FAULTS",
+        "assumptions": [],
+        "faults": faults,
+        "file": file,
+        "format": FORMAT,
+        "omitted": omitted,
+        "plan": text_only_value(alloc, text)?,
+        "pools": [],
+        "sizes": null,
+        "version": VERSION,
+        "warnings": [],
+        "witness": null
     })
 }

@@ -60,8 +60,7 @@ fn action_value(
     match action {
         Action::Work(units) => work_value(alloc, place, units),
         Action::Submit(class) => {
-            let slot = slot_value(body, number);
-            submit_value(alloc, place, plan.class_name(class), slot)
+            submit_value(alloc, place, plan.class_name(class), body, number)
         }
         Action::Get(submit) => get_value(alloc, place, submit),
     }
@@ -96,17 +95,18 @@ fn submit_value(
     alloc: Global,
     place: Option<TextPlace>,
     class: &str,
-    slot: Value,
+    body: &[Action],
+    submit: usize,
 ) -> Result<Value, AllocError>
-    ensures { IfOk result
-        (λ value. view value ≡ spec.submit_data place class.now (view slot)) }
+    ensures { IfOk result (λ value.
+        view value ≡ spec.submit_data place class.now (spec.slot_data body.now submit)) }
 {
     json!(in alloc; {
         "action": "submit",
         "class": class,
         "column": column_value(place),
         "line": line_value(place),
-        "slot": slot
+        "slot": slot_value(body, submit)
     })
 }
 

@@ -42,24 +42,28 @@ fn vector_value(
     requires { IsTrue (vector_fits plan.now vector.now) }
     ensures { IfOk result (λ value. view value ≡ spec.vector_data plan.now kind.now vector.now) }
 {
-    let Shares { clients, workers } = shares_of(alloc, plan, vector)?;
-    let clients = clients_value(alloc, plan, &clients)?;
-    let threads = threads_value(alloc, plan, &workers)?;
-    bound_object(alloc, clients, kind, threads, vector.total(plan))
+    let shares = shares_of(alloc, plan, vector)?;
+    bound_object(alloc, plan, kind, &shares, vector.total(plan))
 }
 
 #[tactic(auto, unfolding(crate::specs::JsonPools::bound_object))]
 fn bound_object(
     alloc: Global,
-    clients: Value,
+    plan: &Plan,
     kind: &str,
-    threads: Value,
+    shares: &Shares,
     total: u64,
 ) -> Result<Value, AllocError>
-    ensures { IfOk result (λ value.
-        view value ≡ spec.bound_object (view clients) kind.now (view threads) total) }
+    ensures { IfOk result (λ value. view value ≡ spec.bound_object
+        (spec.clients_data plan.now shares.now.clients.items) kind.now
+        (spec.threads_data plan.now shares.now.workers.items) total) }
 {
-    json!(in alloc; {"clients": clients, "kind": kind, "threads": threads, "total": total})
+    json!(in alloc; {
+        "clients": clients_value(alloc, plan, &shares.clients)?,
+        "kind": kind,
+        "threads": threads_value(alloc, plan, &shares.workers)?,
+        "total": total
+    })
 }
 
 /// Converts the shares of the client kinds, without those that are 0.

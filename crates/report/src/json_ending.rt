@@ -1,19 +1,18 @@
 //! The ending of a witness as JSON: the jobs that wait only for each other, and what each of them
 //! waits for.
 
-ghost use Rattle.std.specs.Prelude.{◌≡◌, ◌++◌, ℕ, List, map, flat_map, IfOk, OnOk, slice_get};
+ghost use Rattle.std.specs.Prelude.{◌≡◌, ◌++◌, ◌∷◌, [], map, flat_map, IfOk, OnOk, slice_get};
 ghost use Rattle.serde_json.specs.View.{view};
 ghost use Rattle.job_bodies.specs.Plan.{class_at};
 ghost use Rattle.written_machine.specs.declared.parent.Parent.TheVariants as parent;
 ghost use Rattle.interleaving.specs.ViewStep.{live_child, is_live_child};
 ghost use Rattle.interleaving.specs.Waiting.{is_busy_job, is_at_work};
 ghost use Rattle.counterexample.specs.EventLines.{stuck_members};
-ghost use Rattle.report.specs.JsonEvents as events;
 ghost use Rattle.report.specs.JsonEnding as spec;
 ghost use Rattle.report.specs.WaitsSeen as seen;
 
 use crate::event_steps::pool_of;
-use crate::json_values::numbers_value;
+use crate::json_values::{array_value, numbers_value};
 use counterexample::Ending;
 use interleaving::{JobView, Parent, Phase, World};
 use job_bodies::{Action, Plan};
@@ -21,6 +20,7 @@ use serde_json::{Value, json};
 use std::alloc::{AllocError, Global};
 
 /// Converts the ending of a witness. `world` is the world after its events.
+#[tactic(auto, unfolding(crate::specs::JsonEnding::ending_parts))]
 pub(crate) fn ending_value(
     alloc: Global,
     plan: &Plan,
@@ -32,10 +32,12 @@ pub(crate) fn ending_value(
         (flat_map (seen.wait_seen plan.now world.now.view) (stuck_members ending.now))) }
 {
     let members = members_of(ending);
-    let waits = wait_values(alloc, plan, world, members)?;
-    let pool = refusing_pool(alloc, plan, ending)?;
-    let jobs = numbers_value(alloc, members)?;
-    parts_value(alloc, jobs, kind_word(ending), pool, waits)
+    json!(in alloc; {
+        "jobs": numbers_value(alloc, members)?,
+        "kind": kind_word(ending),
+        "pool": refusing_pool(alloc, plan, ending)?,
+        "waits": array_value(wait_values(alloc, plan, world, members)?)
+    })
 }
 
 /// Returns the numbers of the jobs that wait only for each other after the last event.
@@ -66,21 +68,6 @@ fn refusing_pool(alloc: Global, plan: &Plan, ending: &Ending) -> Result<Value, A
         Ending::Refused(pool) => Value::try_from_str(alloc, plan.pool_name(*pool)),
         Ending::StuckForever(_, _) | Ending::StuckNow(_) => Ok(Value::Null),
     }
-}
-
-#[tactic(auto, unfolding(crate::specs::JsonEnding::ending_parts))]
-fn parts_value(
-    alloc: Global,
-    jobs: Value,
-    kind: &str,
-    pool: Value,
-    waits: Vec<Value>,
-) -> Result<Value, AllocError>
-    ensures { IfOk result (λ value. (numbers : List ℕ) → view jobs ≡ events.numbers_data numbers
-        → view value ≡ spec.ending_parts numbers kind.now (view pool) (map view waits.items)) }
-{
-    let waits = Value::Array(waits);
-    json!(in alloc; {"jobs": jobs, "kind": kind, "pool": pool, "waits": waits})
 }
 
 /// Returns what each member waits for.
@@ -118,21 +105,46 @@ fn push_wait(
     match job.phase {
         Phase::Queued => {
             let running = running_in(alloc, plan, world, pool_of(plan, job.class))?;
-            let running = numbers_value(alloc, &running)?;
-            let wait = wait_value(alloc, "queue", running, number, pool_name(plan, job.class))?;
-            values.push(wait)?;
-            Ok(())
+            push_wait_for(
+                values,
+                alloc,
+                "queue",
+                &running,
+                number,
+                pool_name(plan, job.class),
+            )
         }
         Phase::At(position) => {
             let action = action_at(plan, job.class, position);
             let awaited = awaited(alloc, world, number, action)?;
-            let awaited = numbers_value(alloc, &awaited)?;
-            let wait = wait_value(alloc, "get", awaited, number, pool_name(plan, job.class))?;
-            values.push(wait)?;
-            Ok(())
+            push_wait_for(
+                values,
+                alloc,
+                "get",
+                &awaited,
+                number,
+                pool_name(plan, job.class),
+            )
         }
         Phase::Done => Ok(()),
     }
+}
+
+/// Appends that the job with this number waits for others.
+#[tactic(auto, using(std::proofs::lemmas::List::map_push))]
+fn push_wait_for(
+    values: &mut Vec<Value>,
+    alloc: Global,
+    place: &str,
+    awaited: &[usize],
+    number: usize,
+    pool: &str,
+) -> Result<(), AllocError>
+    ensures { OnOk result (map view values.new.items
+        ≡ map view values.old.items ++ spec.wait_data place.now awaited.now number pool.now ∷ []) }
+{
+    values.push(wait_value(alloc, place, awaited, number, pool)?)?;
+    Ok(())
 }
 
 pub(crate) fn pool_name(plan: &Plan, class: usize) -> &str
@@ -145,14 +157,19 @@ pub(crate) fn pool_name(plan: &Plan, class: usize) -> &str
 fn wait_value(
     alloc: Global,
     place: &str,
-    awaited: Value,
+    awaited: &[usize],
     number: usize,
     pool: &str,
 ) -> Result<Value, AllocError>
-    ensures { IfOk result (λ value. (numbers : List ℕ) → view awaited ≡ events.numbers_data numbers
-        → view value ≡ spec.wait_data place.now numbers number pool.now) }
+    ensures { IfOk result
+        (λ value. view value ≡ spec.wait_data place.now awaited.now number pool.now) }
 {
-    json!(in alloc; {"at": place, "for": awaited, "job": number, "pool": pool})
+    json!(in alloc; {
+        "at": place,
+        "for": numbers_value(alloc, awaited)?,
+        "job": number,
+        "pool": pool
+    })
 }
 
 pub(crate) fn action_at(plan: &Plan, class: usize, position: usize) -> Option<Action>

@@ -1,6 +1,6 @@
-//! The members of an event as JSON.
+//! The members of an event, for JSON.
 
-ghost use Rattle.std.specs.Prelude.{◌≡◌, ℕ, List, IfOk};
+ghost use Rattle.std.specs.Prelude.{◌≡◌, IfOk};
 ghost use Rattle.serde_json.specs.View.{view};
 ghost use Rattle.report.specs.JsonEvents as spec;
 
@@ -12,56 +12,6 @@ use job_bodies::Plan;
 use plan_text::TextPlace;
 use serde_json::{Value, json};
 use std::alloc::{AllocError, Global};
-
-/// The members of an event, without its outcome and its number of times.
-#[derive(Drop)]
-pub(crate) struct EventParts {
-    pub(crate) action: Value,
-    pub(crate) actor: Value,
-    pub(crate) column: Value,
-    pub(crate) job: Value,
-    pub(crate) line: Value,
-    pub(crate) pool: Value,
-}
-
-/// Creates the object of an event.
-#[tactic(auto, unfolding(crate::specs::JsonEvents::event_data))]
-pub(crate) fn event_value(
-    alloc: Global,
-    parts: EventParts,
-    outcome: &str,
-    times: usize,
-) -> Result<Value, AllocError>
-    ensures { IfOk result (λ value. view value ≡ spec.event_data (record {
-      action = view parts.action;
-      actor = view parts.actor;
-      column = view parts.column;
-      job = view parts.job;
-      line = view parts.line;
-      outcome = outcome.now;
-      pool = view parts.pool;
-      times = times;
-    })) }
-{
-    let EventParts {
-        action,
-        actor,
-        column,
-        job,
-        line,
-        pool,
-    } = parts;
-    json!(in alloc; {
-        "action": action,
-        "actor": actor,
-        "column": column,
-        "job": job,
-        "line": line,
-        "outcome": outcome,
-        "pool": pool,
-        "times": times
-    })
-}
 
 /// Returns the place of the actor's action, or `None` if it is not known.
 pub(crate) fn actor_place(
@@ -109,21 +59,6 @@ fn pool_name_value(alloc: Global, name: &str) -> Result<Value, AllocError>
     ensures { IfOk result (λ value. view value ≡ spec.pool_name_data name.now) }
 {
     json!(in alloc; {"pool": name})
-}
-
-/// Creates the object of a pool after an event.
-#[tactic(auto, unfolding(crate::specs::JsonEvents::pool_state_data))]
-pub(crate) fn pool_state_value(
-    alloc: Global,
-    idle: u64,
-    name: &str,
-    queue: Value,
-    threads: u64,
-) -> Result<Value, AllocError>
-    ensures { IfOk result (λ value. (numbers : List ℕ) → view queue ≡ spec.numbers_data numbers
-        → view value ≡ spec.pool_state_data idle name.now numbers threads) }
-{
-    json!(in alloc; {"idle": idle, "name": name, "queue": queue, "threads": threads})
 }
 
 /// Returns the word for an outcome.

@@ -9,15 +9,13 @@ ghost use Rattle.report.specs.JsonEvents as spec;
 
 use crate::event_queues::queue_value;
 use crate::event_steps::{Actor, EventStep, PoolCounts};
-use crate::json_event_parts::{
-    EventParts, actor_place, actor_value, event_value, job_of, outcome_word, pool_state_value,
-};
+use crate::json_event_parts::{actor_place, actor_value, job_of, outcome_word};
 use crate::json_places::{column_value, line_value};
 use crate::json_values::optional_number;
 use diagnostics::PlanPlaces;
 use interleaving::Outcome;
 use job_bodies::Plan;
-use serde_json::Value;
+use serde_json::{Value, json};
 use std::alloc::{AllocError, Global};
 
 /// A run of equal steps to which the next step may belong: its first step, the number of its steps,
@@ -151,6 +149,7 @@ fn push_run(
     Ok(())
 }
 
+#[tactic(auto, unfolding(crate::specs::JsonEvents::event_data))]
 fn run_value(
     alloc: Global,
     plan: &Plan,
@@ -162,21 +161,16 @@ fn run_value(
         ≡ spec.run_data plan.now places.now (shown.run_of run steps.now)) }
 {
     let place = actor_place(places, run.first.actor, run.first.action);
-    let pool = pool_value(alloc, plan, run.last.pool, steps)?;
-    let actor = actor_value(alloc, plan, run.first.actor)?;
-    event_value(
-        alloc,
-        EventParts {
-            action: optional_number(run.first.action),
-            actor,
-            column: column_value(place),
-            job: optional_number(job_of(run.first.outcome)),
-            line: line_value(place),
-            pool,
-        },
-        outcome_word(run.first.outcome),
-        run.times,
-    )
+    json!(in alloc; {
+        "action": optional_number(run.first.action),
+        "actor": actor_value(alloc, plan, run.first.actor)?,
+        "column": column_value(place),
+        "job": optional_number(job_of(run.first.outcome)),
+        "line": line_value(place),
+        "outcome": outcome_word(run.first.outcome),
+        "pool": pool_value(alloc, plan, run.last.pool, steps)?,
+        "times": run.times
+    })
 }
 
 /// Converts the pool of the last of these steps, as it is after that step.
@@ -189,15 +183,27 @@ fn pool_value(
     ensures { IfOk result (λ value. view value
         ≡ spec.pool_data plan.now pool (shown.queue_after steps.now pool)) }
 {
-    let Some(counts) = pool else {
-        return Ok(Value::Null);
-    };
-    let queue = queue_value(alloc, steps, counts.number)?;
-    pool_state_value(
-        alloc,
-        counts.idle,
-        plan.pool_name(counts.number),
-        queue,
-        counts.threads,
-    )
+    match pool {
+        Some(counts) => pool_state_value(alloc, plan.pool_name(counts.number), counts, steps),
+        None => Ok(Value::Null),
+    }
+}
+
+/// Converts the pool with this name and these counts, which are those after the steps.
+#[tactic(auto, unfolding(crate::specs::JsonEvents::pool_state_data))]
+fn pool_state_value(
+    alloc: Global,
+    name: &str,
+    counts: PoolCounts,
+    steps: &[EventStep],
+) -> Result<Value, AllocError>
+    ensures { IfOk result (λ value. view value ≡ spec.pool_state_data
+        counts.idle name.now (shown.queue_from counts.number [] steps.now) counts.threads) }
+{
+    json!(in alloc; {
+        "idle": counts.idle,
+        "name": name,
+        "queue": queue_value(alloc, steps, counts.number)?,
+        "threads": counts.threads
+    })
 }

@@ -23,7 +23,7 @@ pub(crate) fn faults_value(alloc: Global, faults: &Faults) -> Result<Value, Allo
 pub(crate) fn single_fault(alloc: Global, number: u8, words: &str) -> Result<Value, AllocError>
     ensures { IfOk result (λ value. view value ≡ spec.single_fault_data number words.now) }
 {
-    let fault = fault_value(alloc, None, number, Value::Null, words)?;
+    let fault = fault_value(alloc, None, number, None, words)?;
     faults_from(alloc, fault, &[])
 }
 
@@ -56,13 +56,12 @@ fn push_others(
 fn diagnostic_value(alloc: Global, diagnostic: &Diagnostic) -> Result<Value, AllocError>
     ensures { IfOk result (λ value. view value ≡ spec.diagnostic_data diagnostic.now) }
 {
-    let range = range_value(alloc, diagnostic.range)?;
     let place = Some(diagnostic.place);
     fault_value(
         alloc,
         place,
         diagnostic.fault.number,
-        range,
+        diagnostic.range,
         &diagnostic.what,
     )
 }
@@ -83,17 +82,17 @@ fn fault_value(
     alloc: Global,
     place: Option<TextPlace>,
     number: u8,
-    range: Value,
+    range: Option<NumberRange>,
     words: &str,
 ) -> Result<Value, AllocError>
     ensures { IfOk result
-        (λ value. view value ≡ spec.fault_data place number (view range) words.now) }
+        (λ value. view value ≡ spec.fault_data place number (spec.range_data range) words.now) }
 {
     json!(in alloc; {
         "column": column_value(place),
         "fault": number,
         "line": line_value(place),
-        "range": range,
+        "range": range_value(alloc, range)?,
         "text": words
     })
 }

@@ -13,6 +13,7 @@ use serde_json::{Value, json};
 use std::alloc::{AllocError, Global};
 
 /// Converts a plan that was read from this text.
+#[tactic(auto, unfolding(crate::specs::JsonPlan::plan_object))]
 pub(crate) fn plan_value(
     alloc: Global,
     text: &[u8],
@@ -21,36 +22,25 @@ pub(crate) fn plan_value(
 ) -> Result<Value, AllocError>
     ensures { IfOk result (λ value. view value ≡ spec.plan_data text.now places.now plan.now) }
 {
-    let classes = classes_value(alloc, plan, &places.classes, plan.classes())?;
-    let clients = clients_value(alloc, plan, &places.clients, plan.clients())?;
-    let pools = pools_value(alloc, &places.pools, plan.pools())?;
-    let text = text_value(alloc, text)?;
-    plan_object(alloc, classes, clients, pools, text)
+    json!(in alloc; {
+        "classes": classes_value(alloc, plan, &places.classes, plan.classes())?,
+        "clients": clients_value(alloc, plan, &places.clients, plan.clients())?,
+        "pools": pools_value(alloc, &places.pools, plan.pools())?,
+        "text": text_value(alloc, text)?
+    })
 }
 
 /// Converts a text that is not a plan: the lists of pools, classes and client kinds are empty.
+#[tactic(auto, unfolding(crate::specs::JsonPlan::plan_object))]
 pub(crate) fn text_only_value(alloc: Global, text: &[u8]) -> Result<Value, AllocError>
     ensures { IfOk result (λ value. view value ≡ spec.text_only_data text.now) }
 {
-    let text = text_value(alloc, text)?;
-    let classes = Value::Array(Vec::new(alloc));
-    let clients = Value::Array(Vec::new(alloc));
-    let pools = Value::Array(Vec::new(alloc));
-    plan_object(alloc, classes, clients, pools, text)
-}
-
-#[tactic(auto, unfolding(crate::specs::JsonPlan::plan_object))]
-fn plan_object(
-    alloc: Global,
-    classes: Value,
-    clients: Value,
-    pools: Value,
-    text: Value,
-) -> Result<Value, AllocError>
-    ensures { IfOk result (λ value.
-        view value ≡ spec.plan_object (view classes) (view clients) (view pools) (view text)) }
-{
-    json!(in alloc; {"classes": classes, "clients": clients, "pools": pools, "text": text})
+    json!(in alloc; {
+        "classes": [],
+        "clients": [],
+        "pools": [],
+        "text": text_value(alloc, text)?
+    })
 }
 
 /// Converts the plan's text. The value is null if it is not UTF-8.

@@ -53,40 +53,40 @@ fn pool_value(
     ensures { IfOk result (λ value. view value
         ≡ spec.pool_data plan.now number pool.now (option_map (λ part. part.now) part.entry)) }
 {
-    let waits_for = waits_value(alloc, plan, number)?;
     match part {
-        Some(part) => bounded_value(alloc, plan, pool, part, waits_for),
-        None => pool_object(alloc, Value::Null, Value::Null, pool, waits_for),
+        Some(part) => bounded_value(alloc, plan, number, pool, part),
+        None => pool_object(alloc, plan, number, pool, Value::Null, Value::Null),
     }
 }
 
 fn bounded_value(
     alloc: Global,
     plan: &Plan,
+    number: usize,
     pool: &Pool,
     part: &PoolCert,
-    waits_for: Value,
 ) -> Result<Value, AllocError>
     ensures { IfOk result (λ value. view value ≡ spec.pool_object
         (spec.blocked_data plan.now pool.now part.now.blocked)
         (spec.bound_data plan.now part.now.bound)
-        pool.now (view waits_for)) }
+        pool.now (spec.waits_data plan.now number)) }
 {
     let blocked = blocked_value(alloc, plan, pool, &part.blocked)?;
     let bound = bound_value(alloc, plan, &part.bound)?;
-    pool_object(alloc, blocked, bound, pool, waits_for)
+    pool_object(alloc, plan, number, pool, blocked, bound)
 }
 
 #[tactic(auto, unfolding(crate::specs::JsonPools::pool_object))]
 fn pool_object(
     alloc: Global,
+    plan: &Plan,
+    number: usize,
+    pool: &Pool,
     blocked: Value,
     bound: Value,
-    pool: &Pool,
-    waits_for: Value,
 ) -> Result<Value, AllocError>
-    ensures { IfOk result (λ value.
-        view value ≡ spec.pool_object (view blocked) (view bound) pool.now (view waits_for)) }
+    ensures { IfOk result (λ value. view value ≡ spec.pool_object
+        (view blocked) (view bound) pool.now (spec.waits_data plan.now number)) }
 {
     let name = pool.name.as_str();
     json!(in alloc; {
@@ -97,7 +97,7 @@ fn pool_object(
         "name": name,
         "prestart": pool.prestart,
         "queue": pool.queue,
-        "waits_for": waits_for
+        "waits_for": waits_value(alloc, plan, number)?
     })
 }
 

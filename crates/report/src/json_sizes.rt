@@ -14,6 +14,7 @@ use size_search::SizesFound;
 use std::alloc::{AllocError, Global};
 
 /// Converts the sizes that were found, or the cause why there are none.
+#[tactic(auto, unfolding(crate::specs::JsonSizes::sizes_object))]
 pub(crate) fn sizes_value(
     alloc: Global,
     places: &PlanPlaces,
@@ -23,22 +24,15 @@ pub(crate) fn sizes_value(
     ensures { IfOk result (λ value. view value ≡ spec.sizes_data places.now plan.now sizes.now) }
 {
     match sizes {
-        SizesFound::Found { plan: fit, .. } => {
-            let pools = pools_value(alloc, &places.pools, plan, fit.pools())?;
-            sizes_object(alloc, Value::Null, pools)
-        }
-        SizesFound::NotFound(cause) => {
-            let cause = cause_value(alloc, places, plan, *cause)?;
-            sizes_object(alloc, cause, Value::Array(Vec::new(alloc)))
-        }
+        SizesFound::Found { plan: fit, .. } => json!(in alloc; {
+            "cause": null,
+            "pools": pools_value(alloc, &places.pools, plan, fit.pools())?
+        }),
+        SizesFound::NotFound(cause) => json!(in alloc; {
+            "cause": cause_value(alloc, places, plan, *cause)?,
+            "pools": []
+        }),
     }
-}
-
-#[tactic(auto, unfolding(crate::specs::JsonSizes::sizes_object))]
-fn sizes_object(alloc: Global, cause: Value, pools: Value) -> Result<Value, AllocError>
-    ensures { IfOk result (λ value. view value ≡ spec.sizes_object (view cause) (view pools)) }
-{
-    json!(in alloc; {"cause": cause, "pools": pools})
 }
 
 fn pools_value(

@@ -1,10 +1,16 @@
 //! A witness as JSON: how it ends, its events, and its lines as `replay` reads them.
 
-ghost use Rattle.std.specs.Prelude.{◌≡◌, IfOk};
+ghost use Rattle.std.specs.Prelude.{◌≡◌, [], map, flat_map, IfOk};
 ghost use Rattle.serde_json.specs.View.{view};
+ghost use Rattle.counterexample.specs.EventLines.{stuck_members};
+ghost use Rattle.report.specs.EventRuns as runs;
+ghost use Rattle.report.specs.EventsShown as shown;
+ghost use Rattle.report.specs.JsonEnding as ending;
+ghost use Rattle.report.specs.JsonEvents as events;
 ghost use Rattle.report.specs.JsonWitness as spec;
+ghost use Rattle.report.specs.WaitsSeen as seen;
 
-use crate::event_steps::perform_all;
+use crate::event_steps::{EventStep, perform_all};
 use crate::json_ending::ending_value;
 use crate::json_events::events_value;
 use crate::json_replay::replay_value;
@@ -30,20 +36,28 @@ pub(crate) fn witness_value(
 {
     let mut world = World::start(alloc, plan)?;
     let steps = perform_all(alloc, plan, &mut world, &witness.events)?;
-    let ending = ending_value(alloc, plan, &world, &witness.ending)?;
-    let events = events_value(alloc, plan, places, &steps)?;
-    let replay = replay_value(alloc, plan, witness)?;
-    parts_value(alloc, ending, events, replay)
+    parts_value(alloc, plan, places, &world, &steps, witness)
 }
 
+/// Converts the parts of a witness. `world` is the world after the steps.
 #[tactic(auto, unfolding(crate::specs::JsonWitness::witness_parts))]
 fn parts_value(
     alloc: Global,
-    ending: Value,
-    events: Value,
-    replay: Value,
+    plan: &Plan,
+    places: &PlanPlaces,
+    world: &World,
+    steps: &[EventStep],
+    witness: &Witness,
 ) -> Result<Value, AllocError>
-    ensures { IfOk result (λ value. view value ≡ spec.witness_parts (view ending) (view events) (view replay)) }
+    ensures { IfOk result (λ value. view value ≡ spec.witness_parts
+        (ending.ending_parts (stuck_members witness.now.ending) (ending.kind_word witness.now.ending) (ending.refusing_pool plan.now witness.now.ending)
+        (flat_map (seen.wait_seen plan.now world.now.view) (stuck_members witness.now.ending)))
+        (events.list_data (map (events.run_data plan.now places.now) (runs.runs (shown.shown_from [] steps.now))))
+        (spec.replay_data plan.now witness.now)) }
 {
-    json!(in alloc; {"ending": ending, "events": events, "replay": replay})
+    json!(in alloc; {
+        "ending": ending_value(alloc, plan, world, &witness.ending)?,
+        "events": events_value(alloc, plan, places, steps)?,
+        "replay": replay_value(alloc, plan, witness)?
+    })
 }

@@ -77,32 +77,31 @@ fn log_of(alloc: Global, file: &str, annotations: &[Annotation]) -> Result<Strin
 }
 
 /// Creates the log of these annotations of a file.
+#[tactic(auto, unfolding(crate::specs::Sarif::log_data))]
 fn sarif_value(alloc: Global, file: &str, annotations: &[Annotation]) -> Result<Value, AllocError>
     ensures { IfOk result
         (λ value. view value ≡ spec.sarif_data file.now (remarks_in annotations.now)) }
 {
-    let results = results_value(alloc, file, annotations)?;
-    let rules = rules_value(alloc, annotations)?;
-    let driver = driver_value(alloc, rules)?;
-    log_value(alloc, results, driver)
-}
-
-#[tactic(auto, unfolding(crate::specs::Sarif::log_data))]
-fn log_value(alloc: Global, results: Value, driver: Value) -> Result<Value, AllocError>
-    ensures { IfOk result (λ value. view value ≡ spec.log_data (view results) (view driver)) }
-{
     json!(in alloc; {
         "$schema": "https://json.schemastore.org/sarif-2.1.0.json",
-        "runs": [{"results": results, "tool": {"driver": driver}}],
+        "runs": [{
+            "results": results_value(alloc, file, annotations)?,
+            "tool": {"driver": driver_value(alloc, annotations)?}
+        }],
         "version": "2.1.0"
     })
 }
 
 #[tactic(auto, unfolding(crate::specs::Sarif::driver_data))]
-fn driver_value(alloc: Global, rules: Value) -> Result<Value, AllocError>
-    ensures { IfOk result (λ value. view value ≡ spec.driver_data (view rules)) }
+fn driver_value(alloc: Global, annotations: &[Annotation]) -> Result<Value, AllocError>
+    ensures { IfOk result (λ value.
+        view value ≡ spec.driver_data (spec.rules_data (remarks_in annotations.now))) }
 {
-    json!(in alloc; {"name": "sizing", "rules": rules, "version": VERSION})
+    json!(in alloc; {
+        "name": "sizing",
+        "rules": rules_value(alloc, annotations)?,
+        "version": VERSION
+    })
 }
 
 // ---- results
@@ -123,11 +122,12 @@ fn result_value(alloc: Global, file: &str, annotation: &Annotation) -> Result<Va
     ensures { IfOk result
         (λ value. view value ≡ spec.result_data file.now (remark_of annotation.now)) }
 {
-    let name = rule_name(alloc, annotation.rule)?;
-    let level = level_word(annotation.rule);
-    let location = location_value(alloc, file, annotation.place)?;
-    let message = message_value(alloc, &annotation.message)?;
-    json!(in alloc; {"level": level, "locations": [location], "message": message, "ruleId": &name})
+    json!(in alloc; {
+        "level": level_word(annotation.rule),
+        "locations": [location_value(alloc, file, annotation.place)?],
+        "message": message_value(alloc, &annotation.message)?,
+        "ruleId": Value::String(rule_name(alloc, annotation.rule)?)
+    })
 }
 
 #[tactic(auto, unfolding(crate::specs::Sarif::message_data))]
@@ -151,15 +151,13 @@ fn level_word(rule: Rule) -> &'static str
 fn location_value(alloc: Global, file: &str, place: Option<TextPlace>) -> Result<Value, AllocError>
     ensures { IfOk result (λ value. view value ≡ spec.location_data file.now place) }
 {
-    let physical = physical_value(alloc, file, place)?;
-    json!(in alloc; {"physicalLocation": physical})
+    json!(in alloc; {"physicalLocation": physical_value(alloc, file, place)?})
 }
 
 /// Converts the file, and the place in it if it is known.
 fn physical_value(alloc: Global, file: &str, place: Option<TextPlace>) -> Result<Value, AllocError>
     ensures { IfOk result (λ value. view value ≡ spec.physical_data file.now place) }
 {
-    let file = file_value(alloc, file)?;
     match place {
         Some(place) => part_of_file(alloc, file, place),
         None => whole_file(alloc, file),
@@ -170,23 +168,25 @@ fn physical_value(alloc: Global, file: &str, place: Option<TextPlace>) -> Result
 fn file_value(alloc: Global, file: &str) -> Result<Value, AllocError>
     ensures { IfOk result (λ value. view value ≡ spec.file_data file.now) }
 {
-    let uri = uri_of(alloc, file)?;
-    json!(in alloc; {"uri": &uri})
+    json!(in alloc; {"uri": Value::String(uri_of(alloc, file)?)})
 }
 
 #[tactic(auto, unfolding(crate::specs::Sarif::whole_file))]
-fn whole_file(alloc: Global, file: Value) -> Result<Value, AllocError>
-    ensures { IfOk result (λ value. view value ≡ spec.whole_file (view file)) }
+fn whole_file(alloc: Global, file: &str) -> Result<Value, AllocError>
+    ensures { IfOk result (λ value. view value ≡ spec.whole_file (spec.file_data file.now)) }
 {
-    json!(in alloc; {"artifactLocation": file})
+    json!(in alloc; {"artifactLocation": file_value(alloc, file)?})
 }
 
-#[tactic(auto, unfolding(crate::specs::Sarif::part_of_file, crate::specs::Sarif::region_data))]
-fn part_of_file(alloc: Global, file: Value, place: TextPlace) -> Result<Value, AllocError>
-    ensures { IfOk result (λ value. view value ≡ spec.part_of_file (view file) place) }
+#[tactic(auto, unfolding(crate::specs::Sarif::part_of_file))]
+fn part_of_file(alloc: Global, file: &str, place: TextPlace) -> Result<Value, AllocError>
+    ensures { IfOk result (λ value.
+        view value ≡ spec.part_of_file (spec.file_data file.now) place) }
 {
-    let region = region_value(alloc, place)?;
-    json!(in alloc; {"artifactLocation": file, "region": region})
+    json!(in alloc; {
+        "artifactLocation": file_value(alloc, file)?,
+        "region": region_value(alloc, place)?
+    })
 }
 
 #[tactic(auto, unfolding(crate::specs::Sarif::region_data))]

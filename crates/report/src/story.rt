@@ -1,9 +1,13 @@
 //! The story of a witness: its events, the state after them, and what each waiting job waits for.
 
+ghost use Rattle.std.specs.Prelude.{◌++◌, flat_map};
+ghost use Rattle.std.specs.List.{enumerate_from};
 ghost use Rattle.support.specs.Pushed.{Pushes};
+ghost use Rattle.interleaving.specs.OfPlan.{IsReachableView};
 ghost use Rattle.report.specs.Story as spec;
+ghost use Rattle.report.specs.StorySeen as seen;
 
-use crate::event_steps::perform_all;
+use crate::event_steps::{EventStep, perform_all};
 use crate::story_lines::push_lines;
 use crate::story_pools::push_pools;
 use crate::story_turns::turns_of;
@@ -30,8 +34,38 @@ pub(crate) fn push_story(
 {
     let mut world = World::start(alloc, plan)?;
     let steps = perform_all(alloc, plan, &mut world, events)?;
-    let turns = turns_of(alloc, plan, &steps)?;
-    push_lines(text, alloc, &turns)?;
-    push_pools(text, plan, &world)?;
-    push_waits(text, plan, &world, members)
+    push_parts(text, alloc, plan, &world, &steps, members)
+}
+
+/// Appends the parts of a story: what the steps did, the pools of the world after them, and what each
+/// member waits for.
+fn push_parts(
+    text: &mut String,
+    alloc: Global,
+    plan: &Plan,
+    world: &World,
+    steps: &[EventStep],
+    members: &[usize],
+) -> Result<(), AllocError>
+    requires { IsReachableView plan.now world.now.view }
+    ensures { Pushes result text.old text.new
+        ((spec.steps_text plan.now steps.now
+        ++ flat_map (seen.pool_line_seen world.now.view) (enumerate_from 0 plan.now.pools))
+        ++ seen.waits_text plan.now world.now.view members.now) }
+{
+    push_steps(text, alloc, plan, steps)?;
+    push_pools(text, plan, world)?;
+    push_waits(text, plan, world, members)
+}
+
+fn push_steps(
+    text: &mut String,
+    alloc: Global,
+    plan: &Plan,
+    steps: &[EventStep],
+) -> Result<(), AllocError>
+    ensures { Pushes result text.old text.new (spec.steps_text plan.now steps.now) }
+{
+    let turns = turns_of(alloc, plan, steps)?;
+    push_lines(text, alloc, &turns)
 }

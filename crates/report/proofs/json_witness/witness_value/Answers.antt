@@ -1,15 +1,13 @@
-use Rattle.std.proofs.Common.{◌≡◌, ◌∙◌, ap, List, [], subst, map}
+use Rattle.std.proofs.Common.{◌≡◌, ◌∙◌, ap, ap₂, List, [], subst, map}
 use Rattle.std.specs.Prelude.{IfOk}
 use Rattle.serde_json.specs.Data.{Data}
 use Rattle.serde_json.specs.View.{view}
 use Rattle.written_machine.specs.declared.event.Event.{Event}
 use Rattle.report.specs.Performed.{PerformsAll}
-use Rattle.report.specs.EventRows.{state_at_end}
-use Rattle.report.specs.JsonEnding.{ending_data}
 use Rattle.report.specs.declared.event_steps.EventStep.{EventStep}
 use Rattle.report.specs.EventRuns.{runs}
 use Rattle.report.specs.EventsShown.{shown_from}
-use Rattle.report.specs.JsonEvents.{list_data, run_data, events_data}
+use Rattle.report.specs.JsonEvents.{list_data, run_data}
 use Rattle.report.specs.JsonWitness.{witness_parts, replay_data, witness_data}
 use Rattle.report.proofs.Witnesses.{ending_whole, events_whole}
 use Rattle.report.proofs.json_witness.witness_value.Goals as goal
@@ -25,9 +23,6 @@ returns c =
     let steps = c.in_ok-steps.steps.items in
     let ok = c.in_ok-steps.ensures.well_formed in
     let did : PerformsAll plan events world steps = subst (λ (es : List Event). PerformsAll plan es world steps) c.deref.ensures.value c.in_ok-steps.ensures.value in
-    let is_ending : view c.in_ok-ending.ending ≡ ending_data plan (state_at_end plan events) witness.ending = c.in_ok-ending.ensures ∙ ending_whole plan events world steps witness.ending ok did in
-    let is_events : view c.in_ok-events.events ≡ events_data places plan events =
-    c.in_ok-events.ensures ∙ ap (λ (xs : List EventStep). list_data (map (run_data plan places) (runs (shown_from [] xs)))) c.deref-2.ensures.value ∙ events_whole plan places events world steps ok did in
-    let is_replay : view c.in_ok-replay.replay ≡ replay_data plan witness = c.in_ok-replay.ensures in
-    let same : witness_parts (view c.in_ok-ending.ending) (view c.in_ok-events.events) (view c.in_ok-replay.replay) ≡ witness_parts (ending_data plan (state_at_end plan events) witness.ending) (events_data places plan events) (replay_data plan witness) = cc in
-    subst (λ (d : Data). IfOk c.parts_value.result (λ value. view value ≡ d)) same c.parts_value.ensures
+    let is_ending = ending_whole plan events world steps witness.ending ok did in
+    let is_events = ap (λ (xs : List EventStep). list_data (map (run_data plan places) (runs (shown_from [] xs)))) c.deref-2.ensures.value ∙ events_whole plan places events world steps ok did in
+    subst (λ (d : Data). IfOk c.parts_value.result (λ value. view value ≡ d)) (ap₂ (λ (e v : Data). witness_parts e v (replay_data plan witness)) is_ending is_events) c.parts_value.ensures
