@@ -45,20 +45,29 @@ pub(crate) fn reason_of(rt: &impl Files, name: &str) -> &'static str {
 }
 
 /// Returns why the file could not be written, or an empty text if that is not known. Opens the file
-/// for writing again: keeps the content of a regular file, and creates a missing one. Does not open
-/// another kind of file, because opening a pipe could block.
+/// again, but neither creates nor changes it. Does not open what is not a regular file: opening a
+/// pipe could block.
 pub(crate) fn reason_unwritten(rt: &impl Files, name: &str) -> &'static str {
     if is_special(rt, name) {
         return "";
     }
-    match File::options().append(true).create(true).open(rt, name) {
+    match File::options().append(true).open(rt, name) {
         Ok(_) => "",
         Err(error) => match error.kind() {
+            ErrorKind::NotFound if has_directory(rt, name) => "",
             ErrorKind::NotFound | ErrorKind::NotADirectory => ": there is no such directory",
             ErrorKind::PermissionDenied => ": permission denied",
             ErrorKind::ReadOnlyFilesystem => ": the file system is read-only",
             _ => "",
         },
+    }
+}
+
+/// Returns whether the directory that a file of this name is in exists.
+fn has_directory(rt: &impl Files, name: &str) -> bool {
+    match name.rsplit_once('/') {
+        Some((directory, _)) if !directory.is_empty() => fs::metadata(rt, directory).is_ok(),
+        _ => true,
     }
 }
 
@@ -191,7 +200,8 @@ fn kind_of(text: &[u8]) -> Option<&'static str> {
 
 /// Returns whether a line of the text begins with the header of an entry of a plan.
 fn has_header(text: &[u8]) -> bool {
-    text.split(|byte| *byte == b'\n').any(|line| is_header(line))
+    text.split(|byte| *byte == b'\n')
+        .any(|line| is_header(line))
 }
 
 fn is_header(line: &[u8]) -> bool {
