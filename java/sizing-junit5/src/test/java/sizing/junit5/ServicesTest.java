@@ -225,8 +225,8 @@ class ServicesTest {
                 new Case("completion_service_with_timed_poll", "completion-service", OrderServices::completionServiceWithTimedPoll,
                         "round 0 of kind request " + NO_GET),
                 new Case("window_of_four", "window-in-a-job", OrderServices::windowOfFour,
-                        "job 0 of class report in pool reports submitted section to pool sections; after submit section, 3 jobs of class section are open; "
-                                + AT_MOST + "2" + BEFORE),
+                        "job 0 of class report in pool reports submitted section to pool sections; after submit section, "
+                                + "3 jobs of class section are open; " + AT_MOST + "2" + BEFORE),
                 new Case("report_of_seven_topics", "window-in-a-job", OrderServices::reportOfSevenTopics,
                         "job 0 of class report in pool reports submitted section to pool sections; " + NO_SUBMIT + "after get section"),
                 new Case("report_with_a_summary", "window-in-a-job", OrderServices::reportWithASummary,
@@ -234,8 +234,8 @@ class ServicesTest {
                 new Case("report_that_returns_with_an_open_section", "window-in-a-job", OrderServices::reportThatReturnsWithAnOpenSection,
                         "job 0 of class report in pool reports " + NO_GET + "1 of class section in pool sections"),
                 new Case("window_that_is_read_at_its_end", "window-in-a-job", OrderServices::windowThatIsReadAtItsEnd,
-                        "job 0 of class report in pool reports submitted section to pool sections; after submit section, 3 jobs of class section are open; "
-                                + AT_MOST + "2" + BEFORE),
+                        "job 0 of class report in pool reports submitted section to pool sections; after submit section, "
+                                + "3 jobs of class section are open; " + AT_MOST + "2" + BEFORE),
                 new Case("futures_that_are_left", "completion-service", OrderServices::futuresThatAreLeft,
                         "round 0 of kind request " + NO_GET),
                 new Case("futures_with_a_further_stage", "completion-service", OrderServices::futuresWithAFurtherStage,
