@@ -65,16 +65,17 @@ _sizing sizing "${COMP_WORDS[COMP_CWORD]}" "${COMP_WORDS[COMP_CWORD - 1]}"
 printf '%s\n' "${COMPREPLY[@]}"
 """
 # zsh completes only on a terminal, so a second zsh runs on a pseudo-terminal, and prints each offer instead of completing the line.
+# It prints READY_NOW when it has begun to edit a line: what is written sooner, the terminal would edit.
 ZSH = r"""
 zmodload zsh/zpty
 zpty inner zsh -f -i
 zpty -w inner "PS1='' PS2='' fpath=($1 \$fpath)"
 zpty -w inner 'autoload -Uz compinit; compinit -u -D; unsetopt zle_bracketed_paste 2>/dev/null'
 zpty -w inner 'compadd() { local -a _offers; builtin compadd -O _offers "$@"; print -rl -- "" "OFFER "$^_offers; builtin compadd "$@" }'
-zpty -w inner 'bindkey "^I" complete-word; print READY_NOW'
-zpty -r inner seen '*READY_NOW*READY_NOW*'
-zpty -n -w inner "$2"$'\t\x15print DONE_NOW\n'
-zpty -r inner seen '*DONE_NOW*DONE_NOW*'
+zpty -w inner 'bindkey "^I" complete-word; zle-line-init() { print READY"_"NOW }; zle -N zle-line-init'
+zpty -r inner seen '*READY_NOW*'
+zpty -n -w inner "$2"$'\t\x15print DONE"_"NOW\n'
+zpty -r inner seen '*DONE_NOW*'
 print -r -- "$seen"
 zpty -d inner
 """

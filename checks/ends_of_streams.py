@@ -124,8 +124,12 @@ def cases_of_misplaced_files(program, folder):
     with_returns = b"the lines of %s end with a carriage return: convert the file from CRLF to newlines alone\n"
     like_a_certificate = b"%s looks like a certificate: name a plan in its place\n"
     like_a_recording = b"%s looks like a recording: name a plan in its place\n"
+    plan_for_a_certificate = b"%s looks like a plan: name a certificate in its place\n"
+    plan_for_events = b"%s looks like a plan: name events in its place\n"
+    certificate_for_events = b"%s looks like a certificate: name events in its place\n"
     no_recording = b"%s is not a recording: the first line of a recording is `recording 1`\n"
     no_plan, no_line, no_separator = b"fault 1 NotToml\n", b"fault 53 BadRecording at line 1: it is not a valid line\n", b"fault 50 NoSeparator\n"
+    no_json, no_event = b"fault 30 NotJson\n", b"fault 51 BadEvent at line 1\n"
     for words, printed, hint, file in (
         (["check", plan], no_separator, alone, plan),
         (["check", returns], no_separator, with_return, returns),
@@ -137,8 +141,13 @@ def cases_of_misplaced_files(program, folder):
         (["conform", recording, plan], no_plan, like_a_recording, recording),
         (["conform", plan, plan], no_line, no_recording, plan),
         (["learn", plan], no_line, no_recording, plan),
-        (["replay", plan, bad_events], b"fault 51 BadEvent at line 1\n", with_returns, bad_events),
-        (["replay", "-", bad_events], b"fault 51 BadEvent at line 1\n", with_returns, bad_events),
+        (["check", plan, plan], no_json, plan_for_a_certificate, plan),
+        (["explain", plan, plan], no_json, plan_for_a_certificate, plan),
+        (["run", "--rounds", "3", plan, plan], no_json, plan_for_a_certificate, plan),
+        (["replay", plan, plan], no_event, plan_for_events, plan),
+        (["replay", plan, certificate], no_event, certificate_for_events, certificate),
+        (["replay", plan, bad_events], no_event, with_returns, bad_events),
+        (["replay", "-", bad_events], no_event, with_returns, bad_events),
     ):
         title = " ".join([words[0], *(Path(word).name for word in words[1:])])
         yield title, lambda words=words: ends([program, *words], plan), (2, printed, hint % bytes(file))
@@ -161,6 +170,9 @@ def cases_of_certificates(program, folder):
         given.write_bytes(plan)
         wanted = (2, b"", occupied % bytes(path), before) if is_kept else (0, b"SAFE", b"", b'{"pools"')
         yield f"ask, {what} as the certificate's file", lambda path=path: ask_for(program, given, path), wanted
+    for what, path in (("a missing directory", folder / "none" / "certificate"), ("a file in place of a directory", given / "certificate")):
+        complaint = b"fault 61 WriteFailed at %s: there is no such directory\n" % bytes(path)
+        yield f"ask, {what} for the certificate", lambda path=path: answered(program, given, path), (3, True, complaint)
 
 
 def ask_for(program, given, path):
@@ -169,6 +181,12 @@ def ask_for(program, given, path):
     status, printed, complained = ends([program, "ask", "--certificate", path], given)
     text = path.read_bytes()
     return status, printed[:4], complained, text[:8] if status == 0 else text
+
+
+def answered(program, given, path):
+    """Runs `ask --certificate`. Returns the status, whether standard output is the whole answer, and standard error."""
+    status, printed, complained = ends([program, "ask", "--certificate", path], given)
+    return status, printed == ends([program, "ask"], given)[1], complained
 
 
 def shown(name, run, wanted):

@@ -9,6 +9,15 @@ pub mod WalkSteps
 pub mod BlockingGet
 pub mod StoppedWalks
 pub mod WalkProgress
+pub mod MachineJobs
+pub mod OpenSubmits
+pub mod Undisturbed
+pub mod OthersAct
+pub mod Lagging
+pub mod LaggingSteps
+pub mod LaggingRuns
+pub mod ReachableRuns
+pub mod FollowedActors
 mod WorkedPaths
 pub mod Names
 pub mod OneByOne

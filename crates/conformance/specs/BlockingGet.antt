@@ -12,7 +12,7 @@ may_pass None passes = true
 may_pass (Some get) passes = passes
 
 -- ---- the way to a later index
--- Below `n`, the body can be at this index last. `row` says where it can be.
+-- The last index below `n` at which the body can be. `row` says for each index whether it can be there.
 pub record IsLastReached (row : List Bool) (n reached : ℕ) : Type 0 where
   pub before : reached < n
   pub at : slice_index_or row reached false ≡ true
@@ -63,7 +63,7 @@ abbrev pub IsBlocking : List Bool → List Bool → List (Option BodyGet) → Li
 IsBlocking row passes gets body class None = (end : ℕ) → AreReached row passes gets body class end
 IsBlocking row passes gets body class (Some get) = IsBlockingGet row passes gets body class get
 
--- ---- one more index
+-- ---- the way to and over one index, as the functions of `blocking_get.rt` compute it
 abbrev pub way_at : Way → Bool → Way
 way_at before is_at = if is_at then way.Free else before
 

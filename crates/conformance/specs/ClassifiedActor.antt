@@ -35,8 +35,8 @@ abbrev pub bodies_of : Plan → RecordedActor → List ℕ → List ℕ → List
 bodies_of plan (Job job) label pool = class_bodies plan label pool
 bodies_of plan (Round round) label pool = client_bodies plan label
 
--- The length of the longest prefix of the path that a body explains, where each job that the actor submitted may have any
--- class that that job can belong to.
+-- The longest prefix of the path that a body explains, and the reason why it is not longer. Each job that the actor submitted
+-- may have any class that that job can belong to.
 pub record IsExplained (plan : Plan) (lines : List RecordedLine) (reported : ClassifiedActor) : Type 0 where
   pub steps : List PathStep
   pub path : AreStepsOf plan lines (path_of lines reported.actor) steps

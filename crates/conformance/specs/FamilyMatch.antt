@@ -41,12 +41,12 @@ class_bodies plan label pool = map (class_body plan) (class_family plan label po
 abbrev pub client_bodies : Plan → List ℕ → List (List Action)
 client_bodies plan label = map (client_body plan) (client_family plan label)
 
--- The body explains the prefix of the path, for this reason not more.
+-- The body explains this prefix of the path, with the reason why it does not explain the next step.
 abbrev pub Explains : ActorKind → List PathStep → ExplainedPrefix → List Action → Type 0
 Explains kind path explained body = IsPathOf kind Prefix body (take explained.length path) × IsReason kind body path explained.length explained.excess
 
 -- `explained` is the longest prefix of the path that begins a path of one of these bodies, with the reason why the next step
--- does not extend it. It is empty if there are no bodies.
+-- does not extend it. If several bodies explain it, the reason is that of one of them. Its length is 0 if there are no bodies.
 pub record IsMostExplained (kind : ActorKind) (bodies : List (List Action)) (path : List PathStep) (explained : ExplainedPrefix) : Type 0 where
   pub within : explained.length ≤ length path
   pub front : 0 < length bodies → Any (Explains kind path explained) bodies

@@ -1,5 +1,6 @@
 pub mod PathStep
 pub mod Path
+pub mod LaggingRun
 pub mod BodyGets
 pub mod Candidate
 pub mod WalkState
@@ -47,6 +48,7 @@ pub mod ExcessTracker
 pub mod Survey
 pub mod Description
 pub mod Conforms
+pub mod FollowedActors
 pub mod CollectedFindings
 pub mod Findings
 pub mod Outcome

@@ -28,7 +28,7 @@ pub record IsOpenExcess (kind : ActorKind) (body : List Action) (path : List Pat
   pub submit : ℕ
   pub ahead : IsSubmitAhead kind body path place submit
   pub next : (other : ℕ) → IsSubmitAhead kind body path place other → submit ≤ other
-  -- Each way to it comes from here: no walk is nearer to it.
+  -- The last index, up to this submit, that a walk reaches.
   pub reached : ℕ
   pub jobs : List OpenJob
   pub walk : Walks kind body path reached place jobs

@@ -45,7 +45,7 @@ abbrev pub circle_words : Plan → ℕ → List ℕ → List ℕ
 circle_words plan k between = itself_words (class_at plan k).name ++ circle_part plan k between
 
 -- the text reports that the class submits itself. It has a circle of submits only if the plan has this circle
-pub record TellsCircle (plan : Plan) (k : ℕ) (text : List ℕ) : Type 0 where
+pub record ReportsCircle (plan : Plan) (k : ℕ) (text : List ℕ) : Type 0 where
   pub between : List ℕ
   pub circle : 0 < length between → IsTrue (submits_through plan k between k)
   pub text_is : text ≡ circle_words plan k between

@@ -150,9 +150,15 @@ fn is_spaced(text: &str) -> bool {
     !bytes.is_empty() && last == b' '
 }
 
-/// Returns whether the text looks like several actions: it has a separator and more than two words.
+/// Returns whether the text looks like several actions: it has more than two words, and a separator
+/// or a second verb.
 fn has_several_actions(words: Words<'_>, text: &str) -> bool {
-    words.count > 2 && has_separator(text)
+    words.count > 2 && (has_separator(text) || has_two_verbs(words, text))
+}
+
+fn has_two_verbs(words: Words<'_>, text: &str) -> bool {
+    matches!(words.verb, "work" | "submit" | "get")
+        && (text.contains(" work ") || text.contains(" submit ") || text.contains(" get "))
 }
 
 fn work_error(alloc: Global, text: &str) -> Result<String, AllocError> {
@@ -209,7 +215,7 @@ fn submit_form(alloc: Global, class: &str) -> Result<String, AllocError> {
     format!(in alloc; "write submit {class}, or submit {class} as NAME if its result is needed")
 }
 
-/// Returns the message for a text that begins with another word than those of actions.
+/// Returns the message for a text whose first word is not the verb of an action.
 fn verb_error(alloc: Global, verb: &str, first: &str) -> Result<String, AllocError> {
     match verb {
         "execute" | "invoke" | "start" | "schedule" => submit_form(alloc, first),

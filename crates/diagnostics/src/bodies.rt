@@ -21,12 +21,12 @@ struct Slot<'a> {
     got: Option<usize>,
 }
 
-/// The result of marking a job as got.
+/// The result of recording that an action gets a job.
 #[derive(Clone, Copy)]
 enum Marked {
-    /// It is marked now.
+    /// No earlier action got the job.
     Now,
-    /// The action with this index got it before.
+    /// The action with this index got the job before.
     Before(usize),
     /// No job was submitted under the name.
     Missing,
@@ -52,7 +52,7 @@ impl CheckedAction<'_> {
         self.report_with_range(collector, number, words, None)
     }
 
-    /// Reports a fault of the action, with the range of the number that is out of it.
+    /// Reports a fault of the action. If it is a number out of its range, `range` is that range.
     fn report_with_range(
         &self,
         collector: &mut FaultCollector,
@@ -150,7 +150,7 @@ fn unknown_class(alloc: Global, class: &str, classes: &[&str]) -> Result<String,
     format!(in alloc; "unknown class {class}{right}")
 }
 
-/// Returns the end of such a message, with the plan's classes.
+/// Returns the end of the message for an unknown class, which lists the plan's classes.
 fn known_classes(alloc: Global, classes: &[&str]) -> Result<String, AllocError> {
     if classes.is_empty() {
         let words = "; the plan has no classes: add a [[class]] with this name";
@@ -201,8 +201,8 @@ fn report_in_use(
     checked.report(collector, SLOT_OPEN, &words)
 }
 
-/// Marks the job that was submitted under this name as got. Reports the action if there is no such
-/// job, or if it was got before.
+/// Checks a get of this name. Records that the action gets the job that was submitted under the name,
+/// or reports the action if there is no such job or an earlier action got it.
 fn check_get<'a>(
     collector: &mut FaultCollector,
     checked: CheckedAction<'a>,
@@ -216,7 +216,8 @@ fn check_get<'a>(
     }
 }
 
-/// Marks the job that was submitted under this name as got by the action, if it was not got before.
+/// Records that the action gets the job that was submitted under this name, if no earlier action got
+/// it.
 fn mark_as_got(slots: &mut [Slot<'_>], name: &str, action: usize) -> Marked {
     let mut marked = Marked::Missing;
     for slot in slots.iter_mut() {

@@ -8,14 +8,14 @@ use crate::circles::classes_between;
 use job_bodies::{Action, Plan};
 use std::alloc::{AllocError, Global};
 
-/// Returns the message that a class submits itself. If it does through other classes, the message
-/// has the submits, as in `class a submits itself: a submits b, b submits a`.
+/// Returns the message that a class submits itself. If it does so through other classes, the message
+/// lists the submits, as in `class a submits itself: a submits b, b submits a`.
 pub(crate) fn words_of_circle(
     alloc: Global,
     plan: &Plan,
     class: usize,
 ) -> Result<String, AllocError>
-    ensures { IfOk result (λ words. spec.TellsCircle plan.now class (string_bytes words)) }
+    ensures { IfOk result (λ words. spec.ReportsCircle plan.now class (string_bytes words)) }
 {
     let between = classes_between(alloc, plan, class)?;
     let circle = checked_circle(plan, class, &between);

@@ -3,7 +3,7 @@
 use job_bodies::{Action, Plan};
 use std::alloc::{AllocError, Global};
 
-/// A search for the shortest way from a class to a submit of the same class.
+/// A breadth-first search for a shortest circle of submits from a class back to itself.
 #[derive(Drop)]
 struct CircleSearch {
     /// For each class that was found, the class that submits it.
@@ -60,8 +60,8 @@ impl CircleSearch {
     }
 }
 
-/// Returns the classes through which the class submits itself, in order and as few as possible. The
-/// list is empty if the class submits itself directly, or not at all.
+/// Returns the other classes of a shortest circle of submits through the class, in order. The list
+/// is empty if the class submits itself directly, or not at all.
 pub(crate) fn classes_between(
     alloc: Global,
     plan: &Plan,
@@ -75,8 +75,8 @@ pub(crate) fn classes_between(
     Ok(between)
 }
 
-/// Appends the class that submits this one, the class that submits that one, and so on, until the
-/// class itself.
+/// Appends the class that submits this one, then the class that submits that one, and so on, up to
+/// the class itself, which is not appended.
 fn push_submitters(
     between: &mut Vec<usize>,
     search: &CircleSearch,

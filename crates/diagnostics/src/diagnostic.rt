@@ -23,7 +23,7 @@ pub struct Diagnostic {
     pub place: TextPlace,
     /// A message that says what is wrong and how to fix it.
     pub what: String,
-    /// The range that a number must be in, if the fault is a number out of its range.
+    /// The valid range, if the fault is a number out of its range.
     pub range: Option<NumberRange>,
 }
 

@@ -10,8 +10,7 @@ use toml::{Table, Value};
 /// The beginning of a text.
 pub(crate) const BEGINNING: TextPlace = TextPlace { line: 1, column: 1 };
 
-/// Returns the key of the list that has such entries. Messages use it as the name of an entry's
-/// kind.
+/// Returns the key of the list for entries of this kind. Messages use it as the name of the kind.
 pub(crate) fn list_of(part: Part) -> &'static str {
     match part {
         Part::Text => "plan",
@@ -102,7 +101,7 @@ impl<'a> PlacedEntry<'a> {
         self.report_with_range(collector, number, place, words, None)
     }
 
-    /// Reports a fault of the entry, with the range of the number that is out of it.
+    /// Reports a fault of the entry. If it is a number out of its range, `range` is that range.
     pub(crate) fn report_with_range(
         &self,
         collector: &mut FaultCollector,
@@ -122,8 +121,8 @@ impl<'a> PlacedEntry<'a> {
         })
     }
 
-    /// Reports a fault of an action, with the message `class page, action 1 "get row": WORDS`.
-    /// `range` is that of a number out of its range.
+    /// Reports a fault of an action, with the message `class page, action 1 "get row": WORDS`. If it
+    /// is a number out of its range, `range` is that range.
     pub(crate) fn report_action(
         &self,
         collector: &mut FaultCollector,

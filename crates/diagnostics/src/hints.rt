@@ -3,8 +3,8 @@
 ghost use Rattle.std.specs.Prelude.{◌≡◌, option_map};
 ghost use Rattle.diagnostics.specs.Hints as spec;
 
-/// Returns the end of the message for a size of 0, which says what to do about such a pool. It is
-/// empty if there is nothing to say.
+/// Returns the end of the message for a size of 0: what to write instead, or which page says so. It
+/// is empty for keys other than `queue` and `core`.
 pub(crate) fn zero_hint(key: &str) -> &'static str
     ensures { result.now ≡ spec.zero_hint key.now }
 {
@@ -15,8 +15,8 @@ pub(crate) fn zero_hint(key: &str) -> &'static str
     }
 }
 
-/// Returns the end of the message for a text in place of a number, which says what to write for a
-/// queue without a bound. It is empty if the text is not about one.
+/// Returns the end of the message for a string in place of a number. If the string asks for a queue
+/// without a bound, such as `unbounded`, the end says what to write instead; otherwise it is empty.
 pub(crate) fn no_limit_hint(key: &str, text: &str) -> &'static str
     ensures { result.now ≡ spec.no_limit_hint key.now text.now }
 {

@@ -4,7 +4,7 @@ use job_bodies::Part;
 
 /// A lint: a part of a valid plan that is probably a mistake. Pools, classes, client kinds and
 /// actions are numbered from 0.
-#[derive(Clone, Copy, PartialEq, Eq)]
+#[derive(Clone, Copy)]
 pub enum Lint {
     /// A certificate accepts the plan with each maximum lowered to the core size of its pool. The
     /// caller that searched for the certificate provides this fact.
@@ -33,8 +33,8 @@ pub enum Lint {
     ClassWithoutJobs(usize),
     /// This client kind does not repeat: each of its clients goes through its body once.
     GoesOnce(usize),
-    /// This client kind submits only to pools with one core thread, and each of these pools' queues
-    /// has fewer places than there are clients of the kind.
+    /// Each pool to which this client kind submits has one core thread and a queue with fewer places
+    /// than there are clients of the kind.
     Crowd(usize),
     /// The body of a class or client kind has a `work` whose length is also a size of the plan. The
     /// fields are: whether it is a class or a client kind, its number, the number of the action, and

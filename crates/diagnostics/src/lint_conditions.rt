@@ -7,11 +7,11 @@ ghost use Rattle.diagnostics.specs.Lints as spec;
 
 use job_bodies::{Action, Class, Client, Plan, Pool};
 
-/// The ratio of a queue's capacity to the maximum number of jobs in the queue at once, above which
-/// a lint reports the queue.
+/// A lint reports a queue whose capacity is more than this many times the maximum number of jobs in
+/// it at once.
 const FAR_ABOVE: u64 = 10;
 
-/// The shortest length of a `work`, in units, that a lint reports if it is also a size of the plan.
+/// A lint reports a `work` of at least this many units, if its length is also a size of the plan.
 const LIKE_A_SIZE: u32 = 50;
 
 /// Returns whether the class of this number is marked as submitted.
@@ -63,8 +63,8 @@ pub(crate) fn may_grow(pool: &Pool) -> bool
     pool.core < pool.max
 }
 
-/// Returns whether the pool's maximum is above its core size, and its queue holds the `most` jobs
-/// that can be in it at once.
+/// Returns whether the pool's maximum is above its core size, but has no effect, because the queue
+/// has room for `most` jobs, the maximum number at once.
 pub(crate) fn has_useless_max(pool: &Pool, most: u64) -> bool
     ensures { result ≡ spec.has_useless_max pool.now most }
 {
@@ -78,8 +78,8 @@ pub(crate) fn is_far_above(pool: &Pool, most: u64) -> bool
     most.max(1) < pool.queue / FAR_ABOVE
 }
 
-/// Returns whether the clients of this kind submit jobs, and only to pools with one core thread
-/// whose queues have fewer places than there are clients of the kind.
+/// Returns whether the clients of this kind submit jobs, and each pool to which they submit has one
+/// core thread and a queue with fewer places than there are clients of the kind.
 pub(crate) fn are_a_crowd(plan: &Plan, client: &Client) -> bool
     ensures { result ≡ spec.are_a_crowd plan.now client.now }
 {

@@ -29,7 +29,7 @@ pub(crate) fn lints_of(
     lints_with(alloc, plan, needed, is_safe_at_core, cause, &marks)
 }
 
-/// Returns the lints of the plan. `cause` is a cause for which no sizes are enough, if there is one.
+/// Returns the lints of the plan. `cause` is the reason why no sizes are enough, if there is one.
 /// `marks` has, for each class, whether clients submit it, directly or through other jobs.
 fn lints_with(
     alloc: Global,
@@ -64,7 +64,7 @@ fn push_all(
     push_plan(found, plan, needed, marks)
 }
 
-/// Appends the lint of a cause for which no sizes are enough.
+/// Appends the lint of the reason why no sizes are enough, if there is one.
 fn push_cause(found: &mut Vec<Lint>, cause: Option<Cause>) -> Result<(), AllocError>
     ensures { OnOk result (found.new.items ≡ found.old.items ++ spec.lints_of_cause cause) }
 {

@@ -15,7 +15,7 @@ struct Submit<'a> {
 }
 
 /// Returns the message for a get of `name`, the action with the index `get`. No earlier action of
-/// the body submits a job under this name; `names` has the names that they use.
+/// the body submits a job under this name. `names` has the names under which they submit jobs.
 pub(crate) fn missing_submit(
     alloc: Global,
     body: &[Value],
@@ -56,7 +56,7 @@ fn likely_cause(
     }
 }
 
-/// Returns the end of the message if no earlier submit lacks an `as`.
+/// Returns the end of the message if each earlier submit has an `as`.
 fn no_submit_before(
     alloc: Global,
     body: &[Value],
@@ -106,7 +106,7 @@ fn named_after<'a>(body: &'a [Value], get: usize, name: &str) -> Option<Submit<'
 }
 
 /// Returns a submit without `as` before the action with the index `get`: the first one of a class
-/// of this name, or else the last one.
+/// of this name or, if there is none, the last one.
 fn unnamed_before<'a>(body: &'a [Value], get: usize, name: &str) -> Option<Submit<'a>> {
     let mut last = None;
     for (action, value) in body.iter().enumerate() {

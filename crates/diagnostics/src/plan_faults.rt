@@ -1,4 +1,4 @@
-//! All faults of a plan's text that can be found.
+//! The search for all faults of a plan's text.
 
 ghost use Rattle.std.specs.Prelude.{◌≡◌, ◌<◌, ◌≤◌, IfOk, length, string_bytes};
 ghost use Rattle.std.specs.List.{All};
@@ -40,8 +40,8 @@ pub fn faults_of(alloc: Global, text: &[u8], fault: PlanFault) -> Result<Faults,
     })
 }
 
-/// Returns the diagnostic for the fault that the parser reports. It has the rule that the fault
-/// violates if the checks did not find the fault.
+/// Returns the diagnostic for the fault that the parser reports. If the checks did not find the
+/// fault, its message is the rule that the plan violates.
 fn first_of(
     alloc: Global,
     fault: PlanFault,

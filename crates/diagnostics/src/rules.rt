@@ -1,9 +1,9 @@
-//! The rules that faults violate. A rule is the message for a fault that the checks of this crate
-//! did not find.
+//! The rules of plans. If the plan parser reports a fault that the checks of this crate do not find,
+//! the message is the rule that the plan violates.
 
 use support::number::*;
 
-/// Returns the rule that a fault of this number violates.
+/// Returns the rule that a plan with a fault of this number violates.
 pub(crate) fn rule_of(number: u8) -> &'static str {
     match number {
         NOT_TOML => "invalid TOML",

@@ -10,7 +10,7 @@ use support::number::{MISSING_KEY, TOO_MANY, UNKNOWN_KEY, WRONG_TYPE};
 use toml::Value;
 
 /// The type that the value of a key must have.
-#[derive(Clone, Copy, PartialEq, Eq)]
+#[derive(Clone, Copy)]
 enum ValueKind {
     Text,
     Number,
@@ -44,38 +44,31 @@ pub(crate) fn keys_of(part: Part) -> &'static [&'static str] {
     }
 }
 
-fn key_rule(key: &str) -> Option<KeyRule> {
-    let (key, wanted, hint) = match key {
-        "name" => ("name", ValueKind::Text, "write name = \"..\""),
+fn key_rule(key: &'static str) -> Option<KeyRule> {
+    let (wanted, hint) = match key {
+        "name" => (ValueKind::Text, "write name = \"..\""),
         "pool" => (
-            "pool",
             ValueKind::Text,
             "write pool = \"..\", the pool that runs these jobs",
         ),
         "core" => (
-            "core",
             ValueKind::Number,
             "write core = N, the core pool size in threads",
         ),
         "max" => (
-            "max",
             ValueKind::Number,
             "write max = N, the maximum pool size in threads",
         ),
         "queue" => (
-            "queue",
             ValueKind::Number,
             "write queue = N, the capacity of its queue",
         ),
         "count" => (
-            "count",
             ValueKind::Number,
             "write count = N, the number of these clients",
         ),
-        "prestart" => ("prestart", ValueKind::Flag, ""),
-        "repeat" => ("repeat", ValueKind::Flag, ""),
+        "prestart" | "repeat" => (ValueKind::Flag, ""),
         "body" => (
-            "body",
             ValueKind::Body,
             "write body = [\"..\"], its actions, or body = []",
         ),
@@ -166,7 +159,7 @@ fn value(
     let Some(value) = entry.value(rule.key) else {
         return missing_key(collector, entry, rule);
     };
-    if rule.wanted == ValueKind::Body {
+    if matches!(rule.wanted, ValueKind::Body) {
         return body(collector, entry, value);
     }
     if is_of(rule.wanted, value) {
@@ -246,7 +239,7 @@ fn body(
     Ok(())
 }
 
-/// Reports an element of a body whose type is `found`, and not that of a string.
+/// Reports an element of a body that has the type `found` and is not a string.
 fn wrong_element(
     collector: &mut FaultCollector,
     entry: &PlacedEntry<'_>,

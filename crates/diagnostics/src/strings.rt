@@ -15,7 +15,7 @@ pub(crate) fn string_at(text: &[u8], place: TextPlace) -> Option<&str> {
 }
 
 /// Returns the part of a line that begins at this column, which is counted in characters, from 1.
-fn after_column(line: &str, column: usize) -> &str {
+pub(crate) fn after_column(line: &str, column: usize) -> &str {
     let mut letters = line.chars();
     for _ in 1..column {
         letters.next();

@@ -3,6 +3,7 @@
 
 use crate::diagnostic::Diagnostic;
 use crate::hints::{ends_with_semicolon, kind_hint, word_hint};
+use crate::strings::after_column;
 use crate::unclosed_lists::unclosed_list;
 use job_bodies::PlanFault;
 use plan_text::{TextPlace, place_at};
@@ -38,7 +39,7 @@ pub(crate) fn not_toml(
     words: &str,
 ) -> Result<Diagnostic, AllocError> {
     let place = place_at(text.as_bytes(), offset);
-    let what = message_at(alloc, text, place, words)?;
+    let what = message_at(alloc, text, offset, place, words)?;
     Ok(Diagnostic {
         fault: PlanFault::at_text(NOT_TOML),
         place,
@@ -47,29 +48,88 @@ pub(crate) fn not_toml(
     })
 }
 
-/// Returns the message for an error at this place: a hint, if the mistake is a common one, and the
-/// parser's message.
+/// Returns the message for an error at this byte and place: a hint, if the mistake is a common one,
+/// and the parser's message.
 fn message_at(
     alloc: Global,
     text: &str,
+    offset: usize,
     place: TextPlace,
     words: &str,
 ) -> Result<String, AllocError> {
     let line = line_of(text, place);
-    if place.line == 1
-        && let Some(hint) = kind_hint(line)
-    {
-        return format!(in alloc; "{hint} ({words})");
-    }
-    if let Some(hint) = character_hint(line) {
-        return format!(in alloc; "{hint} ({words})");
+    if let Some(hint) = format_hint(line, place.line) {
+        return with_hint(alloc, hint, words);
     }
     if let Some(start) = unclosed_list(text, place.line) {
         return format!(in alloc; "the list that begins at line {start} has no ] ({words})");
     }
-    match entry_hint(line) {
-        Some(hint) => format!(in alloc; "{hint} ({words})"),
+    match value_hint_at(text, offset, place, line) {
+        Some(hint) => with_hint(alloc, hint, words),
         None => String::from_str(alloc, words),
+    }
+}
+
+fn with_hint(alloc: Global, hint: &str, words: &str) -> Result<String, AllocError> {
+    format!(in alloc; "{hint} ({words})")
+}
+
+/// Returns a hint for the line of this number if it is the first line of a text of another kind, or
+/// has characters of another format.
+fn format_hint(line: &str, number: usize) -> Option<&'static str> {
+    if number == 1
+        && let Some(hint) = kind_hint(line)
+    {
+        return Some(hint);
+    }
+    character_hint(line)
+}
+
+/// Returns a hint for an error in an entry's header, in a value, or after it.
+fn value_hint_at(text: &str, offset: usize, place: TextPlace, line: &str) -> Option<&'static str> {
+    let rest = after_column(line, place.column);
+    if is_in_list(text, offset, place) {
+        return list_hint(rest);
+    }
+    match end_hint(rest) {
+        Some(hint) => Some(hint),
+        None => entry_hint(line),
+    }
+}
+
+/// Returns whether a list is open at this byte of the text.
+fn is_in_list(text: &str, offset: usize, place: TextPlace) -> bool {
+    match text.as_bytes().get(..offset) {
+        Some(before) => match std::str::from_utf8(before) {
+            Ok(before) => unclosed_list(before, place.line).is_some(),
+            Err(_) => false,
+        },
+        None => false,
+    }
+}
+
+/// Returns a hint for the rest of a list.
+fn list_hint(rest: &str) -> Option<&'static str> {
+    if begins_with_action(rest) {
+        Some("write quotes around each action, as in body = [\"work 5\"]")
+    } else if rest.starts_with(';') {
+        Some("write a comma between actions, not ;")
+    } else {
+        None
+    }
+}
+
+fn begins_with_action(rest: &str) -> bool {
+    rest.starts_with("work ") || rest.starts_with("submit ") || rest.starts_with("get ")
+}
+
+/// Returns a hint for the rest of a line, after a value, if it is a semicolon.
+fn end_hint(rest: &str) -> Option<&'static str> {
+    let after = rest.strip_prefix(';')?;
+    if after.split('#').next().unwrap_or("").trim().is_empty() {
+        Some("write no ; at the end of a line")
+    } else {
+        None
     }
 }
 
@@ -144,7 +204,7 @@ fn value_hint(line: &str) -> Option<&'static str> {
     }
 }
 
-/// Returns whether the value is a word without quotes that is not TOML.
+/// Returns whether the value is a word without quotes, which is not valid TOML.
 fn is_word(value: &str) -> bool {
     let word = value.split('#').next().unwrap_or("").trim();
     word.bytes().any(|byte| byte.is_ascii_alphabetic())

@@ -293,7 +293,7 @@ fn unknown_pool(alloc: Global, pool: &str, pools: &[&str]) -> Result<String, All
     format!(in alloc; "unknown pool {pool}{right}")
 }
 
-/// Returns the end of such a message, with the plan's pools.
+/// Returns the end of the message for an unknown pool, which lists the plan's pools.
 fn known_pools(alloc: Global, pools: &[&str]) -> Result<String, AllocError> {
     if pools.is_empty() {
         let words = "; the plan has no pools: add a [[pool]] with this name";

@@ -9,9 +9,9 @@ struct OpenList {
     depth: usize,
 }
 
-/// Returns the line at which a list begins that has no `]`: in it there is a line of another entry
-/// or of another key, or the end of the text. `error` is the line of the parser's error, which must
-/// be in that part of the text.
+/// Returns the line at which the first list without a `]` begins. Such a list ends at the next
+/// header or key, or at the end of the text. Returns `None` if the line `error`, where the parser
+/// found an error, is not between the beginning and the end of this list.
 pub(crate) fn unclosed_list(text: &str, error: usize) -> Option<usize> {
     let mut open = OpenList { start: 0, depth: 0 };
     let mut number = 0usize;
@@ -54,7 +54,8 @@ fn is_key(key: &str) -> bool {
             .all(|byte| byte.is_ascii_alphanumeric() || byte == b'_')
 }
 
-/// Returns the list that is open after this line.
+/// Returns the list that is open after this line. Outside of a list, an equals sign in a comment does
+/// not count.
 fn after_line(open: OpenList, number: usize, line: &str) -> OpenList {
     if open.depth > 0 {
         return OpenList {
@@ -63,11 +64,11 @@ fn after_line(open: OpenList, number: usize, line: &str) -> OpenList {
         };
     }
     match line.split_once('=') {
-        Some((_, value)) => OpenList {
+        Some((key, value)) if !key.contains('#') => OpenList {
             start: number,
             depth: depth_after(0, value),
         },
-        None => open,
+        _ => open,
     }
 }
 

@@ -21,7 +21,7 @@ pub(crate) fn words_of(
     plan: &Plan,
     lint: Lint,
 ) -> Result<String, AllocError>
-    ensures { IfOk result (λ words. spec.TellsLint plan.now lint (string_bytes words)) }
+    ensures { IfOk result (λ words. spec.AreWordsFor plan.now lint (string_bytes words)) }
 {
     match lint {
         Lint::SafeAtCore => words_of_core(alloc, plan),
@@ -62,7 +62,8 @@ fn words_of_core(alloc: Global, plan: &Plan) -> Result<String, AllocError> {
     Ok(words)
 }
 
-/// Appends the names and maximums of the `count` pools whose maximum is above their core size.
+/// Appends the name and the maximum of each pool whose maximum is above its core size. `count` is the
+/// number of these pools.
 fn push_maxes(words: &mut String, plan: &Plan, count: usize) -> Result<(), AllocError> {
     let mut number = 0usize;
     for pool in plan.pools() {

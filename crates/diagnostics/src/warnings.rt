@@ -5,7 +5,7 @@ ghost use Rattle.std.specs.List.{All};
 ghost use Rattle.diagnostics.specs.Diagnostic.{WarnInSingleLines};
 ghost use Rattle.diagnostics.specs.Lines.{HasNoNewline};
 ghost use Rattle.diagnostics.specs.Lints as spec;
-ghost use Rattle.diagnostics.specs.WarningWords.{TellsWarning};
+ghost use Rattle.diagnostics.specs.WarningWords.{IsWarningOf};
 
 use crate::control_characters::one_line;
 use crate::lint::Lint;
@@ -30,8 +30,8 @@ pub struct Warning {
 /// Returns a warning for each lint of the plan, in order. `text` is the plan's text. `needed` has,
 /// for each pool, the maximum number of jobs in its queue at once, or `None` if no standing vector
 /// bounds this number. `is_safe_at_core` says that a certificate accepts the plan that [`at_core`]
-/// returns. Each message is a single line, and if it has a circle of submits, so does the plan. The
-/// contract promises nothing else about places and messages.
+/// returns. Each message is a single line, and a circle of submits in a message is one of the plan.
+/// The contract promises nothing else about places and messages.
 ///
 /// [`at_core`]: crate::at_core
 ///
@@ -48,7 +48,7 @@ pub fn warnings_of(
     ensures lints { IfOk result
         (λ warnings. spec.AreLints plan.now needed.now is_safe_at_core (spec.lints_in warnings.items)) }
     ensures single_lines { IfOk result (λ warnings. WarnInSingleLines warnings.items) }
-    ensures told { IfOk result (λ warnings. All (TellsWarning plan.now) warnings.items) }
+    ensures circles { IfOk result (λ warnings. All (IsWarningOf plan.now) warnings.items) }
 {
     let lints = lints_of(alloc, plan, needed, is_safe_at_core)?;
     let places = Places::of(alloc, text)?;
@@ -65,7 +65,7 @@ fn warnings_about(
 ) -> Result<Vec<Warning>, AllocError>
     ensures lints { IfOk result (λ warnings. spec.lints_in warnings.items ≡ lints.now) }
     ensures single_lines { IfOk result (λ warnings. WarnInSingleLines warnings.items) }
-    ensures told { IfOk result (λ warnings. All (TellsWarning plan.now) warnings.items) }
+    ensures circles { IfOk result (λ warnings. All (IsWarningOf plan.now) warnings.items) }
 {
     let mut warnings = Vec::new(alloc);
     for lint in lints {
@@ -84,7 +84,7 @@ fn warning_about(
 ) -> Result<Warning, AllocError>
     ensures same_lint { IfOk result (λ warning. warning.lint ≡ lint) }
     ensures single_line { IfOk result (λ warning. HasNoNewline (string_bytes warning.what)) }
-    ensures told { IfOk result (TellsWarning plan.now) }
+    ensures circle { IfOk result (IsWarningOf plan.now) }
 {
     let place = place_of(places, plan, lint);
     let words = words_of(alloc, text, place, plan, lint)?;

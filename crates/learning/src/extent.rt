@@ -14,7 +14,7 @@ pub enum Extent {
 /// The maximum size of the start of a recording, in bytes. A start of this size usually has each path
 /// of the recording several times. A few passes over it cost little compared with one pass over a
 /// long recording.
-pub const START_BYTES: usize = 262_144;
+pub const START_BYTES: usize = 65_536;
 
 /// A prefix of a recording. It may end within a line, which is then not read.
 #[derive(Clone, Copy)]

@@ -6,17 +6,17 @@ use Rattle.std.proofs.lemmas.List.{length-map, take-map, drop-map}
 use Rattle.job_bodies.specs.Plan.{Plan}
 use Rattle.report.specs.declared.event_steps.EventStep.{EventStep}
 use Rattle.report.specs.declared.story_lines.Line.{Line as CodeLine}
-use Rattle.report.specs.Story.{Turn, Line, is_same_actor, new_turn, longer_turn, turns_from, new_line, longer_line, lines_from, line_text, lines_text, end_of, events_left_out, omitted_text}
+use Rattle.report.specs.Story.{Turn, Line, is_continued, new_turn, longer_turn, turns_from, new_line, longer_line, lines_from, line_text, lines_text, end_of, events_left_out, omitted_text}
 use Rattle.report.specs.StorySeen.{line_seen, shortened_seen}
 
 -- the step continues the turn
-pub turn_continued : (plan : Plan) (turn : Turn) (step : EventStep) (rest : List EventStep) → is_same_actor turn.actor step.actor ≡ true
+pub turn_continued : (plan : Plan) (turn : Turn) (step : EventStep) (rest : List EventStep) → is_continued turn step ≡ true
     → turns_from plan turn (step ∷ rest) ≡ turns_from plan (longer_turn plan turn step) rest
 turn_continued plan turn step rest e =
     ap (λ (b : Bool). if b then turns_from plan (longer_turn plan turn step) rest else turn ∷ turns_from plan (new_turn plan turn.end step) rest) e
 
 -- the step begins another turn
-pub turn_ended : (plan : Plan) (turn : Turn) (step : EventStep) (rest : List EventStep) → is_same_actor turn.actor step.actor ≡ false
+pub turn_ended : (plan : Plan) (turn : Turn) (step : EventStep) (rest : List EventStep) → is_continued turn step ≡ false
     → turns_from plan turn (step ∷ rest) ≡ turn ∷ turns_from plan (new_turn plan turn.end step) rest
 turn_ended plan turn step rest e =
     ap (λ (b : Bool). if b then turns_from plan (longer_turn plan turn step) rest else turn ∷ turns_from plan (new_turn plan turn.end step) rest) e

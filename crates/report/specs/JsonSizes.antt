@@ -91,15 +91,15 @@ limit_data place pool words =
     (member (codes "pool") (string pool)
     (member (codes "text") (string words) no_members))))))))
 
--- the cause with its place, told in these words
-abbrev pub told_cause : Plan → NoSizes → Option TextPlace → List ℕ → Data
-told_cause plan (Cause (Circle k)) place words = cycle_data place (class_at plan k).name words
-told_cause plan (Cause (ClientNeverGets c i)) place words = never_got_data place i null (string (client_at plan c).name) words
-told_cause plan (Cause (ClassNeverGets k i)) place words = never_got_data place i (string (class_at plan k).name) null words
-told_cause plan (TooLarge p) place words = limit_data place (pool_at plan p).name words
+-- the cause with its place, in these words
+abbrev pub cause_object : Plan → NoSizes → Option TextPlace → List ℕ → Data
+cause_object plan (Cause (Circle k)) place words = cycle_data place (class_at plan k).name words
+cause_object plan (Cause (ClientNeverGets c i)) place words = never_got_data place i null (string (client_at plan c).name) words
+cause_object plan (Cause (ClassNeverGets k i)) place words = never_got_data place i (string (class_at plan k).name) null words
+cause_object plan (TooLarge p) place words = limit_data place (pool_at plan p).name words
 
 abbrev pub cause_data : PlanPlaces → Plan → NoSizes → Data
-cause_data places plan cause = told_cause plan cause (cause_place places cause) (cause_words plan cause)
+cause_data places plan cause = cause_object plan cause (cause_place places cause) (cause_words plan cause)
 
 -- ---- both
 

@@ -25,15 +25,15 @@ kind_of (Crowd c) = codes "crowd"
 kind_of (WorkLikeASize of number place units) = codes "work like a size"
 kind_of StaleCertificate = codes "stale certificate"
 
-unfoldable pub told_warning : TextPlace → List ℕ → List ℕ → Data
-told_warning place kind words =
+unfoldable pub warning_object : TextPlace → List ℕ → List ℕ → Data
+warning_object place kind words =
     object (member (codes "column") (column_data (Some place))
     (member (codes "kind") (string kind)
     (member (codes "line") (line_data (Some place))
     (member (codes "text") (string words) no_members))))
 
 abbrev pub warning_data : Warning → Data
-warning_data warning = told_warning warning.place (kind_of warning.lint) (string_bytes warning.what)
+warning_data warning = warning_object warning.place (kind_of warning.lint) (string_bytes warning.what)
 
 abbrev pub warnings_data : List Warning → Data
 warnings_data warnings = array (items_of (map warning_data warnings))

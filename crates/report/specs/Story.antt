@@ -1,5 +1,5 @@
 -- The story of a witness: what each actor does in turn, the pools after the events, and what each waiting job waits for.
-use Rattle.std.specs.Prelude.{ℕ, ◌+◌, ◌-◌, ◌==◌, ◌&&◌, Bool, false, nat_le, if◌then◌else◌, bytes_eq, List, [], ◌∷◌, ◌++◌, length, map, flat_map, take, drop, codes, decimal, Option, Some, None, slice_get}
+use Rattle.std.specs.Prelude.{ℕ, ◌+◌, ◌-◌, ◌==◌, ◌&&◌, Bool, true, false, not, nat_le, if◌then◌else◌, bytes_eq, List, [], ◌∷◌, ◌++◌, length, map, flat_map, take, drop, codes, decimal, Option, Some, None, slice_get}
 use Rattle.std.specs.List.{enumerate_from}
 use Rattle.job_bodies.specs.declared.action.Action.{Action}
 use Rattle.job_bodies.specs.declared.action.Action.TheVariants.{Get}
@@ -56,19 +56,27 @@ step_text plan step = act_text plan (submitted_name plan step.actor step.action)
 
 -- ---- turns
 
--- consecutive steps of one actor; `end` is the number of steps up to the last one
+-- consecutive steps of one actor; `is_ended` if with the last one a client begins again; `end` is the number of steps up to the last one
 pub record Turn : Type 0 where
   pub actor : Actor
   pub text : List ℕ
+  pub is_ended : Bool
   pub end : ℕ
+
+-- a client that begins again ends its turn
+abbrev pub ends_turn : Outcome → Bool
+ends_turn Looped = true
+ends_turn _ = false
 
 -- the turn that the step begins, after this number of steps
 abbrev pub new_turn : Plan → ℕ → EventStep → Turn
-new_turn plan before step = record { actor = step.actor; text = (actor_text plan step.actor ++ codes ": ") ++ step_text plan step; end = before + 1 }
+new_turn plan before step =
+    record { actor = step.actor; text = (actor_text plan step.actor ++ codes ": ") ++ step_text plan step; is_ended = ends_turn step.outcome; end = before + 1 }
 
 -- the turn with one more step
 abbrev pub longer_turn : Plan → Turn → EventStep → Turn
-longer_turn plan turn step = record { actor = turn.actor; text = turn.text ++ (codes ", " ++ step_text plan step); end = turn.end + 1 }
+longer_turn plan turn step =
+    record { actor = turn.actor; text = turn.text ++ (codes ", " ++ step_text plan step); is_ended = ends_turn step.outcome; end = turn.end + 1 }
 
 abbrev pub is_same_actor : Actor → Actor → Bool
 is_same_actor (Client kind c) (Client kind' c') = kind == kind' && c == c'
@@ -76,11 +84,15 @@ is_same_actor (Job class j) (Job class' j') = class == class' && j == j'
 is_same_actor (Pool p) (Pool p') = p == p'
 is_same_actor _ _ = false
 
+-- whether the step continues the turn
+abbrev pub is_continued : Turn → EventStep → Bool
+is_continued turn step = not turn.is_ended && is_same_actor turn.actor step.actor
+
 -- this turn, with the steps that continue it, and the turns after it
 abbrev pub turns_from : Plan → Turn → List EventStep → List Turn
 turns_from plan turn [] = turn ∷ []
 turns_from plan turn (step ∷ rest) =
-    if is_same_actor turn.actor step.actor
+    if is_continued turn step
     then turns_from plan (longer_turn plan turn step) rest
     else turn ∷ turns_from plan (new_turn plan turn.end step) rest
 

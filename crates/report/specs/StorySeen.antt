@@ -12,7 +12,7 @@ use Rattle.report.specs.Story.{Turn, Line, line_text, end_of, events_left_out, p
 use Rattle.report.specs.WaitsSeen.{awaited_seen}
 
 abbrev pub turn_seen : CodeTurn → Turn
-turn_seen turn = record { actor = turn.actor; text = string_bytes turn.text; end = turn.end }
+turn_seen turn = record { actor = turn.actor; text = string_bytes turn.text; is_ended = turn.is_ended; end = turn.end }
 
 abbrev pub line_seen : CodeLine → Line
 line_seen line = record { text = line.text.now; times = line.times; end = line.end }

@@ -20,7 +20,8 @@ pub(crate) fn active_client_count(alloc: Global, events: &[Event]) -> Result<usi
     Ok(clients.len())
 }
 
-/// Returns the number of the acting client for each event of a client, with duplicates.
+/// Returns the client of each event that is one of a client. A client is listed once for each of its
+/// events.
 fn active_clients(alloc: Global, mut events: &[Event]) -> Result<Vec<usize>, AllocError>
     ensures { IfOk result (λ clients. clients.items ≡ spec.active_clients events.now) }
 {

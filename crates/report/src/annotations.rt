@@ -117,7 +117,8 @@ pub(crate) fn push(
 
 // ---- findings
 
-/// Returns the annotations of a finding about a plan: one for each warning, and those of the answer.
+/// Returns the annotations of a finding about a plan: one for each warning, and then those of the
+/// answer.
 pub(crate) fn annotations_of(
     alloc: Global,
     places: &PlanPlaces,
@@ -221,7 +222,8 @@ fn push_warning(
     push(alloc, found, rule, &warning.what, Some(warning.place))
 }
 
-/// Appends an annotation with the first line of a description of the witness, and those of the sizes.
+/// Appends an annotation with the first line of the witness's description, and the annotations of the
+/// sizes.
 fn push_not_safe(
     alloc: Global,
     found: &mut Vec<Annotation>,
@@ -249,7 +251,8 @@ fn first_line(text: &str) -> &str
     }
 }
 
-/// Returns the place of the name of the pool that refuses a submit.
+/// Returns the place of the name of the pool that refuses the last submit, or `None` if the ending is
+/// another one.
 fn ending_place(places: &PlanPlaces, ending: &Ending) -> Option<TextPlace>
     ensures { result ≡ spec.ending_place places.now ending.now }
 {

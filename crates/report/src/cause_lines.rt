@@ -7,7 +7,7 @@ use job_bodies::{MAX_SIZE, Plan};
 use size_search::{Cause, NoSizes};
 use std::alloc::AllocError;
 
-/// Appends a line that no sizes were found for the plan, and a line with the reason, such as
+/// Appends the line `no fitting sizes found`, and a line with the reason, such as
 /// `class render submits itself`.
 ///
 /// # Errors

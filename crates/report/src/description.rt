@@ -1,12 +1,13 @@
 //! The description of a witness for a reader.
 
-ghost use Rattle.std.specs.Prelude.{◌++◌, IfOk, codes, string_bytes};
+ghost use Rattle.std.specs.Prelude.{◌++◌, IfOk, string_bytes};
 ghost use Rattle.support.specs.Pushed.{Pushes};
 ghost use Rattle.report.specs.Description as spec;
 
 use crate::active_clients::active_client_count;
 use crate::json_ending::members_of;
 use crate::story::push_story;
+use crate::story_steps::push_named;
 use counterexample::{Ending, Reason, Witness};
 use job_bodies::Plan;
 use std::alloc::{AllocError, Global};
@@ -67,17 +68,10 @@ fn push_ending(text: &mut String, plan: &Plan, ending: &Ending) -> Result<(), Al
     ensures { Pushes result text.old text.new (spec.ending_text plan.now ending.now) }
 {
     match ending {
-        Ending::Refused(pool) => push_refused(text, plan.pool_name(*pool)),
+        Ending::Refused(pool) => push_named(text, "refused by ", plan.pool_name(*pool)),
         Ending::StuckForever(members, _) => push_stuck(text, "stuck forever: ", members),
         Ending::StuckNow(members) => push_stuck(text, "stuck now: ", members),
     }
-}
-
-fn push_refused(text: &mut String, pool: &str) -> Result<(), AllocError>
-    ensures { Pushes result text.old text.new (codes "refused by " ++ pool.now) }
-{
-    text.push_str("refused by ")?;
-    text.push_str(pool)
 }
 
 fn push_stuck(text: &mut String, how: &str, members: &[usize]) -> Result<(), AllocError>

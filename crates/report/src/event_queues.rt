@@ -11,7 +11,7 @@ use serde_json::Value;
 use std::alloc::{AllocError, Global};
 use std::collections::VecDeque;
 
-/// Converts the queue of a pool after these steps, which are those of a plan from its start.
+/// Converts the queue of a pool after these steps, the first of which is the first of the plan.
 pub(crate) fn queue_value(
     alloc: Global,
     steps: &[EventStep],

@@ -14,7 +14,7 @@ use job_bodies::Plan;
 use std::alloc::{AllocError, Global};
 
 /// The actor of an event.
-#[derive(Clone, Copy, PartialEq, Eq)]
+#[derive(Clone, Copy)]
 pub(crate) enum Actor {
     /// The client with the second number, which is of the client kind with the first number.
     Client(usize, usize),
@@ -41,7 +41,7 @@ pub(crate) struct EventStep {
     /// a pool.
     pub(crate) action: Option<usize>,
     pub(crate) outcome: Outcome,
-    /// The pool that the event changed or that refused, after the event.
+    /// The pool that the event changed or that refused a submit, with its counts after the event.
     pub(crate) pool: Option<PoolCounts>,
     /// The class of the job that a thread took from a queue.
     pub(crate) taken: Option<usize>,
@@ -180,8 +180,8 @@ fn action_of(outcome: Outcome, position: usize) -> Option<usize>
     }
 }
 
-/// Returns the pool that an event with this outcome changed, or that refused. `world` is the world
-/// after the event.
+/// Returns the pool that an event with this outcome changed or that refused a submit. `world` is the
+/// world after the event.
 fn changed_pool(plan: &Plan, world: &World, actor: Actor, outcome: Outcome) -> Option<usize>
     ensures { result ≡ performed.changed_pool_seen plan.now world.now.view actor outcome }
 {

@@ -14,7 +14,7 @@ use job_bodies::Plan;
 use plan_text::TextPlace;
 use std::alloc::{AllocError, Global};
 
-/// Returns the commands for the finding about a plan, with these warnings. `file` is the name of the
+/// Returns the commands for the finding about a plan and for its warnings. `file` is the name of the
 /// plan's file.
 ///
 /// # Errors

@@ -20,7 +20,7 @@ use std::alloc::{AllocError, Global};
 /// The version of the object's members.
 const FORMAT: u8 = 1;
 
-/// The members of an answer that depend on more than its name and its file.
+/// The members of an answer, without its name, its file, and those that all answers share.
 #[derive(Drop)]
 pub(crate) struct AnswerParts {
     pub(crate) assumptions: Value,
@@ -33,8 +33,9 @@ pub(crate) struct AnswerParts {
     pub(crate) witness: Value,
 }
 
-/// Returns the JSON text of the finding about a plan, with these warnings. `file` is the name of
-/// the plan's file, `text` its content, and `places` has the places of the plan's entries in it.
+/// Returns the JSON text of the finding about a plan and of its warnings. `file` is the name of the
+/// plan's file, `text` is its content, and `places` has the place of each entry of the plan in the
+/// text.
 ///
 /// # Errors
 ///
@@ -97,7 +98,7 @@ pub fn fault_json(
     line_of(alloc, &value)
 }
 
-/// Returns the name of the finding.
+/// Returns the name of the answer.
 fn word_of(finding: &PlanFinding) -> &'static str
     ensures { result.now ≡ spec.word_of finding.now }
 {
@@ -108,7 +109,8 @@ fn word_of(finding: &PlanFinding) -> &'static str
     }
 }
 
-/// Creates the object of an answer that has only these faults, and leaves out a number of others.
+/// Creates the object of an answer that has only these faults. `omitted` is the number of faults that
+/// are left out.
 fn faulty_value(
     alloc: Global,
     file: &str,

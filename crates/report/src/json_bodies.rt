@@ -67,7 +67,8 @@ fn action_value(
     }
 }
 
-/// Converts the slot of a submit: its position in the body, or null if no get of the body gets it.
+/// Converts the slot of a submit: its position in the body, or null if no get of the body gets the
+/// job.
 fn slot_value(body: &[Action], submit: usize) -> Value
     ensures { view result ≡ spec.slot_data body.now submit }
 {

@@ -62,7 +62,7 @@ fn bound_object(
     json!(in alloc; {"clients": clients, "kind": kind, "threads": threads, "total": total})
 }
 
-/// Converts the shares of the client kinds that are not 0.
+/// Converts the shares of the client kinds, without those that are 0.
 fn clients_value(alloc: Global, plan: &Plan, shares: &[u64]) -> Result<Value, AllocError>
     ensures { IfOk result (λ value. view value ≡ spec.clients_data plan.now shares.now) }
 {
@@ -73,7 +73,7 @@ fn clients_value(alloc: Global, plan: &Plan, shares: &[u64]) -> Result<Value, Al
     Ok(Value::from(values))
 }
 
-/// Converts the shares of the pools' threads that are not 0.
+/// Converts the shares of the pools' threads, without those that are 0.
 fn threads_value(alloc: Global, plan: &Plan, shares: &[u64]) -> Result<Value, AllocError>
     ensures { IfOk result (λ value. view value ≡ spec.threads_data plan.now shares.now) }
 {

@@ -1,4 +1,4 @@
-//! The cause why no sizes were found as JSON.
+//! The cause for which no sizes were found, as JSON.
 
 ghost use Rattle.std.specs.Prelude.{◌≡◌, IfOk, string_bytes};
 ghost use Rattle.serde_json.specs.Data.{null, string};
@@ -25,7 +25,7 @@ pub(crate) fn cause_value(
     ensures { IfOk result (λ value. view value ≡ spec.cause_data places.now plan.now cause) }
 {
     let words = words_of(alloc, plan, cause)?;
-    told_cause(alloc, plan, cause, cause_place(places, cause), &words)
+    cause_object(alloc, plan, cause, cause_place(places, cause), &words)
 }
 
 fn words_of(alloc: Global, plan: &Plan, cause: NoSizes) -> Result<String, AllocError>
@@ -36,14 +36,14 @@ fn words_of(alloc: Global, plan: &Plan, cause: NoSizes) -> Result<String, AllocE
     Ok(words)
 }
 
-fn told_cause(
+fn cause_object(
     alloc: Global,
     plan: &Plan,
     cause: NoSizes,
     place: Option<TextPlace>,
     words: &str,
 ) -> Result<Value, AllocError>
-    ensures { IfOk result (λ value. view value ≡ spec.told_cause plan.now cause place words.now) }
+    ensures { IfOk result (λ value. view value ≡ spec.cause_object plan.now cause place words.now) }
 {
     match cause {
         NoSizes::Cause(Cause::Circle(class)) => {

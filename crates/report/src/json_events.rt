@@ -20,7 +20,8 @@ use job_bodies::Plan;
 use serde_json::Value;
 use std::alloc::{AllocError, Global};
 
-/// A run of equal steps so far: its first step, the number of its steps, and its last step.
+/// A run of equal steps to which the next step may belong: its first step, the number of its steps,
+/// and its last step.
 #[derive(Clone, Copy)]
 struct OpenRun {
     first: EventStep,
@@ -28,7 +29,7 @@ struct OpenRun {
     last: EventStep,
 }
 
-/// Converts the steps, which are those of a plan from its start.
+/// Converts the steps, the first of which is the first of the plan, to a list of their runs.
 pub(crate) fn events_value(
     alloc: Global,
     plan: &Plan,
@@ -84,7 +85,7 @@ fn push_runs(
     push_run(values, alloc, plan, places, run, steps)
 }
 
-/// Returns whether the step belongs to the run.
+/// Returns whether the step belongs to the open run.
 fn follows(run: OpenRun, step: EventStep) -> bool
     ensures { result ≡ runs.follows run.first run.times step }
 {
@@ -133,7 +134,7 @@ fn is_sum(total: usize, number: usize, times: usize) -> bool
     number <= total && total - number == times
 }
 
-/// Appends a run, after these steps, of which the last ones are the run.
+/// Appends a run. `steps` are all steps up to the last one of the run.
 fn push_run(
     values: &mut Vec<Value>,
     alloc: Global,
@@ -178,7 +179,7 @@ fn run_value(
     )
 }
 
-/// Converts the pool of a step after these steps, of which it is the last.
+/// Converts the pool of the last of these steps, as it is after that step.
 fn pool_value(
     alloc: Global,
     plan: &Plan,

@@ -40,7 +40,7 @@ pub(crate) fn finding_parts(
     })
 }
 
-/// Returns what the answer rests on, besides the plan: texts for SAFE, and otherwise none.
+/// Converts the assumptions of the answer. Only SAFE has any.
 fn assumptions_value(alloc: Global, finding: &PlanFinding) -> Result<Value, AllocError>
     ensures { IfOk result (λ value. view value ≡ spec.assumptions_data finding.now) }
 {

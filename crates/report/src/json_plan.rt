@@ -28,7 +28,7 @@ pub(crate) fn plan_value(
     plan_object(alloc, classes, clients, pools, text)
 }
 
-/// Converts a text of which no plan was read.
+/// Converts a text that is not a plan: the lists of pools, classes and client kinds are empty.
 pub(crate) fn text_only_value(alloc: Global, text: &[u8]) -> Result<Value, AllocError>
     ensures { IfOk result (λ value. view value ≡ spec.text_only_data text.now) }
 {

@@ -13,7 +13,7 @@ use job_bodies::{Plan, Pool};
 use serde_json::{Value, json};
 use std::alloc::{AllocError, Global};
 
-/// Converts the pools of a plan, with these parts of a certificate. There are none if no
+/// Converts the pools of a plan, each with its part of the certificate. `parts` is empty if no
 /// certificate accepts the plan.
 pub(crate) fn pools_value(
     alloc: Global,

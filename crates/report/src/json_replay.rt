@@ -10,6 +10,7 @@ ghost use Rattle.report.specs.JsonWitness as spec;
 
 use crate::json_ending::members_of;
 use crate::json_values::array_value;
+use crate::story_steps::push_named;
 use counterexample::Witness;
 use interleaving::Event;
 use job_bodies::Plan;
@@ -74,13 +75,6 @@ fn push_numbered(text: &mut String, words: &str, number: usize) -> Result<(), Al
 {
     text.push_str(words)?;
     push_number(text, number as u64)
-}
-
-fn push_named(text: &mut String, words: &str, name: &str) -> Result<(), AllocError>
-    ensures { Pushes result text.old text.new (words.now ++ name.now) }
-{
-    text.push_str(words)?;
-    text.push_str(name)
 }
 
 /// Appends a `stuck` line with the numbers of the members, if there are any.

@@ -1,4 +1,4 @@
-//! Other sizes as JSON, or why there are none.
+//! Sizes that are enough as JSON, or the cause why there are none.
 
 ghost use Rattle.std.specs.Prelude.{◌≡◌, ◌++◌, IfOk, OnOk, map, option_map};
 ghost use Rattle.serde_json.specs.View.{view};
@@ -87,7 +87,7 @@ fn size_value(alloc: Global, changes: Vec<Value>, fit: &Pool) -> Result<Value, A
     })
 }
 
-/// Converts the changes of a pool's sizes. There are none if no pool is declared.
+/// Converts the changes of a pool's sizes. There are none if the plan does not declare the pool.
 fn changes_of(
     alloc: Global,
     places: PoolPlaces,

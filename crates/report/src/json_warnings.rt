@@ -25,17 +25,17 @@ pub(crate) fn warnings_value(alloc: Global, warnings: &[Warning]) -> Result<Valu
 fn warning_value(alloc: Global, warning: &Warning) -> Result<Value, AllocError>
     ensures { IfOk result (λ value. view value ≡ spec.warning_data warning.now) }
 {
-    told_warning(alloc, warning.place, kind_of(warning.lint), &warning.what)
+    warning_object(alloc, warning.place, kind_of(warning.lint), &warning.what)
 }
 
-#[tactic(auto, unfolding(crate::specs::JsonWarnings::told_warning))]
-fn told_warning(
+#[tactic(auto, unfolding(crate::specs::JsonWarnings::warning_object))]
+fn warning_object(
     alloc: Global,
     place: TextPlace,
     kind: &str,
     words: &str,
 ) -> Result<Value, AllocError>
-    ensures { IfOk result (λ value. view value ≡ spec.told_warning place kind.now words.now) }
+    ensures { IfOk result (λ value. view value ≡ spec.warning_object place kind.now words.now) }
 {
     json!(in alloc; {
         "column": column_value(Some(place)),

@@ -9,8 +9,8 @@ use job_bodies::Plan;
 use report_page::page_of;
 use std::alloc::{AllocError, Global};
 
-/// Returns the page of the finding about a plan, with these warnings. `file` is the name of the
-/// plan's file, `text` its content, and `places` has the places of the plan's entries in it.
+/// Returns the page of the finding about a plan and of its warnings. `file` is the name of the plan's
+/// file, `text` is its content, and `places` has the place of each entry of the plan in the text.
 ///
 /// # Errors
 ///

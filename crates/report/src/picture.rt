@@ -1,6 +1,6 @@
 //! The picture of a plan, as a Graphviz graph. Pools are boxes with their sizes and classes,
-//! clients are outside them. An arrow is a submit, a dashed one a get, and a bold one a counted
-//! get.
+//! clients are outside them. An arrow is a submit, a dashed line a get, and a bold dashed line a
+//! counted get.
 
 ghost use Rattle.std.specs.Prelude.{◌≡◌, IfOk, option_map, string_bytes};
 ghost use Rattle.support.specs.Pushed.{Pushes};
@@ -16,7 +16,8 @@ use job_bodies::{Class, Client, Plan, Pool};
 use std::alloc::{AllocError, Global};
 use weights::{Bound, Ranks};
 
-/// Draws a plan, with the bounds of its queues and the counted gets if a certificate accepts it.
+/// Returns the picture of a plan. If a certificate accepts the plan, the picture also shows the bound
+/// of each queue, and which gets are counted.
 ///
 /// # Errors
 ///
@@ -31,7 +32,8 @@ pub fn picture_of(alloc: Global, plan: &Plan, finding: &PlanFinding) -> Result<S
     }
 }
 
-/// Draws a plan with the parts of a certificate for its pools, and its ranks.
+/// Returns the graph of a plan. `parts` has the certificate's part for each pool, and is empty if
+/// there is no certificate. The gets that `ranks` counts are bold.
 fn graph_of(
     alloc: Global,
     plan: &Plan,
@@ -156,7 +158,7 @@ fn push_nodes(text: &mut String, classes: &[Class], pool: usize) -> Result<(), A
     text.push_str("  }\n")
 }
 
-/// Appends the name of the pool, its sizes, and its bound if it is known.
+/// Appends the name of the pool, its sizes, and the bound of its queue if it is known.
 fn push_label(
     text: &mut String,
     plan: &Plan,
@@ -174,7 +176,7 @@ fn push_label(
     push_bound(text, plan, part)
 }
 
-/// Appends the maximum number of jobs in the queue at one time, or ever submitted to the pool.
+/// Appends the bound of the pool's queue, if the pool has a part of a certificate.
 fn push_bound(text: &mut String, plan: &Plan, part: Option<&PoolCert>) -> Result<(), AllocError>
     ensures { Pushes result text.old text.new
         (spec.bound_part plan.now (option_map (λ part. part.now) part.entry)) }

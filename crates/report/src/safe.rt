@@ -152,7 +152,8 @@ fn push_queue(
     text.push_str(")")
 }
 
-/// Appends the maximum number of jobs in the queue at one time, or ever submitted to the pool.
+/// Appends the bound of a queue: the maximum number of jobs in it at one time, or of jobs that are
+/// ever submitted to the pool.
 pub(crate) fn push_most(text: &mut String, bound: &Bound, total: u64) -> Result<(), AllocError>
     ensures { Pushes result text.old text.new (spec.most_text bound.now total) }
 {

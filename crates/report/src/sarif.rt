@@ -19,8 +19,8 @@ use plan_text::TextPlace;
 use serde_json::{Value, json};
 use std::alloc::{AllocError, Global};
 
-/// Returns the log with the finding about a plan, with these warnings, on one line. `file` is the
-/// name of the plan's file.
+/// Returns the log with the finding about a plan and its warnings, on one line. `file` is the name of
+/// the plan's file.
 ///
 /// # Errors
 ///

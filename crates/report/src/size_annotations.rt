@@ -14,7 +14,7 @@ use plan_text::TextPlace;
 use size_search::{NoSizes, SizesFound};
 use std::alloc::{AllocError, Global};
 
-/// Appends an annotation for each size to change, or one for the cause why there are no sizes.
+/// Appends an annotation for each size to change, or one for the cause if no sizes were found.
 pub(crate) fn push_sizes_found(
     alloc: Global,
     found: &mut Vec<Annotation>,
@@ -106,8 +106,7 @@ fn push_pool(
     push_change(alloc, found, rule, places.queue, pool, "queue", queue)
 }
 
-/// Appends an annotation for a size, which is declared as `size.0` and fitted as `size.1`, if it
-/// changes.
+/// Appends an annotation for a size if it changes. `size` has the declared value and the fitted one.
 fn push_change(
     alloc: Global,
     found: &mut Vec<Annotation>,

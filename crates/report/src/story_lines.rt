@@ -82,8 +82,7 @@ fn push_folded<'a>(lines: &mut Vec<Line<'a>>, turns: &'a [Turn]) -> Result<(), A
     Ok(())
 }
 
-/// Appends at most 20 lines: of more, the first ones, a line for those that are left out, and the
-/// last ones.
+/// Appends the lines. If there are more than 20, one line replaces those in the middle.
 fn push_shown(text: &mut String, lines: &[Line<'_>]) -> Result<(), AllocError>
     ensures { Pushes result text.old text.new (spec.lines_text (map line_seen lines.now)) }
 {

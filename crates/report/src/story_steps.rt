@@ -22,7 +22,8 @@ pub(crate) fn push_actor(text: &mut String, plan: &Plan, actor: Actor) -> Result
     }
 }
 
-fn push_named(text: &mut String, words: &str, name: &str) -> Result<(), AllocError>
+/// Appends the words, and then the name.
+pub(crate) fn push_named(text: &mut String, words: &str, name: &str) -> Result<(), AllocError>
     ensures { Pushes result text.old text.new (words.now ++ name.now) }
 {
     text.push_str(words)?;
@@ -73,7 +74,8 @@ fn taken_name(plan: &Plan, taken: Option<usize>) -> &str
     }
 }
 
-/// Appends what an actor did that submitted a job of one class or took a job of another.
+/// Appends what an actor did. `submitted` is the class of the job that it submitted, and `taken` that
+/// of the job that it took.
 fn push_act(
     text: &mut String,
     plan: &Plan,

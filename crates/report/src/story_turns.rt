@@ -1,4 +1,4 @@
-//! Turns of actors: consecutive steps of one actor.
+//! Turns of actors: consecutive steps of one actor, within one round of its body.
 
 ghost use Rattle.std.specs.Prelude.{◌≡◌, ◌<◌, ◌≤◌, ◌+◌, ◌++◌, ◌∷◌, List, length, map, codes, IfOk, OnOk};
 ghost use Rattle.support.specs.Pushed.{Pushes};
@@ -8,14 +8,18 @@ ghost use Rattle.report.specs.StorySeen.{turn_seen};
 
 use crate::event_steps::{Actor, EventStep};
 use crate::story_steps::{push_actor, push_step};
+use interleaving::Outcome;
 use job_bodies::Plan;
 use std::alloc::{AllocError, Global};
 
-/// Consecutive steps of one actor, such as `client web: works, submits page (queued)`.
+/// Consecutive steps of one actor, such as `client web: works, submits page (queued)`. If a client
+/// begins again, its next step is in a new turn.
 #[derive(Drop)]
 pub(crate) struct Turn {
     pub(crate) actor: Actor,
     pub(crate) text: String,
+    /// Whether the client begins again with the last step of this turn.
+    pub(crate) is_ended: bool,
     /// The number of steps up to the last one of this turn.
     pub(crate) end: usize,
 }
@@ -53,8 +57,8 @@ fn push_turns(
     push_turns_from(turns, alloc, plan, turn, rest, steps.len())
 }
 
-/// Appends this turn, with the steps that continue it, and the turns after it. `all` is the number
-/// of all steps.
+/// Appends this turn, with those of the steps that continue it, and the turns after it. `all` is the
+/// number of all steps of the story.
 fn push_turns_from(
     turns: &mut Vec<Turn>,
     alloc: Global,
@@ -75,8 +79,8 @@ fn push_turns_from(
     Ok(())
 }
 
-/// Returns the turn after one more step: the given turn with this step, or, after appending the
-/// given turn, a new one.
+/// Returns the open turn after one more step. If the step continues the given turn, this is that turn
+/// with the step. Otherwise appends the given turn, and returns the one that the step begins.
 fn after_step(
     turns: &mut Vec<Turn>,
     alloc: Global,
@@ -91,8 +95,9 @@ fn after_step(
         ≡ map turn_seen turns.old.items ++ spec.turns_from plan.now (turn_seen turn) (step ∷ rest)) }
     ensures end { IfOk result (λ next. next.end ≡ turn.end + 1) }
 {
-    if is_same_actor(turn.actor, step.actor) {
+    if is_continued(&turn, step) {
         push_to_turn(&mut turn.text, plan, step)?;
+        turn.is_ended = ends_turn(step.outcome);
         turn.end += 1;
         Ok(turn)
     } else {
@@ -102,7 +107,8 @@ fn after_step(
     }
 }
 
-/// Returns the turn that the step begins, after this number of the steps, which are `all`.
+/// Returns the turn that the step begins. There are `all` steps, and `before` of them precede this
+/// one.
 fn new_turn(
     alloc: Global,
     plan: &Plan,
@@ -120,8 +126,19 @@ fn new_turn(
     Ok(Turn {
         actor: step.actor,
         text,
+        is_ended: ends_turn(step.outcome),
         end: before + 1,
     })
+}
+
+/// Returns whether a step with this outcome ends its turn: the client begins again.
+fn ends_turn(outcome: Outcome) -> bool
+    ensures { result ≡ spec.ends_turn outcome }
+{
+    match outcome {
+        Outcome::Looped => true,
+        _ => false,
+    }
 }
 
 fn push_to_turn(text: &mut String, plan: &Plan, step: EventStep) -> Result<(), AllocError>
@@ -129,6 +146,12 @@ fn push_to_turn(text: &mut String, plan: &Plan, step: EventStep) -> Result<(), A
 {
     text.push_str(", ")?;
     push_step(text, plan, step)
+}
+
+fn is_continued(turn: &Turn, step: EventStep) -> bool
+    ensures { result ≡ spec.is_continued (turn_seen turn.now) step }
+{
+    !turn.is_ended && is_same_actor(turn.actor, step.actor)
 }
 
 fn is_same_actor(actor: Actor, other: Actor) -> bool

@@ -16,7 +16,7 @@ pub(crate) fn uri_of(alloc: Global, name: &str) -> Result<String, AllocError>
     Ok(uri)
 }
 
-/// Returns what keeps the name from being read as one with a scheme or a host.
+/// Returns the prefix with which no reader takes the start of the name for a scheme or a host.
 fn path_start(name: &[u8]) -> &'static str
     ensures { result.now ≡ spec.path_start name.now }
 {

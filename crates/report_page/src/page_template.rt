@@ -115,7 +115,7 @@ this.columns :
 this.clients.filter(([, each]) => each.alone).slice(0, MOST_LANES);this.end = new Replay(plan);const numbers = this.lanes.map(([at]) => at);for (const column of this.columns) {
 for (const event of column.events) this.end.apply(event);if (this.shown.includes(column)) column.state = this.end.snapshot(numbers);}}nameOf(job) { return this.end.jobs.get(job).name; }}
 const WORDS = {started: "starts",queued: "queues",refused: "refused",worked: "works",finished: "done",got: "gets",looped: "again",took: "takes",retired: "thread ends"
-};function told(plan, column) {const event = column.events[0], {actor, outcome, job} = event;const action = event.action === null ?
+};function stepWords(plan, column) {const event = column.events[0], {actor, outcome, job} = event;const action = event.action === null ?
 null :
 plan.body("client" in actor ? "client" : "class", actor.client || actor.class)[event.action];let who = "pool" in actor ? `a thread of ${actor.pool}` :
 "client" in actor ? `client ${actor.number} (${actor.client})` :
@@ -255,11 +255,12 @@ const chips = queue.slice(0, 3).map(job => h("span", {class: "chip", style: `bor
 `${name}: ${plural(threads, "thread")}${idle ? ` (${number(idle)} idle)` : ""}, `,queue.length ?
 [`${number(queue.length)} queued `, chips, queue.length > 3 ? ` and ${number(queue.length - 3)} more` : ""] :
 "none queued"
-];}function table(plan, story) {const rows = story.columns.map(column => {const event = column.events[0], {pool} = column.events[column.events.length - 1];const [who, does, then] = told(plan, column);
-return h("tr", {class: column.ends ? "bad" : null, "data-step": column.from},h("td", {class: "number"}, column.from === column.to ? `${column.to}` : `${column.from}\u2013${column.to}`),
-h("td", {}, who, " ", h("b", {}, does), then && ` (${then})`,column.ends === "stuck" ? h("b", {}, ". Now jobs wait only for each other.") : null),
-h("td", {}, pool && poolAfter(plan, story, pool)), h("td", {class: "number"}, plan.link(event.line)));});const header = h("tr", {}, h("th", {class: "number"}, "event"), h("th", {}, "what happens"),
-h("th", {}, "the pool after it"), h("th", {class: "number"}, "line"));const count = rows.length, title = count > MOST_ROWS ? `All ${plural(count, "step")}` : "Event by event";
+];}function table(plan, story) {const rows = story.columns.map(column => {const event = column.events[0], {pool} = column.events[column.events.length - 1];
+const [who, does, then] = stepWords(plan, column);return h("tr", {class: column.ends ? "bad" : null, "data-step": column.from},
+h("td", {class: "number"}, column.from === column.to ? `${column.to}` : `${column.from}\u2013${column.to}`),h("td", {}, who, " ", h("b", {}, does), then && ` (${then})`,
+column.ends === "stuck" ? h("b", {}, ". Now jobs wait only for each other.") : null),h("td", {}, pool && poolAfter(plan, story, pool)), h("td", {class: "number"}, plan.link(event.line)));});
+const header = h("tr", {}, h("th", {class: "number"}, "event"), h("th", {}, "what happens"),h("th", {}, "the pool after it"), h("th", {class: "number"}, "line"));
+const count = rows.length, title = count > MOST_ROWS ? `All ${plural(count, "step")}` : "Event by event";
 return folded(title, count <= 14, h("table", {}, h("thead", {}, header), h("tbody", {}, rows)));}function waitersOf(state, waits) {const count = waits.reduce((sum, each) => sum + each.for.length, 0);
 const few = waits.length <= MOST_RING && count <= MOST_EDGES, boxes = new Map(), boxOf = new Map();for (const {job, at, pool} of waits) {
 const {name} = state.jobs.get(job), key = few ? job : [name, at, pool].join();const box = boxes.get(key) || {key, name, at, pool, jobs: []};box.jobs.push(job);boxes.set(key, box);boxOf.set(job, key);}

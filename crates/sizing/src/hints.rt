@@ -1,5 +1,5 @@
 //! What standard error says in addition to an answer or a fault: which text is missing or in the
-//! place of another one, and why a file could not be read.
+//! place of another one, and why a file could not be read or written.
 
 use sizing_cli::{
     Command, RecordingCommand, ReviewCommand, StdFiles, Task, TextFiles, bundle_of, most_bytes,
@@ -9,6 +9,10 @@ use std::alloc::Global;
 use std::fs::{self, File, Files};
 use std::io::ErrorKind;
 
+const PLAN: &str = "a plan";
+
+const CERTIFICATE: &str = "a certificate";
+
 /// What is wrong with a named file, if its command found a fault in a text.
 #[derive(Clone, Copy)]
 pub(crate) enum Hint {
@@ -16,8 +20,11 @@ pub(crate) enum Hint {
     MissingText(&'static str),
     /// The line `%%` of the file ends with a carriage return.
     ReturnAfterSeparator,
-    /// The file is in the place of a plan, and holds this text.
-    NotPlan(&'static str),
+    /// The file looks like `found`, and its command needs `wanted` in its place.
+    Misplaced {
+        found: &'static str,
+        wanted: &'static str,
+    },
     /// The file is in the place of a recording, and does not begin as one.
     NotRecording,
     /// The file is in the place of events, and its lines end with a carriage return.
@@ -34,6 +41,32 @@ pub(crate) fn reason_of(rt: &impl Files, name: &str) -> &'static str {
             ErrorKind::PermissionDenied => ": permission denied",
             _ => "",
         },
+    }
+}
+
+/// Returns why the file could not be written, or an empty text if that is not known. Opens the file
+/// for writing again: keeps the content of a regular file, and creates a missing one. Does not open
+/// another kind of file, because opening a pipe could block.
+pub(crate) fn reason_unwritten(rt: &impl Files, name: &str) -> &'static str {
+    if is_special(rt, name) {
+        return "";
+    }
+    match File::options().append(true).create(true).open(rt, name) {
+        Ok(_) => "",
+        Err(error) => match error.kind() {
+            ErrorKind::NotFound | ErrorKind::NotADirectory => ": there is no such directory",
+            ErrorKind::PermissionDenied => ": permission denied",
+            ErrorKind::ReadOnlyFilesystem => ": the file system is read-only",
+            _ => "",
+        },
+    }
+}
+
+/// Returns whether there is a file of this name that is not a regular file, such as a pipe.
+fn is_special(rt: &impl Files, name: &str) -> bool {
+    match fs::metadata(rt, name) {
+        Ok(found) => !found.is_file(),
+        Err(_) => false,
     }
 }
 
@@ -86,13 +119,7 @@ fn hint_of_first(command: Command, text: &[u8], is_alone: bool) -> Option<Hint> 
     if let Command::OnThreads(Task::Ask { .. }) = command {
         return None;
     }
-    if text.starts_with(b"recording 1") {
-        return Some(Hint::NotPlan("a recording"));
-    }
-    if text.starts_with(b"{") {
-        return Some(Hint::NotPlan("a certificate"));
-    }
-    None
+    hint_of_misplaced(text, PLAN)
 }
 
 /// Returns that this text is missing, or why the file's line `%%` separates nothing.
@@ -120,11 +147,57 @@ fn hint_of_recording(text: &[u8]) -> Option<Hint> {
 fn hint_of_second(command: Command, text: &[u8]) -> Option<Hint> {
     match command {
         Command::OnRecording(RecordingCommand::Conform) => hint_of_recording(text),
-        Command::Sequential(ReviewCommand::Replay) if ends_with_return(text) => {
-            Some(Hint::ReturnsInEvents)
-        }
+        Command::Sequential(ReviewCommand::Replay) => hint_of_events(text),
+        Command::Sequential(ReviewCommand::Check | ReviewCommand::Explain)
+        | Command::OnThreads(Task::Run { .. }) => hint_of_misplaced(text, CERTIFICATE),
+        // The answer of `ask` says so itself, and the other commands read one text.
         _ => None,
     }
+}
+
+fn hint_of_events(text: &[u8]) -> Option<Hint> {
+    if let Some(hint) = hint_of_misplaced(text, "events") {
+        return Some(hint);
+    }
+    if ends_with_return(text) {
+        Some(Hint::ReturnsInEvents)
+    } else {
+        None
+    }
+}
+
+/// Returns a hint if the text looks like a text of another kind than `wanted`.
+fn hint_of_misplaced(text: &[u8], wanted: &'static str) -> Option<Hint> {
+    let found = kind_of(text)?;
+    if found == wanted {
+        None
+    } else {
+        Some(Hint::Misplaced { found, wanted })
+    }
+}
+
+/// Returns what the text looks like, or `None` if it looks like none of the three.
+fn kind_of(text: &[u8]) -> Option<&'static str> {
+    if text.starts_with(b"recording 1") {
+        Some("a recording")
+    } else if text.starts_with(b"{") {
+        Some(CERTIFICATE)
+    } else if has_header(text) {
+        Some(PLAN)
+    } else {
+        None
+    }
+}
+
+/// Returns whether a line of the text begins with the header of an entry of a plan.
+fn has_header(text: &[u8]) -> bool {
+    text.split(|byte| *byte == b'\n').any(|line| is_header(line))
+}
+
+fn is_header(line: &[u8]) -> bool {
+    line.starts_with(b"[[pool]]")
+        || line.starts_with(b"[[class]]")
+        || line.starts_with(b"[[client]]")
 }
 
 /// Returns whether the first line of the text ends with a carriage return.

@@ -5,7 +5,7 @@
 mod hints;
 mod version;
 
-use crate::hints::{Hint, hint_of, reason_of};
+use crate::hints::{Hint, hint_of, reason_of, reason_unwritten};
 use crate::version::VERSION;
 use clap::error::ErrorKind;
 use sizing_cli::{CliError, ServeFault, Status, StdFiles, StdSink, StdSource, serve_words};
@@ -63,8 +63,8 @@ fn print_hint(rt: &impl Eprint, name: &str, hint: Hint) -> io::Result<()> {
                 "the line `%%` of {name} ends with a carriage return: convert the file from CRLF to newlines alone"
             )
         }
-        Hint::NotPlan(kind) => {
-            eprintln!(rt; "{name} looks like {kind}: name a plan in its place")
+        Hint::Misplaced { found, wanted } => {
+            eprintln!(rt; "{name} looks like {found}: name {wanted} in its place")
         }
         Hint::NotRecording => {
             eprintln!(rt;
@@ -155,7 +155,10 @@ fn print_error(rt: &(impl Eprint + Files), fault: &CliError<'_>) -> io::Result<(
                 "{name} exists and is not a certificate, so it was not changed: name another file for --certificate"
             )
         }
-        CliError::Unwritten(name) => eprintln!(rt; "{} at {name}", FaultHead(WRITE_FAILED)),
+        CliError::Unwritten(name) => {
+            let reason = reason_unwritten(rt, name);
+            eprintln!(rt; "{} at {name}{reason}", FaultHead(WRITE_FAILED))
+        }
         CliError::Unread(name) => {
             let reason = reason_of(rt, name);
             eprintln!(rt; "{} at {name}{reason}", FaultHead(READ_FAILED))

@@ -20,7 +20,7 @@ use Rattle.diagnostics.specs.AtCore.{at_core, has_max_above_core}
 use Rattle.diagnostics.specs.Diagnostic.{HaveSingleLines, WarnInSingleLines, faults_text, warnings_text}
 use Rattle.diagnostics.specs.Lines.{HasNoNewline}
 use Rattle.diagnostics.specs.PlanPlaces.{FitPlan}
-use Rattle.diagnostics.specs.WarningWords.{TellsWarning}
+use Rattle.diagnostics.specs.WarningWords.{IsWarningOf}
 use Rattle.diagnostics.specs.declared.entry_places.PlanPlaces.{PlanPlaces}
 use Rattle.sizing_cli.specs.declared.lowered_plan.LoweredPlan.{LoweredPlan}
 use Rattle.size_search.specs.declared.found.SizesFound.{SizesFound}
@@ -159,7 +159,7 @@ pub record AreWarnings (plan : Plan) (finding : PlanFinding) (lowered : Option L
   pub are_lints : AreLintsWith plan finding lowered lints
   pub warned : lints_in warnings ≡ lints ++ stale_if stale
   pub single_lines : WarnInSingleLines warnings
-  pub circles : All (TellsWarning plan) warnings
+  pub circles : All (IsWarningOf plan) warnings
 
 -- the text reports the warnings, under the file's name, and then the finding
 pub record TellsFinding (file : Text) (plan : Plan) (warnings : List Warning) (finding : PlanFinding) (text : List ℕ) : Type 0 where

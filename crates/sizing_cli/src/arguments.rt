@@ -36,8 +36,9 @@ use std::thread::Threads;
 ///
 /// # Errors
 ///
-/// Returns the [`CliError`] of the first failure. Nothing was written then, except a prefix of
-/// the answer if the sink failed, and the whole answer if writing the certificate's file failed.
+/// Returns the [`CliError`] of the first failure. If the sink failed, a prefix of the answer was
+/// written; if writing the certificate's file failed, the whole answer was; after any other failure
+/// nothing was.
 #[tactic(auto, using(crate::proofs::SavedTexts::no_writes, crate::proofs::SavedTexts::texts_untouched, crate::proofs::SavedTexts::calm_untouched))]
 pub fn serve_words<'a, R: Threads + Wait + Sync, F: TextFiles, S: Source, K: Sink>(
     rt: &R,

@@ -23,13 +23,13 @@ use std::thread::Threads;
 /// The number of threads that search and check, for commands without an option for it.
 pub(crate) const WORKERS: usize = DEFAULT_WORKERS as usize;
 
-/// The number of pools for each search thread. With fewer, one more thread saves too little time
-/// for the memory that it needs.
+/// The number of pools per search thread. A further thread for fewer pools would save too little
+/// time for the memory that it needs.
 const POOLS_OF_A_WORKER: usize = 16;
 
-/// Searches for a certificate in at most `workers` threads. If that finds none, searches for sizes
-/// and takes their certificate if it accepts the declared ones. So `certify` finds a certificate
-/// whenever `fit` changes nothing.
+/// Searches for a certificate in at most `workers` threads. If that finds none, searches for sizes,
+/// and returns their certificate if it also accepts the declared sizes. So `certify` finds a
+/// certificate whenever `fit` changes nothing.
 ///
 /// # Errors
 ///

@@ -18,8 +18,9 @@ use job_bodies::MAX_CERT_BYTES;
 use serde_json::Value;
 use std::alloc::{AllocError, Global};
 
-/// Returns an error if no file can have the name for the certificate, or if the file of that name
-/// holds a text that is not a certificate, so that a misplaced argument overwrites nothing else.
+/// Returns an error if the certificate may not be written to the file of this name: the name is `-`
+/// or that of a directory, or the file holds a text that is not a certificate. So a misplaced
+/// argument overwrites no other text.
 pub(crate) fn ensure_replaceable<'a, F: TextFiles>(
     alloc: Global,
     files: &F,
@@ -79,8 +80,9 @@ fn ensure_replaceable_text<'a>(
     }
 }
 
-/// Returns whether a certificate may replace this text: it is empty, or a certificate itself. The
-/// certificate of an older plan may not fit the plan of today, so only its keys are checked.
+/// Returns whether a certificate may replace this text: it is empty, or a certificate itself. Only
+/// the keys of a certificate are checked, because one of an older plan may not fit the plan of
+/// today.
 fn is_replaceable(alloc: Global, text: &[u8]) -> Result<bool, AllocError>
     ensures { IfOk result (λ replaceable. replaceable ≡ spec.is_replaceable text.now) }
 {

@@ -30,7 +30,7 @@ pub enum CliError<'a> {
     Bundle(&'a str),
     /// The file of this name could not be read: fault 60.
     Unread(&'a str),
-    /// The certificate's file is named `-`, which is the name of no file.
+    /// The certificate's file is named `-`, which is not the name of a file.
     CertificateNeedsFile,
     /// The name of the certificate's file is that of a directory.
     Directory(&'a str),

@@ -82,8 +82,7 @@ fn search_finding<R: Threads + Wait + Sync>(
     }
 }
 
-/// Searches for a witness and for other sizes, for a plan for which the first search found no
-/// certificate.
+/// Searches for a witness and for other sizes. The first search found no certificate of the plan.
 fn without_certificate(alloc: Global, plan: &Plan) -> Result<PlanFinding, AllocError>
     requires { accepted plan.now (steady_cert plan.now) ≡ false }
     ensures { IfOk result (IsFinding plan.now) }

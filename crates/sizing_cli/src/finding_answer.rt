@@ -7,7 +7,7 @@ ghost use Rattle.command_line.specs.declared.command.Form.TheVariants as forms;
 ghost use Rattle.diagnostics.specs.Diagnostic.{WarnInSingleLines};
 ghost use Rattle.diagnostics.specs.Lines.{HasNoNewline};
 ghost use Rattle.diagnostics.specs.Lints.{AreLints, lints_in};
-ghost use Rattle.diagnostics.specs.WarningWords.{TellsWarning};
+ghost use Rattle.diagnostics.specs.WarningWords.{IsWarningOf};
 ghost use Rattle.job_bodies.specs.Plan.{Plan as PlanValue};
 ghost use Rattle.report.specs.Finding.{IsFinding};
 ghost use Rattle.report.specs.Places.{needed_places};
@@ -90,7 +90,7 @@ fn plan_warnings(
         spec.AreLintsWith plan.now finding.now (option_map (λ lowered. lowered.now) lowered.entry)
         (lints_in warnings.items)) }
     ensures single_lines { IfOk result (λ warnings. WarnInSingleLines warnings.items) }
-    ensures circles { IfOk result (λ warnings. All (TellsWarning plan.now) warnings.items) }
+    ensures circles { IfOk result (λ warnings. All (IsWarningOf plan.now) warnings.items) }
 {
     match lowered {
         Some(lowered) => lowered_warnings(alloc, text, plan, lowered),
@@ -108,7 +108,7 @@ fn lowered_warnings(
     ensures lints { IfOk result (λ warnings.
         AreLints plan.now (needed_places lowered.now.plan lowered.now.cert) true (lints_in warnings.items)) }
     ensures single_lines { IfOk result (λ warnings. WarnInSingleLines warnings.items) }
-    ensures circles { IfOk result (λ warnings. All (TellsWarning plan.now) warnings.items) }
+    ensures circles { IfOk result (λ warnings. All (IsWarningOf plan.now) warnings.items) }
 {
     let needed = needed_places(alloc, &lowered.plan, &lowered.cert)?;
     let warnings = warnings_of(alloc, text, plan, &needed, true)?;
@@ -124,15 +124,15 @@ fn declared_warnings(
     ensures lints { IfOk result (λ warnings.
         AreLints plan.now (spec.needed_of plan.now finding.now) false (lints_in warnings.items)) }
     ensures single_lines { IfOk result (λ warnings. WarnInSingleLines warnings.items) }
-    ensures circles { IfOk result (λ warnings. All (TellsWarning plan.now) warnings.items) }
+    ensures circles { IfOk result (λ warnings. All (IsWarningOf plan.now) warnings.items) }
 {
     let needed = needed_of(alloc, plan, finding)?;
     let warnings = warnings_of(alloc, text, plan, &needed, false)?;
     Ok(warnings)
 }
 
-/// Returns how many places each pool needs, by the certificate of the plan or of the sizes that were
-/// found. The list is empty if there is none.
+/// Returns how many queue places each pool needs. The certificate of the plan, or of the sizes that
+/// were found, shows the number. The list is empty if there is no certificate.
 fn needed_of(
     alloc: Global,
     plan: &Plan,
@@ -168,7 +168,7 @@ fn with_stale(
         (λ all. lints_in all.items ≡ lints_in warnings.items ++ spec.stale_if is_stale) }
     ensures single_lines { IfOk result (λ all. WarnInSingleLines all.items) }
     ensures circles { IfOk result (λ all.
-        (plan : PlanValue) → All (TellsWarning plan) warnings.items → All (TellsWarning plan) all.items) }
+        (plan : PlanValue) → All (IsWarningOf plan) warnings.items → All (IsWarningOf plan) all.items) }
 {
     if is_stale {
         warnings.push(stale(alloc)?)?;
@@ -336,8 +336,8 @@ fn certificate_text(alloc: Global, finding: &PlanFinding) -> Result<Option<Vec<u
     }
 }
 
-/// Returns the text of a certificate with a newline at its end, unless that is too long to be read
-/// back.
+/// Returns the text of a certificate with a newline at its end, or `None` if that is too long to be
+/// read back.
 fn readable_text(alloc: Global, cert: &Cert) -> Result<Option<Vec<u8>>, AllocError>
     ensures { IfOk result (λ left.
         (plan : PlanValue)
@@ -356,7 +356,7 @@ fn readable_text(alloc: Global, cert: &Cert) -> Result<Option<Vec<u8>>, AllocErr
 fn stale(alloc: Global) -> Result<Warning, AllocError>
     ensures lint { IfOk result (λ warning. warning.lint ≡ Lint.StaleCertificate) }
     ensures single_line { IfOk result (λ warning. HasNoNewline (string_bytes warning.what)) }
-    ensures told { IfOk result (λ warning. (plan : PlanValue) → TellsWarning plan warning) }
+    ensures circle { IfOk result (λ warning. (plan : PlanValue) → IsWarningOf plan warning) }
 {
     let what =
         "the certificate that was given does not show that these sizes are safe: write a new one with `sizing ask --certificate FILE PLAN`";

@@ -66,8 +66,8 @@ fn fit_plan<R: Threads + Wait + Sync>(
     answer_of_sizes(rt, alloc, sizes_form, plan, &found)
 }
 
-/// Returns the answer for what a search for sizes found: the lines of the sizes or the bundle, or
-/// the reason why there are none.
+/// Returns the answer for the result of a search for sizes: the lines of the sizes or the bundle,
+/// or the reason why there are none.
 ///
 /// # Errors
 ///
@@ -89,7 +89,7 @@ pub fn answer_of_sizes<R: Threads + Wait + Sync>(
     }
 }
 
-/// Searches for sizes. They are those of the plan if a certificate accepts it as it is.
+/// Searches for sizes. Returns the plan's own sizes if a certificate accepts them.
 fn sizes_of<R: Threads + Wait + Sync>(
     rt: &R,
     alloc: Global,

@@ -20,8 +20,8 @@ pub struct Input<'a> {
     pub second: &'a [u8],
 }
 
-/// Splits a bundle and parses its plan. If either fails, returns as the fault the answer that each
-/// command gives to such an input.
+/// Splits a bundle and parses its plan. If either fails, the fault is the answer that each command
+/// gives to such an input.
 pub fn read_input(alloc: Global, input: &[u8]) -> Result<Input<'_>, ReadError<Answer>>
     ensures input { IfOk result (λ read.
         (answers : PlanValue → List ℕ → answer_spec.Answer)

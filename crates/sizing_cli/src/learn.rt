@@ -119,8 +119,8 @@ fn commented_plan(
     }
 }
 
-/// Returns whether the two texts have the same plan, and the second is as [`write_plan`] writes it
-/// and not too long.
+/// Returns whether [`write_plan`] writes the plan of the first text as the second text, and the
+/// second text is not too long.
 fn reads_as(alloc: Global, text: &[u8], written: &[u8]) -> Result<bool, AllocError>
     ensures same { IfOk result (λ yes. IsTrue yes → plan_of text.now ≡ plan_of written.now) }
     ensures short { IfOk result (λ yes. IsTrue yes → length written.now ≤ MAX_PLAN_BYTES) }

@@ -6,8 +6,8 @@ ghost use Rattle.sizing_cli.specs.LineEnds as spec;
 
 use memchr::memchr;
 
-/// Returns the end of the message about a malformed line, counted from 1, which says what to do if
-/// the line ends with a carriage return. It is empty otherwise.
+/// Returns the end of the message about the malformed line of this number, counted from 1. If the
+/// line ends with a carriage return, the end says what to do; otherwise it is empty.
 pub(crate) fn line_end_hint(recording: &[u8], line: usize) -> &'static str
     ensures { result.now ≡ spec.line_end_hint recording.now line }
 {

@@ -24,10 +24,10 @@ pub(crate) struct LoweredPlan {
     pub(crate) cert: Cert,
 }
 
-/// Searches for a certificate of the plan with each maximum lowered to the core size of its pool,
-/// if the plan is not decided and some maximum is above its core size. Other plans are not searched:
-/// as long as no submit is refused with the lowered maximums, both plans behave alike, so a witness
-/// against a plan is one against the lowered plan.
+/// Searches for a certificate of the plan with each maximum lowered to the core size of its pool.
+/// Returns `None` without a search if the plan is safe or not safe, or if no maximum is above its
+/// core size. A plan that is not safe needs no search: until the lowered plan refuses a submit,
+/// both plans behave alike, so a witness against the plan is also one against the lowered plan.
 ///
 /// # Errors
 ///

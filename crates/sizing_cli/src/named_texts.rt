@@ -20,7 +20,7 @@ use std::alloc::{AllocError, Global};
 /// The file name that means standard input.
 pub(crate) const STANDARD_INPUT: &str = "-";
 
-/// The name in messages of a plan that is not read from a file.
+/// The name that messages use for a plan that is not read from a file.
 pub(crate) const NO_FILE: &str = "<stdin>";
 
 /// Reads the input of the command: one text, or two that are joined.
@@ -122,7 +122,7 @@ fn read_pair<'a, F: TextFiles, S: Source>(
     }
 }
 
-/// Returns an error if the text of this name, one of two, is a bundle itself.
+/// Returns an error if one of two texts, the one with this name, is itself a bundle.
 fn ensure_alone<'a>(name: Option<&'a str>, text: &[u8]) -> Result<(), CliError<'a>>
     ensures alone { IfOk result (λ _. bundle_of text.now ≡ None) }
     ensures bundle { IfErr result (IsOfBundle (option_map (λ name. name.now) name.entry) text.now) }

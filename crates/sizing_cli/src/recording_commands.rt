@@ -18,7 +18,7 @@ use std::alloc::{AllocError, Global};
 /// computed before its first byte is written.
 ///
 /// It reads at most 268,435,457 bytes. Each read except the last takes at least one byte, so the
-/// call returns whatever the source and the sink do.
+/// call ends, whatever the source and the sink do.
 ///
 /// # Errors
 ///

@@ -15,7 +15,7 @@ use std::alloc::Global;
 /// computed before its first byte is written.
 ///
 /// It reads at most 2,097,156 bytes. Each read except the last takes at least one byte, so the call
-/// returns whatever the source and the sink do.
+/// ends, whatever the source and the sink do.
 ///
 /// # Errors
 ///

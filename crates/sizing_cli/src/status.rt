@@ -51,8 +51,9 @@ impl Status {
     }
 }
 
-/// The fault for which a command gives no answer: 20 Memory, 41 Strange of a run, 42 Mixed of a run
-/// or a search, 43 Gate of a run, a search or a check on threads, 60 ReadFailed or 61 WriteFailed.
+/// The fault of a command that gave no complete answer: 20 Memory; 41 Strange of a run; 42 Mixed of
+/// a run or a search; 43 Gate of a run, a search or a check on threads; 60 ReadFailed; or 61
+/// WriteFailed.
 ///
 /// After 61 a prefix of the answer was written; after any other fault nothing was.
 #[derive(Clone, Copy, Debug, PartialEq, Eq)]

@@ -8,7 +8,7 @@ use std::alloc::Global;
 use std::fs;
 use std::fs::{File, Files};
 
-/// The files of the operating system. Contracts know nothing of what they hold, and list no writes.
+/// The files of the operating system. No contract says what they hold, or what is written to them.
 #[derive(Clone, Copy)]
 pub struct StdFiles<'a, R> {
     files: &'a R,

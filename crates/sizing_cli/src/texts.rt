@@ -1,5 +1,5 @@
-//! The parsing of plans and certificates, with running out of memory kept apart from faults of the
-//! text.
+//! The parsing of plans and certificates. A fault of the text is a result, and running out of
+//! memory is an error.
 
 ghost use Rattle.std.specs.Prelude.{◌≡◌, IfOk, IsTrue};
 ghost use Rattle.cert_text.specs.Cert.{cert_fits};

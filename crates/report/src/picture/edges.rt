@@ -178,7 +178,7 @@ fn is_counted(plan: &Plan, ranks: &Ranks, class: usize, position: usize) -> bool
 
 // ---- lines
 
-/// Appends the edge for this number of submits, if there are any.
+/// Appends the edge for the submits, of which there are `times`, if there are any.
 fn push_submit_edge(
     text: &mut String,
     kind: &str,

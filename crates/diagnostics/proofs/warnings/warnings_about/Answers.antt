@@ -6,7 +6,7 @@ use Rattle.std.proofs.lemmas.List.Elements.{All-push}
 use Rattle.diagnostics.specs.declared.warnings.Warning.{Warning}
 use Rattle.diagnostics.specs.Diagnostic.{WarnInSingleLines}
 use Rattle.diagnostics.specs.Lines.{HasNoNewline}
-use Rattle.diagnostics.specs.WarningWords.{TellsWarning}
+use Rattle.diagnostics.specs.WarningWords.{IsWarningOf}
 use Rattle.diagnostics.proofs.warnings.warnings_about.Goals as goal
 
 pub loop-lint-preserved : goal.loop-lint-preserved
@@ -14,6 +14,6 @@ loop-lint-preserved c = record {
   lints = grind (arith, common_steps);
   single_lines = subst WarnInSingleLines (sym c.in_ok-push.ensures.items)
       (All-push (λ (warning : Warning). HasNoNewline (string_bytes warning.what)) c.loop-lint.warnings.items c.in_ok-warning.warning c.loop-lint.invariant.single_lines c.in_ok-warning.ensures.single_line);
-  told = subst (All (TellsWarning c.args.plan.now)) (sym c.in_ok-push.ensures.items)
-      (All-push (TellsWarning c.args.plan.now) c.loop-lint.warnings.items c.in_ok-warning.warning c.loop-lint.invariant.told c.in_ok-warning.ensures.told);
+  circles = subst (All (IsWarningOf c.args.plan.now)) (sym c.in_ok-push.ensures.items)
+      (All-push (IsWarningOf c.args.plan.now) c.loop-lint.warnings.items c.in_ok-warning.warning c.loop-lint.invariant.circles c.in_ok-warning.ensures.circle);
 }
