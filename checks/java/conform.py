@@ -223,7 +223,7 @@ class Comparison:
             jobs = "1 job" if count == 1 else f"{count} jobs"
             are = "is" if count == 1 else "are"
             did = (f"submitted {name} to pool {pool}; {after}, {jobs} of class {self.plan.classes[number].name} {are} open; "
-                   f"its body has at most {limit} before such a submit")
+                   f"its body has only {limit} at some point before its next such submit")
         else:
             did = f"submitted {name} to pool {pool}; its body has no such submit {after}"
         self.finds(PATHS, subject, step.line, f"{described(actor)} {did}")
