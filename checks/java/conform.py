@@ -200,10 +200,11 @@ class Comparison:
                 self.strays(("job", job.name, job.pool), job, [self.class_bodies[number] for number in self.classes_of(job)])
 
     def strays(self, subject, actor, bodies):
-        """Reports an actor whose path matches no body, if it is the first of its label, by the body that matches most of the path."""
+        """Reports an actor whose path matches no body, if it is the first of its label, by the bodies that match most of the path. If too
+        many open jobs keep some of these from the path's next submit, the first of them gives the reason."""
         path = self.paths[actor]
         most = max(self.walk(actor, body) for body in bodies)
-        body = [body for body in bodies if self.walk(actor, body) == most][-1]
+        best = [body for body in bodies if self.walk(actor, body) == most]
         after = f"after {path[most - 1].what} {path[most - 1].job.name}" if most else "at its begin"
         if most == len(path):
             got = {step.job for step in path if step.what == "get"}
@@ -218,12 +219,12 @@ class Comparison:
             did = f"submitted {name} to pool {pool} as {step.job}, which is of no class of the plan"
         elif not self.fits(step.job):
             did = f"submitted {name} to pool {pool} as {step.job}, whose own path matches no such class"
-        elif excess := self.excess(actor, body, most):
+        elif excess := next(filter(None, (self.excess(actor, body, most) for body in best)), None):
             number, count, limit = excess
             jobs = "1 job" if count == 1 else f"{count} jobs"
             are = "is" if count == 1 else "are"
             did = (f"submitted {name} to pool {pool}; {after}, {jobs} of class {self.plan.classes[number].name} {are} open; "
-                   f"its body has at most {limit} before such a submit")
+                   f"its body has only {limit} at some point before its next such submit")
         else:
             did = f"submitted {name} to pool {pool}; its body has no such submit {after}"
         self.finds(PATHS, subject, step.line, f"{described(actor)} {did}")

@@ -36,7 +36,7 @@ MOST_LINES = 200
 IN_BODY = "body"
 # The expected finding for each deliberate error in a service.
 SLIPS = {
-    "path": r"; its body has no such submit |; its body has at most \d+ before such a submit$|ended without a get of job .*; its body has a get before its end$",
+    "path": r"; its body has no such submit |; its body has only \d+ at some point before its next such submit$|ended without a get of job .*; its body has a get before its end$",
     "count": r"kind .*: [0-9]+ (at once|in all), count is ",
     "size": r"^line 2: pool .*: max ",
     "change": r"pool .*: max ",

@@ -1,19 +1,21 @@
 -- The longest prefix of a path that the bodies of a family explain.
-use Rattle.std.proofs.Common.{◌≡◌, ◌+◌, ◌<◌, ◌≤◌, Bool, true, false, cond, leb, List, [], ◌∷◌, ◌++◌, length, take, None, refl, sym, subst, inl, inr, arith, length-append}
-use Rattle.std.specs.List.{Any}
-use Rattle.std.proofs.lemmas.Bool.{cases_lt, leb-true, leb-false}
+use Rattle.std.proofs.Common.{◌≡◌, ℕ, ◌+◌, ◌<◌, ◌≤◌, ◌==◌, ◌||◌, ◌&&◌, Bool, true, false, nat_lt, is_none, if◌then◌else◌, List, [], ◌∷◌, ◌++◌, length, take, get_or, Option, Some, None, refl, sym, ap, ◌∙◌, subst, inl, inr, arith, length-append}
+use Rattle.std.specs.List.{All, Any}
+use Rattle.std.proofs.lemmas.Bool.{cases_lt, false≢true, ltb-true, ltb-false, eqb-true, eqb-false}
 use Rattle.std.proofs.lemmas.List.{take_all}
-use Rattle.std.proofs.lemmas.List.Elements.{All-push, Contains-append_left}
+use Rattle.std.proofs.lemmas.List.Elements.{All-push, All-weaker, Contains-append_left}
 use Rattle.std.proofs.lemmas.List.Quantifiers.{Any-push}
 use Rattle.job_bodies.specs.declared.action.Action.{Action}
 use Rattle.conformance.specs.declared.explained_prefix.ExplainedPrefix.{ExplainedPrefix}
+use Rattle.conformance.specs.declared.open_excess.OpenExcess.{OpenExcess}
 use Rattle.conformance.specs.declared.step.ActorKind.{ActorKind}
 use Rattle.conformance.specs.declared.step.PathStep.{PathStep}
 use Rattle.conformance.specs.declared.step.PathState.{PathState}
 use Rattle.conformance.specs.declared.step.PathState.TheVariants.{Whole, Prefix}
 use Rattle.conformance.specs.Path.{IsPathOf}
 use Rattle.conformance.specs.PathMatch.{IsExplained, longer}
-use Rattle.conformance.specs.FamilyMatch.{Explains, IsMostExplained}
+use Rattle.conformance.specs.OpenExcess.{IsReason}
+use Rattle.conformance.specs.FamilyMatch.{Explains, HasNoSubmitLeft, IsMostExplained}
 use Rattle.conformance.proofs.StoppedWalks.{none_ahead_at_end}
 
 -- ---- the list of all bodies
@@ -41,36 +43,72 @@ explained_fits kind path_state bodies path body of =
       within = omega arith;
       front = λ _. Any-push (Explains kind path (record { length = length path; excess = None })) bodies body (begun, none_ahead_at_end kind body path (length path) refl);
       longest = λ more longer within. absurd (omega arith);
+      without = λ _ k d inside of. none_ahead_at_end kind (get_or (bodies ++ body ∷ []) k d) path (length path) refl;
       none = λ empty. absurd (omega (arith, length-push bodies body));
     }
 
--- The new body explains at least as much.
-explained_more : (kind : ActorKind) (bodies : List (List Action)) (path : List PathStep) (body : List Action) (before now : ExplainedPrefix) → IsMostExplained kind bodies path before → IsExplained kind body path now → before.length ≤ now.length → IsMostExplained kind (bodies ++ body ∷ []) path now
-explained_more kind bodies path body before now old new more_now = record {
+-- The bodies before have no such submit left after as many steps as the new one explains.
+none_left : (kind : ActorKind) (bodies : List (List Action)) (path : List PathStep) (before now : ExplainedPrefix) → IsMostExplained kind bodies path before → before.length ≤ now.length → (before.length ≡ now.length → before.excess ≡ None) → now.length ≤ length path → All (HasNoSubmitLeft kind path now.length) bodies
+none_left kind bodies path before now old more_now none_before within = elim (cases_lt before.length now.length) [
+  | inl less ↦ All-weaker (λ one. ¬ IsPathOf kind Prefix one (take now.length path)) (HasNoSubmitLeft kind path now.length) (λ one never of. absurd (never of)) bodies (old.longest now.length less within)
+  | inr least ↦
+      let same : before.length ≡ now.length = omega (arith, more_now, least) in
+      subst (λ (steps : ℕ). All (HasNoSubmitLeft kind path steps) bodies) same (old.without (none_before same))
+]
+
+-- The new body explains more, or as much as the bodies before it, which give no reason.
+explained_more : (kind : ActorKind) (bodies : List (List Action)) (path : List PathStep) (body : List Action) (before now : ExplainedPrefix) → IsMostExplained kind bodies path before → IsExplained kind body path now → before.length ≤ now.length → (before.length ≡ now.length → before.excess ≡ None) → IsMostExplained kind (bodies ++ body ∷ []) path now
+explained_more kind bodies path body before now old new more_now none_before = record {
   within = new.within;
   front = λ _. Any-push (Explains kind path now) bodies body (new.front, new.reason);
   longest = λ more longer within. All-push (λ one. ¬ IsPathOf kind Prefix one (take more path)) bodies body (old.longest more (omega (arith, more_now, longer)) within) (new.longest more longer within);
+  without = λ no_excess. All-push (HasNoSubmitLeft kind path now.length) bodies body (none_left kind bodies path before now old more_now none_before new.within) (λ _. subst (IsReason kind body path now.length) no_excess new.reason);
   none = λ empty. absurd (omega (arith, length-push bodies body));
 }
 
--- The new body explains less.
-explained_less : (kind : ActorKind) (bodies : List (List Action)) (path : List PathStep) (body : List Action) (before now : ExplainedPrefix) → IsMostExplained kind bodies path before → IsExplained kind body path now → now.length < before.length → IsMostExplained kind (bodies ++ body ∷ []) path before
-explained_less kind bodies path body before now old new less_now =
-    let some : 0 < length bodies = elim (cases_lt 0 (length bodies)) [
-      | inl filled ↦ filled
-      | inr empty ↦ let nothing : before.length ≡ 0 = old.none (omega (arith, empty)) in absurd (omega (arith, nothing, less_now))
+-- There is a body before the new one, if the bodies before explain more, or as much with open jobs as the reason.
+some_before : (kind : ActorKind) (bodies : List (List Action)) (path : List PathStep) (before now : ExplainedPrefix) → IsMostExplained kind bodies path before → now.length ≤ before.length → (now.length ≡ before.length → is_none before.excess ≡ false) → 0 < length bodies
+some_before kind bodies path before now old less_now excess_before = elim (cases_lt 0 (length bodies)) [
+  | inl filled ↦ filled
+  | inr empty ↦
+      let nothing : before ≡ record { length = 0; excess = None } = old.none (omega (arith, empty)) in
+      let short : before.length ≡ 0 = ap (λ (one : ExplainedPrefix). one.length) nothing in
+      let no_excess : is_none before.excess ≡ true = ap (λ (one : ExplainedPrefix). is_none one.excess) nothing in
+      absurd (false≢true (sym (excess_before (omega (arith, short, less_now))) ∙ no_excess))
+]
+
+-- The new body explains less, or as much as the bodies before it, which give open jobs as the reason.
+explained_less : (kind : ActorKind) (bodies : List (List Action)) (path : List PathStep) (body : List Action) (before now : ExplainedPrefix) → IsMostExplained kind bodies path before → IsExplained kind body path now → now.length ≤ before.length → (now.length ≡ before.length → is_none before.excess ≡ false) → IsMostExplained kind (bodies ++ body ∷ []) path before
+explained_less kind bodies path body before now old new less_now excess_before =
+    let none_of_new : before.excess ≡ None → HasNoSubmitLeft kind path before.length body = λ no_excess of. elim (cases_lt now.length before.length) [
+      | inl less ↦ absurd (new.longest before.length less old.within of)
+      | inr same ↦ absurd (false≢true (sym (excess_before (omega (arith, less_now, same))) ∙ ap (λ (excess : Option OpenExcess). is_none excess) no_excess))
     ] in
     record {
       within = old.within;
-      front = λ _. Any-append_left (Explains kind path before) bodies (body ∷ []) (old.front some);
+      front = λ _. Any-append_left (Explains kind path before) bodies (body ∷ []) (old.front (some_before kind bodies path before now old less_now excess_before));
       longest = λ more longer within. All-push (λ one. ¬ IsPathOf kind Prefix one (take more path)) bodies body (old.longest more longer within) (new.longest more (omega (arith, less_now, longer)) within);
+      without = λ no_excess. All-push (HasNoSubmitLeft kind path before.length) bodies body (old.without no_excess) (none_of_new no_excess);
       none = λ empty. absurd (omega (arith, length-push bodies body));
     }
 
-deviates_if : (is_more : Bool) (kind : ActorKind) (bodies : List (List Action)) (path : List PathStep) (body : List Action) (before now : ExplainedPrefix) → leb before.length now.length ≡ is_more → IsMostExplained kind bodies path before → IsExplained kind body path now → IsMostExplained kind (bodies ++ body ∷ []) path (cond is_more now before)
-deviates_if true kind bodies path body before now e old new = explained_more kind bodies path body before now old new (leb-true before.length now.length e)
-deviates_if false kind bodies path body before now e old new = explained_less kind bodies path body before now old new (leb-false before.length now.length e)
+none_if : (excess : Option OpenExcess) → is_none excess ≡ true → excess ≡ None
+none_if None e = refl
+none_if (Some excess) e = absurd (false≢true e)
+
+deviates_if : (less same without : Bool) (kind : ActorKind) (bodies : List (List Action)) (path : List PathStep) (body : List Action) (before now : ExplainedPrefix) → nat_lt before.length now.length ≡ less → (before.length == now.length) ≡ same → is_none before.excess ≡ without → IsMostExplained kind bodies path before → IsExplained kind body path now
+    → IsMostExplained kind (bodies ++ body ∷ []) path (if less || (same && without) then now else before)
+deviates_if true same without kind bodies path body before now is_less is_same is_without old new =
+    let less : before.length < now.length = ltb-true before.length now.length is_less in
+    explained_more kind bodies path body before now old new (omega (arith, less)) (λ e. absurd (omega (arith, less, e)))
+deviates_if false true true kind bodies path body before now is_less is_same is_without old new =
+    let same : before.length ≡ now.length = eqb-true before.length now.length is_same in
+    explained_more kind bodies path body before now old new (omega (arith, same)) (λ _. none_if before.excess is_without)
+deviates_if false true false kind bodies path body before now is_less is_same is_without old new =
+    explained_less kind bodies path body before now old new (ltb-false before.length now.length is_less) (λ _. is_without)
+deviates_if false false without kind bodies path body before now is_less is_same is_without old new =
+    explained_less kind bodies path body before now old new (ltb-false before.length now.length is_less) (λ e. absurd (eqb-false before.length now.length is_same (sym e)))
 
 -- The result is the longer of the two prefixes.
 pub explained_deviates : (kind : ActorKind) (bodies : List (List Action)) (path : List PathStep) (body : List Action) (before now : ExplainedPrefix) → IsMostExplained kind bodies path before → IsExplained kind body path now → IsMostExplained kind (bodies ++ body ∷ []) path (longer before now)
-explained_deviates kind bodies path body before now = deviates_if (leb before.length now.length) kind bodies path body before now refl
+explained_deviates kind bodies path body before now = deviates_if (nat_lt before.length now.length) (before.length == now.length) (is_none before.excess) kind bodies path body before now refl refl refl

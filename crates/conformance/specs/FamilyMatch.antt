@@ -1,5 +1,5 @@
 -- The members of a family whose bodies a path matches, and how much of the path the bodies explain.
-use Rattle.std.specs.Prelude.{◌≡◌, ◌≤◌, ◌<◌, ◌↔◌, ℕ, List, length, take, map, All, Any, Contains, ⊤}
+use Rattle.std.specs.Prelude.{◌≡◌, ◌≤◌, ◌<◌, ◌↔◌, ℕ, List, None, length, take, map, All, Any, Contains, ⊤}
 use Rattle.job_bodies.specs.declared.action.Action.{Action}
 use Rattle.job_bodies.specs.Plan.{Plan, class_at, client_at}
 use Rattle.conformance.specs.declared.explained_prefix.ExplainedPrefix.{ExplainedPrefix}
@@ -45,13 +45,19 @@ client_bodies plan label = map (client_body plan) (client_family plan label)
 abbrev pub Explains : ActorKind → List PathStep → ExplainedPrefix → List Action → Type 0
 Explains kind path explained body = IsPathOf kind Prefix body (take explained.length path) × IsReason kind body path explained.length explained.excess
 
+-- If the body explains this many steps of the path, it has no such submit left for the next step.
+abbrev pub HasNoSubmitLeft : ActorKind → List PathStep → ℕ → List Action → Type 0
+HasNoSubmitLeft kind path steps body = IsPathOf kind Prefix body (take steps path) → IsReason kind body path steps None
+
 -- `explained` is the longest prefix of the path that begins a path of one of these bodies, with the reason why the next step
--- does not extend it. If several bodies explain it, the reason is that of one of them. Its length is 0 if there are no bodies.
+-- does not extend it. If several bodies explain it, the reason is that of one of them. It has no steps if there are no bodies.
 pub record IsMostExplained (kind : ActorKind) (bodies : List (List Action)) (path : List PathStep) (explained : ExplainedPrefix) : Type 0 where
   pub within : explained.length ≤ length path
   pub front : 0 < length bodies → Any (Explains kind path explained) bodies
   pub longest : (more : ℕ) → explained.length < more → more ≤ length path → All (λ body. ¬ IsPathOf kind Prefix body (take more path)) bodies
-  pub none : length bodies ≡ 0 → explained.length ≡ 0
+  -- The reason is `None` only if no body that explains as much has such a submit left.
+  pub without : explained.excess ≡ None → All (HasNoSubmitLeft kind path explained.length) bodies
+  pub none : length bodies ≡ 0 → explained ≡ record { length = 0; excess = None }
 
 -- Each job of the path can belong to at most one class.
 abbrev pub HasAtMostOneClass : PathStep → Type 0

@@ -1,5 +1,5 @@
 -- Results of matching.
-use Rattle.std.specs.Prelude.{◌≤◌, ◌<◌, ℕ, nat_le, if◌then◌else◌, List, ⊤, length, take, All}
+use Rattle.std.specs.Prelude.{◌≤◌, ◌<◌, ◌==◌, ◌||◌, ◌&&◌, ℕ, nat_lt, is_none, if◌then◌else◌, List, ⊤, length, take, All}
 use Rattle.job_bodies.specs.declared.action.Action.{Action}
 use Rattle.conformance.specs.declared.step.ActorKind.{ActorKind}
 use Rattle.conformance.specs.declared.step.PathStep.{PathStep}
@@ -35,9 +35,10 @@ pub record IsExplained (kind : ActorKind) (body : List Action) (path : List Path
   pub longest : (more : ℕ) → explained.length < more → more ≤ length path → ¬ IsPathOf kind Prefix body (take more path)
   pub reason : IsReason kind body path explained.length explained.excess
 
--- The longer of two prefixes, or the second one if their lengths are the same.
+-- The longer of two prefixes. If their lengths are the same, it is the first one if that has open jobs, and otherwise the second
+-- one.
 abbrev pub longer : ExplainedPrefix → ExplainedPrefix → ExplainedPrefix
-longer one other = if nat_le one.length other.length then other else one
+longer one other = if nat_lt one.length other.length || ((one.length == other.length) && is_none one.excess) then other else one
 
 -- The result says whether the path matches the body.
 abbrev pub IsDecided : PathMatch → Type 0

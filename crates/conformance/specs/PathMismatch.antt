@@ -40,7 +40,7 @@ abbrev pub open_jobs_text : ℕ → List ℕ → List ℕ
 open_jobs_text jobs class = if jobs == 1 then codes ", 1 job of class " ++ class ++ codes " is open" else several_jobs_text jobs class
 
 abbrev pub limit_text : ℕ → List ℕ
-limit_text limit = codes "; its body has at most " ++ decimal limit ++ codes " before such a submit"
+limit_text limit = codes "; its body has only " ++ decimal limit ++ codes " at some point before its next such submit"
 
 abbrev pub excess_text : Plan → OpenExcess → List ℕ
 excess_text plan excess = open_jobs_text excess.open_jobs (class_at plan excess.class).name ++ limit_text excess.limit

@@ -1,6 +1,6 @@
 //! The longest prefix of a path that a body explains.
 
-ghost use Rattle.std.specs.Prelude.{◌≡◌};
+ghost use Rattle.std.specs.Prelude.{◌≡◌, ◌==◌, ◌||◌, ◌&&◌, nat_lt, is_none, if◌then◌else◌};
 ghost use Rattle.conformance.specs.PathMatch as spec;
 
 use crate::open_excess::OpenExcess;
@@ -15,11 +15,12 @@ pub struct ExplainedPrefix {
     pub excess: Option<OpenExcess>,
 }
 
-/// Returns the longer of two prefixes, or the second one if their lengths are the same.
+/// Returns the longer of two prefixes. If their lengths are the same, returns the first one if it has
+/// open jobs, and the second one otherwise.
 pub(crate) fn longer(one: ExplainedPrefix, other: ExplainedPrefix) -> ExplainedPrefix
     ensures { result ≡ spec.longer one other }
 {
-    if one.length <= other.length {
+    if one.length < other.length || (one.length == other.length && one.excess.is_none()) {
         other
     } else {
         one

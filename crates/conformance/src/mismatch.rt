@@ -212,7 +212,10 @@ fn push_several_jobs(text: &mut String, jobs: usize, class: &str) -> Result<(), 
 fn push_limit(text: &mut String, limit: usize) -> Result<(), AllocError>
     ensures { Pushes result text.old text.new (spec.limit_text limit) }
 {
-    write!(text, "; its body has at most {limit} before such a submit")
+    write!(
+        text,
+        "; its body has only {limit} at some point before its next such submit"
+    )
 }
 
 fn push_end(text: &mut String) -> Result<(), AllocError>

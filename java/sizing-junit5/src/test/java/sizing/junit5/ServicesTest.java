@@ -33,8 +33,8 @@ class ServicesTest {
     private static final Path ROOT = Path.of(System.getProperty("sizing.root"));
     private static final String NO_GET = "ended without a get of job ";
     private static final String NO_SUBMIT = "its body has no such submit ";
-    private static final String AT_MOST = "its body has at most ";
-    private static final String BEFORE = " before such a submit";
+    private static final String ONLY = "its body has only ";
+    private static final String BEFORE = " at some point before its next such submit";
     /** The recordings of the cases by name. Two tests use the recording of a right use. */
     private static final Map<String, Path> RECORDINGS = new ConcurrentHashMap<>();
 
@@ -198,15 +198,15 @@ class ServicesTest {
                         "round 0 of kind request submitted query_01 to pool queries; " + NO_SUBMIT + "after get query_02"),
                 new Case("endpoints_with_two_open_jobs", "thirty-endpoints", BodyServices::endpointsWithTwoOpenJobs,
                         "round 0 of kind request submitted query_02 to pool queries; after submit query_01, 1 job of class query_01 is open; "
-                                + AT_MOST + "0" + BEFORE),
+                                + ONLY + "0" + BEFORE),
                 new Case("return_before_the_get", "optional-calls", BodyServices::returnBeforeTheGet,
                         "round 0 of kind request " + NO_GET),
                 new Case("get_that_is_skipped", "optional-calls", BodyServices::getThatIsSkipped,
                         "round 0 of kind request submitted tax to pool prices; after submit price, 1 job of class price is open; "
-                                + AT_MOST + "0" + BEFORE),
+                                + ONLY + "0" + BEFORE),
                 new Case("get_that_comes_later", "optional-calls", BodyServices::getThatComesLater,
                         "round 0 of kind request submitted tax to pool prices; after submit price, 1 job of class price is open; "
-                                + AT_MOST + "0" + BEFORE),
+                                + ONLY + "0" + BEFORE),
                 new Case("report_of_nine", "report-up-to-eight", BodyServices::reportOfNine,
                         "job 0 of class report in pool reports submitted section to pool reports; " + NO_SUBMIT + "after submit section"),
                 new Case("report_with_an_open_section", "report-up-to-eight", BodyServices::reportWithAnOpenSection,
@@ -215,7 +215,7 @@ class ServicesTest {
                         "round 0 of kind c " + NO_GET),
                 new Case("interrupted_get", "fan-out-of-two", BodyServices::interruptedGet, "round 0 of kind c " + NO_GET),
                 new Case("retry_before_the_first_is_done", "three-tries", BodyServices::retryBeforeTheFirstIsDone,
-                        "round 0 of kind c submitted a to pool p; after submit a, 1 job of class a is open; " + AT_MOST + "0" + BEFORE),
+                        "round 0 of kind c submitted a to pool p; after submit a, 1 job of class a is open; " + ONLY + "0" + BEFORE),
                 new Case("completion_service_with_five_jobs", "completion-service", OrderServices::completionServiceWithFiveJobs,
                         "round 0 of kind request submitted quote to pool quotes; " + NO_SUBMIT + "after submit quote"),
                 new Case("completion_service_that_is_left", "completion-service", OrderServices::completionServiceThatIsLeft,
@@ -226,7 +226,7 @@ class ServicesTest {
                         "round 0 of kind request " + NO_GET),
                 new Case("window_of_four", "window-in-a-job", OrderServices::windowOfFour,
                         "job 0 of class report in pool reports submitted section to pool sections; after submit section, "
-                                + "3 jobs of class section are open; " + AT_MOST + "2" + BEFORE),
+                                + "3 jobs of class section are open; " + ONLY + "2" + BEFORE),
                 new Case("report_of_seven_topics", "window-in-a-job", OrderServices::reportOfSevenTopics,
                         "job 0 of class report in pool reports submitted section to pool sections; " + NO_SUBMIT + "after get section"),
                 new Case("report_with_a_summary", "window-in-a-job", OrderServices::reportWithASummary,
@@ -235,7 +235,7 @@ class ServicesTest {
                         "job 0 of class report in pool reports " + NO_GET + "1 of class section in pool sections"),
                 new Case("window_that_is_read_at_its_end", "window-in-a-job", OrderServices::windowThatIsReadAtItsEnd,
                         "job 0 of class report in pool reports submitted section to pool sections; after submit section, "
-                                + "3 jobs of class section are open; " + AT_MOST + "2" + BEFORE),
+                                + "3 jobs of class section are open; " + ONLY + "2" + BEFORE),
                 new Case("futures_that_are_left", "completion-service", OrderServices::futuresThatAreLeft,
                         "round 0 of kind request " + NO_GET),
                 new Case("futures_with_a_further_stage", "completion-service", OrderServices::futuresWithAFurtherStage,
@@ -272,7 +272,7 @@ class ServicesTest {
                         "kind pool_thread: not in the plan"),
                 new Case("three_chains_in_a_job", "two-chains-in-a-job", ChainServices::threeChainsInAJob,
                         "job 0 of class page in pool web submitted load to pool io; after submit load, 2 jobs of class load are open; "
-                                + AT_MOST + "0" + BEFORE),
+                                + ONLY + "0" + BEFORE),
                 new Case("composed_stage_that_is_dropped", "future-chain", ChainServices::composedStageThatIsDropped,
                         "round 0 of kind chain " + NO_GET),
                 // permits
