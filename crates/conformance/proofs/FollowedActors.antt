@@ -19,31 +19,27 @@ use Rattle.conformance.proofs.LaggingRuns.{paths_are_followed}
 module _ (plan : Plan) (cert : Cert) (lines : List RecordedLine) (well_formed : IsWellFormed plan) (is_accepted : IsTrue (accepted plan cert)) where
   job_followed : (job : ℕ) (classes : List ℕ) → 0 < length classes → AreClassesOf plan lines job classes → IsFollowedJob plan lines job
   job_followed _ _ some (by_path job label pool steps classes named path exact) =
-      let class = get_or classes 0 0 in
-      let one = (exact class).0 (Contains-get_or classes 0 0 some) in
       record {
         label = label;
         pool = pool;
         named = named;
-        class = class;
-        among = one.among;
         steps = steps;
         path = path;
-        followed = λ actor choices s reached starts. paths_are_followed plan cert actor actor_kind.Job (path_state_of lines (Job job)) (class_body plan class) steps choices s well_formed is_accepted reached starts one.path_of;
+        some = get_or classes 0 0;
+        is_some = (exact (get_or classes 0 0)).0 (Contains-get_or classes 0 0 some);
+        each = λ class one actor choices s reached starts. paths_are_followed plan cert actor actor_kind.Job (path_state_of lines (Job job)) (class_body plan class) steps choices s well_formed is_accepted reached starts one.path_of;
       }
 
   round_followed : (round : ℕ) → IsOfAKind plan lines round → IsFollowedRound plan lines round
   round_followed round of =
-      let kind = get_or of.kinds 0 0 in
-      let one = (of.exact.exact kind).0 (Contains-get_or of.kinds 0 0 of.some) in
       record {
         label = of.exact.kind;
         named = of.exact.named;
-        kind = kind;
-        among = one.among;
         steps = of.exact.steps;
         path = of.exact.path;
-        followed = λ actor choices s reached starts. paths_are_followed plan cert actor actor_kind.Round (path_state_of lines (Round round)) (client_body plan kind) of.exact.steps choices s well_formed is_accepted reached starts one.path_of;
+        some = get_or of.kinds 0 0;
+        is_some = (of.exact.exact (get_or of.kinds 0 0)).0 (Contains-get_or of.kinds 0 0 of.some);
+        each = λ kind one actor choices s reached starts. paths_are_followed plan cert actor actor_kind.Round (path_state_of lines (Round round)) (client_body plan kind) of.exact.steps choices s well_formed is_accepted reached starts one.path_of;
       }
 
 -- The law that the machine can follow the actors of a service that does as planned.

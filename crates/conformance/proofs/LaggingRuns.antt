@@ -43,6 +43,7 @@ use Rattle.conformance.proofs.Undisturbed.{KeepsJobs, at_not_claimed, Stands, st
 use Rattle.conformance.proofs.OthersAct.{IsQuiet, IsUndisturbed, same_machine, choice_other}
 use Rattle.conformance.proofs.Lagging.{HasSlot, IsOwn, Lags, slot_kept, own_kept, undisturbed_lags, others_lag}
 use Rattle.conformance.proofs.LaggingSteps.{submission_of_actor, slot_new, keeps_submit, HasReached, reaches}
+use Rattle.conformance.proofs.TakenJobs.{taken_within}
 
 -- ---- the end of a submit
 -- The pool has taken the job: a thread runs it, or it is queued. The call of the actor is over.
@@ -227,6 +228,7 @@ module _ (plan : Plan) (cert : Cert) (a : Parent) (body : List Action) (is_order
           reaches = record { position = m; stands = now.0.stands; after = reach.after; passes = reach.passes };
           submit = e;
           of_class = of_class;
+          is_taken = taken_within plan cert a body q k is_ordered laws e reach.after reach.lags.sound reach.lags.stands reach.quiet;
           onward = λ number s'' submitted.
               let new : MachineJob = record { job = p; class = k; number = number } in
               let opened : map as_open (jobs ++ new ∷ []) ≡ opens ++ record { job = p; class = k } ∷ [] = push-as jobs new ∙ ap (λ (xs : List OpenJob). xs ++ as_open new ∷ []) same in

@@ -15,6 +15,7 @@ pub mod Undisturbed
 pub mod OthersAct
 pub mod Lagging
 pub mod LaggingSteps
+pub mod TakenJobs
 pub mod LaggingRuns
 pub mod ReachableRuns
 pub mod FollowedActors

@@ -45,7 +45,7 @@ own_event (parent.Client c) (parent.Job k) = refl
 own_event (parent.Job j) (parent.Client d) = refl
 own_event (parent.Job j) (parent.Job k) = refl
 
-other_actor : (a b : Parent) → is_event_of a (event_of b) ≡ false → same_parent a b ≡ false
+pub other_actor : (a b : Parent) → is_event_of a (event_of b) ≡ false → same_parent a b ≡ false
 other_actor a b other = sym (own_event a b) ∙ other
 
 pub different : (a b : Parent) → same_parent a b ≡ false → a ≢ b

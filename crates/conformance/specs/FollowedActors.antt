@@ -1,5 +1,5 @@
 -- The machine can follow each actor of a recording in which all jobs and rounds behave as planned.
-use Rattle.std.specs.Prelude.{◌≡◌, ℕ, true, List, [], Some, Contains, IsTrue}
+use Rattle.std.specs.Prelude.{◌≡◌, ℕ, true, List, [], Some, IsTrue}
 use Rattle.recordings.specs.declared.recording_line.RecordedActor.TheVariants.{Job, Round}
 use Rattle.recordings.specs.RecordingLine.{RecordedLine}
 use Rattle.recordings.specs.Before.{is_begun}
@@ -18,8 +18,7 @@ use Rattle.conformance.specs.declared.step.ActorKind.TheVariants as actor_kind
 use Rattle.conformance.specs.declared.step.PathStep.{PathStep}
 use Rattle.conformance.specs.declared.step.PathState.{PathState}
 use Rattle.conformance.specs.PathState.{path_state_of}
-use Rattle.conformance.specs.Family.{class_family, client_family}
-use Rattle.conformance.specs.FamilyMatch.{class_body, client_body}
+use Rattle.conformance.specs.FamilyMatch.{class_body, client_body, IsClassOf, IsKindOf}
 use Rattle.conformance.specs.Label.{label_of, kind_of}
 use Rattle.conformance.specs.Classes.{AreStepsOf}
 use Rattle.conformance.specs.Conforms.{DoAsPlanned}
@@ -30,27 +29,27 @@ use Rattle.conformance.specs.LaggingRun.{IsAtStart, Follows}
 abbrev pub IsFollowed : Plan → ActorKind → PathState → List Action → List PathStep → Type 0
 IsFollowed plan kind state body steps = (actor : Parent) (choices : List Choice) (s : JavaState) → ChoicesReach plan choices s → IsAtStart plan actor body s → Follows plan actor kind state body 0 [] steps s
 
--- A class of the job's family, and the path of the job with the classes that its jobs can belong to, which the machine can follow
--- with the body of the class.
+-- The path of the job, each submit with the classes that its job can belong to. The machine can follow it with the body of each
+-- class of the job's family whose body it matches. There is such a class.
 pub record IsFollowedJob (plan : Plan) (lines : List RecordedLine) (job : ℕ) : Type 0 where
   pub label : List ℕ
   pub pool : List ℕ
   pub named : label_of lines job ≡ Some (label, pool)
-  pub class : ℕ
-  pub among : Contains (class_family plan label pool) class
   pub steps : List PathStep
   pub path : AreStepsOf plan lines (path_of lines (Job job)) steps
-  pub followed : IsFollowed plan actor_kind.Job (path_state_of lines (Job job)) (class_body plan class) steps
+  pub some : ℕ
+  pub is_some : IsClassOf plan label pool (path_state_of lines (Job job)) steps some
+  pub each : (class : ℕ) → IsClassOf plan label pool (path_state_of lines (Job job)) steps class → IsFollowed plan actor_kind.Job (path_state_of lines (Job job)) (class_body plan class) steps
 
--- The same of a round and a kind of its family.
+-- The same of a round and the kinds of its family.
 pub record IsFollowedRound (plan : Plan) (lines : List RecordedLine) (round : ℕ) : Type 0 where
   pub label : List ℕ
   pub named : kind_of lines round ≡ Some label
-  pub kind : ℕ
-  pub among : Contains (client_family plan label) kind
   pub steps : List PathStep
   pub path : AreStepsOf plan lines (path_of lines (Round round)) steps
-  pub followed : IsFollowed plan actor_kind.Round (path_state_of lines (Round round)) (client_body plan kind) steps
+  pub some : ℕ
+  pub is_some : IsKindOf plan label (path_state_of lines (Round round)) steps some
+  pub each : (kind : ℕ) → IsKindOf plan label (path_state_of lines (Round round)) steps kind → IsFollowed plan actor_kind.Round (path_state_of lines (Round round)) (client_body plan kind) steps
 
 -- If a certificate accepts a well-formed plan, and all jobs and rounds of a recording behave as planned, the machine can follow
 -- each of them.

@@ -1,6 +1,6 @@
 -- Runs of the machine that follow the path of an actor. In such a run the machine's actor lags: it submits a job when the path
 -- does, and passes the actions of its body before this submit directly before it. So it gets each job no sooner than the path.
-use Rattle.std.specs.Prelude.{◌≡◌, ◌≢◌, ℕ, suc, ◌==◌, Bool, true, false, if◌then◌else◌, IsTrue, List, [], ◌∷◌, ◌++◌, Option, None, Some, ⊤, length, slice_get}
+use Rattle.std.specs.Prelude.{◌≡◌, ◌≢◌, ◌⊎◌, ℕ, zero, suc, ◌==◌, Bool, true, false, if◌then◌else◌, IsTrue, List, [], ◌∷◌, ◌++◌, Option, None, Some, ⊤, length, slice_get}
 use Rattle.std.specs.List.{list_any}
 use Rattle.job_bodies.specs.declared.action.Action.{Action}
 use Rattle.job_bodies.specs.declared.action.Action.TheVariants as action
@@ -95,8 +95,7 @@ pub record CanReach (plan : Plan) (actor : Parent) (body : List Action) (jobs : 
   pub passes : Passes plan actor body jobs position s index after
 
 -- The actor submits one job, which gets this number. A submit is one or more events of the actor. Only the last of them changes
--- the machine. Others may act in between. (That the pool refuses the job is not covered: in an accepted plan none does. That it
--- takes the job is a condition of the law.)
+-- the machine. Others may act in between.
 pub data IsSubmitted (plan : Plan) (actor : Parent) : JavaState → ℕ → JavaState → Type 0 where
   others_act : {s next s' : JavaState} {number : ℕ} (x : Choice) → is_choice_of actor x ≡ false
       → choice_step plan s x ≡ Some next
@@ -110,14 +109,28 @@ pub data IsSubmitted (plan : Plan) (actor : Parent) : JavaState → ℕ → Java
       → length s'.machine.jobs ≡ suc (length s.machine.jobs)
       → IsSubmitted plan actor s (length s.machine.jobs) s'
 
+-- The actor's next event is possible. Either the pool takes a job with it, or the machine does not change and `later` holds then.
+pub record NextOfSubmit (plan : Plan) (actor : Parent) (s : JavaState) (later : JavaState → Type 0) : Type 0 where
+  pub next : JavaState
+  pub is_next : choice_step plan s (Acts (event_of_actor actor)) ≡ Some next
+  pub onward : (length next.machine.jobs ≡ suc (length s.machine.jobs)) ⊎ ((next.machine ≡ s.machine) × later next)
+
+-- The pool takes the job that the actor submits with one of the next events of the actor, of which there are at most this many.
+-- Each of them is possible, whatever others do before it.
+abbrev pub IsTakenWithin : ℕ → Plan → Parent → JavaState → Type 0
+IsTakenWithin zero plan actor s = ⊥
+IsTakenWithin (suc more) plan actor s = (s' : JavaState) → OthersAct plan actor s s' → NextOfSubmit plan actor s' (IsTakenWithin more plan actor)
+
 -- ---- steps of the path
--- The path submits a job: the actor can reach a submit of a class of this job. If the pool takes the job, `next` holds then.
+-- The path submits a job: the actor can reach a submit of a class of this job. The pool takes the job within three events of the
+-- actor. When it has taken the job, `next` holds.
 pub record CanSubmit (plan : Plan) (actor : Parent) (body : List Action) (jobs : List MachineJob) (one : PathStep) (s : JavaState) (next : ℕ → ℕ → JavaState → Type 0) : Type 0 where
   pub index : ℕ
   pub class : ℕ
   pub reaches : CanReach plan actor body jobs index s
   pub submit : slice_get body index ≡ Some (action.Submit class)
   pub of_class : submits one class ≡ true
+  pub is_taken : IsTakenWithin 3 plan actor reaches.after
   pub onward : (number : ℕ) (s' : JavaState) → IsSubmitted plan actor reaches.after number s' → next class number s'
 
 -- The path gets a job that is open: the actor submitted it, and has not got it in the machine. If the actor is a job, its body

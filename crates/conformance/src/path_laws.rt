@@ -7,17 +7,18 @@ ghost use Rattle.conformance.specs.LaggingRun.{PathsAreFollowed, RunsStayReachab
 /// actor, whatever others do in between. The machine's actor can reach each submit of the path, in
 /// their order. It passes the other actions of its body directly before a submit and before the
 /// end: it skips submits, and gets no job that is still open in the path. So each of its gets
-/// comes no sooner than the path's. It follows the rest of the path once the pool has taken the
-/// job, and after a get of the path once the job is done. While the path of a job waits, the body
-/// still has a get of that class. The states of such a run are reachable, so they are safe.
+/// comes no sooner than the path's. The pool takes the job of each submit of the path within three
+/// events of the actor, whatever others do before each of them. After a get of the path the actor
+/// goes on once the job is done. While the path of a job waits, the body still has a get of that
+/// class. The states of such a run are reachable, so they are safe.
 pub fn paths_are_followed()
     ensures followed { PathsAreFollowed }
     ensures reachable { RunsStayReachable }
 {}
 
 /// Proves that the machine of an accepted plan can follow each job and each round of a recording
-/// in which all jobs and rounds behave as planned, each with the body of some class or kind of its
-/// family.
+/// in which all jobs and rounds behave as planned, with the body of each class or kind of its
+/// family whose body its path matches, and that there is one.
 pub fn planned_actors_are_followed()
     ensures { PlannedActorsAreFollowed }
 {}
