@@ -12,11 +12,12 @@ use std::alloc::{AllocError, Global};
 /// A rule that picks one of the classes of each job of a path, among those that a body submits.
 #[derive(Clone, Copy)]
 pub(crate) enum Pick {
-    /// The first of the job's classes.
+    /// The first of the job's classes that the body submits.
     First,
-    /// The last of the job's classes.
+    /// The last of the job's classes that the body submits.
     Last,
-    /// The class of the body's next submit, after those picked before, of one of the job's classes.
+    /// The class of the body's next submit of one of the job's classes. The submit comes after the
+    /// one that was picked for the previous job.
     InOrder,
 }
 
