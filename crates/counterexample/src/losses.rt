@@ -9,7 +9,8 @@ use crate::vectors::Potential;
 use job_bodies::{Action, MAX_ACTIONS};
 use written_machine::Parent;
 
-/// The maximum loss that is returned, also for a choice whose loss cannot be computed.
+/// The largest loss that [`Losses::of`] returns. It returns this value too if it cannot compute the
+/// loss of a choice.
 const MAX_LOST: u64 = 1_000_000;
 /// The maximum number of ancestors that are followed when the end of a job unblocks its parent, and
 /// the end of the parent unblocks the grandparent, and so on.

@@ -138,7 +138,9 @@ impl<'a> Machine<'a> {
         }
     }
 
-    /// Returns the latest job that the actor created by the submit at this position of its body.
+    /// Returns the number of the job that the actor created at position `submit` of its body, or
+    /// `None` if there is none. If there are several, because the actor started its body again,
+    /// returns the latest. Looks only at the latest [`MAX_ACTIONS`] jobs of the actor.
     pub(crate) fn child(&self, actor: Parent, submit: usize) -> Option<usize> {
         let mut next = self.newest(actor);
         for _ in 0..MAX_ACTIONS {

@@ -10,7 +10,8 @@ use written_machine::Event;
 /// The maximum number of events that are replayed to shorten one script, not counting
 /// [`WHOLE_REPLAYS`] replays of the whole script.
 const MAX_REPLAYED: u64 = 6_000_000;
-/// The number of replays of the whole script that are always allowed.
+/// The number of replays of the whole script that are allowed besides [`MAX_REPLAYED`] events, so
+/// that a long script can be shortened too.
 const WHOLE_REPLAYS: u64 = 24;
 /// The maximum number of rounds, each of which tries every kind of removal.
 const MAX_ROUNDS: usize = 8;
@@ -56,7 +57,8 @@ pub(crate) fn shorten_script(
 }
 
 impl Shortener<'_> {
-    /// Tries to remove all steps of jobs, and then all takes from queues.
+    /// Tries to remove all steps of jobs, and then all events in which a thread takes a job from a
+    /// queue.
     fn without_kinds(&mut self) -> Result<(), AllocError> {
         self.try_without(|_, event| matches!(event, Event::Job(_)))?;
         self.try_without(|_, event| matches!(event, Event::Take(_)))

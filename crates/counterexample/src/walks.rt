@@ -163,7 +163,9 @@ impl<'a> Walk<'a> {
         Ok(if now { Some(Violation::StuckNow) } else { None })
     }
 
-    /// Makes the possible choice that comes first by these rules and this vector.
+    /// Makes the possible choice that loses the least weight under the vector, or does nothing if
+    /// no choice is possible. Among equal losses, makes the choice with the least key. Without a
+    /// vector, every loss counts as 0.
     fn step(
         &mut self,
         rules: &Rules,
