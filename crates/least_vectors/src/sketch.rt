@@ -22,8 +22,9 @@ pub(crate) struct Sketch {
     pub(crate) done: Vec<u64>,
     /// The weight of a client of each kind at the start of its body.
     pub(crate) starts: Vec<u64>,
-    /// For each pool, the largest weight that a job of the pool has in its body if the done jobs of
-    /// the pool weigh 0. Jobs of classes that are never submitted are ignored.
+    /// For each pool, the largest weight at any position of the body of a class of the pool. It is
+    /// computed as if a job of that class had the least possible weight when done. Classes that are
+    /// never submitted are ignored.
     pub(crate) peaks: Vec<u64>,
     /// The weight of all workers in total.
     pub(crate) on_loan: u64,
