@@ -10,7 +10,7 @@ use crate::{Line, RecordedActor};
 use std::alloc::{AllocError, Global};
 use support::IdMap;
 
-/// The unclaimed jobs, each with its submitter.
+/// A map from each job that its submitter has not got to that submitter.
 #[derive(Drop)]
 pub(crate) struct UnclaimedJobs {
     submitters: IdMap<RecordedActor>,
