@@ -13,7 +13,7 @@ use plan_text::TextPlace;
 use serde_json::{Value, json};
 use std::alloc::{AllocError, Global};
 
-/// The members of an event, without its outcome and its number of times.
+/// The members of the JSON object of an event, except `outcome` and `times`.
 #[derive(Drop)]
 pub(crate) struct EventParts {
     pub(crate) action: Value,
