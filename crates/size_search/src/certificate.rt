@@ -1,4 +1,5 @@
-//! The steady certificate of a plan.
+//! The steady certificate of a plan: a certificate in which one vector is both the standing vector
+//! and the blocked vector of every pool.
 
 ghost use Rattle.std.specs.Prelude.{◌≡◌, IfOk, IfSome, IfNone, true, false, map};
 ghost use Rattle.job_bodies.specs.Plan as plan_spec;
