@@ -38,8 +38,10 @@ pub fn waiting_sets_are_tested()
     ensures { WaitingSetsAreTested }
 {}
 
-/// Proves that, in every reachable state of a well-formed plan, each waiting set is a loose waiting
-/// set: each running member waits for a member that it created and gets at its position or later.
+/// Proves that, in every reachable state of a well-formed plan, each waiting set is also a loose
+/// waiting set. In a loose waiting set, a running member need not be at a get yet: the set contains
+/// a job that the member created, and the body of the member has a get of a job of that class at
+/// the member's position or later.
 pub fn waiting_sets_are_loose()
     ensures { WaitingSetsAreLoose }
 {}
