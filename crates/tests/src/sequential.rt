@@ -17,9 +17,9 @@ use std::alloc::{AllocError, Global};
 ///
 /// - `replay`, `check`, `explain`, `conform`, `learn` and `learn strict`: the input of the command.
 ///   The answer is the output, with the exit status on the last line. The test then repeats the
-///   command, first with a source and a sink that transfer few bytes in each call. If the input is
-///   short, it also repeats the command with a source and a sink that fail, once for each call. It
-///   appends a note to the answer for each unexpected result.
+///   command with a source and a sink that transfer a small piece in each call. If the input is
+///   short, it also repeats the command with a source or a sink that fails at one call, for each
+///   call in turn. It appends a note to the answer for each unexpected result.
 /// - `check and explain`: an input of both commands. The answer is that of `check`, followed by
 ///   that of `explain` if it differs.
 /// - `prefixes of a replay`, `prefixes of a check` and `prefixes of an explain`: an input. The test
