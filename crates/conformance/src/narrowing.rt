@@ -16,8 +16,8 @@ pub(crate) enum Pick {
     First,
     /// The last of the job's classes that the body submits.
     Last,
-    /// The class of the body's next submit of one of the job's classes. The submit comes after the
-    /// one that was picked for the previous job.
+    /// The class of the body's next submit of one of the job's classes. The submit comes after
+    /// those that were picked for earlier jobs.
     InOrder,
 }
 
