@@ -10,7 +10,7 @@ use crate::{Line, RecordedActor};
 use std::alloc::{AllocError, Global};
 use support::IdMap;
 
-/// A map from each job that its submitter has not got to that submitter.
+/// A map from jobs to their submitters. It has the jobs that their submitters have not got.
 #[derive(Drop)]
 pub(crate) struct UnclaimedJobs {
     submitters: IdMap<RecordedActor>,
