@@ -10,7 +10,7 @@ use crate::machine::{Job, Machine, Phase};
 use std::alloc::{AllocError, Global};
 use written_machine::Parent;
 
-/// A factor of the hash function.
+/// The number by which the hash function multiplies its second input.
 const FACTOR: u64 = 0x9e37_79b9_7f4a_7c15;
 /// The hash input for the phase of a done job. It is greater than the number of any position.
 const DONE: u64 = 1_000_001;

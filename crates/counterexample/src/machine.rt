@@ -1,5 +1,5 @@
 //! A lightweight machine for searches. It stores the pools, all jobs that were created, and the
-//! clients that have moved, but no list of events.
+//! clients that have moved. It stores no list of events.
 
 use crate::pools::{Admission, SearchPool};
 use job_bodies::{Action, MAX_ACTIONS, Plan};
@@ -162,8 +162,8 @@ impl<'a> Machine<'a> {
         }
     }
 
-    /// Returns `true` if the actor's body has a get of the submit at this position, and the actor
-    /// has not passed that get.
+    /// Returns `true` if the actor's body has a get of the submit at position `submit`, and the
+    /// actor has not passed that get.
     pub(crate) fn is_to_get(&self, actor: Parent, submit: usize) -> bool {
         let Some((position, _)) = self.point(actor) else {
             return false;
@@ -182,7 +182,7 @@ impl<'a> Machine<'a> {
         }
     }
 
-    /// Returns `true` if the job is done.
+    /// Returns `true` if the job has reached the end of its body.
     pub(crate) fn is_done(&self, job: usize) -> bool {
         self.jobs
             .get(job)

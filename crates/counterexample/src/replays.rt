@@ -23,7 +23,7 @@ pub(crate) struct Replay<'a> {
 }
 
 impl<'a> Replay<'a> {
-    /// Replays the events of the script whose entry in `kept` is `true`, up to the first refused
+    /// Replays each event of the script for which `kept` has `true`, up to the first refused
     /// submit.
     pub(crate) fn of(
         alloc: Global,

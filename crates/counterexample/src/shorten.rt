@@ -28,7 +28,7 @@ struct Shortener<'a> {
     left: u64,
 }
 
-/// Returns a script that has the same violation and is not longer.
+/// Returns a script that ends in the same violation and is not longer.
 pub(crate) fn shorten_script(
     alloc: Global,
     plan: &Plan,
@@ -113,9 +113,9 @@ impl Shortener<'_> {
         Ok(())
     }
 
-    /// Removes the events for which `is_out` returns `true`, if the rest still has the violation
-    /// and is shorter. Does nothing if the script is longer than the number of events that may
-    /// still be replayed.
+    /// Removes the events for which `is_out` returns `true`, if a replay of the other events still
+    /// has the violation and is shorter. Does nothing if the script is longer than the number of
+    /// events that may still be replayed.
     fn try_without<F: Fn(usize, Event) -> bool>(&mut self, is_out: F) -> Result<(), AllocError>
         requires { F.IsAlwaysCallable is_out }
     {

@@ -35,8 +35,7 @@ impl JobSet {
     }
 
     /// Returns a subset whose members still wait only for each other, and from which no member can
-    /// be removed. If [`MAX_LOOKS`] is reached before that, returns the subset that was found so
-    /// far.
+    /// be removed. If [`MAX_LOOKS`] is reached first, the subset may have removable members.
     pub(crate) fn made_least(
         self,
         alloc: Global,

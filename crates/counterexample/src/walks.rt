@@ -28,7 +28,7 @@ pub(crate) enum Violation {
     StuckNow,
 }
 
-/// The rules of a walk.
+/// The rules by which a walk makes its choices, and the limits of the walk.
 #[derive(Drop)]
 pub(crate) struct Rules {
     /// The key of each choice. Of the possible choices that lose the least weight, the walk makes
@@ -38,7 +38,7 @@ pub(crate) struct Rules {
     pub(crate) max_active_clients: usize,
     /// The maximum number of states that the walk visits, including the initial state.
     pub(crate) max_states: usize,
-    /// Whether the keys are replaced by random numbers at random steps of the walk.
+    /// Whether all keys are replaced by random numbers at random steps of the walk.
     pub(crate) changing: bool,
 }
 
@@ -149,8 +149,8 @@ impl<'a> Walk<'a> {
         }
     }
 
-    /// Returns the violation if jobs wait only for each other. If `now` is `false`, returns only a
-    /// permanent violation.
+    /// Returns the violation if some jobs wait only for each other, and `None` otherwise. If `now`
+    /// is `false`, returns only a permanent violation.
     pub(crate) fn stuck(&self, alloc: Global, now: bool) -> Result<Option<Violation>, AllocError> {
         let members = JobSet::greatest(alloc, &self.machine, false)?;
         if members.is_empty() {
@@ -177,8 +177,8 @@ impl<'a> Walk<'a> {
         }
     }
 
-    /// Makes the choice with this index, by the actor after which `newer` actors became ready for
-    /// it.
+    /// Makes the choice with this index. The actor that makes it is selected by `newer`, the number
+    /// of actors that became ready for this choice after that actor.
     pub(crate) fn choose(&mut self, place: usize, newer: usize) -> Result<WalkStep, AllocError> {
         match self.choices.all.get(place).copied() {
             Some(Choice::Begin(kind)) => {
@@ -198,7 +198,8 @@ impl<'a> Walk<'a> {
         }
     }
 
-    /// Removes and returns the actor after which `newer` actors became ready for this choice.
+    /// Removes an actor from those that are ready for this choice, and returns the actor. `newer`
+    /// is the number of actors that became ready for the choice after that actor.
     fn take_ready(&mut self, place: usize, newer: usize) -> Option<Parent> {
         let ready = self.ready.get_mut(place)?;
         let at = ready.len().checked_sub(1)?.checked_sub(newer)?;
@@ -292,7 +293,7 @@ impl<'a> Walk<'a> {
         Ok(WalkStep::Advanced)
     }
 
-    /// Performs the first submit of a new client, which has reached that submit.
+    /// Performs the first submit of a new client. The client is already at that submit.
     fn submit_of(&mut self, client: Parent) -> Result<WalkStep, AllocError> {
         let place = match self.machine.point(client) {
             Some((position, _)) => self.choices.place_of(&self.machine, client, position),
@@ -321,7 +322,7 @@ impl<'a> Walk<'a> {
     }
 
     /// Performs all steps of the actor up to its next submit or to a get that must wait. If the
-    /// actor is a job and ends, continues with its parent if the parent waited for it.
+    /// actor is a job and ends, continues with the parent, if the parent waited for this job.
     fn settle(&mut self, actor: Parent) -> Result<(), AllocError> {
         let mut actor = actor;
         for _ in 0..u64::MAX {
