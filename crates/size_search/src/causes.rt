@@ -60,8 +60,7 @@ fn submits_itself(alloc: Global, plan: &Plan, number: usize) -> Result<bool, All
     Ok(submitted_classes.has(number))
 }
 
-/// Returns, as a cause, the first submit without a get in the bodies of the client kinds that
-/// repeat.
+/// Returns, as a cause, the first submit without a get in the body of a client kind that repeats.
 fn never_got_by_clients(plan: &Plan) -> Option<Cause>
     ensures cause { IfSome result (IsCause plan.now) }
     ensures none { IfNone result ((c i : ℕ) → ¬ NeverGotByClients plan.now c i) }
@@ -77,7 +76,7 @@ fn never_got_by_clients(plan: &Plan) -> Option<Cause>
     None
 }
 
-/// Returns, as a cause, the first submit without a get in the bodies of these classes.
+/// Returns, as a cause, the first submit without a get in the body of one of these classes.
 fn never_got_by_jobs(plan: &Plan, submitted_classes: &SubmittedClasses) -> Option<Cause>
     requires { (k : ℕ) → Has submitted_classes.now k ↔ IsSubmitted plan.now (repeated_bodies plan.now) k }
     ensures cause { IfSome result (IsCause plan.now) }

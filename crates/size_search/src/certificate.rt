@@ -38,7 +38,7 @@ fn copied(alloc: Global, vector: &Vector) -> Result<Vector, AllocError>
     })
 }
 
-/// Returns the steady vector, or `None` if a weight in it is above
+/// Returns the vector of the steady certificate, or `None` if one of its weights is above
 /// [`MAX_WEIGHT`](job_bodies::MAX_WEIGHT).
 fn steady_vector(alloc: Global, plan: &Plan, levels: &[u64]) -> Result<Option<Vector>, AllocError>
     requires free { NoCircle plan.now }

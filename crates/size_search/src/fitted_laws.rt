@@ -1,13 +1,14 @@
-//! Laws about fitted plans. Each law is the contract of a function with an empty body.
+//! Laws about fitted plans, whose cores and queues were raised to what a certificate needs. Each
+//! law is the contract of a function with an empty body.
 
 ghost use Rattle.size_search.specs.Fitted.{FittedSizesAreLeast, AcceptedPlansFit, LargerSizesAreAccepted, SmallestFitIsLeast};
 ghost use Rattle.size_search.specs.Widened.{WidenedMaxesAreLeast};
 ghost use Rattle.size_search.specs.Unfit.{ReportedCoresNeedLargerMaxes};
 
-/// Call a plan *larger* if it differs from the given one only in cores and queues, and none is
-/// smaller. States that the fitted plan is larger, that the certificate accepts it, and that no
-/// larger plan that the certificate accepts has a smaller core or queue. If there is no fitted
-/// plan, the certificate accepts no larger plan.
+/// States that the fitted plan is larger, that the certificate accepts it, and that no larger plan
+/// that the certificate accepts has a smaller core or queue. If there is no fitted plan, the
+/// certificate accepts no larger plan. A plan is *larger* here if it differs from the given one
+/// only in cores and queues, and none of them is smaller.
 pub fn fitted_sizes_are_least()
     ensures { FittedSizesAreLeast }
 {}
@@ -17,8 +18,8 @@ pub fn accepted_plans_fit()
     ensures { AcceptedPlansFit }
 {}
 
-/// States that a certificate that accepts a plan also accepts it with other cores and queues, if no
-/// core and no limit of a bound is smaller.
+/// States that a certificate that accepts a plan still accepts it after a change of its cores and
+/// queues, if the change makes no core and no limit of a bound smaller.
 pub fn larger_sizes_are_accepted()
     ensures { LargerSizesAreAccepted }
 {}
@@ -32,7 +33,7 @@ pub fn smallest_fit_is_least()
 /// States that a larger maximum never allows a smaller core. Take sizes with which the certificate
 /// accepts the plan, and in which no maximum is smaller than the plan's. Their cores are at least
 /// those that the certificate needs with the plan's maximums. So their maximums are at least those
-/// of the widened plan.
+/// of the widened plan, in which each maximum was raised to the core that the certificate needs.
 pub fn widened_maxes_are_least()
     ensures { WidenedMaxesAreLeast }
 {}

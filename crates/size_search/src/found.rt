@@ -19,15 +19,14 @@ pub enum SizesFound {
 /// The reason why no sizes were found.
 #[derive(Clone, Copy, PartialEq, Eq)]
 pub enum NoSizes {
-    /// A cause for which no certificate accepts the plan with any sizes. The plan can still be
-    /// safe.
+    /// A cause why no certificate accepts the plan with any sizes. The plan can still be safe.
     Cause(Cause),
-    /// The first attempt failed at the pool with this number, and the plan's steady certificate
-    /// needs sizes above 1,000,000 or has a weight above its limit. Other sizes can exist.
+    /// The plan's steady certificate needs sizes above 1,000,000 or has a weight above its limit,
+    /// and the first attempt failed at the pool with this number. Other sizes can exist.
     TooLarge(usize),
 }
 
-/// The obstacle at which an attempt failed.
+/// The point at which an attempt to find sizes failed.
 #[derive(Clone, Copy, PartialEq, Eq)]
 pub(crate) enum Obstacle {
     /// The pool with this number, for which no vector or no size was found.

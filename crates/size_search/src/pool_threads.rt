@@ -19,7 +19,8 @@ impl PoolThreads {
         }
     }
 
-    /// Returns the sum of the increases of core and maximum that make both at least this core.
+    /// Returns the sum of the increases of core and maximum that are necessary to make both at
+    /// least this core.
     pub(crate) fn shortfall(self, core: u64) -> u64 {
         let max = core.saturating_sub(self.max);
         core.saturating_sub(self.core).saturating_add(max)

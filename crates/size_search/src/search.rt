@@ -27,8 +27,9 @@ use std::alloc::{AllocError, Global};
 /// sizes.
 const FURTHER_ATTEMPTS: usize = 3;
 
-/// The maximum number of pools in a plan for which each pool whose core or maximum has grown is
-/// reset in an attempt of its own.
+/// The maximum number of pools of a plan in which every pool that was raised is reset to its
+/// declared sizes in an attempt of its own. In a plan with more pools, only the most raised pools
+/// are reset.
 const FEW_POOLS: usize = 8;
 
 /// Searches for sizes with which a certificate accepts the plan, with few and small increases. If
@@ -88,7 +89,7 @@ fn search_without_first(alloc: Global, plan: &Plan) -> Result<SizesFound, AllocE
     Ok(found)
 }
 
-/// Searches for sizes for a plan that has no cause for which no sizes are enough.
+/// Searches for sizes for a plan for which [`cause_of`] finds no cause.
 fn sizes_without_cause(alloc: Global, plan: &Plan) -> Result<SizesFound, AllocError>
     requires free { IsWithoutCause plan.now }
     requires well_formed { IsWellFormed plan.now }
@@ -114,8 +115,8 @@ fn sizes_by_rounds(alloc: Global, plan: &Plan) -> Result<Result<(Plan, Cert), Ob
     }
 }
 
-/// Returns a certificate that can be expected to accept the plan with other sizes. It has not been
-/// checked.
+/// Returns a certificate that is likely to accept the plan with other sizes. The certificate was
+/// not checked.
 pub(crate) fn unchecked_certificate(
     alloc: Global,
     plan: &Plan,
@@ -142,7 +143,7 @@ fn cheapest_attempt(
     }
 }
 
-/// Returns the cheapest of the attempts that start with the plan's own sizes.
+/// Returns the cheapest of the attempts that start with the plan's declared sizes.
 fn best_from_declared(
     alloc: Global,
     cache: &mut VectorCache,
@@ -251,8 +252,8 @@ fn most_raised_pools(
     Ok(raised)
 }
 
-/// Returns the cores and maximums that the attempt needs, except that this pool has its declared
-/// ones.
+/// Returns the cores and maximums that the attempt needs, with those of this pool reset to the
+/// declared ones.
 fn reset_pool(
     alloc: Global,
     best: &Attempt,

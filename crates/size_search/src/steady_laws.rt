@@ -1,4 +1,5 @@
-//! The law of steady certificates, the contract of a function with an empty body.
+//! The law of steady certificates, as the contract of a function with an empty body. In the steady
+//! certificate of a plan, one vector is both the standing and the blocked vector of every pool.
 
 ghost use Rattle.size_search.specs.SteadyLaws.{SteadyCertificatesAccept};
 
