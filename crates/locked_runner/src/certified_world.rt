@@ -10,7 +10,7 @@ use held_machines::Machine;
 use interleaving::{Event, Outcome};
 use std::alloc::{AllocError, Global};
 
-/// The machine of a certified plan, which it borrows.
+/// The machine of a certified plan. It borrows the plan.
 #[derive(Clone, Copy, Drop)]
 pub struct CertifiedWorld<'a> {
     certified: &'a Certified,

@@ -113,7 +113,8 @@ impl Replay {
     }
 }
 
-/// Returns the sum of the units and those of the outcome, or `None` if the sum exceeds `u64::MAX`.
+/// Returns the sum of these units and the units of the outcome, or `None` if the sum exceeds
+/// `u64::MAX`.
 fn with_work(units: Option<u64>, outcome: Outcome) -> Option<u64>
     ensures { (n : ℕ) → IsCounted n units → IsCounted (n + worked (Some outcome)) result }
 {

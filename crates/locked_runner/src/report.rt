@@ -84,8 +84,8 @@ impl ThreadFault {
 }
 
 /// The results of the threads of a run: the history, the receipts of each thread, and the fault
-/// that a thread reported. If several threads reported faults, it is the one with the lowest
-/// number.
+/// that was reported. If several threads reported faults, the fault with the lowest number is
+/// stored.
 #[derive(Drop)]
 pub struct ThreadResults {
     pub history: Vec<Event>,
