@@ -22,9 +22,8 @@ pub(crate) struct Sketch {
     pub(crate) done: Vec<u64>,
     /// The weight of a client of each kind at the start of its body.
     pub(crate) starts: Vec<u64>,
-    /// For each pool, the largest weight at any position of the body of a class of the pool. It is
-    /// computed as if a job of that class had the least possible weight when done. Classes that are
-    /// never submitted are ignored.
+    /// For each pool, the largest weight at any position of the bodies of its classes, computed for
+    /// the least possible weight of a done job. Classes that are never submitted are ignored.
     pub(crate) peaks: Vec<u64>,
     /// The weight of all workers in total.
     pub(crate) on_loan: u64,
@@ -103,8 +102,8 @@ impl Sketch {
     }
 
     /// Computes the weight of a client of this kind at the start of its body. A client that repeats
-    /// must weigh at the end as much as at the start. If raising the end to that weight also raises
-    /// the start, no vector exists.
+    /// must weigh at the end as much as at the start. If raising the end to the weight of the start
+    /// also raises the start, no vector exists.
     fn weigh_client(&mut self, target: &Target, client: &Client) -> Result<(), AllocError> {
         let mut weight = Weight::at_end(0);
         let mut peak = 0;

@@ -81,7 +81,8 @@ impl<'a> Target<'a> {
         }
     }
 
-    /// Allows no lenders if the limit is 0: workers with weight would make the total positive.
+    /// Returns the target without lenders if the limit is 0, because workers with weight would make
+    /// the total positive. Otherwise returns the target unchanged.
     pub(crate) fn without_useless_loans(self) -> Target<'a> {
         if self.limit > 0 {
             return self;
