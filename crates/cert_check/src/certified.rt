@@ -26,7 +26,8 @@ impl Model for Certified {
 }
 
 impl Certified {
-    /// Pairs the plan with the certificate if the certificate accepts the plan. Allocates nothing.
+    /// Pairs the plan with the certificate if the certificate accepts the plan. Allocates no
+    /// memory.
     ///
     /// # Errors
     ///
