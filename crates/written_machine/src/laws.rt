@@ -52,8 +52,8 @@ pub fn full_waiting_sets_stay()
     ensures { FullWaitingSetsStay }
 {}
 
-/// Proves that, in every reachable state of a well-formed plan, if core equals the maximum in each
-/// pool with a queued member of a waiting set, these pools have their maximum of threads.
+/// Proves that, in every reachable state of a well-formed plan, each pool with a queued member of a
+/// waiting set has its maximum of threads, if core equals the maximum in each of these pools.
 pub fn fixed_pools_are_full()
     ensures { FixedPoolsAreFull }
 {}
