@@ -18,8 +18,8 @@ pub fn number_of(text: &[u8]) -> Option<usize>
     }
 }
 
-/// Parses the digits at the start of a text. Returns their number and the text after them, or
-/// `None` if they are not a number as in [`number_of`].
+/// Parses the digits at the start of a text. Returns the parsed number and the text after the
+/// digits. Returns `None` if the digits are not a number as in [`number_of`].
 pub fn leading_number(text: &[u8]) -> Option<(usize, &[u8])>
     ensures { option_map (λ found. (found.0, found.1.now)) result ≡ spec.leading_number text.now }
 {
