@@ -34,7 +34,8 @@ struct ReplayedState<'a> {
     lost: Vec<u64>,
 }
 
-/// The result of a best-first search.
+/// The violation that a best-first search found, if any, and the number of states that the search
+/// may still visit.
 #[derive(Drop)]
 pub(crate) struct BestFirstResult {
     /// A permanent violation, if one was found.
@@ -185,7 +186,7 @@ impl<'a> BestFirst<'a> {
     }
 
     /// Visits the successors of the state with this number, and returns the first permanent
-    /// violation.
+    /// violation, if any.
     fn expand(&mut self, number: usize) -> Result<Option<(Script, Violation)>, AllocError> {
         let replayed = self.replayed(number)?;
         for branch in &replayed.walk.branches(self.alloc)? {

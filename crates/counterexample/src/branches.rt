@@ -63,7 +63,7 @@ impl<'a> Walk<'a> {
             && !ready.is_empty())
     }
 
-    /// Returns the weight that the branch loses under this vector.
+    /// Returns the weight that the state loses under this vector if the branch is taken.
     pub(crate) fn loss(&self, branch: Branch, potential: &Potential) -> u64 {
         let Some(choice) = self.choices.all.get(branch.place).copied() else {
             return 0;

@@ -13,7 +13,7 @@ const NO_CHOICE: usize = usize::MAX;
 pub(crate) enum Choice {
     /// A new client of this client kind starts its body and performs the first submit in it.
     Begin(usize),
-    /// A client of this client kind, which has moved before, performs the first submit of its body.
+    /// A client of this client kind that moved earlier performs the first submit of its body.
     First(usize),
     /// A client of this client kind performs a later submit of its body.
     Later(usize),

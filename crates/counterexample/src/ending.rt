@@ -5,8 +5,8 @@
 pub enum Ending {
     /// The last event is a submit that the pool with this number refuses.
     Refused(usize),
-    /// After the last event, the jobs with these numbers wait only for each other, permanently and
-    /// for this reason.
+    /// After the last event, the jobs with these numbers wait only for each other. The second field
+    /// is the reason why no later event ends the wait.
     StuckForever(Vec<usize>, Reason),
     /// After the last event, the jobs with these numbers wait only for each other. A later event
     /// may end the wait.

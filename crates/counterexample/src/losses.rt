@@ -16,7 +16,7 @@ const MAX_LOST: u64 = 1_000_000;
 /// unblock its parent, the end of the parent can unblock the grandparent, and so on.
 const MAX_PARENTS: usize = 16;
 
-/// A state, and the vector by which its losses are measured.
+/// A state, and the vector that determines the losses of its choices.
 #[derive(Clone, Copy)]
 pub(crate) struct Losses<'a> {
     machine: &'a Machine<'a>,

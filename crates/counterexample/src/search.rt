@@ -26,7 +26,7 @@ const RANDOM_WALKS: usize = 1500;
 /// is.
 #[derive(Drop)]
 pub struct CandidateWitness {
-    /// The events, from the plan's initial state.
+    /// The events that lead from the plan's initial state to the violation.
     pub events: Vec<Event>,
     /// The numbers of the jobs that wait only for each other after the events. Empty if the last
     /// event is a refused submit.

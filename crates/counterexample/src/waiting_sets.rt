@@ -17,7 +17,7 @@ pub(crate) struct JobSet {
 
 impl JobSet {
     /// Returns the greatest set of jobs that wait only for each other, which may be empty. If
-    /// `permanent` is `true`, each pool in whose queue a member waits must have `max` threads, so
+    /// `permanent` is `true`, each pool that has a member in its queue must have `max` threads, so
     /// that the members wait permanently.
     pub(crate) fn greatest(
         alloc: Global,

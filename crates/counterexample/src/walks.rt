@@ -21,8 +21,8 @@ const FOR_A_LOSS: u64 = 10_000_000_000_000;
 pub(crate) enum Violation {
     /// The last event is a refused submit.
     Refused,
-    /// Some jobs wait only for each other, and each pool in whose queue one of them waits has `max`
-    /// threads.
+    /// Some jobs wait only for each other, and each pool that has one of them in its queue has
+    /// `max` threads.
     StuckForever,
     /// Some jobs wait only for each other. A later event may end the wait.
     StuckNow,
