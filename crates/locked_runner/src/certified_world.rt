@@ -35,7 +35,7 @@ impl<'a> CertifiedWorld<'a> {
 #[derive(Drop)]
 pub struct TracedWorld {
     pub world: ViewedWorld,
-    /// `None` before the first event.
+    /// The outcome of the last event, or `None` before the first event.
     pub outcome: Option<Outcome>,
 }
 

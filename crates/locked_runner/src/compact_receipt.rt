@@ -51,7 +51,7 @@ impl CompactReceipt {
         })
     }
 
-    /// Returns the receipt.
+    /// Returns the receipt in its full form.
     pub fn receipt(&self) -> Receipt<Event>
         ensures { result ≡ self.now }
     {

@@ -82,8 +82,7 @@ impl<'a> Shared<'a> {
         })
     }
 
-    /// Returns the history, and the fault that a thread reported, if any. If several threads
-    /// reported faults, returns the fault with the lowest number.
+    /// Returns the history, and the reported fault with the lowest number, if any.
     pub(crate) fn into_history(self) -> (Vec<Event>, Option<ThreadFault>) {
         let Shared {
             machine,
