@@ -1,4 +1,4 @@
-//! The search for a cause for which no sizes are enough.
+//! The search for a cause: a reason why no certificate accepts a plan, whatever its sizes.
 
 ghost use Rattle.std.specs.Prelude.{◌≡◌, ◌<◌, ◌↔◌, ℕ, [], ◌∷◌, true, IfOk, IfSome, IfNone, length};
 ghost use Rattle.job_bodies.specs.Plan.{class_at};
@@ -13,7 +13,8 @@ use crate::submitted_classes::SubmittedClasses;
 use job_bodies::{Action, Plan, has_get_of};
 use std::alloc::{AllocError, Global};
 
-/// Returns a cause for which no sizes are enough, or `None` if the plan has no such cause.
+/// Returns a reason why no certificate accepts the plan, whatever its sizes. Returns `None` if the
+/// plan has no such cause.
 ///
 /// # Errors
 ///

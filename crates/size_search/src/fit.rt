@@ -105,7 +105,7 @@ fn failing_elsewhere(alloc: Global, plan: &Plan, cert: &Cert) -> Result<Option<N
     Ok(first_elsewhere(&failing))
 }
 
-/// Returns the reason why the plan cannot be fitted, or `None` if there is none. `raised` are the
+/// Returns the reason why the plan cannot be fitted, or `None` if there is none. `raised` has the
 /// plan's pools with raised sizes.
 fn unfit(
     alloc: Global,

@@ -18,8 +18,8 @@ pub fn accepted_plans_fit()
     ensures { AcceptedPlansFit }
 {}
 
-/// States that a certificate that accepts a plan still accepts it after a change of its cores and
-/// queues, if the change makes no core and no limit of a bound smaller.
+/// States that a certificate that accepts a plan still accepts it with other cores and queues, if
+/// no core is smaller and the total of no bound has a smaller limit.
 pub fn larger_sizes_are_accepted()
     ensures { LargerSizesAreAccepted }
 {}
@@ -39,8 +39,8 @@ pub fn widened_maxes_are_least()
 {}
 
 /// States that a pool needs a larger maximum if its core is the reason why the plan is not fitted.
-/// The pool's maximum is larger in all sizes with which the certificate accepts the plan and in
-/// which no maximum is smaller than the plan's.
+/// Consider any sizes with which the certificate accepts the plan, and in which no maximum is
+/// smaller than the plan's: the maximum of this pool is larger.
 pub fn reported_cores_need_larger_maxes()
     ensures { ReportedCoresNeedLargerMaxes }
 {}

@@ -19,7 +19,7 @@ pub enum SizesFound {
 /// The reason why no sizes were found.
 #[derive(Clone, Copy, PartialEq, Eq)]
 pub enum NoSizes {
-    /// A cause why no certificate accepts the plan with any sizes. The plan can still be safe.
+    /// No certificate accepts the plan with any sizes, for this reason. The plan can still be safe.
     Cause(Cause),
     /// The plan's steady certificate needs sizes above 1,000,000 or has a weight above its limit,
     /// and the first attempt failed at the pool with this number. Other sizes can exist.

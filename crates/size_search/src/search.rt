@@ -27,9 +27,8 @@ use std::alloc::{AllocError, Global};
 /// sizes.
 const FURTHER_ATTEMPTS: usize = 3;
 
-/// The maximum number of pools of a plan in which every pool that was raised is reset to its
-/// declared sizes in an attempt of its own. In a plan with more pools, only the most raised pools
-/// are reset.
+/// The number of pools up to which one further attempt is made for each raised pool, with this pool
+/// reset to its declared sizes. In a plan with more pools, only the most raised pools are reset.
 const FEW_POOLS: usize = 8;
 
 /// Searches for sizes with which a certificate accepts the plan, with few and small increases. If
@@ -41,12 +40,12 @@ const FEW_POOLS: usize = 8;
 /// sizes to what the certificate needs. Further attempts raise another pool first, or start with
 /// one pool reset to its declared sizes. The result is the attempt with the smallest sum of
 /// increases. If no attempt succeeds, the result is the plan's steady certificate with the least
-/// sizes for it. Unless the steady certificate is too large, sizes are returned only if a new
-/// search finds a certificate of the plan with these sizes.
+/// sizes for it. A new search must find a certificate of the plan with the returned sizes. Only if
+/// the steady certificate is too large, sizes without this property can be returned.
 ///
-/// If no sizes are found, either the plan has a cause for which no sizes are enough, or the steady
-/// certificate is too large. So if the steady certificate is not too large, sizes are found exactly
-/// when some exist: when no class submits itself, directly or through other classes, and no
+/// If no sizes are found, either the plan has a cause (a reason why no sizes are enough), or the
+/// steady certificate is too large. So if the steady certificate is not too large, sizes are found
+/// exactly when some exist: when no class submits itself, directly or through other classes, and no
 /// repeating client causes a submit that is never got.
 ///
 /// The contract proves that the certificate accepts the plan with these sizes, and that they are

@@ -17,7 +17,8 @@ enum VectorKey {
     Standing,
     Lifetime,
     Blocked {
-        /// For each class, whether a get of its jobs by a job of this pool is counted.
+        /// For each class, whether a get of a job of that class is counted if a job of this pool
+        /// performs it.
         counted: Vec<bool>,
         /// Whether the workers of other pools can have weight.
         lending: bool,
@@ -59,8 +60,9 @@ impl CacheEntry {
     }
 
     /// Returns whether the workers of the pool got weight in the search for the cached vector.
-    /// Returns `false` if the search found no vector. It gave workers weight only because of
-    /// classes that are never submitted, and larger maximums are not tried again for these classes.
+    /// Returns `false` if the search found no vector. That search gave workers weight only because
+    /// of classes that are never submitted, and larger maximums are not tried again for these
+    /// classes.
     fn is_lender(&self, pool: usize) -> bool {
         match &self.answer {
             Some(summary) => summary.lenders.contains(&pool),
@@ -98,7 +100,7 @@ impl CacheHit {
     }
 }
 
-/// A plan whose sizes are searched for, with the vectors computed so far.
+/// A plan, and a cache of the vectors that were computed for it with different maximums.
 #[derive(Drop)]
 pub(crate) struct VectorCache<'a> {
     pub(crate) plan: &'a Plan,
@@ -211,8 +213,8 @@ impl PoolCache {
         })
     }
 
-    /// Returns, for each class, whether a get of its jobs by a job of this pool is counted, if the
-    /// pool has this rank.
+    /// Returns, for each class, whether a get of a job of that class is counted if a job of this
+    /// pool performs it. `rank` is the rank of this pool.
     fn counted(&self, alloc: Global, reach: &[u64], rank: u64) -> Result<Vec<bool>, AllocError> {
         self.gets
             .iter()
