@@ -1,5 +1,5 @@
 //! The steady certificate, which is the result of the search if the rounds find no certificate. In
-//! it, one vector is both the bound and the blocked vector of every pool.
+//! this certificate, one vector is both the bound and the blocked vector of every pool.
 
 ghost use Rattle.std.specs.Prelude.{◌≡◌, false, IfOk, IfSome, IfNone, IsTrue};
 ghost use Rattle.job_bodies.specs.WellFormed.{IsWellFormed};
