@@ -33,7 +33,7 @@ pub struct CandidateWitness {
     pub members: Vec<usize>,
 }
 
-/// The result of a search.
+/// The result of a search: a probable witness, if one was found, and the number of visited states.
 #[derive(Drop)]
 pub struct SearchResult {
     /// A probable witness, if one was found.
@@ -74,7 +74,7 @@ pub fn search_witness(alloc: Global, plan: &Plan, states: usize) -> Result<Searc
     })
 }
 
-/// The state of a search.
+/// The state of a search for a witness.
 #[derive(Drop)]
 struct Search<'a> {
     alloc: Global,

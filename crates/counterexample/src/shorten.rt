@@ -1,4 +1,4 @@
-//! The reduction of a script to a shorter one with the same violation.
+//! The reduction of a script to a shorter script with the same violation.
 
 use crate::replays::Replay;
 use crate::scripts::Script;

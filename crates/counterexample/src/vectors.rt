@@ -14,7 +14,7 @@ pub(crate) struct Potential {
 }
 
 /// Computes the lightest vectors of each pool, and returns those that are heavier than the plan's
-/// sizes allow. They show where the plan may fail.
+/// sizes allow. These vectors show where the plan may fail.
 pub(crate) fn missed_vectors(alloc: Global, plan: &Plan) -> Result<Vec<Potential>, AllocError> {
     let mut vectors = MissedVectors {
         alloc,

@@ -5,8 +5,8 @@ use job_bodies::MAX_POOLS;
 use std::alloc::{AllocError, Global};
 use written_machine::Parent;
 
-/// The maximum work for reducing one set: the number of members whose removal is tried, times the
-/// number of jobs.
+/// The maximum work for reducing one set. The work is the number of members whose removal is tried,
+/// times the number of jobs.
 const MAX_LOOKS: usize = 4_000_000;
 
 /// A set of jobs of a machine, by number.
@@ -138,8 +138,8 @@ impl JobSet {
     }
 
     /// Removes each member that waits for no job or for a job outside the set, and returns `true`
-    /// if it removed one. Visits the jobs from the latest to the first, because a job waits for a
-    /// job that was created after it.
+    /// if it removed one. Visits the jobs from the latest to the first, because each job waits only
+    /// for a job that was created later.
     fn shrink_once(&mut self, machine: &Machine, closed: &[bool]) -> bool {
         let mut changed = false;
         for number in (0..machine.jobs.len()).rev() {

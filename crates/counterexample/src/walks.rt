@@ -42,7 +42,7 @@ pub(crate) struct Rules {
     pub(crate) changing: bool,
 }
 
-/// The result of a walk.
+/// The events of a walk, and the violation in which they end, if any.
 #[derive(Drop)]
 pub(crate) struct WalkResult {
     pub(crate) script: Script,
@@ -60,7 +60,8 @@ pub(crate) enum WalkStep {
     Nothing,
 }
 
-/// The state of a walk.
+/// The state of a walk: the machine, the events so far, and the actors that are ready for each
+/// choice.
 #[derive(Drop)]
 pub(crate) struct Walk<'a> {
     pub(crate) machine: Machine<'a>,
@@ -198,8 +199,8 @@ impl<'a> Walk<'a> {
         }
     }
 
-    /// Removes an actor from those that are ready for this choice, and returns the actor. `newer`
-    /// is the number of actors that became ready for the choice after that actor.
+    /// Removes and returns one of the actors that are ready for this choice. `newer` is the number
+    /// of actors that became ready after this actor.
     fn take_ready(&mut self, place: usize, newer: usize) -> Option<Parent> {
         let ready = self.ready.get_mut(place)?;
         let at = ready.len().checked_sub(1)?.checked_sub(newer)?;
@@ -352,7 +353,7 @@ impl<'a> Walk<'a> {
         Ok(())
     }
 
-    /// Adds the actor, which is at a submit, to those that are ready for that submit.
+    /// Adds the actor, which is at a submit, to the actors that are ready for that submit.
     fn add_ready(&mut self, actor: Parent, position: usize) -> Result<(), AllocError> {
         let place = self.choices.place_of(&self.machine, actor, position);
         if let Some(ready) = place.and_then(|place| self.ready.get_mut(place)) {
