@@ -20,9 +20,8 @@ pub struct Levels {
     /// The classes in ascending order of levels: each class comes after all classes that it
     /// submits.
     pub order: Vec<usize>,
-    /// For each class, whether clients submit it, directly or through other jobs. No jobs of a
-    /// class that is not submitted are ever created, so such a class does not count towards any
-    /// total.
+    /// For each class, whether clients submit it, directly or through other jobs. A class that is
+    /// not submitted never has a job, so it does not count towards any total.
     pub submitted: Vec<bool>,
 }
 

@@ -14,10 +14,11 @@ use std::alloc::AllocError;
 /// The number of bisection steps that find one weight from 0 to [`MAX_SIZE`].
 const HALVINGS: usize = 20;
 
-/// Returns the loan that leaves the fewest classes that are never submitted with a weight above the
-/// limit. Of several such loans, returns the one with the least weight of all workers in total.
-/// Returns `None` if no loan makes the number of these classes smaller. `place` is the index of the
-/// sketch for `workers`. `workers` is modified during the call and restored before it returns.
+/// Returns the loan that leaves the fewest overweight classes. A class is *overweight* if it is
+/// never submitted and has a weight above the limit. If several loans leave the same number,
+/// returns the loan with the least weight of all workers in total. Returns `None` if no loan makes
+/// the number of overweight classes smaller. `place` is the index of the sketch for `workers`.
+/// `workers` is modified during the call and restored before it returns.
 pub(crate) fn relieving_loan(
     sketch_cache: &mut SketchCache,
     workers: &mut [u64],
@@ -64,9 +65,9 @@ pub(crate) fn relieving_loan(
     Ok(best)
 }
 
-/// Returns the least weight of the pool's workers with which at most `overweight_unsubmitted`
-/// classes that are never submitted have weights above the limit. Uses bisection, which is correct
-/// because heavier workers never leave more of these classes above the limit.
+/// Returns the least weight of a worker of the pool with which at most `overweight_unsubmitted`
+/// classes are overweight: never submitted, and with a weight above the limit. Uses bisection,
+/// which is correct because heavier workers never leave more classes overweight.
 fn least_weight(
     sketch_cache: &SketchCache,
     workers: &mut [u64],

@@ -65,8 +65,8 @@ impl Sketch {
     }
 
     /// Computes the weights of a queued and of a done job of the class. A done job gets the
-    /// greatest weight that its body allows, because a get then returns more to its actor. It never
-    /// weighs more than a queued job.
+    /// greatest weight that its body allows, because a get then returns more to its actor. A done
+    /// job never weighs more than a queued job.
     fn weigh_class(
         &mut self,
         target: &Target,

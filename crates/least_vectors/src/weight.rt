@@ -5,7 +5,7 @@ ghost use Rattle.std.specs.Prelude.{◌≡◌, ◌≤◌};
 /// The least weight of an actor at a position of its body.
 #[derive(Clone, Copy, PartialEq, Eq)]
 pub(crate) struct Weight {
-    /// The least weight at this position, if the weight at the end of the body is the one that
+    /// The least weight at this position, for the weight at the end of the body that
     /// [`Weight::at_end`] was given.
     pub(crate) number: u64,
     /// The greatest increase of the weight at the end of the body that does not increase the weight
