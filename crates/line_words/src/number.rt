@@ -5,8 +5,8 @@ ghost use Rattle.line_words.specs.Number as spec;
 
 use job_bodies::MAX_LINE_NUMBER;
 
-/// Parses a number: decimal digits without a leading zero, except `0` itself, with a value of at
-/// most [`MAX_LINE_NUMBER`]. Returns `None` if the text is not such a number.
+/// Parses a number of at most [`MAX_LINE_NUMBER`]: decimal digits without a leading zero, except
+/// `0` itself. Returns `None` for any other text.
 pub fn number_of(text: &[u8]) -> Option<usize>
     ensures { result ≡ spec.number_of text.now }
 {
