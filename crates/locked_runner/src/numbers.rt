@@ -88,8 +88,8 @@ fn by_jobs(
     Ok(submitted_by_all(plan, rounds, &numbers))
 }
 
-/// Adds up the numbers of the submitted classes over all submits of the clients in all their
-/// rounds. `numbers` has the number of each class.
+/// Returns a sum over all submits of the clients in all their rounds. Each submit adds the number
+/// that `numbers` has for the submitted class.
 fn submitted_by_all(plan: &Plan, rounds: u64, numbers: &[u64]) -> u64
     ensures { (f : ℕ → ℕ)
         → spec.AreCapped plan.now f numbers.now
@@ -170,8 +170,8 @@ fn units_in(body: &[Action]) -> u64
     total
 }
 
-/// Adds up the numbers of the submitted classes over all submits of the body. `numbers` has the
-/// number of each class.
+/// Returns a sum over all submits of the body. Each submit adds the number that `numbers` has for
+/// the submitted class.
 fn submitted(body: &[Action], numbers: &[u64]) -> u64
     ensures { result ≡ capped (spec.submitted (slice_index numbers.now) body.now) }
 {

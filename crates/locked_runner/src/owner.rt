@@ -53,8 +53,8 @@ fn pool_of_class(plan: &Plan, class: usize) -> u8
 }
 
 /// Returns the owner of the event. Returns `None` for a retirement, since no thread of a run
-/// performs one. `pool` is the pool of the job that performs the event. It is not used if no job
-/// performs the event.
+/// performs one. `pool` is the pool of the job that performs the event. This argument is not used
+/// if no job performs the event.
 pub(crate) fn owner_by(event: Event, pool: u8) -> Option<Owner>
     ensures { result ≡ spec.owner_by event pool }
 {

@@ -89,7 +89,8 @@ impl Replay {
     ///
     /// # Errors
     ///
-    /// Returns `AllocError` if there is not enough memory for the event. It is then not replayed.
+    /// Returns `AllocError` if there is not enough memory for the event. The event is then not
+    /// replayed.
     fn replay_event(&mut self, plan: &Plan, event: Event) -> Result<bool, AllocError>
         requires { IsReachableView plan.now self.old.world }
         ensures made { IfOk result (λ made.
