@@ -83,8 +83,7 @@ fn push_blocked_notes(
     found.push_notes(notes, Section::Blocked(pool))
 }
 
-/// Appends the failing conditions of a pool: those of its bound, and then those of its blocked
-/// vector.
+/// Appends the failing conditions of a pool: first of its bound, and then of its blocked vector.
 pub(crate) fn push_pool_notes(
     alloc: Global,
     notes: &mut Vec<Note>,
