@@ -13,8 +13,8 @@ use crate::submitted_classes::SubmittedClasses;
 use job_bodies::{Action, Plan, has_get_of};
 use std::alloc::{AllocError, Global};
 
-/// Returns a reason why no certificate accepts the plan, whatever its sizes. Returns `None` if the
-/// plan has no such cause.
+/// Returns a cause: a reason why no certificate accepts the plan, whatever its sizes. Returns
+/// `None` if the plan has no cause.
 ///
 /// # Errors
 ///

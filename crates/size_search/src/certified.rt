@@ -11,8 +11,8 @@ use std::alloc::{AllocError, Global};
 use weights::{Ranks, Vector};
 
 /// Returns the certificate of an assignment in which every pool has a rank. The caller then
-/// computes the sizes that this certificate needs, starting from the plan's sizes. They can be
-/// smaller than those of the assignment.
+/// computes the sizes that this certificate needs, starting from the plan's sizes. These sizes can
+/// be smaller than the sizes of the assignment.
 pub(crate) fn cert_of(
     alloc: Global,
     cache: &mut VectorCache,

@@ -180,8 +180,8 @@ fn smallest_pools(alloc: Global, plan: &Plan) -> Result<Vec<Pool>, AllocError>
 }
 
 /// Returns the plan with each core and each queue set to 1. [`fitted`] raises the sizes of that
-/// plan to the least cores and queues with which the certificate accepts the plan. These can be
-/// smaller than the declared ones.
+/// plan to the least cores and queues with which the certificate accepts the plan. These sizes can
+/// be smaller than the declared sizes.
 ///
 /// # Errors
 ///

@@ -7,7 +7,7 @@ use cert_text::Cert;
 use job_bodies::Plan;
 use std::alloc::AllocError;
 
-/// The result of a search for sizes.
+/// The result of a search for sizes: a plan with new sizes, or the reason why no sizes were found.
 #[derive(Drop)]
 pub enum SizesFound {
     /// A plan with new sizes, and a certificate that accepts it.
@@ -36,9 +36,9 @@ pub(crate) enum Obstacle {
 }
 
 impl Obstacle {
-    /// Returns the number of the pool to report: that of the obstacle, or 0 if the obstacle names
-    /// no pool of the plan. The search is not trusted, so an obstacle can name a pool that does not
-    /// exist.
+    /// Returns the number of the pool to report. This is the pool of the obstacle, or 0 if the
+    /// obstacle names no pool of the plan. The search is not trusted, so an obstacle can name a
+    /// pool that does not exist.
     pub(crate) fn pool(self, plan: &Plan) -> usize
         requires { 0 < length plan.now.pools }
         ensures { result < length plan.now.pools }

@@ -26,7 +26,7 @@ impl PoolThreads {
         core.saturating_sub(self.core).saturating_add(max)
     }
 
-    /// Returns the sum by which core and maximum exceed those of `other`.
+    /// Returns the sum by which core and maximum exceed the core and maximum of `other`.
     pub(crate) fn growth(self, other: PoolThreads) -> u64 {
         let max = self.max.saturating_sub(other.max);
         self.core.saturating_sub(other.core).saturating_add(max)

@@ -76,7 +76,7 @@ pub fn search_sizes(
     search_without_first(alloc, plan)
 }
 
-/// Searches for sizes without a given certificate.
+/// Searches for sizes if no certificate is given that accepts the plan.
 fn search_without_first(alloc: Global, plan: &Plan) -> Result<SizesFound, AllocError>
     ensures found { IfOk result (IsFound plan.now) }
     ensures decided { IfOk result (IsDecided plan.now) }
@@ -251,8 +251,8 @@ fn most_raised_pools(
     Ok(raised)
 }
 
-/// Returns the cores and maximums that the attempt needs, with those of this pool reset to the
-/// declared ones.
+/// Returns the cores and maximums that the attempt needs, after this pool is reset to its declared
+/// core and maximum.
 fn reset_pool(
     alloc: Global,
     best: &Attempt,

@@ -60,9 +60,8 @@ impl CacheEntry {
     }
 
     /// Returns whether the workers of the pool got weight in the search for the cached vector.
-    /// Returns `false` if the search found no vector. That search gave workers weight only because
-    /// of classes that are never submitted, and larger maximums are not tried again for these
-    /// classes.
+    /// Returns `false` if the search found no vector, so that the search is not repeated for larger
+    /// maximums.
     fn is_lender(&self, pool: usize) -> bool {
         match &self.answer {
             Some(summary) => summary.lenders.contains(&pool),
