@@ -1,5 +1,5 @@
-//! The rows of the actions of a body. Each of them compares the weights of an actor before and
-//! after one action.
+//! The rows of the actions of a body. Each row compares the weights of an actor before and after
+//! one action.
 
 ghost use Rattle.std.specs.Prelude.{◌≡◌, ◌<◌, ℕ, List, length, slice_index, slice_index_or, IsTrue};
 ghost use Rattle.job_bodies.specs.declared.action.Action.TheVariants.{Work};

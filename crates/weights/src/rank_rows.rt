@@ -145,8 +145,8 @@ fn visit_class_rows<V: RowVisitor>(
 }
 
 impl Ranks {
-    /// Passes all conditions of the ranks to the visitor. They are, for each class, K1, then K2 of
-    /// each get and K3 of each submit.
+    /// Passes all conditions of the ranks to the visitor: for each class, K1, and then K2 of each
+    /// get and K3 of each submit.
     pub fn visit_rank_rows<V: RowVisitor>(&self, plan: &Plan, visitor: &mut V)
         requires { IsTrue (spec.ranks_fit plan.now self.now) }
         ensures { Visits V.HasSeen visitor.old visitor.new (spec.rank_rows plan.now self.now) }

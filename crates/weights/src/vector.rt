@@ -5,8 +5,8 @@ ghost use Rattle.weights.specs.Vector as spec;
 
 use std::marker::Model;
 
-/// The weights of all points of a plan, in plan order. They belong to one bound of one pool. Each
-/// weight is from 0 to [`MAX_WEIGHT`](job_bodies::MAX_WEIGHT).
+/// The weights of all points of a plan, in plan order. A certificate has two vectors for each pool.
+/// Each weight is from 0 to [`MAX_WEIGHT`](job_bodies::MAX_WEIGHT).
 #[derive(Debug, Drop)]
 pub struct Vector {
     /// The weight of one worker of each pool.

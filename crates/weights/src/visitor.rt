@@ -21,7 +21,7 @@ pub trait RowVisitor {
 /// A visitor that stores the first failing row. Allocates no memory.
 #[derive(Clone, Copy)]
 pub struct FirstFault {
-    /// The first failing row of those that were visited, or `None` if none of them fails.
+    /// The first visited row that fails, or `None` if no visited row fails.
     pub found: Option<RowFault>,
 }
 
