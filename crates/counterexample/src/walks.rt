@@ -16,7 +16,7 @@ use written_machine::Parent;
 /// than every key, so that the keys decide only among equal losses.
 const FOR_A_LOSS: u64 = 10_000_000_000_000;
 
-/// The violation that a list of events ends in.
+/// The violation in which a list of events ends.
 #[derive(Clone, Copy, PartialEq, Eq)]
 pub(crate) enum Violation {
     /// The last event is a refused submit.
