@@ -16,8 +16,8 @@ const HALVINGS: usize = 20;
 
 /// Returns the loan that leaves the fewest overweight classes. A class is *overweight* if it is
 /// never submitted and has a weight above the limit. If several loans leave the same number,
-/// returns the loan with the least weight of all workers in total. Returns `None` if no loan makes
-/// the number of overweight classes smaller. `place` is the index of the sketch for `workers`.
+/// returns the loan with the least total weight of all workers. Returns `None` if no loan makes the
+/// number of overweight classes smaller. `place` is the index of the sketch for `workers`.
 /// `workers` is modified during the call and restored before it returns.
 pub(crate) fn relieving_loan(
     sketch_cache: &mut SketchCache,

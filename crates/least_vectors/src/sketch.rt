@@ -25,7 +25,7 @@ pub(crate) struct Sketch {
     /// For each pool, the largest weight at any position of the bodies of its classes, computed for
     /// the least possible weight of a done job. Classes that are never submitted are ignored.
     pub(crate) peaks: Vec<u64>,
-    /// The weight of all workers in total.
+    /// The total weight of all workers.
     pub(crate) on_loan: u64,
     /// The number of classes that are never submitted and have a weight above the limit.
     pub(crate) overweight_unsubmitted: usize,

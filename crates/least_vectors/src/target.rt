@@ -110,7 +110,7 @@ impl<'a> Target<'a> {
         }
     }
 
-    /// Returns the weight of all workers in total, given the weight of a worker of each pool.
+    /// Returns the total weight of all workers, given the weight of a worker of each pool.
     pub(crate) fn workers_weigh(&self, plan: &Plan, workers: &[u64]) -> u64 {
         let mut total = 0u64;
         for (number, pool) in plan.pools().iter().enumerate() {
