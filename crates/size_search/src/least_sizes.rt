@@ -61,7 +61,7 @@ fn have_same_maxes(plan: &Plan, other: &Plan) -> bool {
         .all(|(pool, other)| pool.max == other.max)
 }
 
-/// Converts the reason why the maximums could not be raised into an obstacle.
+/// Returns the obstacle that corresponds to the reason why the maximums could not be raised.
 fn obstacle_of_wide(unfit: Unfit) -> Obstacle {
     match unfit {
         Unfit::Core(pool) => Obstacle::Pool(pool),
@@ -69,9 +69,9 @@ fn obstacle_of_wide(unfit: Unfit) -> Obstacle {
     }
 }
 
-/// Converts the reason why the plan with raised maximums could not be fitted into an obstacle. A
-/// core above its pool's maximum becomes an unknown obstacle, since it need not exceed the limit of
-/// sizes.
+/// Returns the obstacle that corresponds to the reason why the plan with raised maximums could not
+/// be fitted. A core above its pool's maximum becomes an unknown obstacle, since it need not exceed
+/// the limit of sizes.
 fn obstacle_of_fit(unfit: Unfit) -> Obstacle {
     match unfit {
         Unfit::Queue(pool) => Obstacle::Pool(pool),

@@ -22,9 +22,9 @@ use job_bodies::{MAX_POOLS, Plan};
 use least_vectors::Levels;
 use std::alloc::{AllocError, Global};
 
-/// The maximum number of further attempts that raise another pool first. In a plan with more than
-/// [`FEW_POOLS`] pools, also the maximum number of attempts that reset one pool to its declared
-/// sizes.
+/// The maximum number of further attempts that raise another pool first. It also limits the
+/// attempts that reset one pool to its declared sizes, if the plan has more than [`FEW_POOLS`]
+/// pools.
 const FURTHER_ATTEMPTS: usize = 3;
 
 /// The number of pools up to which one further attempt is made for each raised pool, with this pool
@@ -40,8 +40,8 @@ const FEW_POOLS: usize = 8;
 /// sizes to what the certificate needs. Further attempts raise another pool first, or start with
 /// one pool reset to its declared sizes. The result is the attempt with the smallest sum of
 /// increases. If no attempt succeeds, the result is the plan's steady certificate with the least
-/// sizes for it. A new search must find a certificate of the plan with the returned sizes. Only if
-/// the steady certificate is too large, sizes without this property can be returned.
+/// sizes for it. A new search finds a certificate of the plan with the returned sizes, unless the
+/// steady certificate is too large.
 ///
 /// If no sizes are found, either the plan has a cause (a reason why no sizes are enough), or the
 /// steady certificate is too large. So if the steady certificate is not too large, sizes are found

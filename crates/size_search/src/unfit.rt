@@ -14,7 +14,7 @@ pub enum Unfit {
     /// The certificate does not have the shape of the plan, or one of its numbers is above the
     /// limit.
     Shape,
-    /// The first condition that fails and does not depend on cores and queues.
+    /// The first condition that fails and that does not depend on cores and queues.
     Condition(Note),
     /// The core of the pool with this number would be above the pool's maximum or, if maximums can
     /// be raised, above 1,000,000.
