@@ -1,6 +1,6 @@
 //! A best-first search for a violation. Several measures take turns in selecting the next state to
-//! expand: the weight lost under a vector, the threads that do not wait, and the room of the pool
-//! with the least room.
+//! expand. They are the weight lost under a vector, the number of threads that do not wait, and the
+//! room of the pool with the least room.
 
 use crate::branches::Branch;
 use crate::choices::Choices;
