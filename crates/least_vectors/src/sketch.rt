@@ -9,7 +9,7 @@ use job_bodies::{Action, Class, Client, MAX_WEIGHT, Plan};
 use std::alloc::{AllocError, Global};
 use weights::submitted_class;
 
-/// The total of a sketch for which no vector exists, because a weight is above the limit or a
+/// The total of a sketch for which no vector exists. Either a weight is above the limit, or a
 /// client that repeats would need ever more weight. A total that overflows is also this number.
 pub(crate) const TOO_HEAVY: u64 = u64::MAX;
 
