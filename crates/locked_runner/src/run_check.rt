@@ -160,9 +160,9 @@ fn fault_of(
     Ok(None)
 }
 
-/// Returns `true` if the history was replayed to its end, has these numbers of jobs and units of
-/// work, and is complete, and if each of its events has exactly one receipt in the lists. The
-/// caller must have checked that each list has only receipts of its own client or pool.
+/// Returns `true` if the history was replayed to its end, is complete, has these numbers of jobs
+/// and units of work, and has exactly one receipt in the lists for each event. The caller must have
+/// checked that each list has only receipts of its own client or pool.
 ///
 /// # Errors
 ///
