@@ -11,9 +11,9 @@ pub fn no_sizes_help()
     ensures { NoSizesHelp }
 {}
 
-/// States when a plan has sizes with which some certificate accepts it: exactly when no class
-/// submits itself, directly or through other classes, and no repeating client causes a submit that
-/// is never got. The plan's steady certificate must be within the limits.
+/// States when a plan has sizes with which some certificate accepts it, if its steady certificate
+/// is within the limits. This is the case exactly when no class submits itself, directly or through
+/// other classes, and no repeating client causes a submit that is never got.
 pub fn sizes_exist()
     ensures { SizesExist }
 {}

@@ -39,8 +39,8 @@ pub fn widened_maxes_are_least()
 {}
 
 /// States that a pool needs a larger maximum if its core is the reason why the plan is not fitted.
-/// Consider any sizes with which the certificate accepts the plan, and in which no maximum is
-/// smaller than the plan's: the maximum of this pool is larger.
+/// If the certificate accepts the plan with other sizes, and no maximum is smaller than before, the
+/// maximum of this pool is larger than before.
 pub fn reported_cores_need_larger_maxes()
     ensures { ReportedCoresNeedLargerMaxes }
 {}
