@@ -20,8 +20,8 @@ pub fn accepted_plans_are_safe()
     ensures { AcceptedPlansAreSafe }
 {}
 
-/// Proves that, if a certificate accepts a well-formed plan, an event of a job or a take from a
-/// queue is possible in every reachable state with an unfinished job.
+/// Proves that a well-formed plan makes progress if a certificate accepts it: in every reachable
+/// state with an unfinished job, an event of a job or a take from a queue is possible.
 pub fn accepted_plans_make_progress()
     ensures { AcceptedPlansMakeProgress }
 {}
@@ -34,9 +34,9 @@ pub fn accepted_plans_drain()
     ensures { AcceptedPlansDrain }
 {}
 
-/// Proves that, if each pool of a well-formed plan has a standing or a lifetime vector whose rows
-/// hold, no reachable state has a refused submit, a pool with more threads than its maximum, or a
-/// queue longer than its capacity. No ranks and no blocked vectors are needed.
+/// Proves that a well-formed plan refuses nothing if each pool has a standing or a lifetime vector
+/// whose rows hold. No reachable state then has a refused submit, a pool with more threads than its
+/// maximum, or a queue longer than its capacity. No ranks and no blocked vectors are needed.
 pub fn bounded_plans_refuse_nothing()
     ensures { BoundedPlansRefuseNothing }
 {}
@@ -47,9 +47,9 @@ pub fn accepted_plans_are_java_safe()
     ensures { AcceptedPlansAreJavaSafe }
 {}
 
-/// Proves that, if a certificate accepts a well-formed plan, an event of a job or a take from a
-/// queue is possible in every reachable state with an unfinished job, even if a submit takes the
-/// separate steps of Java's `execute`.
+/// Proves that a well-formed plan makes progress if a certificate accepts it, even if a submit
+/// takes the separate steps of Java's `execute`: in every reachable state with an unfinished job,
+/// an event of a job or a take from a queue is possible.
 pub fn accepted_plans_make_java_progress()
     ensures { AcceptedPlansMakeJavaProgress }
 {}
@@ -63,17 +63,17 @@ pub fn accepted_plans_java_drain()
     ensures { AcceptedPlansJavaDrain }
 {}
 
-/// Proves what holds for a well-formed plan in which each pool has a standing or a lifetime vector
+/// Proves that a well-formed plan refuses nothing if each pool has a standing or a lifetime vector
 /// whose rows hold, even if a submit takes the separate steps of Java's `execute`. No reachable
-/// state has a refused submit, a pool with more threads than its maximum, or a queue longer than
-/// its capacity.
+/// state then has a refused submit, a pool with more threads than its maximum, or a queue longer
+/// than its capacity.
 pub fn bounded_plans_java_refuse_nothing()
     ensures { BoundedPlansJavaRefuseNothing }
 {}
 
-/// Proves what holds for each pool with a standing vector in a well-formed plan, if each pool has a
-/// standing or a lifetime vector whose rows hold. No call of Java's `execute` ever finds the pool's
-/// queue full, and so no call requests a thread above core from the pool.
+/// Proves that no call of Java's `execute` ever finds the queue of a pool with a standing vector
+/// full, so that no call requests a thread above core from this pool. Each pool of the well-formed
+/// plan must have a standing or a lifetime vector whose rows hold.
 pub fn standing_pools_are_not_asked()
     ensures { StandingPoolsAreNotAsked }
 {}
@@ -87,9 +87,9 @@ pub fn accepted_plans_may_skip()
     ensures { AcceptedPlansMaySkip }
 {}
 
-/// Proves that, if a certificate accepts a well-formed plan, the plan makes progress even if actors
-/// skip submits and exchange their jobs of one class: in every reachable state with an unfinished
-/// job, an event of a job or a take is possible, without a further skip or exchange.
+/// Proves that a well-formed plan makes progress if a certificate accepts it, even if actors skip
+/// submits and exchange their jobs of one class. In every reachable state with an unfinished job,
+/// an event of a job or a take from a queue is possible, without a further skip or exchange.
 pub fn accepted_plans_make_progress_with_skips()
     ensures { AcceptedPlansMakeProgressWithSkips }
 {}
