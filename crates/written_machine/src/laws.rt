@@ -31,8 +31,8 @@ pub fn gets_have_children()
     ensures { GetsHaveChildren }
 {}
 
-/// Proves that the test for a waiting set accepts exactly the lists of jobs that are waiting sets:
-/// a waiting set has at least one job, each of its jobs is queued or at a get, and each waits only
+/// Proves that the test for a waiting set accepts exactly the lists of jobs that are waiting sets.
+/// A waiting set has at least one job, each of its jobs is queued or at a get, and each waits only
 /// for members of the set.
 pub fn waiting_sets_are_tested()
     ensures { WaitingSetsAreTested }
@@ -52,8 +52,8 @@ pub fn full_waiting_sets_stay()
     ensures { FullWaitingSetsStay }
 {}
 
-/// Proves that, in every reachable state of a well-formed plan, each pool with a queued member of a
-/// waiting set has its maximum of threads, if core equals the maximum in each of these pools.
+/// Proves that, in every reachable state of a well-formed plan, the pools with queued members of a
+/// waiting set have their maximums of threads, if core equals the maximum in all these pools.
 pub fn fixed_pools_are_full()
     ensures { FixedPoolsAreFull }
 {}
