@@ -4,8 +4,8 @@ ghost use Rattle.soundness.specs.CountedGets.{FewerThanCoreMayBlock, NoLooseWait
 ghost use Rattle.soundness.specs.Drain.{FullIsWhole, FullIsOfThePlan};
 
 /// Proves that fewer jobs of a pool than its core size can be blocked in a reachable state, if the
-/// rows of the ranks and of the pool's blocked vector hold. These are the running jobs whose
-/// current action or a later one is a counted get.
+/// rows of the ranks and of the pool's blocked vector hold. A job can be blocked if it runs, and
+/// its current action or a later action is a counted get.
 pub fn fewer_than_core_may_block()
     ensures { FewerThanCoreMayBlock }
 {}
