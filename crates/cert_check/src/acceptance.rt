@@ -15,7 +15,7 @@ use cert_text::Cert;
 use job_bodies::Plan;
 use weights::{Bound, RanksOf, blocked_fault};
 
-/// Returns whether the certificate fits the plan and all its conditions hold. Allocates nothing.
+/// Returns whether the certificate fits the plan and all its conditions hold. Allocates no memory.
 pub fn accepts(plan: &Plan, cert: &Cert) -> bool
     ensures exact { result ≡ accepted plan.now cert.now }
     ensures promises { IsTrue result → Promises plan.now cert.now }
@@ -55,8 +55,8 @@ pub(crate) fn pool_holds(plan: &Plan, cert: &Cert, pool: usize) -> bool
 /// Returns whether the certificate fits the plan and gives each pool a standing vector whose
 /// conditions all hold. Ignores the blocked vectors and the ranks.
 ///
-/// If it returns `true`, no submit is ever refused, even if each submit takes the separate steps of
-/// Java's `execute`. Allocates nothing.
+/// If the result is `true`, no submit is ever refused, even if each submit takes the separate steps
+/// of Java's `execute`. Allocates no memory.
 pub fn accepts_standing(plan: &Plan, cert: &Cert) -> bool
     ensures exact { result ≡ spec.accepted_standing plan.now cert.now }
     ensures refuses_nothing { IsTrue result → RefusesNothing plan.now }

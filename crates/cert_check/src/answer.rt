@@ -4,7 +4,7 @@ ghost use Rattle.cert_check.specs.Verdict as spec;
 
 use std::marker::Model;
 
-/// The totals of a pool's two vectors, each with its limit.
+/// The totals of a pool's bound and of its blocked vector, each with its limit.
 #[derive(Clone, Copy, Debug, PartialEq, Eq)]
 pub struct PoolLine {
     /// Whether the vector that bounds the queue is a lifetime vector.

@@ -26,7 +26,8 @@ impl Model for Certified {
 }
 
 impl Certified {
-    /// Pairs the plan with the certificate if the certificate accepts the plan. Allocates nothing.
+    /// Pairs the plan with the certificate if the certificate accepts the plan. Allocates no
+    /// memory.
     ///
     /// # Errors
     ///
@@ -52,7 +53,7 @@ impl Certified {
         &self.plan
     }
 
-    /// Returns the certificate. It accepts the plan.
+    /// Returns the certificate, which accepts the plan.
     pub fn cert(&self) -> &Cert
         ensures cert { result.now ≡ self.now.cert }
         ensures accepted { IsTrue (accepted self.now.plan self.now.cert) }

@@ -1,4 +1,4 @@
-//! The check, from bytes to a verdict.
+//! The check of a certificate, from the bytes of two texts to a verdict.
 
 ghost use Rattle.std.specs.Prelude.{◌≡◌, ◌≢◌, IfOk, IfErr, IsTrue, Ok, Err};
 ghost use Rattle.cert_check.specs.declared.from_bytes.CheckFault.TheVariants.{Memory};
@@ -17,9 +17,9 @@ pub enum CheckFault {
     Plan(PlanFault),
     /// The first fault of the certificate's text.
     Cert(CertFault),
-    /// Out of memory. Says nothing about the texts.
+    /// Memory ran out. This fault says nothing about the texts.
     Memory,
-    /// The gate of a check on threads stopped the check at a pool.
+    /// The gate returned `false` for a pool. Only a check on threads calls a gate.
     Gate,
 }
 

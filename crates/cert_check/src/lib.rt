@@ -1,5 +1,5 @@
-//! The check of a certificate against a plan, and what an accepted certificate guarantees: no
-//! submit is ever refused, and jobs never wait only for each other.
+//! The check of a certificate against a plan. If the check accepts the certificate, no submit is
+//! ever refused, and jobs never wait only for each other.
 //!
 //! [`check`] goes from bytes to a verdict. Its clause `safe` states what a `yes` means for every
 //! state that any list of events reaches. Nothing is assumed about the certificate or its author.

@@ -28,8 +28,8 @@ pub(crate) struct PoolCheck {
     pub(crate) holds: bool,
 }
 
-/// Checks a plan and a certificate, as [`check`](crate::check) does, on up to `workers` threads,
-/// each of which checks some of the pools. `workers` is from 1 to
+/// Checks a plan and a certificate on up to `workers` threads, with the same result as
+/// [`check`](crate::check). Each thread checks some of the pools. `workers` is from 1 to
 /// [`MAX_WORKERS`](job_bodies::MAX_WORKERS). Each thread calls the gate before it checks a pool,
 /// without holding a lock. If no thread can be started, the calling thread checks the pools.
 ///
@@ -85,8 +85,8 @@ fn verdict_on<R: Threads + Sync, G: PoolGate>(
     }
 }
 
-/// Returns the results of all pools, each checked on one of the threads. The result of a pool for
-/// which the gate returned `false` is `None`.
+/// Checks each pool on one of the threads, and returns the results of all pools. The result of a
+/// pool is `None` if the gate returned `false` for it.
 fn check_pools<R: Threads + Sync, G: PoolGate>(
     rt: &R,
     alloc: Global,
@@ -104,7 +104,7 @@ fn check_pools<R: Threads + Sync, G: PoolGate>(
     Ok(found)
 }
 
-/// Writes the result of each pool to the element at the pool's index.
+/// Checks each pool, and writes the result to the element at the pool's index.
 fn check_pools_into<R: Threads + Sync, G: PoolGate>(
     rt: &R,
     workers: usize,
@@ -158,7 +158,7 @@ fn check_pool<G: PoolGate>(plan: &Plan, cert: &Cert, gate: &G, pool: usize) -> O
     })
 }
 
-/// Builds the verdict from the results of the pools, in plan order, and from the ranks. Returns
+/// Builds the verdict from the ranks and from the results of the pools, in plan order. Returns
 /// `None` if a pool has no result.
 fn verdict_of(
     alloc: Global,

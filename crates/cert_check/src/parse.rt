@@ -1,4 +1,4 @@
-//! The reading of two texts: a plan, and a certificate for it.
+//! The parser of the two texts of a check: a plan, and a certificate for it.
 
 ghost use Rattle.std.specs.Prelude.{◌≡◌, ◌≢◌, IfOk, IfErr, IsTrue, Ok, Err};
 ghost use Rattle.support.specs.declared.number.TheConstants.{MEMORY};

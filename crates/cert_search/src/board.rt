@@ -1,5 +1,5 @@
-//! The work list of one round: the state of each pool, and the operations by which workers claim
-//! and return pools.
+//! The board of one round: the state of each pool, and the operations by which workers claim pools
+//! and give them back.
 
 ghost use Rattle.std.specs.Prelude.{◌≡◌, ◌++◌, ◌∷◌, [], List, true, false, Some, None, IfOk, IfSome, OnErr, IsTrue, is_some, position, slice_get};
 ghost use Rattle.std.specs.List.{list_all};
@@ -12,7 +12,7 @@ use held_machines::{Held, Machine};
 use std::alloc::{AllocError, Global};
 use std::marker::Model;
 
-/// The state of a pool on the board.
+/// The state of a pool on the board of a round.
 #[derive(Clone, Copy, PartialEq, Eq)]
 pub(crate) enum PoolStatus {
     /// A pool that no worker has claimed.
@@ -23,7 +23,7 @@ pub(crate) enum PoolStatus {
     Done,
 }
 
-/// An action of a worker on the board.
+/// An action of a worker on the board of a round.
 #[derive(Clone, Copy, PartialEq, Eq)]
 pub(crate) enum BoardEvent {
     /// Claims a free pool.
@@ -129,7 +129,7 @@ impl PoolStatuses {
     }
 }
 
-/// The board of a round, on which each pool without a rank is claimed once.
+/// The board of a round, on which workers claim each pool without a rank once.
 #[derive(Drop)]
 pub(crate) struct Board {
     /// For each pool, whether it has a rank from an earlier round.
@@ -190,8 +190,8 @@ pub(crate) fn claim(board: &mut Held<Board>) -> Result<Option<usize>, AllocError
     }
 }
 
-/// Gives a pool back to the board, and returns whether the pool was claimed. If it was not, the
-/// board is unchanged.
+/// Gives a pool back to the board, and returns whether the pool was claimed. If it was not claimed,
+/// the board is unchanged.
 ///
 /// # Errors
 ///

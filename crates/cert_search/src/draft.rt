@@ -1,4 +1,4 @@
-//! A certificate whose parts become known round by round.
+//! A draft: a certificate whose parts become known round by round.
 
 use crate::round::PoolVectors;
 use cert_text::{Cert, PoolCert};
@@ -7,7 +7,7 @@ use least_vectors::{Levels, reach};
 use std::alloc::{AllocError, Global};
 use weights::{Bound, Ranks, Vector};
 
-/// The known parts of one pool's certificate.
+/// The known parts of a certificate for one pool.
 #[derive(Drop)]
 struct PoolDraft {
     rank: Option<u64>,
@@ -15,7 +15,7 @@ struct PoolDraft {
     blocked: Option<Vector>,
 }
 
-/// The known parts of each pool's certificate, in plan order.
+/// The known parts of a certificate for each pool, in plan order.
 #[derive(Drop)]
 pub(crate) struct Draft {
     pools: Vec<PoolDraft>,
@@ -57,8 +57,8 @@ impl Draft {
     }
 
     /// Records the results of a round, and gives this rank to each pool whose blocked vector was
-    /// found. Returns `false` if no pool got the rank, or if this was the first round and it found
-    /// no bound for some pool.
+    /// found. Returns `false` if no pool got the rank. Also returns `false` if this was the first
+    /// round and it found no bound for some pool.
     pub(crate) fn note(&mut self, found: Vec<PoolVectors>, rank: u64) -> bool {
         let mut moved = false;
         let mut bounded = true;

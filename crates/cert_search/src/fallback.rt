@@ -1,4 +1,5 @@
-//! The steady certificate, as the result of the search if the rounds find no certificate.
+//! The steady certificate, which is the result of the search if the rounds find no certificate. In
+//! this certificate, one vector is both the bound and the blocked vector of every pool.
 
 ghost use Rattle.std.specs.Prelude.{◌≡◌, false, IfOk, IfSome, IfNone, IsTrue};
 ghost use Rattle.job_bodies.specs.WellFormed.{IsWellFormed};
@@ -12,9 +13,9 @@ use job_bodies::Plan;
 use size_search::{cause_of, steady};
 use std::alloc::{AllocError, Global};
 
-/// Returns the plan's steady certificate if it accepts the plan with its declared sizes. If the
-/// plan has a cause for which no sizes are enough, returns `None`, because no certificate accepts
-/// the plan.
+/// Returns the plan's steady certificate if it accepts the plan with its declared sizes. Returns
+/// `None` if the plan has a cause for which no sizes are enough, because then no certificate
+/// accepts the plan.
 pub(crate) fn steady_if_accepted(alloc: Global, plan: &Plan) -> Result<Option<Cert>, AllocError>
     ensures accepted { IfOk result
         (λ found. IfSome found (λ cert. IsTrue (accepted plan.now cert))) }

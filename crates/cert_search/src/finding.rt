@@ -18,15 +18,15 @@ use std::alloc::{AllocError, Global};
 use std::sync::Wait;
 use std::thread::Threads;
 
-/// An error of a search.
+/// The reason why a search for a certificate fails.
 #[derive(Clone, Copy, Debug, PartialEq, Eq)]
 pub enum SearchFault {
     /// Memory ran out, or a thread could not be started.
     Memory,
-    /// In some round a worker claimed a pool that the plan does not have, a worker gave back a pool
-    /// that was not claimed, a pool was never given back, or a pool without a rank had no result or
-    /// several, or another pool had one. No proof covers what threads do under a lock, so this is
-    /// checked at run time.
+    /// The workers of some round were inconsistent: a worker claimed a pool that the plan does not
+    /// have or gave back a pool that was not claimed, a pool was never given back, or a pool had a
+    /// wrong number of results. A pool without a rank must have one result, and any other pool must
+    /// have none. No proof covers what threads do under a lock, so this is checked at run time.
     Mixed,
     /// The gate returned `false` for a pool.
     Gate,
@@ -82,7 +82,7 @@ pub fn search<R: Threads + Wait + Sync, G: PoolGate>(
     Ok(steady_if_accepted(alloc, plan)?)
 }
 
-/// Returns the certificate that the rounds find. It has not been checked.
+/// Returns the certificate that the rounds find. The certificate was not checked.
 fn search_rounds<R: Threads + Wait + Sync, G: PoolGate>(
     rt: &R,
     alloc: Global,

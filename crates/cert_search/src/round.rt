@@ -19,7 +19,7 @@ use weights::{Bound, Vector, submitted_class};
 pub(crate) struct Round<'a> {
     pub(crate) plan: &'a Plan,
     pub(crate) levels: &'a Levels,
-    /// The reach of each class, computed with this round's rank for each pool that has no rank.
+    /// The reach of each class, if the pools without a rank get this round's rank.
     pub(crate) reach: &'a [u64],
     /// The reach of each class in the previous round. It is empty in the first round.
     pub(crate) reach_before: &'a [u64],
@@ -38,8 +38,8 @@ pub(crate) struct PoolVectors {
 
 impl Round<'_> {
     /// Searches for the vectors of a pool. Does not search for a blocked vector if the jobs of the
-    /// pool have the same counted gets as in the previous round, because that round found none.
-    /// Returns [`SearchFault::Mixed`] if the plan does not have the pool.
+    /// pool have the same counted gets as in the previous round, because the previous round found
+    /// none. Returns [`SearchFault::Mixed`] if the plan does not have the pool.
     fn search_pool(&self, alloc: Global, pool: usize) -> Result<PoolVectors, SearchFault>
         ensures named { IfOk result (λ found. found.pool ≡ pool) }
         ensures exists { IfOk result (λ _. pool < length self.now.plan.now.pools) }
@@ -67,8 +67,8 @@ impl Round<'_> {
         })
     }
 
-    /// Returns whether the jobs of a pool without a rank have the same counted gets as in the
-    /// previous round. Returns `false` in the first round.
+    /// Returns whether the jobs of the pool have the same counted gets as in the previous round.
+    /// The pool must not have a rank. Returns `false` in the first round.
     fn counts_same_gets(&self, pool: usize) -> bool {
         if self.rank == 0 {
             return false;
@@ -81,8 +81,8 @@ impl Round<'_> {
         true
     }
 
-    /// Returns whether a job with this body, of a pool without a rank, has the same counted gets as
-    /// in the previous round.
+    /// Returns whether a job with this body has the same counted gets as in the previous round. The
+    /// job's pool must not have a rank.
     fn body_counts_same_gets(&self, body: &[Action]) -> bool {
         let rank_before = self.rank.saturating_sub(1);
         for action in body {

@@ -1,4 +1,5 @@
-//! The workers of a round: one on the calling thread, and each other worker on a thread of its own.
+//! The workers of a round. One of them runs on the calling thread, and each other worker on a
+//! thread of its own.
 
 ghost use Rattle.std.specs.Prelude.{IfOk, IsTrue};
 ghost use Rattle.cert_search.specs.Results.{are_complete};
@@ -15,7 +16,7 @@ use std::sync::atomic::{AtomicBool, Ordering};
 use std::thread;
 use std::thread::{JoinHandle, Threads};
 
-/// Searches for the vectors of each pool without a rank, with `workers` workers, one of which runs
+/// Searches for the vectors of each pool without a rank, with `workers` workers. One of them runs
 /// on the calling thread. Returns the results of all workers, in no particular order.
 ///
 /// # Errors
@@ -86,7 +87,7 @@ fn join_all<R: Threads>(
     all
 }
 
-/// Returns the results of two workers together, or the fault of one of them.
+/// Returns the results of both workers together. If a worker failed, returns its fault.
 fn both(
     first: Result<Vec<PoolVectors>, SearchFault>,
     second: Result<Vec<PoolVectors>, SearchFault>,

@@ -7,15 +7,15 @@ use crate::body_gets::BodyGet;
 use crate::row::has_submit_at;
 use job_bodies::Action;
 
-/// The part of a body between the last index where the body can be and a later index.
+/// The part of a body from the last index where the body can be to a later index.
 #[derive(Clone, Copy)]
 enum Way {
     /// The body can be at no earlier index.
     Unreached,
-    /// The body may pass each get of the part.
+    /// The body may pass every get between the two indices.
     Free,
-    /// The body may not pass a get of the part. Of the gets of that class, from the first that it may
-    /// not pass, this is the one after which the fewest jobs are open.
+    /// The body may not pass some get between the two indices. Of the first such get and the later
+    /// gets of its class, this is the one after which the fewest jobs of the class are open.
     Blocked(BodyGet),
 }
 

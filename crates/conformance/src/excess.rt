@@ -10,9 +10,9 @@ use std::fmt;
 /// It formats as a short phrase without the kind's name, such as `31 at once, count is 30`.
 #[derive(Clone, Copy, PartialEq, Eq)]
 pub enum Excess {
-    /// This many rounds are open at once.
+    /// `rounds` rounds are open at once, which is more than `count`.
     Concurrent { rounds: u64, count: u64 },
-    /// This many rounds began in all, of a kind that does not repeat.
+    /// `rounds` rounds began in all, which is more than `count`, and the kind does not repeat.
     InAll { rounds: u64, count: u64 },
 }
 

@@ -21,7 +21,8 @@ pub(crate) struct JobClasses {
     pub(crate) is_decided: bool,
 }
 
-/// The classes of the settled jobs whose submitters are not settled, by job number.
+/// A map from job numbers to the classes of jobs. It has the jobs that are settled, that is,
+/// classified, and whose submitters are not settled yet.
 #[derive(Drop)]
 pub(crate) struct ClassTable {
     jobs: IdMap<JobClasses>,

@@ -15,7 +15,7 @@ pub(crate) enum LineQuery {
     Submit(usize),
     /// The line that begins this round.
     Begin(usize),
-    /// A line with which the actor got this job.
+    /// A line that records that the actor got this job.
     Got { actor: RecordedActor, job: usize },
     /// The last line of the actor.
     Last(RecordedActor),

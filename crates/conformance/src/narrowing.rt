@@ -12,12 +12,12 @@ use std::alloc::{AllocError, Global};
 /// A rule that picks one of the classes of each job of a path, among those that a body submits.
 #[derive(Clone, Copy)]
 pub(crate) enum Pick {
-    /// The first of the job's classes.
+    /// The first of the job's classes that the body submits.
     First,
-    /// The last of the job's classes.
+    /// The last of the job's classes that the body submits.
     Last,
-    /// The class of the body's first submit of one of the job's classes, after the submit that was
-    /// picked before.
+    /// The class of the body's next submit of one of the job's classes. The submit comes after
+    /// those that were picked for earlier jobs.
     InOrder,
 }
 

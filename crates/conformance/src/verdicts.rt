@@ -1,4 +1,5 @@
-//! Retained verdicts on classified actors.
+//! The classified actors whose path matches no body of the plan, and those for which this is
+//! undecided.
 
 ghost use Rattle.std.specs.Prelude.{◌≡◌, ◌++◌, ◌∷◌, [], ℕ, List, OnOk};
 ghost use Rattle.job_bodies.specs.Plan as plans;

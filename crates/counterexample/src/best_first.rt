@@ -1,5 +1,6 @@
 //! A best-first search for a violation. Several measures take turns in selecting the next state to
-//! expand.
+//! expand. They are the weight lost under a vector, the number of threads that do not wait, and the
+//! room of the pool with the least room.
 
 use crate::branches::Branch;
 use crate::choices::Choices;
@@ -11,33 +12,35 @@ use std::alloc::{AllocError, Global};
 use std::collections::{BinaryHeap, HashSet};
 use std::hash::{BuildHasherDefault, FoldHasher};
 
-/// The maximum number of vectors whose losses are used as measures.
+/// The maximum number of vectors under which the lost weight is a measure.
 const MAX_VECTORS: usize = 2;
 
 /// A state that the search reached. It is open until the search visits its successors, and then
 /// closed.
 #[derive(Clone, Copy)]
 struct Node {
-    /// The number of the preceding state, from which `branch` leads to this state. The start has
-    /// its own number here.
+    /// The number of the preceding state, from which `branch` leads to this state. For the initial
+    /// state, its own number.
     before: usize,
     branch: Branch,
     is_open: bool,
 }
 
-/// A reached state that was recreated, with the weight that each vector lost on the way to it.
+/// A reached state that was recreated, and the weight that was lost on the way to it under each
+/// vector.
 #[derive(Drop)]
 struct ReplayedState<'a> {
     walk: Walk<'a>,
     lost: Vec<u64>,
 }
 
-/// The result of a best-first search.
+/// The violation that a best-first search found, if any, and the number of states that the search
+/// may still visit.
 #[derive(Drop)]
 pub(crate) struct BestFirstResult {
     /// A permanent violation, if one was found.
     pub(crate) found: Option<(Script, Violation)>,
-    /// Events after which some jobs wait only for each other, perhaps not permanently.
+    /// Events after which some jobs wait only for each other. A later event may end the wait.
     pub(crate) stuck_now: Option<Script>,
     /// The number of states that the search may still visit.
     pub(crate) left: usize,
@@ -69,11 +72,12 @@ struct BestFirst<'a> {
     /// For each measure, a heap of the open states with the most promising one on top. The heap can
     /// also contain closed states.
     opens: Vec<BinaryHeap<(u64, usize), Global>>,
-    /// A lower bound of the numbers of the open states.
+    /// A lower bound of the numbers of the open states, from which the search for the oldest one
+    /// starts.
     oldest: usize,
     /// The number of states that the search may still visit.
     left: usize,
-    /// Events after which some jobs wait only for each other, perhaps not permanently.
+    /// Events after which some jobs wait only for each other. A later event may end the wait.
     stuck_now: Option<Script>,
 }
 
@@ -117,7 +121,8 @@ impl<'a> BestFirst<'a> {
         }
     }
 
-    /// Returns a permanent violation, or `None` if the limit was reached or no open state is left.
+    /// Expands open states until it finds a permanent violation, and returns that violation.
+    /// Returns `None` if the limit of states is reached or no open state is left.
     fn find(&mut self) -> Result<Option<(Script, Violation)>, AllocError> {
         for turn in 0..usize::MAX {
             if self.left == 0 {
@@ -143,9 +148,9 @@ impl<'a> BestFirst<'a> {
         Ok(number)
     }
 
-    /// Closes an open state, and returns its number. The measures take turns, in each of which one
-    /// measure selects its most promising state. In one further turn the oldest open state is
-    /// selected.
+    /// Closes an open state, and returns its number. The measures take turns in selecting their
+    /// most promising state. In the last turn of each cycle, the oldest open state is selected
+    /// instead.
     fn next_open(&mut self, turn: usize) -> Option<usize> {
         let measures = self.opens.len().saturating_add(1);
         let measure = turn.checked_rem(measures)?;
@@ -181,7 +186,7 @@ impl<'a> BestFirst<'a> {
     }
 
     /// Visits the successors of the state with this number, and returns the first permanent
-    /// violation.
+    /// violation, if any.
     fn expand(&mut self, number: usize) -> Result<Option<(Script, Violation)>, AllocError> {
         let replayed = self.replayed(number)?;
         for branch in &replayed.walk.branches(self.alloc)? {
@@ -200,7 +205,7 @@ impl<'a> BestFirst<'a> {
         Ok(None)
     }
 
-    /// Visits the state to which this branch leads, and returns its violation, if any. Returns
+    /// Visits the state to which the branch leads, and returns its violation, if any. Returns
     /// `None` if the state was reached before.
     fn visit(
         &mut self,
@@ -264,7 +269,7 @@ impl<'a> BestFirst<'a> {
         Ok(path)
     }
 
-    /// Recreates the state with this number by performing the branches that lead to it.
+    /// Recreates the state with this number: performs the branches that lead to it.
     fn replayed(&self, number: usize) -> Result<ReplayedState<'a>, AllocError> {
         let mut walk = Walk::start(self.alloc, self.plan, self.choices)?;
         let mut lost = vec![in self.alloc; 0u64; self.potentials.len()]?;
@@ -277,7 +282,7 @@ impl<'a> BestFirst<'a> {
         Ok(ReplayedState { walk, lost })
     }
 
-    /// Returns the events that lead to the state with this number, followed by those of this
+    /// Returns the events that lead to the state with this number, followed by the events of the
     /// branch.
     fn script_of(&self, number: usize, branch: Branch) -> Result<Script, AllocError> {
         let mut replayed = self.replayed(number)?;

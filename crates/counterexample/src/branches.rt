@@ -38,8 +38,8 @@ impl<'a> Walk<'a> {
         })
     }
 
-    /// Returns the branches from this state. If some client is back at its first submit, no new
-    /// client of the same client kind is tried, because that client would act like the new one.
+    /// Returns the branches from this state. A new client of a client kind is tried only if no
+    /// earlier client of the kind is back at its first submit, because both would act alike.
     pub(crate) fn branches(&self, alloc: Global) -> Result<Vec<Branch>, AllocError> {
         let mut branches = Vec::new(alloc);
         for (place, (choice, ready)) in self.choices.all.iter().zip(&self.ready).enumerate() {
@@ -63,7 +63,7 @@ impl<'a> Walk<'a> {
             && !ready.is_empty())
     }
 
-    /// Returns the weight under this vector that the state loses in this branch.
+    /// Returns the weight that the state loses under this vector if the branch is taken.
     pub(crate) fn loss(&self, branch: Branch, potential: &Potential) -> u64 {
         let Some(choice) = self.choices.all.get(branch.place).copied() else {
             return 0;
@@ -112,7 +112,7 @@ impl<'a> Walk<'a> {
             .any(|pool| pool.is_closed(false) && !pool.queued().is_empty())
     }
 
-    /// Returns the state's fingerprint.
+    /// Returns the state's fingerprint, by which the search recognises the state.
     pub(crate) fn fingerprint(&self, alloc: Global) -> Result<u64, AllocError> {
         fingerprint(alloc, &self.machine, self.choices)
     }

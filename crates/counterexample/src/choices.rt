@@ -5,7 +5,7 @@ use job_bodies::{Action, Plan};
 use std::alloc::{AllocError, Global};
 use written_machine::Parent;
 
-/// The value that a position without a submit has in place of the index of a choice.
+/// The value that positions without a submit have instead of the index of a choice.
 const NO_CHOICE: usize = usize::MAX;
 
 /// A choice of what happens next in a walk.
@@ -13,7 +13,7 @@ const NO_CHOICE: usize = usize::MAX;
 pub(crate) enum Choice {
     /// A new client of this client kind starts its body and performs the first submit in it.
     Begin(usize),
-    /// A client of this client kind, which has moved before, performs the first submit of its body.
+    /// A client of this client kind that moved earlier performs the first submit of its body.
     First(usize),
     /// A client of this client kind performs a later submit of its body.
     Later(usize),

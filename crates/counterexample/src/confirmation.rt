@@ -22,15 +22,15 @@ use weights::Vector;
 /// Checks whether a list of events is a witness, and returns the witness if it is.
 ///
 /// `members` are the numbers of the jobs that wait only for each other after the events, in
-/// ascending order and without duplicates. `standing` has one vector for each pool, which may prove
-/// that the pool never has more than `core` threads; `standing` may be empty.
+/// ascending order and without duplicates. `standing` is empty or has one vector for each pool. A
+/// vector that satisfies all conditions of a standing vector proves that its pool never has more
+/// than `core` threads. Any other vector proves nothing.
 ///
-/// The arguments are not trusted. A vector that fails a condition of a standing vector of its pool
-/// proves nothing. The events are replayed up to the first that is a refused submit or is not
-/// possible. If it is a refused submit, the witness ends there, and later events are removed. If it
-/// is not possible, returns `None`. If all events are possible and none is a refused submit,
-/// returns `None` unless the members are in ascending order and wait only for each other after the
-/// last event.
+/// The arguments are not trusted. The events are replayed up to the first one that is a refused
+/// submit or is not possible. If that event is a refused submit, the witness ends with it, and
+/// later events are removed. If that event is not possible, returns `None`. If all events are
+/// possible and none is a refused submit, returns `None` unless the members are in ascending order
+/// and wait only for each other after the last event.
 ///
 /// # Errors
 ///
@@ -68,7 +68,7 @@ fn refused(mut events: Vec<Event>, length: usize, pool: usize) -> Witness
 }
 
 /// Returns the witness that consists of these events, if the members wait only for each other in
-/// this world, to which the events lead.
+/// `world`, which is the world after the events.
 fn stuck(
     plan: &Plan,
     world: &World,
@@ -94,8 +94,8 @@ fn stuck(
     Some(Witness { events, ending })
 }
 
-/// Returns the reason why the members, which wait only for each other, do so permanently. Returns
-/// `None` if neither reason is proved.
+/// Returns the reason why the members wait only for each other permanently. Returns `None` if
+/// neither reason is proved.
 fn reason(plan: &Plan, world: &World, members: &[usize], standing: &[Vector]) -> Option<Reason>
     requires { IsReachableView plan.now world.now.view }
     ensures { (s : State)

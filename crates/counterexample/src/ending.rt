@@ -1,24 +1,24 @@
-//! The ending of a witness.
+//! The ending of a witness: a refused submit, or jobs that wait only for each other.
 
-/// The ending of a witness.
+/// The ending of a witness: a refused submit, or jobs that wait only for each other.
 #[derive(Debug, Drop)]
 pub enum Ending {
     /// The last event is a submit that the pool with this number refuses.
     Refused(usize),
-    /// After the last event, the jobs with these numbers wait only for each other. They do so
-    /// permanently, for this reason.
+    /// After the last event, the jobs with these numbers wait only for each other. The second field
+    /// is the reason why no later event ends the wait.
     StuckForever(Vec<usize>, Reason),
     /// After the last event, the jobs with these numbers wait only for each other. A later event
     /// may end the wait.
     StuckNow(Vec<usize>),
 }
 
-/// The reason why jobs wait only for each other permanently.
+/// The reason why no later event ends the wait of jobs that wait only for each other.
 #[derive(Clone, Copy, Debug, PartialEq, Eq)]
 pub enum Reason {
-    /// Each pool in whose queue one of the jobs waits has `max` threads.
+    /// Each pool that has one of the jobs in its queue has `max` threads.
     PoolsAreFull,
-    /// Each pool in whose queue one of the jobs waits has `max` threads, or never has more than
-    /// `core` threads, as a standing vector proves.
+    /// For each pool that has one of the jobs in its queue, one of two conditions holds: the pool
+    /// has `max` threads, or a standing vector proves that it never has more than `core` threads.
     PoolsStayAtCore,
 }

@@ -10,7 +10,7 @@ use crate::machine::{Job, Machine, Phase};
 use std::alloc::{AllocError, Global};
 use written_machine::Parent;
 
-/// A factor of the hash function.
+/// The number by which the hash function multiplies its second input.
 const FACTOR: u64 = 0x9e37_79b9_7f4a_7c15;
 /// The hash input for the phase of a done job. It is greater than the number of any position.
 const DONE: u64 = 1_000_001;
@@ -56,8 +56,8 @@ fn mixed(first: u64, second: u64) -> u64 {
     mixed ^ (mixed >> 31)
 }
 
-/// The fingerprints of the parts of a state. The fingerprint of an actor includes those of the jobs
-/// that the actor will get.
+/// The fingerprints of the parts of a state. The fingerprint of an actor includes the fingerprints
+/// of the jobs that the actor will get.
 #[derive(Drop)]
 struct Prints<'a> {
     machine: &'a Machine<'a>,
@@ -88,9 +88,9 @@ impl Prints<'_> {
         }
     }
 
-    /// Adds the fingerprint of a job to that of the actor that will get the job. If no actor will
-    /// get it and the job is not done, adds the fingerprint to that of the whole state. The jobs
-    /// that this job will get must have been added before.
+    /// Adds the fingerprint of a job to the fingerprint of the actor that will get the job. If no
+    /// actor will get the job and it is not done, adds its fingerprint to the fingerprint of the
+    /// whole state. The jobs that this job will get must have been added before.
     fn add_job(&mut self, number: usize, job: &Job) {
         let of_jobs = self.of_jobs.get(number).copied().unwrap_or(0);
         let phase = match job.phase {
@@ -106,7 +106,7 @@ impl Prints<'_> {
         }
     }
 
-    /// Adds the fingerprint of a job to that of its parent.
+    /// Adds the fingerprint of a job to the fingerprint of its parent.
     fn add_to_parent(&mut self, parent: Parent, print: u64) {
         match parent {
             Parent::Client(client) => {
@@ -128,8 +128,8 @@ impl Prints<'_> {
             && self.machine.child(job.parent, job.submit) == Some(number)
     }
 
-    /// Adds the fingerprint of a client to that of the whole state, unless the client is at its
-    /// first submit.
+    /// Adds the fingerprint of a client to the fingerprint of the whole state, unless the client is
+    /// at its first submit.
     fn add_client(&mut self, choices: &Choices, number: usize) {
         let actor = Parent::Client(number);
         let Some((position, _)) = self.machine.point(actor) else {

@@ -8,22 +8,23 @@ pub fn witnessed_plans_are_not_accepted()
     ensures { WitnessedPlansAreNotAccepted }
 {}
 
-/// Proves that a plan that has a witness is not safe: in some reachable state a submit was
-/// refused, or unfinished jobs wait only for each other.
+/// Proves that a plan with a witness is not safe: in some reachable state a submit was refused, or
+/// unfinished jobs wait only for each other.
 pub fn witnessed_plans_are_not_safe()
     ensures { WitnessedPlansAreNotSafe }
 {}
 
 /// Proves that a pool never has more than `core` threads if some vector satisfies the conditions of
-/// a standing vector of the pool. This holds whatever the other pools do: they may even refuse
+/// a standing vector of the pool. Nothing is assumed about the other pools, which may even refuse
 /// submits.
 pub fn standing_pools_stay_at_core()
     ensures { StandingPoolsStayAtCore }
 {}
 
 /// Proves that a permanent waiting set lasts: after every list of events it is still a waiting set,
-/// and none of its jobs has moved. A waiting set is permanent if each pool with a queued member has
-/// `max` threads, or has a standing vector whose conditions hold.
+/// and none of its jobs has moved. A waiting set is a set of jobs that wait only for each other. It
+/// is permanent if each pool with a queued member has `max` threads, or has a standing vector whose
+/// conditions hold.
 pub fn permanent_waiting_sets_stay()
     ensures { PermanentWaitingSetsStay }
 {}

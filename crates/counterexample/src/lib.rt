@@ -1,8 +1,9 @@
 //! Counterexamples to a plan: the search for one, its confirmation on the machine, and its event
 //! lines.
 //!
-//! A [`Witness`] is a list of events that ends in a refused submit, or after which jobs wait only
-//! for each other. The search is not trusted: [`confirmed`] replays the events that it finds.
+//! A [`Witness`] is a list of events. Either its last event is a refused submit, or some jobs wait
+//! only for each other after it. The search is not trusted: [`confirmed`] replays the events that
+//! the search finds.
 #![tactic(auto)]
 
 mod best_first;

@@ -1,6 +1,6 @@
-//! The loss of a choice: how much it decreases a state's weight under a vector. The weight never
-//! rises. If the vector's total exceeds the bound by `e`, a walk that violates the bound loses at
-//! most `e` in all.
+//! The loss of a choice: the amount by which the choice decreases the weight of the state. A vector
+//! of weights determines the weight of each state, and no event increases it. If the vector's total
+//! exceeds the bound by `e`, a walk that violates the bound loses at most `e` in all.
 
 use crate::choices::Choice;
 use crate::machine::Machine;
@@ -9,13 +9,14 @@ use crate::vectors::Potential;
 use job_bodies::{Action, MAX_ACTIONS};
 use written_machine::Parent;
 
-/// The maximum loss that is returned, also for a choice whose loss cannot be computed.
+/// The largest loss that [`Losses::of`] returns. Also the result if the loss of a choice cannot be
+/// computed.
 const MAX_LOST: u64 = 1_000_000;
-/// The maximum number of ancestors that are followed when the end of a job unblocks its parent, and
-/// the end of the parent unblocks the grandparent, and so on.
+/// The maximum number of ancestors that are followed when a job ends. The end of the job can
+/// unblock its parent, the end of the parent can unblock the grandparent, and so on.
 const MAX_PARENTS: usize = 16;
 
-/// A state, and the vector by which its losses are measured.
+/// A state, and the vector that determines the losses of its choices.
 #[derive(Clone, Copy)]
 pub(crate) struct Losses<'a> {
     machine: &'a Machine<'a>,
@@ -36,8 +37,8 @@ impl WeightedBody<'_> {
         self.row.get(position).copied().unwrap_or(0)
     }
 
-    /// Returns the weight of an actor that has performed the work actions from this position up to
-    /// the next submit or get, and whether the actor has then reached the end of its body.
+    /// Returns the weight of an actor after the work actions that begin at this position, and
+    /// whether the actor is then at the end of its body.
     fn settled(&self, position: usize) -> (u64, bool) {
         let mut position = position;
         for _ in 0..MAX_ACTIONS {
@@ -56,7 +57,7 @@ impl<'a> Losses<'a> {
         Losses { machine, potential }
     }
 
-    /// Returns the loss of a possible choice that this actor makes.
+    /// Returns the loss if this actor makes the choice, which must be possible.
     pub(crate) fn of(&self, choice: Choice, actor: Option<Parent>) -> u64 {
         let lost = match choice {
             Choice::Begin(kind) => self.of_begin(kind),
@@ -163,8 +164,9 @@ impl<'a> Losses<'a> {
         }
     }
 
-    /// Returns the loss of a take of a job of the class from its queue. If the job then runs to its
-    /// end, this includes the loss of the actors that its end unblocks.
+    /// Returns the loss if a thread takes the first job of its pool's queue. The job belongs to
+    /// this class. If the job then ends without a submit or a get, the losses of the actors that
+    /// its end unblocks are included.
     fn of_take(&self, class: usize) -> Option<u64> {
         let pool = self.machine.plan.class_at(class)?.pool;
         let mut job = self.machine.pools.get(pool)?.next_to_take()?;

@@ -1,5 +1,5 @@
 //! A lightweight machine for searches. It stores the pools, all jobs that were created, and the
-//! clients that have moved, but no list of events.
+//! clients that have moved. It stores no list of events.
 
 use crate::pools::{Admission, SearchPool};
 use job_bodies::{Action, MAX_ACTIONS, Plan};
@@ -138,7 +138,9 @@ impl<'a> Machine<'a> {
         }
     }
 
-    /// Returns the latest job that the actor created by the submit at this position of its body.
+    /// Returns the number of the job that the actor created at position `submit` of its body, or
+    /// `None` if there is none. If there are several, because the actor started its body again,
+    /// returns the latest. Looks only at the latest [`MAX_ACTIONS`] jobs of the actor.
     pub(crate) fn child(&self, actor: Parent, submit: usize) -> Option<usize> {
         let mut next = self.newest(actor);
         for _ in 0..MAX_ACTIONS {
@@ -160,8 +162,8 @@ impl<'a> Machine<'a> {
         }
     }
 
-    /// Returns `true` if the actor's body has a get of the submit at this position, and the actor
-    /// has not passed that get.
+    /// Returns `true` if the actor's body has a get of the submit at position `submit`, and the
+    /// actor has not passed that get.
     pub(crate) fn is_to_get(&self, actor: Parent, submit: usize) -> bool {
         let Some((position, _)) = self.point(actor) else {
             return false;
@@ -180,7 +182,7 @@ impl<'a> Machine<'a> {
         }
     }
 
-    /// Returns `true` if the job is done.
+    /// Returns `true` if the job has reached the end of its body.
     pub(crate) fn is_done(&self, job: usize) -> bool {
         self.jobs
             .get(job)

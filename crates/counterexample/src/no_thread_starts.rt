@@ -1,4 +1,5 @@
-//! The check that the pools with queued members of a waiting set start no further thread.
+//! The check that no pool with a queued member of a waiting set starts a further thread. A waiting
+//! set is a set of jobs that wait only for each other.
 
 ghost use Rattle.std.specs.Prelude.{◌≡◌, ◌<◌, length, slice_get};
 ghost use Rattle.interleaving.specs.ViewStep.{live_job};
@@ -9,9 +10,9 @@ use interleaving::{Phase, World};
 use job_bodies::Plan;
 use weights::Vector;
 
-/// Returns `true` if each queued member is in the queue of a pool that starts no thread while a job
-/// is queued. Such a pool has `max` threads, or its vector in `standing` proves that it never has
-/// more than `core` threads. Allocates no memory.
+/// Returns `true` if no queued member is in the queue of a pool that can start a thread. A pool
+/// starts no thread if it has `max` threads, or if its vector in `standing` proves that it never
+/// has more than `core` threads. Allocates no memory.
 pub(crate) fn all_start_no_thread(
     plan: &Plan,
     world: &World,

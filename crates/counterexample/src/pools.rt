@@ -49,7 +49,8 @@ impl SearchPool {
         })
     }
 
-    /// Returns the response of the pool if a job is offered to it in this state.
+    /// Returns the pool's response to a job that is offered in this state, without changing the
+    /// pool.
     pub(crate) fn answer(&self) -> Admission {
         if self.threads < self.core {
             Admission::Started

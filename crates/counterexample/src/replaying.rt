@@ -11,8 +11,8 @@ use std::alloc::AllocError;
 
 /// The result of the replay of a list of events.
 pub(crate) enum ReplayResult {
-    /// A submit is refused. The first number is the number of events up to the first refused
-    /// submit, and the second is the pool that refuses it.
+    /// A submit is refused. The first number is the number of events up to and including the first
+    /// refused submit. The second is the pool that refuses it.
     Refused(usize, usize),
     /// An event is not possible, and no earlier event is a refused submit.
     NotPossible,

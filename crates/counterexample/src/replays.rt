@@ -8,7 +8,8 @@ use job_bodies::Plan;
 use std::alloc::{AllocError, Global};
 use written_machine::{Event, Parent};
 
-/// The state of a replay.
+/// The state of a replay: the machine, and the clients and jobs that correspond to the clients and
+/// jobs of the script.
 #[derive(Drop)]
 pub(crate) struct Replay<'a> {
     pub(crate) machine: Machine<'a>,
@@ -23,7 +24,7 @@ pub(crate) struct Replay<'a> {
 }
 
 impl<'a> Replay<'a> {
-    /// Replays the events of the script whose entry in `kept` is `true`, up to the first refused
+    /// Replays each event of the script for which `kept` has `true`, up to the first refused
     /// submit.
     pub(crate) fn of(
         alloc: Global,

@@ -3,7 +3,7 @@
 ghost use Rattle.std.specs.Prelude.{◌≡◌};
 ghost use Rattle.counterexample.specs.Rising.{are_rising, rise_above};
 
-/// Returns `true` if each number is greater than the one before it.
+/// Returns `true` if each number is greater than the number before it.
 pub(crate) fn are_rising(numbers: &[usize]) -> bool
     ensures { result ≡ are_rising numbers.now }
 {
@@ -14,7 +14,7 @@ pub(crate) fn are_rising(numbers: &[usize]) -> bool
 }
 
 /// Returns `true` if the first number is greater than `last`, and each other number is greater than
-/// the one before it.
+/// the number before it.
 fn rise_above(mut last: usize, mut numbers: &[usize]) -> bool
     ensures { result ≡ rise_above last numbers.now }
 {

@@ -5,8 +5,8 @@ use job_bodies::Plan;
 use std::alloc::{AllocError, Global};
 use written_machine::{Event, Parent};
 
-/// An event of a script, and the job that it created. Clients have the numbers of [`Machine`], in
-/// the order of their first steps.
+/// An event of a script, and the number of the job that the event created. Clients are numbered as
+/// in [`Machine`]: in the order of their first steps.
 #[derive(Clone, Copy, PartialEq, Eq)]
 pub(crate) struct ScriptStep {
     pub(crate) event: Event,
@@ -30,7 +30,7 @@ impl Script {
         }
     }
 
-    /// Appends the event of a step of this actor with this outcome.
+    /// Appends the event in which this actor performs a step with this outcome.
     pub(crate) fn add(&mut self, actor: Parent, outcome: StepOutcome) -> Result<(), AllocError> {
         let made = match outcome {
             StepOutcome::Created { job, .. } => Some(job),

@@ -1,4 +1,6 @@
-//! The search for a witness.
+//! The search for a witness: several kinds of walks, and then a best-first search. A walk makes one
+//! possible choice after the other. A guided walk makes the choices that lose the least weight
+//! under a vector.
 
 ghost use Rattle.std.specs.Prelude.{◌≤◌, IfOk};
 
@@ -20,17 +22,18 @@ const GUIDED_WALKS: usize = 256;
 /// The number of walks in random orders.
 const RANDOM_WALKS: usize = 1500;
 
-/// Events that are probably a witness. [`confirmed`](crate::confirmed) checks whether they are.
+/// A list of events that is probably a witness. [`confirmed`](crate::confirmed) checks whether it
+/// is.
 #[derive(Drop)]
 pub struct CandidateWitness {
-    /// The events, from the plan's initial state.
+    /// The events that lead from the plan's initial state to the violation.
     pub events: Vec<Event>,
     /// The numbers of the jobs that wait only for each other after the events. Empty if the last
     /// event is a refused submit.
     pub members: Vec<usize>,
 }
 
-/// The result of a search.
+/// The result of a search: a probable witness, if one was found, and the number of visited states.
 #[derive(Drop)]
 pub struct SearchResult {
     /// A probable witness, if one was found.
@@ -71,7 +74,7 @@ pub fn search_witness(alloc: Global, plan: &Plan, states: usize) -> Result<Searc
     })
 }
 
-/// The state of a search.
+/// The state of a search for a witness.
 #[derive(Drop)]
 struct Search<'a> {
     alloc: Global,
@@ -83,8 +86,8 @@ struct Search<'a> {
     /// The number of states that are reserved for the later stages of the search, in addition to
     /// `left`.
     reserved: usize,
-    /// Events after which some jobs wait only for each other, perhaps not permanently. They are the
-    /// result if no permanent violation is found.
+    /// Events after which some jobs wait only for each other. A later event may end the wait. They
+    /// are the result if no permanent violation is found.
     stuck_now: Option<Script>,
 }
 
@@ -137,8 +140,8 @@ impl Search<'_> {
         Ok(None)
     }
 
-    /// Performs the guided walks. Each of them loses as little weight as possible of a vector that
-    /// exceeds its bound.
+    /// Performs guided walks for each vector that exceeds its bound. Each step of a guided walk
+    /// makes a possible choice that loses the least weight under the vector.
     fn guided(&mut self, potentials: &[Potential]) -> Result<Option<CandidateWitness>, AllocError> {
         self.reserve_half();
         for potential in potentials {
@@ -153,7 +156,7 @@ impl Search<'_> {
         Ok(None)
     }
 
-    /// Performs the walks in random orders.
+    /// Performs the walks in random orders. They may use half of the remaining states.
     fn random_walks(&mut self) -> Result<Option<CandidateWitness>, AllocError> {
         self.reserve_half();
         for number in 0..RANDOM_WALKS {
@@ -166,7 +169,8 @@ impl Search<'_> {
         Ok(None)
     }
 
-    /// Performs the best-first search.
+    /// Performs the best-first search with all remaining states, and returns a probable witness if
+    /// it finds a permanent violation.
     fn best_first(
         &mut self,
         potentials: &[Potential],
@@ -252,8 +256,8 @@ impl Search<'_> {
         })
     }
 
-    /// Returns the rules of the guided walk with this number. The first guided walks choose in the
-    /// fixed orders, and the others in random orders.
+    /// Returns the rules of the guided walk with this number. The first [`FIXED_ORDERS`] guided
+    /// walks use the fixed orders, and the others use random orders.
     fn guided_rules(&mut self, number: usize) -> Result<Rules, AllocError> {
         let mut rules = self.fixed_rules(number)?;
         if number >= FIXED_ORDERS {
@@ -285,8 +289,8 @@ fn longest_walk(plan: &Plan) -> usize {
     room.saturating_mul(12).saturating_add(128) as usize
 }
 
-/// Shortens this script, which ends in this violation, and returns the shorter one as a probable
-/// witness.
+/// Shortens the script, and returns the shorter one as a probable witness. `violation` is the
+/// violation in which the script ends.
 fn answer_of(
     alloc: Global,
     plan: &Plan,

@@ -1,4 +1,4 @@
-//! The reduction of a script to a shorter one with the same violation.
+//! The reduction of a script to a shorter script with the same violation.
 
 use crate::replays::Replay;
 use crate::scripts::Script;
@@ -10,7 +10,8 @@ use written_machine::Event;
 /// The maximum number of events that are replayed to shorten one script, not counting
 /// [`WHOLE_REPLAYS`] replays of the whole script.
 const MAX_REPLAYED: u64 = 6_000_000;
-/// The number of replays of the whole script that are always allowed.
+/// The number of replays of the whole script that are allowed besides [`MAX_REPLAYED`] events, so
+/// that a long script can be shortened too.
 const WHOLE_REPLAYS: u64 = 24;
 /// The maximum number of rounds, each of which tries every kind of removal.
 const MAX_ROUNDS: usize = 8;
@@ -27,7 +28,7 @@ struct Shortener<'a> {
     left: u64,
 }
 
-/// Returns a script that has the same violation and is not longer.
+/// Returns a script that ends in the same violation and is not longer.
 pub(crate) fn shorten_script(
     alloc: Global,
     plan: &Plan,
@@ -56,7 +57,8 @@ pub(crate) fn shorten_script(
 }
 
 impl Shortener<'_> {
-    /// Tries to remove all steps of jobs, and then all takes from queues.
+    /// Tries to remove all steps of jobs, and then all events in which a thread takes a job from a
+    /// queue.
     fn without_kinds(&mut self) -> Result<(), AllocError> {
         self.try_without(|_, event| matches!(event, Event::Job(_)))?;
         self.try_without(|_, event| matches!(event, Event::Take(_)))
@@ -111,9 +113,9 @@ impl Shortener<'_> {
         Ok(())
     }
 
-    /// Removes the events for which `is_out` returns `true`, if the rest still has the violation
-    /// and is shorter. Does nothing if the script is longer than the number of events that may
-    /// still be replayed.
+    /// Removes the events for which `is_out` returns `true`, if a replay of the other events still
+    /// has the violation and is shorter. Does nothing if the script is longer than the number of
+    /// events that may still be replayed.
     fn try_without<F: Fn(usize, Event) -> bool>(&mut self, is_out: F) -> Result<(), AllocError>
         requires { F.IsAlwaysCallable is_out }
     {

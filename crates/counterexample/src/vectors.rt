@@ -1,4 +1,4 @@
-//! The vectors of a plan's pools that exceed the bounds set by the plan's sizes.
+//! The vectors whose totals exceed the bounds that the plan's sizes set.
 
 use job_bodies::Plan;
 use least_vectors::{Kind, Levels, ResizedPlan, reach};
@@ -13,8 +13,8 @@ pub(crate) struct Potential {
     pub(crate) clients: Vec<Vec<u64>>,
 }
 
-/// Returns, of the lightest vectors of the pools, those that are heavier than the plan's sizes
-/// allow. They show where the plan may fail.
+/// Computes the lightest vectors of each pool, and returns those that are heavier than the plan's
+/// sizes allow. These vectors show where the plan may fail.
 pub(crate) fn missed_vectors(alloc: Global, plan: &Plan) -> Result<Vec<Potential>, AllocError> {
     let mut vectors = MissedVectors {
         alloc,
@@ -49,8 +49,8 @@ struct MissedVectors {
 }
 
 impl MissedVectors {
-    /// Returns `true` if the pool's lightest vector of this kind weighs at most `limit`. Otherwise
-    /// records that vector.
+    /// Returns `true` if the pool's lightest vector of this kind has a total of at most `limit`.
+    /// Otherwise records that vector, if there is one.
     fn holds(
         &mut self,
         growing: &ResizedPlan,
@@ -79,8 +79,8 @@ impl MissedVectors {
         Ok(false)
     }
 
-    /// Assigns this rank to each pool without a rank whose blocked vector for this rank is within
-    /// its bound, and returns whether a pool got the rank. If none did, the blocked vectors that
+    /// Gives this rank to each pool that has no rank yet and whose blocked vector for this rank is
+    /// within its bound. Returns whether a pool got the rank. If none did, the blocked vectors that
     /// exceed their bounds remain recorded.
     fn rank_pools(
         &mut self,

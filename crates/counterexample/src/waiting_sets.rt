@@ -5,8 +5,8 @@ use job_bodies::MAX_POOLS;
 use std::alloc::{AllocError, Global};
 use written_machine::Parent;
 
-/// The maximum work for reducing one set: the number of members whose removal is tried, times the
-/// number of jobs.
+/// The maximum work for reducing one set. The work is the number of members whose removal is tried,
+/// times the number of jobs.
 const MAX_LOOKS: usize = 4_000_000;
 
 /// A set of jobs of a machine, by number.
@@ -17,7 +17,7 @@ pub(crate) struct JobSet {
 
 impl JobSet {
     /// Returns the greatest set of jobs that wait only for each other, which may be empty. If
-    /// `permanent` is `true`, each pool in whose queue a member waits must have `max` threads, so
+    /// `permanent` is `true`, each pool that has a member in its queue must have `max` threads, so
     /// that the members wait permanently.
     pub(crate) fn greatest(
         alloc: Global,
@@ -35,8 +35,7 @@ impl JobSet {
     }
 
     /// Returns a subset whose members still wait only for each other, and from which no member can
-    /// be removed. If [`MAX_LOOKS`] is reached before that, returns the subset that was found so
-    /// far.
+    /// be removed. If [`MAX_LOOKS`] is reached first, the subset may have removable members.
     pub(crate) fn made_least(
         self,
         alloc: Global,
@@ -139,8 +138,8 @@ impl JobSet {
     }
 
     /// Removes each member that waits for no job or for a job outside the set, and returns `true`
-    /// if it removed one. Visits the jobs from the latest to the first, because a job waits for a
-    /// job that was created after it.
+    /// if it removed one. Visits the jobs from the latest to the first, because each job waits only
+    /// for a job that was created later.
     fn shrink_once(&mut self, machine: &Machine, closed: &[bool]) -> bool {
         let mut changed = false;
         for number in (0..machine.jobs.len()).rev() {

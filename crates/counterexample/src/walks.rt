@@ -16,19 +16,19 @@ use written_machine::Parent;
 /// than every key, so that the keys decide only among equal losses.
 const FOR_A_LOSS: u64 = 10_000_000_000_000;
 
-/// The violation that a list of events ends in.
+/// The violation in which a list of events ends.
 #[derive(Clone, Copy, PartialEq, Eq)]
 pub(crate) enum Violation {
     /// The last event is a refused submit.
     Refused,
-    /// Some jobs wait only for each other, and each pool in whose queue one of them waits has `max`
-    /// threads.
+    /// Some jobs wait only for each other, and each pool that has one of them in its queue has
+    /// `max` threads.
     StuckForever,
     /// Some jobs wait only for each other. A later event may end the wait.
     StuckNow,
 }
 
-/// The rules of a walk.
+/// The rules by which a walk makes its choices, and the limits of the walk.
 #[derive(Drop)]
 pub(crate) struct Rules {
     /// The key of each choice. Of the possible choices that lose the least weight, the walk makes
@@ -38,11 +38,11 @@ pub(crate) struct Rules {
     pub(crate) max_active_clients: usize,
     /// The maximum number of states that the walk visits, including the initial state.
     pub(crate) max_states: usize,
-    /// Whether the keys are replaced by random numbers at random steps of the walk.
+    /// Whether all keys are replaced by random numbers at random steps of the walk.
     pub(crate) changing: bool,
 }
 
-/// The result of a walk.
+/// The events of a walk, and the violation in which they end, if any.
 #[derive(Drop)]
 pub(crate) struct WalkResult {
     pub(crate) script: Script,
@@ -60,7 +60,8 @@ pub(crate) enum WalkStep {
     Nothing,
 }
 
-/// The state of a walk.
+/// The state of a walk: the machine, the events so far, and the actors that are ready for each
+/// choice.
 #[derive(Drop)]
 pub(crate) struct Walk<'a> {
     pub(crate) machine: Machine<'a>,
@@ -149,8 +150,8 @@ impl<'a> Walk<'a> {
         }
     }
 
-    /// Returns the violation if jobs wait only for each other. If `now` is `false`, returns only a
-    /// permanent violation.
+    /// Returns the violation if some jobs wait only for each other, and `None` otherwise. If `now`
+    /// is `false`, returns only a permanent violation.
     pub(crate) fn stuck(&self, alloc: Global, now: bool) -> Result<Option<Violation>, AllocError> {
         let members = JobSet::greatest(alloc, &self.machine, false)?;
         if members.is_empty() {
@@ -163,7 +164,9 @@ impl<'a> Walk<'a> {
         Ok(if now { Some(Violation::StuckNow) } else { None })
     }
 
-    /// Makes the possible choice that comes first by these rules and this vector.
+    /// Makes the possible choice that loses the least weight under the vector, or does nothing if
+    /// no choice is possible. Among equal losses, makes the choice with the least key. Without a
+    /// vector, every loss counts as 0.
     fn step(
         &mut self,
         rules: &Rules,
@@ -175,8 +178,8 @@ impl<'a> Walk<'a> {
         }
     }
 
-    /// Makes the choice with this index, by the actor after which `newer` actors became ready for
-    /// it.
+    /// Makes the choice with this index. The actor that makes it is selected by `newer`, the number
+    /// of actors that became ready for this choice after that actor.
     pub(crate) fn choose(&mut self, place: usize, newer: usize) -> Result<WalkStep, AllocError> {
         match self.choices.all.get(place).copied() {
             Some(Choice::Begin(kind)) => {
@@ -196,7 +199,8 @@ impl<'a> Walk<'a> {
         }
     }
 
-    /// Removes and returns the actor after which `newer` actors became ready for this choice.
+    /// Removes and returns one of the actors that are ready for this choice. `newer` is the number
+    /// of actors that became ready after this actor.
     fn take_ready(&mut self, place: usize, newer: usize) -> Option<Parent> {
         let ready = self.ready.get_mut(place)?;
         let at = ready.len().checked_sub(1)?.checked_sub(newer)?;
@@ -290,7 +294,7 @@ impl<'a> Walk<'a> {
         Ok(WalkStep::Advanced)
     }
 
-    /// Performs the first submit of a new client, which has reached that submit.
+    /// Performs the first submit of a new client. The client is already at that submit.
     fn submit_of(&mut self, client: Parent) -> Result<WalkStep, AllocError> {
         let place = match self.machine.point(client) {
             Some((position, _)) => self.choices.place_of(&self.machine, client, position),
@@ -319,7 +323,7 @@ impl<'a> Walk<'a> {
     }
 
     /// Performs all steps of the actor up to its next submit or to a get that must wait. If the
-    /// actor is a job and ends, continues with its parent if the parent waited for it.
+    /// actor is a job and ends, continues with the parent, if the parent waited for this job.
     fn settle(&mut self, actor: Parent) -> Result<(), AllocError> {
         let mut actor = actor;
         for _ in 0..u64::MAX {
@@ -349,7 +353,7 @@ impl<'a> Walk<'a> {
         Ok(())
     }
 
-    /// Adds the actor, which is at a submit, to those that are ready for that submit.
+    /// Adds the actor, which is at a submit, to the actors that are ready for that submit.
     fn add_ready(&mut self, actor: Parent, position: usize) -> Result<(), AllocError> {
         let place = self.choices.place_of(&self.machine, actor, position);
         if let Some(ready) = place.and_then(|place| self.ready.get_mut(place)) {

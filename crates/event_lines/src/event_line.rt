@@ -20,11 +20,11 @@ pub enum EventLine<'a> {
     Stuck(NamedJobs<'a>),
 }
 
-/// Parses the first line of a text. Returns its content and the text after the line, or `None` if
-/// the line is malformed.
+/// Parses the first line of a text. Returns the content of the line and the text after the line, or
+/// `None` if the line is malformed.
 ///
-/// Most lines name a job or a client by its number. The parser of such a line stops at the end of
-/// the number, and does not search for the newline first.
+/// Most lines name a job or a client by its number. For these lines, parsing stops at the end of
+/// the number, without a search for the newline.
 #[inline(always)]
 pub(crate) fn split_event_line<'a>(plan: &Plan, text: &'a [u8]) -> Option<(EventLine<'a>, &'a [u8])>
     ensures { option_map (λ read. (line_seen read.0, read.1.now)) result

@@ -1,5 +1,5 @@
-//! The lines of a replay: its input, with events and questions (`client 0`, `take p`, `stuck 0 1`),
-//! and its output, with their results (`1: started job 0`).
+//! The lines of a replay. The lines of its input have events and questions (`client 0`, `take p`,
+//! `stuck 0 1`), and the lines of its output have their results (`1: started job 0`).
 //!
 //! [`EventLines`] parses the input line by line. The functions for the output append one line at a
 //! time. Each output line begins with the number of the input line to which it replies.

@@ -39,8 +39,8 @@ pub fn push_reply(
     text.push('\n')
 }
 
-/// Appends the part of a reply after the line number, which begins with a colon. To keep the number
-/// of calls low, appends all words before a number or a name in one piece.
+/// Appends the part of a reply after the line number. This part begins with a colon. To keep the
+/// number of calls low, appends all words before a number or a name in one piece.
 fn push_reply_text(text: &mut String, plan: &Plan, reply: Reply) -> Result<(), AllocError>
     ensures { Pushes result text.old text.new (codes ": " ++ reply_text plan.now reply) }
 {

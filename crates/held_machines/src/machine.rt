@@ -5,12 +5,11 @@ ghost use Rattle.held_machines.specs.StoredState.{IsReached, Steps};
 
 use std::alloc::{AllocError, Global};
 
-/// A machine that performs one event at a time. A value of this type is constant; the state of the
+/// A machine that performs one event at a time. A value of this type is constant. The state of the
 /// machine is stored separately.
 ///
-/// The specification is an initial state (`first`), and the next state for each event that is
-/// possible in a state (`next`). The stored state is an image of such a specification state
-/// (`stored_state`).
+/// The specification has an initial state (`first`), and for each event that is possible in a
+/// state, the next state (`next`). `stored_state` maps each of these states to the stored state.
 pub trait Machine {
     /// The type of the stored states.
     type State: Drop;

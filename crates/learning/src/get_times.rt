@@ -3,13 +3,13 @@
 use crate::path_jobs::{JobStep, PathJob, submitted_jobs};
 use std::alloc::{AllocError, Global};
 
-/// Returns, for each submit of a body, the earliest time at which the body may get its job: the
-/// index of the submit after which the get comes, or `None` if the body must not get the job.
-/// `common` has the jobs of the body's submits, of which the submits of each path are a subsequence.
+/// Returns, for each submit of a body, how early the body may get the job: the index of the submit
+/// after which the get may come, or `None` if the body must not get the job. `common` has the job
+/// of each submit of the body. The jobs that a path submits are a subsequence of `common`.
 ///
-/// Each submit of a path goes together with the first submit of the body that is possible for it, or
-/// with the last one if `is_late`. With gets at these times, the body has at each moment at least as
-/// many open jobs as each path. It gets equal jobs in the order of their submits.
+/// Each path is matched with the first possible submits of the body, or with the last possible ones
+/// if `is_late`. If the body's gets are at the returned times, the body has at each moment at least
+/// as many open jobs as each path. Equal jobs are got in the order of their submits.
 ///
 /// # Errors
 ///

@@ -10,7 +10,8 @@ use std::alloc::{AllocError, Global};
 /// The value in `Levels::of_classes` of a class whose level is not known yet.
 const NO_LEVEL: u64 = u64::MAX;
 
-/// The levels of the classes of a plan, and which classes are submitted.
+/// The levels of the classes of a plan, and the classes that clients submit, directly or through
+/// other jobs.
 #[derive(Drop)]
 pub struct Levels {
     /// The level of each class: 1 plus the greatest level of the classes that it submits, or 0 if
@@ -19,9 +20,8 @@ pub struct Levels {
     /// The classes in ascending order of levels: each class comes after all classes that it
     /// submits.
     pub order: Vec<usize>,
-    /// For each class, whether clients submit it, directly or through other jobs. No jobs of a
-    /// class that is not submitted are ever created, so such a class does not count towards any
-    /// total.
+    /// For each class, whether clients submit it, directly or through other jobs. A class that is
+    /// not submitted never has a job, so it does not count towards any total.
     pub submitted: Vec<bool>,
 }
 
@@ -59,8 +59,8 @@ impl Levels {
     }
 
     /// Gives `level` to each class that has no level yet and submits only classes of lower levels.
-    /// For each class, `known` has the length of a prefix of the body that was found to submit only
-    /// classes of lower levels, so that no action of this prefix is checked again.
+    /// `known` has, for each class, the length of a prefix of the body. The prefix was found to
+    /// submit only classes of lower levels, so its actions are not checked again.
     fn add_level(&mut self, plan: &Plan, level: u64, known: &mut [usize]) -> Result<(), AllocError>
         ensures { vec_len self.new.of_classes ≡ vec_len self.old.of_classes }
     {

@@ -29,12 +29,12 @@ pub(crate) struct Loan {
     pub(crate) place: usize,
 }
 
-/// The weight of a worker of each pool after all loans, and the resulting sketch.
+/// The weight of a worker of each pool after all loans, and the sketch for these weights.
 #[derive(Drop)]
 pub(crate) struct Loans {
     pub(crate) workers: Vec<u64>,
-    /// The pools whose workers got a weight by a loan. The workers of some of them may weigh 0
-    /// again.
+    /// The pools whose workers got weight by a loan. A later loan may have reset the workers of
+    /// some of them to 0.
     pub(crate) lenders: Vec<usize>,
     pub(crate) sketch: Sketch,
 }
@@ -42,13 +42,14 @@ pub(crate) struct Loans {
 /// Makes loans until the total is within the limit of the target, or no further loan makes the
 /// total smaller. Returns the resulting worker weights and their sketch.
 ///
-/// While the total is above the limit, one more pool becomes a lender: each of its workers gets the
-/// largest weight that a job of the pool has in its body, so that its queued jobs weigh less. Each
-/// time, the loan that gives the smallest total is chosen.
+/// While the total is above the limit, one more loan is made. It gives each worker of one pool the
+/// largest weight that a job of the pool has in its body, so that the queued jobs of the pool weigh
+/// less. The loan goes to the pool for which the total becomes smallest.
 ///
 /// Classes that are never submitted are ignored, because a loan for their jobs does not change the
-/// total. But if such a class has a weight above the limit, there is no vector. In this case the
-/// workers of one pool get the least weight with which fewer such classes are above the limit.
+/// total. But there is no vector if one of these classes has a weight above the limit. In this case
+/// a loan gives the workers of one pool the least weight with which fewer of these classes are
+/// above the limit.
 ///
 /// A cache has the sketches of all combinations of worker weights that were tried, so none is
 /// computed twice. The largest weight of a lender's jobs comes from the sketch in which the
@@ -176,9 +177,9 @@ fn best_loan(
 }
 
 /// Returns the largest weight that a job of the pool has in its body if the workers and the done
-/// jobs of the pool weigh 0. Uses the sketch at `place` if the workers weigh 0 in it. `place` is
-/// the index of the sketch for `workers`. `workers` is modified during the call and restored before
-/// it returns.
+/// jobs of the pool weigh 0. Uses the sketch at `place` if the workers already weigh 0 in it.
+/// `place` is the index of the sketch for `workers`. `workers` is modified during the call and
+/// restored before it returns.
 fn peak(
     sketch_cache: &mut SketchCache,
     workers: &mut [u64],

@@ -1,4 +1,4 @@
-//! Access to the numbers of a list by index, without panics.
+//! Functions that read and write an element of a list without panics.
 
 ghost use Rattle.std.specs.Prelude.{◌≡◌, length};
 

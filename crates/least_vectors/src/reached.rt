@@ -1,4 +1,5 @@
-//! The reaches of classes.
+//! The reaches of classes. The reach of a class is the maximum of the rank of its pool and of the
+//! reaches of the classes whose jobs it gets.
 
 ghost use Rattle.std.specs.Prelude.{◌≡◌, IfOk, length, vec_len};
 

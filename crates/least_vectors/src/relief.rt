@@ -1,5 +1,7 @@
-//! Loans that bring the weights of classes that are never submitted within the limit. Jobs of such
-//! a class do not count towards the total, but the vector must have weights for them.
+//! Loans that bring the weights of classes that are never submitted within the limit. A loan gives
+//! the workers of a pool weight, so that the queued jobs of the pool can weigh less. Jobs of a
+//! class that is never submitted do not count towards the total, but the vector must have weights
+//! for them.
 
 ghost use Rattle.std.specs.Prelude.{◌≡◌, ◌<◌, ◌≤◌, IfOk, IfSome, vec_len, length};
 
@@ -12,10 +14,11 @@ use std::alloc::AllocError;
 /// The number of bisection steps that find one weight from 0 to [`MAX_SIZE`].
 const HALVINGS: usize = 20;
 
-/// Returns the loan after which the fewest classes that are never submitted have a weight above the
-/// limit. Among several such loans, returns the one with the least weight of all workers in total.
-/// Returns `None` if no loan makes the number of these classes smaller. `place` is the index of the
-/// sketch for `workers`. `workers` is modified during the call and restored before it returns.
+/// Returns the loan that leaves the fewest overweight classes. A class is *overweight* if it is
+/// never submitted and has a weight above the limit. If several loans leave the same number,
+/// returns the loan with the least total weight of all workers. Returns `None` if no loan makes the
+/// number of overweight classes smaller. `place` is the index of the sketch for `workers`.
+/// `workers` is modified during the call and restored before it returns.
 pub(crate) fn relieving_loan(
     sketch_cache: &mut SketchCache,
     workers: &mut [u64],
@@ -63,8 +66,8 @@ pub(crate) fn relieving_loan(
 }
 
 /// Returns the least weight of a worker of the pool with which at most `overweight_unsubmitted`
-/// classes that are never submitted have a weight above the limit. Uses bisection, which is correct
-/// because heavier workers never leave more such classes above the limit.
+/// classes are overweight: never submitted, and with a weight above the limit. Uses bisection,
+/// which is correct because heavier workers never leave more classes overweight.
 fn least_weight(
     sketch_cache: &SketchCache,
     workers: &mut [u64],

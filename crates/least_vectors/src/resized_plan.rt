@@ -18,23 +18,24 @@ use weights::Vector;
 pub struct VectorSummary {
     /// The weight of a worker of each pool.
     pub workers: Vec<u64>,
-    /// The pools whose workers had weight at some time in the search. With other maximums, the
-    /// search gives the same result if these pools keep their maximums and no other pool has a
-    /// smaller one.
+    /// The pools whose workers had weight at some time in the search. For other maximums, the
+    /// search gives the same result if the maximums of these pools are the same and no other pool
+    /// has a smaller maximum.
     pub lenders: Vec<usize>,
     /// The total of the vector.
     pub total: u64,
 }
 
-/// The kind of a vector of a pool, which is independent of the core and the queue of the pool.
+/// The kind of a vector of a pool. It does not depend on the core and the queue of the pool.
 #[derive(Clone, Copy)]
 pub enum Kind<'a> {
     /// A standing vector. The workers of each pool may have weight.
     Standing,
     /// A lifetime vector. No workers have weight.
     Lifetime,
-    /// A blocked vector, for this rank of the pool. The workers of the pool itself never have
-    /// weight: together they would weigh at least core, but the total must be below core.
+    /// A blocked vector for this rank of the pool. The workers of the pool itself never have
+    /// weight, because all of them together would weigh at least core, but the total must be below
+    /// core.
     Blocked {
         /// The reach of each class.
         reach: &'a [u64],
@@ -55,7 +56,7 @@ pub struct ResizedPlan<'a> {
 
 impl ResizedPlan<'_> {
     /// Searches for worker weights with which the total of the pool's vector is at most `enough`.
-    /// If the search finds none, it uses the worker weights with the smallest total that it found.
+    /// If there are none, uses the worker weights with the smallest total that the search found.
     /// Returns the summary of the vector, or `None` if there is no vector.
     ///
     /// # Errors

@@ -1,4 +1,5 @@
-//! The complete vector of a sketch, with a weight for each position of each body.
+//! The complete vector of a sketch. A sketch has only the weights that determine the total. The
+//! complete vector has a weight for each position of each body.
 
 ghost use Rattle.std.specs.Prelude.{IfOk, IfSome, IsTrue};
 ghost use Rattle.weights.specs.Vector.{vector_fits};

@@ -9,7 +9,7 @@ use job_bodies::{Action, Class, Client, MAX_WEIGHT, Plan};
 use std::alloc::{AllocError, Global};
 use weights::submitted_class;
 
-/// The total of a sketch for which no vector exists, because a weight is above the limit or a
+/// The total of a sketch for which no vector exists. Either a weight is above the limit, or a
 /// client that repeats would need ever more weight. A total that overflows is also this number.
 pub(crate) const TOO_HEAVY: u64 = u64::MAX;
 
@@ -22,10 +22,10 @@ pub(crate) struct Sketch {
     pub(crate) done: Vec<u64>,
     /// The weight of a client of each kind at the start of its body.
     pub(crate) starts: Vec<u64>,
-    /// For each pool, the largest weight that a job of the pool has in its body if the done jobs of
-    /// the pool weigh 0. Jobs of classes that are never submitted are ignored.
+    /// For each pool, the largest weight at any position of the bodies of its classes, computed for
+    /// the least possible weight of a done job. Classes that are never submitted are ignored.
     pub(crate) peaks: Vec<u64>,
-    /// The weight of all workers in total.
+    /// The total weight of all workers.
     pub(crate) on_loan: u64,
     /// The number of classes that are never submitted and have a weight above the limit.
     pub(crate) overweight_unsubmitted: usize,
@@ -65,8 +65,8 @@ impl Sketch {
     }
 
     /// Computes the weights of a queued and of a done job of the class. A done job gets the
-    /// greatest weight that its body allows, because a get then returns more to its actor. It never
-    /// weighs more than a queued job.
+    /// greatest weight that its body allows, because a get then returns more to its actor. A done
+    /// job never weighs more than a queued job.
     fn weigh_class(
         &mut self,
         target: &Target,
@@ -102,8 +102,8 @@ impl Sketch {
     }
 
     /// Computes the weight of a client of this kind at the start of its body. A client that repeats
-    /// must weigh at the end as much as at the start. If raising the end to that weight also raises
-    /// the start, no vector exists.
+    /// must weigh at the end as much as at the start. If raising the end to the weight of the start
+    /// also raises the start, no vector exists.
     fn weigh_client(&mut self, target: &Target, client: &Client) -> Result<(), AllocError> {
         let mut weight = Weight::at_end(0);
         let mut peak = 0;

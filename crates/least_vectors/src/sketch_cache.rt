@@ -1,4 +1,5 @@
-//! A cache of the sketches of one search, so that none is computed twice.
+//! A cache of the sketches of one search, so that none is computed twice. A sketch has the weights
+//! that determine the total of a vector.
 
 ghost use Rattle.std.specs.Prelude.{◌<◌, ◌≤◌, IfOk, vec_len};
 
@@ -8,7 +9,7 @@ use crate::target::Target;
 use job_bodies::Plan;
 use std::alloc::{AllocError, Global};
 
-/// The weight of a worker of each pool, and the resulting sketch.
+/// The weight of a worker of each pool, and the sketch for these weights.
 #[derive(Drop)]
 struct CachedSketch {
     workers: Vec<u64>,
@@ -62,8 +63,8 @@ impl<'a> SketchCache<'a> {
         Ok(place)
     }
 
-    /// Returns the number of classes that are never submitted and, with these worker weights, have
-    /// a weight above the limit. The sketch is not cached.
+    /// Returns the number of classes that are never submitted and that have a weight above the
+    /// limit for these worker weights. The sketch is not cached.
     pub(crate) fn overweight_unsubmitted(&self, workers: &[u64]) -> Result<usize, AllocError> {
         let sketch = Sketch::of(self.alloc, self.plan, self.levels, self.target, workers)?;
         Ok(sketch.overweight_unsubmitted)
@@ -76,7 +77,7 @@ impl<'a> SketchCache<'a> {
         &self.sketches[place].sketch
     }
 
-    /// Returns the sketch at this index and drops the cache.
+    /// Consumes the cache and returns the sketch at this index.
     pub(crate) fn into_sketch(mut self, place: usize) -> Sketch
         requires { place < vec_len self.sketches }
     {

@@ -81,7 +81,8 @@ impl<'a> Target<'a> {
         }
     }
 
-    /// Allows no lenders if the limit is 0: workers with weight would make the total positive.
+    /// Returns the target without lenders if the limit is 0, because workers with weight would make
+    /// the total positive. Otherwise returns the target unchanged.
     pub(crate) fn without_useless_loans(self) -> Target<'a> {
         if self.limit > 0 {
             return self;
@@ -109,7 +110,7 @@ impl<'a> Target<'a> {
         }
     }
 
-    /// Returns the weight of all workers in total, given the weight of a worker of each pool.
+    /// Returns the total weight of all workers, given the weight of a worker of each pool.
     pub(crate) fn workers_weigh(&self, plan: &Plan, workers: &[u64]) -> u64 {
         let mut total = 0u64;
         for (number, pool) in plan.pools().iter().enumerate() {

@@ -1,4 +1,5 @@
-//! The two vectors that a certificate has for each pool.
+//! The two vectors that a certificate has for each pool: the bound of the queue, and the blocked
+//! vector.
 
 ghost use Rattle.std.specs.Prelude.{◌<◌, IfOk, IfSome, IsTrue, length};
 ghost use Rattle.weights.specs.Vector.{vector_fits};

@@ -5,11 +5,11 @@ ghost use Rattle.std.specs.Prelude.{◌≡◌, ◌≤◌};
 /// The least weight of an actor at a position of its body.
 #[derive(Clone, Copy, PartialEq, Eq)]
 pub(crate) struct Weight {
-    /// The least weight at this position, if the actor weighs at the end of the body what `at_end`
-    /// was given.
+    /// The least weight at this position, for the weight at the end of the body that
+    /// [`Weight::at_end`] was given.
     pub(crate) number: u64,
-    /// The maximum by which the weight at the end of the body can be raised without raising the
-    /// weight at this position.
+    /// The greatest increase of the weight at the end of the body that does not increase the weight
+    /// at this position.
     pub(crate) slack: u64,
 }
 
@@ -43,8 +43,8 @@ impl Weight {
         }
     }
 
-    /// Returns the weight before a get that returns `back`, given this weight after the get. The
-    /// result is at least 0.
+    /// Returns the weight before a get that gives the actor the weight `back`, given this weight
+    /// after the get. The result is at least 0.
     pub(crate) fn less(self, back: u64) -> Weight
         ensures { result.number ≤ self.number }
     {

@@ -1,4 +1,4 @@
-//! Splits texts into lines and words, and parses numbers in them.
+//! Functions that split a text into lines and words, and that parse numbers.
 #![tactic(auto)]
 
 mod number;

@@ -5,8 +5,8 @@ ghost use Rattle.line_words.specs.Number as spec;
 
 use job_bodies::MAX_LINE_NUMBER;
 
-/// Parses a number: decimal digits without a leading zero, except `0` itself, with a value of at
-/// most [`MAX_LINE_NUMBER`]. Returns `None` if the text is not such a number.
+/// Parses a number of at most [`MAX_LINE_NUMBER`]: decimal digits without a leading zero, except
+/// `0` itself. Returns `None` for any other text.
 pub fn number_of(text: &[u8]) -> Option<usize>
     ensures { result ≡ spec.number_of text.now }
 {
@@ -18,8 +18,8 @@ pub fn number_of(text: &[u8]) -> Option<usize>
     }
 }
 
-/// Parses the digits at the start of a text. Returns their number and the text after them, or
-/// `None` if they are not a number as in [`number_of`].
+/// Parses the digits at the start of a text. Returns the parsed number and the text after the
+/// digits. Returns `None` if the digits are not a number as in [`number_of`].
 pub fn leading_number(text: &[u8]) -> Option<(usize, &[u8])>
     ensures { option_map (λ found. (found.0, found.1.now)) result ≡ spec.leading_number text.now }
 {

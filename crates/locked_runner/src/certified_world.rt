@@ -10,7 +10,7 @@ use held_machines::Machine;
 use interleaving::{Event, Outcome};
 use std::alloc::{AllocError, Global};
 
-/// The machine of a certified plan, which it borrows.
+/// The machine of a certified plan. It borrows the plan.
 #[derive(Clone, Copy, Drop)]
 pub struct CertifiedWorld<'a> {
     certified: &'a Certified,
@@ -35,7 +35,7 @@ impl<'a> CertifiedWorld<'a> {
 #[derive(Drop)]
 pub struct TracedWorld {
     pub world: ViewedWorld,
-    /// `None` before the first event.
+    /// The outcome of the last event, or `None` before the first event.
     pub outcome: Option<Outcome>,
 }
 

@@ -7,8 +7,8 @@ use held_machines::Receipt;
 use interleaving::Event;
 use std::marker::Model;
 
-/// A receipt in 12 bytes. This is half the size of a [`Receipt`], because its numbers have 32 bits.
-/// The lists of a run store receipts in this form.
+/// A receipt in 12 bytes, half the size of a [`Receipt`], because its numbers have 32 bits. The
+/// lists of a run store receipts in this form.
 #[derive(Drop)]
 pub struct CompactReceipt {
     number: u32,
@@ -51,7 +51,7 @@ impl CompactReceipt {
         })
     }
 
-    /// Returns the receipt.
+    /// Returns the receipt in its full form.
     pub fn receipt(&self) -> Receipt<Event>
         ensures { result ≡ self.now }
     {

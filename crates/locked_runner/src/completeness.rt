@@ -1,4 +1,5 @@
-//! The test whether a history is complete.
+//! The test whether a history is complete: no job is unfinished, and each client has performed all
+//! its rounds.
 
 ghost use Rattle.std.specs.Prelude.{◌≡◌, ◌<◌, ◌+◌, ◌-◌, ◌^◌, ◌↔◌, ℕ, List, IsTrue, IfOk, Some, length, min, count_by, slice_get, slice_index, if◌then◌else◌};
 ghost use Rattle.job_bodies.specs.Plan.{Plan, client_at};
@@ -40,9 +41,9 @@ pub(crate) fn is_complete(
     Ok(clients_are_complete(plan, kinds, world, rounds, &made))
 }
 
-/// Returns `true` if each client has finished: it has performed all events of its rounds and is at
-/// the end of its body. `kinds` has the client kind of each client, and `made` its number of
-/// events.
+/// Returns `true` if each client has performed all events of its rounds and is at the end of its
+/// body. `kinds` has the client kind of each client, and `made` has the number of events that each
+/// client performed.
 fn clients_are_complete(
     plan: &Plan,
     kinds: &[usize],
@@ -71,8 +72,8 @@ fn clients_are_complete(
     true
 }
 
-/// Returns `true` if the client with this number has performed all its events and is at the end of
-/// its body. `made` is its number of events.
+/// Returns `true` if the client with this number has performed all events of its rounds and is at
+/// the end of its body. `made` is the number of events that the client performed.
 fn is_complete_client(client: &Client, number: usize, world: &World, rounds: u64, made: u64) -> bool
     ensures { (plan : Plan) (history : List Event) (s : State)
         → made ≡ count_by (spec.is_of_client number) history
@@ -88,7 +89,7 @@ fn is_complete_client(client: &Client, number: usize, world: &World, rounds: u64
     position == client.body.len() && made == events
 }
 
-/// Returns, for each client, the number of its events in the history.
+/// Returns, for each client, the number of events in the history that the client performed.
 ///
 /// # Errors
 ///
@@ -104,7 +105,8 @@ fn events_made(alloc: Global, clients: usize, history: &[Event]) -> Result<Vec<u
     Ok(made)
 }
 
-/// Counts the event for its client. The counts saturate at `u64::MAX`.
+/// Adds 1 to the count of the client that performed the event, if a client performed it. The counts
+/// saturate at `u64::MAX`.
 fn count_event(made: &mut [u64], event: Event)
     ensures as_many { length made.new ≡ length made.old }
     ensures made { (c : ℕ)

@@ -7,18 +7,19 @@ pub enum Actor {
     Job(usize),
 }
 
-/// The error of a gate that failed.
+/// The error that a gate returns if the work failed.
 #[derive(Clone, Copy, PartialEq, Eq)]
 pub struct GateFault;
 
 /// The code that does the declared work of a run. Many threads call it concurrently, without
 /// holding the lock of the machine.
 pub trait Gate: Sync {
-    /// Does this many units of work of the actor.
+    /// Performs this number of units of work of the actor.
     ///
     /// # Errors
     ///
     /// Returns `GateFault` if the work failed. The run then ends with fault 43, or with 20 if
-    /// memory runs out as well. Each other thread may still do the work that it is about to start.
+    /// memory runs out as well. Each other thread may still perform the work that it is about to
+    /// start.
     fn work(&self, actor: Actor, units: u32) -> Result<(), GateFault>;
 }

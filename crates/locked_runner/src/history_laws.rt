@@ -1,16 +1,17 @@
-//! Laws of the numbers of a run. Each law is the contract of a function with an empty body.
+//! Laws of the numbers of jobs, units of work and events of a run. Each law is the contract of a
+//! function with an empty body.
 
 ghost use Rattle.locked_runner.specs.RunNumbers.{TotalsAddUp, NumbersAreOfThePlan};
 
-/// Proves that, if the rows of the ranks hold, the quantity of a job with all jobs that it causes
-/// is its own quantity plus the quantities of the classes that it submits: no generation is
-/// missing.
+/// Proves that, if the rows of the ranks hold, the total quantity of a job includes all jobs that
+/// it causes: it is the job's own quantity plus the total quantities of the jobs that its body
+/// submits.
 pub fn totals_add_up()
     ensures { TotalsAddUp }
 {}
 
-/// Proves that all ranks whose rows hold give a run the same numbers of jobs, units and events.
-/// These numbers depend on the plan, and not on the certificate.
+/// Proves that the numbers of jobs, units and events of a run are the same for all ranks whose rows
+/// hold. The numbers depend on the plan, and not on the certificate.
 pub fn numbers_are_of_the_plan()
     ensures { NumbersAreOfThePlan }
 {}

@@ -6,19 +6,20 @@ ghost use Rattle.locked_runner.specs.Limits as spec;
 
 use job_bodies::{MAX_RUN_CARRIERS, MAX_RUN_CLIENTS, MAX_RUN_EVENTS, Plan};
 
-/// A limit of a run.
+/// A limit that a run can exceed.
 #[derive(Clone, Copy, PartialEq, Eq)]
 pub enum RunLimit {
-    /// The number of clients.
+    /// The number of clients of all kinds, at most 64.
     Clients,
-    /// The maximum number of threads of all pools together.
+    /// The sum of the maximums of all pools, at most 64.
     Threads,
-    /// The bound on the number of events.
+    /// The upper bound of the number of events, at most 1,000,000.
     Events,
 }
 
-/// Returns the limit to report of a run of the plan that is too large: the first one that the plan
-/// exceeds with any number of rounds, or else the bound on events.
+/// Returns the limit to report for a run of the plan that is too large. This is the limit of
+/// clients if the plan exceeds it, otherwise the limit of threads if the plan exceeds that, and
+/// otherwise the limit of events.
 pub fn limit_of(plan: &Plan) -> RunLimit
     ensures { result ≡ spec.limit_of plan.now }
 {
@@ -31,8 +32,8 @@ pub fn limit_of(plan: &Plan) -> RunLimit
     }
 }
 
-/// Returns `true` if a run of the plan exceeds a limit. `events` is an upper bound of its number of
-/// events.
+/// Returns `true` if a run of the plan exceeds a limit. `events` is an upper bound of the number of
+/// events of the run.
 pub(crate) fn exceeds_limits(plan: &Plan, events: u64) -> bool
     ensures value { result ≡ spec.exceeds_limits plan.now events }
     ensures well_formed { IsWellFormed plan.now }
@@ -42,7 +43,7 @@ pub(crate) fn exceeds_limits(plan: &Plan, events: u64) -> bool
         || events > MAX_RUN_EVENTS
 }
 
-/// Returns the number of clients of all kinds.
+/// Returns the number of clients of all kinds. The number saturates at `u64::MAX`.
 fn clients_of(plan: &Plan) -> u64
     ensures value { result ≡ min (spec.clients plan.now) (2 ^ 64 - 1) }
     ensures well_formed { IsWellFormed plan.now }
@@ -54,7 +55,7 @@ fn clients_of(plan: &Plan) -> u64
     total
 }
 
-/// Returns the sum of the maximum numbers of threads of all pools.
+/// Returns the sum of the maximums of all pools. The sum saturates at `u64::MAX`.
 fn workers_of(plan: &Plan) -> u64
     ensures { result ≡ min (spec.workers plan.now) (2 ^ 64 - 1) }
 {

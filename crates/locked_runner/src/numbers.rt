@@ -52,7 +52,7 @@ pub fn run_numbers(
     })
 }
 
-/// A quantity that is summed over the jobs of a run.
+/// A quantity that is summed over the jobs of a run: jobs, units of work or events.
 #[derive(Clone, Copy)]
 enum Measure {
     Jobs,
@@ -60,8 +60,8 @@ enum Measure {
     Events,
 }
 
-/// Returns the quantity of one job of the class, without the jobs that it causes. Its events are
-/// its actions, a take event and its end.
+/// Returns the quantity of one job of the class, without the jobs that it causes. The events of a
+/// job are its actions, a take event and its end.
 fn own_quantity(measure: Measure, class: &Class) -> u64
     ensures { result ≡ capped (spec.own_quantity measure class.now) }
 {
@@ -72,8 +72,8 @@ fn own_quantity(measure: Measure, class: &Class) -> u64
     }
 }
 
-/// Returns the quantity of all jobs of a run: those that the clients submit in all their rounds,
-/// and those that these jobs submit in turn.
+/// Returns the quantity of all jobs of a run: the jobs that the clients submit in all their rounds,
+/// and all jobs that these jobs cause.
 fn by_jobs(
     alloc: Global,
     plan: &Plan,
@@ -88,8 +88,8 @@ fn by_jobs(
     Ok(submitted_by_all(plan, rounds, &numbers))
 }
 
-/// Returns the sum of `numbers[k]` over all submits of the clients in all their rounds, in which
-/// `k` is the class that is submitted.
+/// Returns a sum over all submits of the clients in all their rounds. Each submit adds the number
+/// that `numbers` has for the submitted class.
 fn submitted_by_all(plan: &Plan, rounds: u64, numbers: &[u64]) -> u64
     ensures { (f : ℕ → ℕ)
         → spec.AreCapped plan.now f numbers.now
@@ -108,8 +108,8 @@ fn submitted_by(client: &Client, rounds: u64, numbers: &[u64]) -> u64
     in_all_rounds(client, rounds, submitted(&client.body, numbers))
 }
 
-/// Returns the units of work that the clients do in all their rounds. Those of jobs are not
-/// included.
+/// Returns the units of work that the clients perform in all their rounds. The units of jobs are
+/// not included.
 fn units_of_all(plan: &Plan, rounds: u64) -> u64
     ensures { result ≡ capped (sum_by (spec.units_of_clients rounds) plan.now.clients) }
 {
@@ -126,7 +126,8 @@ fn units_of_clients(client: &Client, rounds: u64) -> u64
     in_all_rounds(client, rounds, units_in(&client.body))
 }
 
-/// Returns the number of events of the clients in all their rounds. Those of jobs are not included.
+/// Returns the number of events that the clients perform in all their rounds. The events of jobs
+/// are not included.
 fn events_of_all(plan: &Plan, rounds: u64) -> u64
     ensures { result ≡ capped (sum_by (spec.events_of_clients rounds) plan.now.clients) }
 {
@@ -148,7 +149,8 @@ fn in_all_rounds(client: &Client, rounds: u64, in_one: u64) -> u64
     client.count.saturating_mul(of_one)
 }
 
-/// Returns the number of events of one client of this kind, which saturates at `u64::MAX`.
+/// Returns the number of events of one client of this kind in all its rounds. The number saturates
+/// at `u64::MAX`.
 fn events_within(client: &Client, rounds: u64) -> u64
     ensures { result ≡ capped (complete.events_of_client rounds client.now) }
 {
@@ -168,8 +170,8 @@ fn units_in(body: &[Action]) -> u64
     total
 }
 
-/// Returns the sum of `numbers[k]` over the submits of the body, in which `k` is the class that is
-/// submitted.
+/// Returns a sum over all submits of the body. Each submit adds the number that `numbers` has for
+/// the submitted class.
 fn submitted(body: &[Action], numbers: &[u64]) -> u64
     ensures { result ≡ capped (spec.submitted (slice_index numbers.now) body.now) }
 {
@@ -217,7 +219,7 @@ fn greatest(levels: &[u64]) -> u64
 }
 
 /// Returns, for each class, the quantity of one job and of the jobs that it causes. The result
-/// includes one more generation of these jobs than `numbers`.
+/// includes one more generation of submitted jobs than `numbers` does.
 fn add_generation(
     alloc: Global,
     plan: &Plan,

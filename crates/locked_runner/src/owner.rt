@@ -22,8 +22,8 @@ pub enum Owner {
     Pool(usize),
 }
 
-/// Returns the pool of the job that performs the event, or 0 if no live job performs it. `world` is
-/// the world before the event.
+/// Returns the pool of the job that performs the event. Returns 0 if no job performs the event, or
+/// if the job is not live. `world` is the world before the event.
 pub(crate) fn pool_of(plan: &Plan, world: &World, event: Event) -> u8
     ensures { (s : State)
         → IsReached plan.now s
@@ -52,9 +52,9 @@ fn pool_of_class(plan: &Plan, class: usize) -> u8
     }
 }
 
-/// Returns the owner of the event, or `None` for a retirement, which no thread of a run performs.
-/// `pool` is the pool of the job that performs the event. It is not used if no job performs the
-/// event.
+/// Returns the owner of the event. Returns `None` for a retirement, since no thread of a run
+/// performs one. `pool` is the pool of the job that performs the event. This argument is not used
+/// if no job performs the event.
 pub(crate) fn owner_by(event: Event, pool: u8) -> Option<Owner>
     ensures { result ≡ spec.owner_by event pool }
 {
@@ -82,7 +82,8 @@ pub fn kinds_of(alloc: Global, plan: &Plan) -> Result<Vec<usize>, AllocError>
     Ok(kinds)
 }
 
-/// Returns the owner of each list of receipts: first each client once, then each pool `max` times.
+/// Returns the owner of each list of receipts. There is one list for each client, and then there
+/// are `max` lists for each pool.
 ///
 /// # Errors
 ///

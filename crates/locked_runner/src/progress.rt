@@ -10,8 +10,7 @@ pub(crate) struct Progress {
     clients_left: usize,
     /// Whether the threads must stop before the run is complete.
     is_over: bool,
-    /// The fault that a thread reported. If several threads did, it is the one with the lowest
-    /// number.
+    /// The reported fault with the lowest number, if any.
     fault: Option<ThreadFault>,
 }
 
@@ -40,14 +39,13 @@ impl Progress {
         self.clients_left = self.clients_left.saturating_sub(1);
     }
 
-    /// Stops the run before it is complete. The later check then finds that the history is not
-    /// complete.
+    /// Stops the run before it is complete. The check of the results then finds that the history is
+    /// not complete.
     pub(crate) fn end(&mut self) {
         self.is_over = true;
     }
 
-    /// Stops the run because of a fault. If there are several, keeps the one with the lowest
-    /// number, which is [`ThreadFault::Memory`].
+    /// Stops the run and stores the fault, unless a fault with a lower number is already stored.
     pub(crate) fn note(&mut self, cause: ThreadFault) {
         self.end();
         if self.fault != Some(ThreadFault::Memory) {
@@ -55,7 +53,7 @@ impl Progress {
         }
     }
 
-    /// Returns the fault that a thread reported.
+    /// Returns the reported fault with the lowest number, if any.
     pub(crate) fn fault(&self) -> Option<ThreadFault> {
         self.fault
     }

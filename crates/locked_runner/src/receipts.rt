@@ -1,5 +1,5 @@
-//! The check that the receipts of all threads are the events of a history, each once and each with
-//! its owner.
+//! The check of the receipts of all threads: each event of the history has exactly one receipt, and
+//! the receipt is in a list of the event's owner.
 
 ghost use Rattle.std.specs.Prelude.{◌≡◌, ◌<◌, ◌+◌, ◌==◌, ◌↔◌, ℕ, IsTrue, IfOk, Some, length, map, min, slice_index, count_by, if◌then◌else◌};
 ghost use Rattle.locked_runner.specs.Owner.{ArePoolsOf};
@@ -13,9 +13,9 @@ use interleaving::Event;
 use job_bodies::Plan;
 use std::alloc::{AllocError, Global};
 
-/// Returns `true` if the receipts of each list are in ascending order and belong to the owner of
-/// the list. A receipt belongs to an owner if the history has the receipt's event at the receipt's
-/// number, and the event belongs to this owner.
+/// Returns `true` if the receipts of each list are in ascending order and belong to the list's
+/// owner. A receipt belongs to an owner if its event is the history's event at its number, and this
+/// event belongs to the owner.
 pub(crate) fn lists_fit(
     plan: &Plan,
     history: &[Event],
@@ -108,7 +108,8 @@ fn is_owned_by(found: Option<Owner>, owner: Owner) -> bool
     }
 }
 
-/// Returns `true` if each number below `length` is the number of exactly one receipt in the lists.
+/// Returns `true` if each number from 0 to `length - 1` is the number of exactly one receipt in the
+/// lists.
 ///
 /// # Errors
 ///
@@ -129,7 +130,7 @@ pub(crate) fn each_once(
     Ok(all_are_one(&marks))
 }
 
-/// Increases the mark at each receipt's number. The marks saturate at 255.
+/// Increases, for each receipt, the mark at the receipt's number. The marks saturate at 255.
 fn mark_all(marks: &mut [u8], list: &[CompactReceipt])
     ensures len { length marks.new ≡ length marks.old }
     ensures marks { (k : ℕ)

@@ -89,7 +89,8 @@ impl Replay {
     ///
     /// # Errors
     ///
-    /// Returns `AllocError` if there is not enough memory for the event. It is then not replayed.
+    /// Returns `AllocError` if there is not enough memory for the event. The event is then not
+    /// replayed.
     fn replay_event(&mut self, plan: &Plan, event: Event) -> Result<bool, AllocError>
         requires { IsReachableView plan.now self.old.world }
         ensures made { IfOk result (λ made.
@@ -113,7 +114,8 @@ impl Replay {
     }
 }
 
-/// Returns the sum of the units and those of the outcome, or `None` if the sum exceeds `u64::MAX`.
+/// Returns the sum of these units and the units of the outcome, or `None` if the sum exceeds
+/// `u64::MAX`.
 fn with_work(units: Option<u64>, outcome: Outcome) -> Option<u64>
     ensures { (n : ℕ) → IsCounted n units → IsCounted (n + worked (Some outcome)) result }
 {

@@ -1,4 +1,4 @@
-//! The result of a run.
+//! The result of a run: a report, or the reason why the run is not complete.
 
 ghost use Rattle.std.specs.Prelude.{◌≡◌};
 ghost use Rattle.job_bodies.specs.Plan as spec;
@@ -39,11 +39,10 @@ impl Model for RunReport {
 ///
 /// - 20: memory ran out.
 /// - 40: the run exceeds a limit, and nothing was started.
-/// - 41: the receipts of a list are not in ascending order, or one of them does not belong there:
-///   the history has another event or none at the receipt's number, or the event belongs to another
-///   client or pool.
-/// - 42: the history has an impossible event or is not complete, or one of its events is not in
-///   exactly one place of the lists, or its number of jobs or units differs from the computed one.
+/// - 41: the receipts of a list are not in ascending order, or one of them does not match the
+///   history, or belongs to another client or pool than the list.
+/// - 42: the history has an impossible event, or is not complete, or has not exactly one receipt
+///   for each event, or its number of jobs or units differs from the computed one.
 /// - 43: the gate failed.
 #[derive(Clone, Copy, Debug, PartialEq, Eq)]
 pub struct RunFault {
@@ -72,7 +71,7 @@ pub enum ThreadFault {
 }
 
 impl ThreadFault {
-    /// Returns the fault number from `support`.
+    /// Returns the number of the fault, which `support` defines.
     pub fn number(self) -> u8
         ensures { result ≡ number_of self }
     {
@@ -83,9 +82,8 @@ impl ThreadFault {
     }
 }
 
-/// The results of the threads of a run: the history, the receipts of each thread, and the fault
-/// that a thread reported. If several threads reported faults, it is the one with the lowest
-/// number.
+/// The results of the threads of a run: the history, the receipts of each thread, and the reported
+/// fault with the lowest number, if any.
 #[derive(Drop)]
 pub struct ThreadResults {
     pub history: Vec<Event>,

@@ -1,4 +1,4 @@
-//! The check that the results of a run's threads are a complete run.
+//! The check that the results of a run's threads form a complete run.
 
 ghost use Rattle.std.specs.Prelude.{◌≡◌, ◌≢◌, ◌↔◌, IfOk, IfErr, IfSome, IsTrue, None, false, length, take};
 ghost use Rattle.std.specs.Option.{IfNone};
@@ -19,8 +19,8 @@ use job_bodies::Plan;
 use std::alloc::{AllocError, Global};
 use support::number::{MEMORY, MIXED, STRANGE};
 
-/// Checks that the results of the threads are a complete run of the plan with this number of rounds
-/// and these numbers of jobs and units of work, and returns its report.
+/// Checks that the results of the threads form a complete run of the plan, with this number of
+/// rounds and these numbers of jobs and units of work. Returns the report of the run.
 ///
 /// # Errors
 ///
@@ -98,8 +98,8 @@ fn report(
     }
 }
 
-/// Returns the fault of a run, or `None` if it is a complete run. `replay` is the replay of the
-/// legal part of its history.
+/// Returns the fault of a run, or `None` if the run is complete. `replay` is the replay of the
+/// legal part of the history.
 ///
 /// # Errors
 ///
@@ -160,9 +160,9 @@ fn fault_of(
     Ok(None)
 }
 
-/// Returns `true` if the history was replayed to its end, has these numbers of jobs and units of
-/// work, is complete, and has each of its events in exactly one place of the lists. Each list must
-/// have only receipts of its own client or pool.
+/// Returns `true` if the history was replayed to its end, is complete, has these numbers of jobs
+/// and units of work, and has exactly one receipt in the lists for each event. The caller must have
+/// checked that each list has only receipts of its own client or pool.
 ///
 /// # Errors
 ///

@@ -60,7 +60,7 @@ pub fn run<R: Threads + Wait + Sync, G: Gate>(
     check_run(alloc, certified, rounds, numbers, results)
 }
 
-/// Returns the numbers of a run that exceeds no limit.
+/// Returns the numbers of jobs, units of work and events of the run, if it exceeds no limit.
 ///
 /// # Errors
 ///

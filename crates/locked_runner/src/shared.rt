@@ -32,7 +32,7 @@ struct HandoffQueue {
     job_ready: Condvar,
 }
 
-/// The guard of the machine's lock.
+/// A held lock of the machine.
 type MachineGuard<'a, 'b> = MutexGuard<'b, Held<CertifiedWorld<'a>>>;
 
 /// The threads to wake after an event.
@@ -82,7 +82,7 @@ impl<'a> Shared<'a> {
         })
     }
 
-    /// Returns the history, and the fault with the lowest number that a thread reported.
+    /// Returns the history, and the reported fault with the lowest number, if any.
     pub(crate) fn into_history(self) -> (Vec<Event>, Option<ThreadFault>) {
         let Shared {
             machine,
@@ -154,8 +154,8 @@ impl<'a> Shared<'a> {
         None
     }
 
-    /// Releases the lock and returns the work. If there is no work, the job was not found, and the
-    /// run is stopped.
+    /// Releases the lock and returns the work. Stops the run if there is no work, because the job
+    /// was not found.
     fn check_work<R: Wait>(
         &self,
         rt: &R,

@@ -1,4 +1,5 @@
-//! A world, represented by its live view.
+//! A world whose contracts mention only its live view: its live jobs, pools and clients, and its
+//! number of refused submits.
 
 ghost use Rattle.std.specs.Prelude.{◌≡◌, IfOk, OnErr};
 ghost use Rattle.job_bodies.specs.WellFormed.{IsWellFormed};
@@ -12,8 +13,8 @@ use job_bodies::Plan;
 use std::alloc::{AllocError, Global};
 use std::marker::Model;
 
-/// A world whose contracts mention only its live view. They do not mention the number of its
-/// places, because a state of the plan's machine does not determine that number.
+/// A world whose contracts mention only its live view. They do not mention the number of places for
+/// live jobs, because a state of the plan's machine does not determine that number.
 #[derive(Drop)]
 pub struct ViewedWorld {
     world: World,

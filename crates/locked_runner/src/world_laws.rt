@@ -8,8 +8,9 @@ use crate::{CertifiedWorld, ViewedWorld};
 use cert_check::Certified;
 use held_machines::Held;
 
-/// Proves that the world is the live view of the state that its history reaches, that no submit was
-/// refused in this history, and that no event that is possible next is a refused submit.
+/// Proves that the world is the live view of the state to which the history leads. Also proves that
+/// no submit of the history was refused, and that no event that is possible next is a refused
+/// submit.
 pub fn held_worlds_refuse_nothing(held: &Held<CertifiedWorld<'_>>)
     ensures reached { IsReachedBy held.now.machine.certified.now.plan held.now.history
         held.now.state.world }
@@ -19,7 +20,7 @@ pub fn held_worlds_refuse_nothing(held: &Held<CertifiedWorld<'_>>)
     let _history = held.history();
 }
 
-/// Proves that a world that a history of the plan reaches has no refused submits.
+/// Proves that a world has no refused submits if some history of the plan leads to it.
 pub fn reached_worlds_refuse_nothing(certified: &Certified, world: &ViewedWorld)
     ensures { (history : List Event)
         → IsReachedBy certified.now.plan history world.now

@@ -25,10 +25,10 @@ pub fn queues_only_at_core()
     ensures kept { IsInvariant QueuesOnlyAtCore }
 {}
 
-/// Proves that only an offer increases the load of a pool (its threads plus its queued jobs), by at
-/// most 1. The load of a new pool is the number of its prestarted threads. So before a pool refuses
-/// a job, the number of jobs that were offered to it is at least its capacity plus its maximum,
-/// minus its prestarted threads.
+/// Proves that only an offer of a job increases the load of a pool (its threads plus its queued
+/// jobs), by at most 1. The load of a new pool is the number of its prestarted threads. So before a
+/// pool refuses a job, the number of jobs that were offered to it is at least its capacity plus its
+/// maximum, minus its prestarted threads.
 pub fn load_is_offered()
     ensures { LoadIsOffered }
 {}

@@ -1,5 +1,5 @@
-//! A bounded thread pool, as Java's `ThreadPoolExecutor` with an `ArrayBlockingQueue` and
-//! `AbortPolicy`.
+//! A bounded thread pool that behaves like Java's `ThreadPoolExecutor` with an `ArrayBlockingQueue`
+//! and `AbortPolicy`.
 #![tactic(auto)]
 
 mod laws;

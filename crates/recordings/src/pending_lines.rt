@@ -1,4 +1,5 @@
-//! The lines of the gets that timed out or were interrupted, until the next line of their actor.
+//! For each actor, the line of its get that timed out or was interrupted, until the next line of
+//! the actor removes it.
 
 ghost use Rattle.std.specs.Prelude.{◌≡◌, OnOk, None, Some, if◌then◌else◌};
 ghost use Rattle.recordings.specs.declared.recording_line.RecordedActor as actors;

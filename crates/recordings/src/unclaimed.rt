@@ -10,7 +10,7 @@ use crate::{Line, RecordedActor};
 use std::alloc::{AllocError, Global};
 use support::IdMap;
 
-/// The unclaimed jobs, each with its submitter.
+/// A map from jobs to their submitters. It has the jobs that their submitters have not got.
 #[derive(Drop)]
 pub(crate) struct UnclaimedJobs {
     submitters: IdMap<RecordedActor>,

@@ -1,4 +1,5 @@
-//! The failing conditions of a certificate.
+//! The failing conditions of a certificate, as notes. Each note belongs to a section: the ranks, or
+//! one vector of a pool.
 
 ghost use Rattle.std.specs.Prelude.{◌≡◌, ◌<◌, ◌++◌, IsTrue, IfOk, OnOk, filter, length};
 ghost use Rattle.weights.specs.Bound.{bound_vector, bound_rows};
@@ -33,7 +34,7 @@ pub(crate) fn push_rank_notes(
     found.push_notes(notes, Section::Ranks)
 }
 
-/// Returns the section of the pool's bound.
+/// Returns the section of the notes about the pool's bound.
 fn section_of(pool: usize, bound: &Bound) -> Section
     ensures { result ≡ bound_section pool bound.now }
 {
@@ -82,8 +83,7 @@ fn push_blocked_notes(
     found.push_notes(notes, Section::Blocked(pool))
 }
 
-/// Appends the failing conditions of a pool: those of its bound, and then those of its blocked
-/// vector.
+/// Appends the failing conditions of a pool: first of its bound, and then of its blocked vector.
 pub(crate) fn push_pool_notes(
     alloc: Global,
     notes: &mut Vec<Note>,
@@ -103,8 +103,9 @@ pub(crate) fn push_pool_notes(
     push_blocked_notes(alloc, notes, plan, ranks, number, &pool.blocked)
 }
 
-/// Returns the failing conditions of a certificate, each with its left and right side. Those of the
-/// ranks come first. Those of each pool follow: of its bound, and then of its blocked vector.
+/// Returns the failing conditions of a certificate, each with its left and right side. The
+/// conditions of the ranks come first. For each pool, the conditions of its bound follow, and then
+/// the conditions of its blocked vector.
 ///
 /// # Errors
 ///

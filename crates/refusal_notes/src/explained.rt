@@ -14,8 +14,9 @@ use cert_text::Cert;
 use job_bodies::Plan;
 use std::alloc::{AllocError, Global};
 
-/// Appends a line for each failing condition, and then their number, such as `failing 1`. Returns
-/// that number. Stores the failing conditions of one pool at a time only, to save memory.
+/// Appends a line for each failing condition, and then the number of these lines, such as `failing
+/// 1`. Returns that number. Stores the failing conditions of only one pool at a time, to save
+/// memory.
 ///
 /// # Errors
 ///
@@ -36,8 +37,8 @@ pub fn push_explanation(
     Ok(count)
 }
 
-/// Appends a line for each failing condition, first those of the ranks and then those of each pool,
-/// and returns their number.
+/// Appends a line for each failing condition, first of the ranks and then of each pool. Returns the
+/// number of lines.
 fn push_all_lines(
     alloc: Global,
     text: &mut String,
@@ -69,8 +70,8 @@ fn sum(count: usize, more: usize) -> Result<usize, AllocError>
     count.checked_add(more).ok_or(AllocError)
 }
 
-/// Appends a line for each note. If consecutive notes have the same section, its head is formatted
-/// only once.
+/// Appends a line for each note. The lines of a section begin with the same head, which is
+/// formatted once for consecutive notes of the section.
 fn push_lines(
     alloc: Global,
     text: &mut String,
@@ -91,7 +92,7 @@ fn push_lines(
     Ok(())
 }
 
-/// Appends the line of the note, given the head of its section.
+/// Appends the line of the note. `head` is the head of the lines of its section.
 fn push_line_with_head(
     text: &mut String,
     head: &str,

@@ -1,5 +1,5 @@
-//! The reasons why a certificate does not accept a plan: each failing condition, with its left and
-//! right side, and its text.
+//! The reasons why a certificate does not accept a plan. A *note* is one failing condition, with
+//! its left and right side. The lines of an explanation are the texts of the notes.
 #![tactic(auto)]
 
 mod collect;

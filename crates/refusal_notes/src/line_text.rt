@@ -1,4 +1,5 @@
-//! The text of a failing condition.
+//! The text of a note, which is a failing condition. A line begins with a head, which names the
+//! section of the note.
 
 ghost use Rattle.std.specs.Prelude.{◌≡◌, ◌++◌, ◌∷◌, [], IfOk, string_bytes, codes, decimal};
 ghost use Rattle.support.specs.Pushed.{Pushes};

@@ -1,4 +1,4 @@
-//! The lines of a witness, as `replay` reads them, as JSON.
+//! The JSON list of the event lines of a witness. `replay` reads lines of this form.
 
 ghost use Rattle.std.specs.Prelude.{◌≡◌, ◌++◌, ◌∷◌, map, flat_map, codes, decimal, string_bytes, IfOk, OnOk};
 ghost use Rattle.serde_json.specs.View.{view};

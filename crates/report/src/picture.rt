@@ -16,8 +16,8 @@ use job_bodies::{Class, Client, Plan, Pool};
 use std::alloc::{AllocError, Global};
 use weights::{Bound, Ranks};
 
-/// Returns the picture of a plan. If a certificate accepts the plan, the picture also shows the bound
-/// of each queue, and which gets are counted.
+/// Returns the picture of a plan. If a certificate accepts the plan, the picture also shows the
+/// bound of each queue, and the counted gets are bold.
 ///
 /// # Errors
 ///
@@ -33,7 +33,9 @@ pub fn picture_of(alloc: Global, plan: &Plan, finding: &PlanFinding) -> Result<S
 }
 
 /// Returns the graph of a plan. `parts` has the certificate's part for each pool, and is empty if
-/// there is no certificate. The gets that `ranks` counts are bold.
+/// there is no certificate. `ranks` are the ranks of the certificate, which determine the counted
+/// gets: a get is counted if the reach of the job's class is at least the rank of the getting job's
+/// pool. Counted gets are bold.
 fn graph_of(
     alloc: Global,
     plan: &Plan,

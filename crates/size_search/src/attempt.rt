@@ -1,4 +1,5 @@
-//! One attempt to find sizes.
+//! One attempt to find sizes: rounds in which the pools get ranks, and the least sizes for the
+//! resulting certificate.
 
 use crate::certified::cert_of;
 use crate::found::AttemptError;
@@ -10,23 +11,23 @@ use cert_text::Cert;
 use job_bodies::Plan;
 use std::alloc::Global;
 
-/// A certificate, and the sizes that it needs.
+/// A certificate that an attempt found, and the sizes that it needs.
 #[derive(Drop)]
 pub(crate) struct Attempt {
     pub(crate) cert: Cert,
     /// The core and maximum that each pool needs.
     pub(crate) threads: Vec<PoolThreads>,
-    /// The sum of the increases of all sizes, compared with the plan.
+    /// The sum of the increases of all cores, maximums and queues, compared with the plan.
     pub(crate) cost: u64,
-    /// The largest number of pools from which one round had to choose a pool to raise, or 0 if
-    /// every round had a pool with a large enough core. Rounds that were repeated because a maximum
+    /// The largest number of pools from which a round had to choose one pool to raise. It is 0 if
+    /// each round had a pool with a large enough core. Rounds that were repeated because a maximum
     /// grew do not count.
     pub(crate) choices: usize,
 }
 
-/// Searches for a certificate, starting with these cores and maximums. The first round in which no
-/// pool has a large enough core passes over the `passed_over` pools that need the smallest
-/// increases, and raises the next one.
+/// Searches for a certificate, starting with these cores and maximums. The first round without a
+/// pool whose core is large enough skips the `passed_over` pools that need the smallest increases,
+/// and raises the core of the next pool.
 pub(crate) fn attempt_from(
     alloc: Global,
     cache: &mut VectorCache,
@@ -46,7 +47,7 @@ pub(crate) fn attempt_from(
     }
 }
 
-/// Returns the sum of the increases of all sizes from the plan to `fit`.
+/// Returns the sum of the increases of all cores, maximums and queues from the plan to `fit`.
 pub(crate) fn growth(plan: &Plan, fit: &Plan) -> u64 {
     let mut growth = 0u64;
     for (pool, fit) in plan.pools().iter().zip(fit.pools()) {

@@ -1,7 +1,7 @@
 //! The weights of an actor over its body, given the weights of the jobs that it submits.
 //!
-//! The *open* jobs at a position are those that the actor submitted before it and gets at it or
-//! later.
+//! A job is *open* at a position of the body if the actor submits it before that position, and gets
+//! it at that position or later.
 
 ghost use Rattle.std.specs.Prelude.{◌≡◌, ◌≤◌, ◌<◌, ◌+◌, ◌*◌, IfOk, length, slice_index};
 ghost use Rattle.job_bodies.specs.ValidBody.{IsValidBody};
@@ -44,8 +44,8 @@ fn done(plan: &Plan, vector: &Vector, class: usize) -> u64
     number_of(vector, class, actions + 2)
 }
 
-/// Returns the weight of the open jobs after the action at this position. `current_weight` is the
-/// weight of the open jobs before the action.
+/// Returns the total weight of the open jobs after the action at this position. `current_weight` is
+/// their total weight before the action.
 fn open_weight_after(
     plan: &Plan,
     vector: &Vector,
@@ -72,7 +72,7 @@ fn open_weight_after(
     }
 }
 
-/// Returns the largest weight that the open jobs have together at a position of the body.
+/// Returns the largest total weight that the open jobs have at any position of the body.
 fn most(plan: &Plan, vector: &Vector, body: &[Action]) -> u64
     requires valid { IsValidBody plan.now body.now }
     requires small { JobsAreSmall vector.now }
@@ -88,9 +88,9 @@ fn most(plan: &Plan, vector: &Vector, body: &[Action]) -> u64
     most
 }
 
-/// Returns the weight of the actor before the action, given its weight after it. A submit adds the
-/// weight of the queued job. A get subtracts the weight that it returns, but leaves at least
-/// `least`.
+/// Returns the weight of the actor before the action, given the weight `behind` after it. A submit
+/// adds the weight of the queued job. A get subtracts the weight that it returns, but the result is
+/// at least `least`.
 fn before(
     plan: &Plan,
     vector: &Vector,

@@ -8,9 +8,9 @@ use least_vectors::Kind;
 use std::alloc::Global;
 use weights::Bound;
 
-/// Returns the vector that bounds the pool's queue: the standing vector, or the lifetime vector if
-/// that one requires a smaller increase of the queue. `pool_threads` are the core and maximum of
-/// this pool, and `maxes` the maximums of all pools.
+/// Returns the vector that bounds the pool's queue. This is the standing vector, or the lifetime
+/// vector if the lifetime vector requires a smaller increase of the queue. `pool_threads` has the
+/// core and maximum of this pool, and `maxes` has the maximums of all pools.
 pub(crate) fn bound_of(
     alloc: Global,
     cache: &mut VectorCache,
@@ -48,9 +48,8 @@ pub(crate) fn bound_of(
     }
 }
 
-/// Returns the queue capacity that the pool needs if it is given this number of jobs in its
-/// lifetime. Each thread that is not prestarted starts with a job, which needs no place in the
-/// queue.
+/// Returns the queue capacity that the pool needs to accept this number of jobs in its lifetime.
+/// Each thread that is not prestarted starts with a job, which needs no place in the queue.
 fn lifetime_queue(pool: &Pool, pool_threads: PoolThreads, jobs: u64) -> u64 {
     let first_workers = if pool.prestart { pool_threads.core } else { 0 };
     jobs.saturating_add(first_workers)

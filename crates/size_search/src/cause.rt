@@ -1,4 +1,4 @@
-//! The causes for which no sizes are enough.
+//! Causes: reasons why no certificate accepts a plan, whatever its sizes.
 
 /// A reason why no certificate accepts a plan, whatever its sizes.
 #[derive(Clone, Copy, PartialEq, Eq)]
@@ -9,6 +9,6 @@ pub enum Cause {
     /// position of their body.
     ClientNeverGets(usize, usize),
     /// Jobs of the class with this number never get the job that they submit at this position of
-    /// their body, and clients that repeat submit such jobs, directly or through other jobs.
+    /// their body. Repeating clients submit jobs of the class, directly or through other jobs.
     ClassNeverGets(usize, usize),
 }

@@ -1,4 +1,4 @@
-//! The search for a cause for which no sizes are enough.
+//! The search for a cause: a reason why no certificate accepts a plan, whatever its sizes.
 
 ghost use Rattle.std.specs.Prelude.{◌≡◌, ◌<◌, ◌↔◌, ℕ, [], ◌∷◌, true, IfOk, IfSome, IfNone, length};
 ghost use Rattle.job_bodies.specs.Plan.{class_at};
@@ -13,7 +13,8 @@ use crate::submitted_classes::SubmittedClasses;
 use job_bodies::{Action, Plan, has_get_of};
 use std::alloc::{AllocError, Global};
 
-/// Returns a cause for which no sizes are enough, or `None` if the plan has no such cause.
+/// Returns a cause: a reason why no certificate accepts the plan, whatever its sizes. Returns
+/// `None` if the plan has no cause.
 ///
 /// # Errors
 ///
@@ -60,8 +61,7 @@ fn submits_itself(alloc: Global, plan: &Plan, number: usize) -> Result<bool, All
     Ok(submitted_classes.has(number))
 }
 
-/// Returns, as a cause, the first submit without a get in the bodies of the client kinds that
-/// repeat.
+/// Returns, as a cause, the first submit without a get in the body of a client kind that repeats.
 fn never_got_by_clients(plan: &Plan) -> Option<Cause>
     ensures cause { IfSome result (IsCause plan.now) }
     ensures none { IfNone result ((c i : ℕ) → ¬ NeverGotByClients plan.now c i) }
@@ -77,7 +77,7 @@ fn never_got_by_clients(plan: &Plan) -> Option<Cause>
     None
 }
 
-/// Returns, as a cause, the first submit without a get in the bodies of these classes.
+/// Returns, as a cause, the first submit without a get in the body of one of these classes.
 fn never_got_by_jobs(plan: &Plan, submitted_classes: &SubmittedClasses) -> Option<Cause>
     requires { (k : ℕ) → Has submitted_classes.now k ↔ IsSubmitted plan.now (repeated_bodies plan.now) k }
     ensures cause { IfSome result (IsCause plan.now) }

@@ -1,4 +1,5 @@
-//! The steady certificate of a plan.
+//! The steady certificate of a plan: a certificate in which one vector is both the standing vector
+//! and the blocked vector of every pool.
 
 ghost use Rattle.std.specs.Prelude.{◌≡◌, IfOk, IfSome, IfNone, true, false, map};
 ghost use Rattle.job_bodies.specs.Plan as plan_spec;
@@ -37,7 +38,7 @@ fn copied(alloc: Global, vector: &Vector) -> Result<Vector, AllocError>
     })
 }
 
-/// Returns the steady vector, or `None` if a weight in it is above
+/// Returns the vector of the steady certificate, or `None` if one of its weights is above
 /// [`MAX_WEIGHT`](job_bodies::MAX_WEIGHT).
 fn steady_vector(alloc: Global, plan: &Plan, levels: &[u64]) -> Result<Option<Vector>, AllocError>
     requires free { NoCircle plan.now }

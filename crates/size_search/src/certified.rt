@@ -1,4 +1,4 @@
-//! The certificate of an assignment in which every pool has a rank.
+//! The certificate that results from the rounds of an attempt, when every pool has a rank.
 
 use crate::bounds::bound_of;
 use crate::found::{AttemptError, Obstacle};
@@ -10,9 +10,9 @@ use least_vectors::{Kind, reach};
 use std::alloc::{AllocError, Global};
 use weights::{Ranks, Vector};
 
-/// Returns the certificate of an assignment in which every pool has a rank. The caller computes the
-/// sizes that this certificate needs from the plan's sizes. They can be smaller than those of the
-/// assignment.
+/// Returns the certificate of an assignment in which every pool has a rank. The caller then
+/// computes the sizes that this certificate needs, starting from the plan's sizes. These sizes can
+/// be smaller than the sizes of the assignment.
 pub(crate) fn cert_of(
     alloc: Global,
     cache: &mut VectorCache,
@@ -56,9 +56,9 @@ fn pool_certs(
     Ok(pools)
 }
 
-/// Returns the blocked vector that was found for a pool in the round in which the pool got this
-/// rank. The vector is still valid: each pool that had no rank in that round now has at least this
-/// rank, so `reach` gives the same counted gets as the reaches of that round.
+/// Returns the blocked vector that was found for a pool in the round that gave it this rank. The
+/// vector is still valid, because the pool's counted gets are the same as in that round: each pool
+/// that had no rank in that round now has at least this rank.
 fn blocked_of(
     alloc: Global,
     cache: &VectorCache,

@@ -4,16 +4,16 @@
 ghost use Rattle.size_search.specs.NoSizesHelp.{NoSizesHelp};
 ghost use Rattle.size_search.specs.NoSizesHelp.{SizesExist};
 
-/// States that no certificate accepts a plan, nor any plan that differs from it only in sizes, if a
-/// class submits itself, directly or through other classes, or if a submit is made forever and
+/// States that no certificate accepts a plan with a cause, whatever its sizes. A cause is a class
+/// that submits itself, directly or through other classes, or a submit that is made forever and
 /// never got.
 pub fn no_sizes_help()
     ensures { NoSizesHelp }
 {}
 
-/// States when a plan whose steady certificate is within the limits has sizes with which some
-/// certificate accepts it: exactly when no class submits itself, directly or through other classes,
-/// and no repeating client causes a submit that is never got.
+/// States when a plan has sizes with which some certificate accepts it, if its steady certificate
+/// is within the limits. This is the case exactly when no class submits itself, directly or through
+/// other classes, and no repeating client causes a submit that is never got.
 pub fn sizes_exist()
     ensures { SizesExist }
 {}

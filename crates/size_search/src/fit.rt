@@ -1,4 +1,4 @@
-//! The plan with the least cores and queues with which a certificate accepts it.
+//! The least cores and queues with which a certificate accepts a plan.
 
 ghost use Rattle.std.specs.Prelude.{◌≡◌, ◌<◌, ◌^◌, IfOk, IfErr, IsTrue, None, Some, length, not};
 ghost use Rattle.std.specs.List.{find};
@@ -20,8 +20,8 @@ use soundness::Note;
 use std::alloc::{AllocError, Global};
 use weights::{Bound, Place, Vector};
 
-/// Returns the core that a pool with this blocked vector needs: one more than the number of jobs
-/// that can be blocked.
+/// Returns the core that a pool with this blocked vector needs: one thread more than the number of
+/// jobs that can be blocked.
 pub(crate) fn core_needed(plan: &Plan, blocked: &Vector) -> u64
     requires well_formed { IsWellFormed plan.now }
     requires fits { IsTrue (vector_fits plan.now blocked.now) }
@@ -30,8 +30,9 @@ pub(crate) fn core_needed(plan: &Plan, blocked: &Vector) -> u64
     blocked.total(plan) + 1
 }
 
-/// Returns the queue capacity that a pool with this core and maximum needs. With a lifetime bound,
-/// each thread that is not prestarted starts with a job, which needs no place in the queue.
+/// Returns the queue capacity that a pool with this core and maximum needs for this bound. If the
+/// bound is a lifetime vector, each thread that is not prestarted starts with a job, which needs no
+/// place in the queue.
 fn queue_needed(plan: &Plan, bound: &Bound, pool: &Pool) -> u64
     requires well_formed { IsWellFormed plan.now }
     requires fits { IsTrue (vector_fits plan.now (bound_vector bound.now)) }
@@ -75,15 +76,15 @@ fn raised_pools(alloc: Global, plan: &Plan, cert: &Cert) -> Result<Vec<Pool>, Al
     Ok(pools)
 }
 
-/// Returns whether a condition at this place limits a total. Totals are compared with a pool's
-/// sizes.
+/// Returns whether a condition at this place limits the total of a vector. These limits depend on
+/// the pool's sizes.
 fn is_total(place: Place) -> bool
     ensures { result ≡ spec.is_total place }
 {
     matches!(place, Place::Total)
 }
 
-/// Returns the first note whose place is not a total.
+/// Returns the first of these failing conditions that does not limit a total.
 fn first_elsewhere(notes: &[Note]) -> Option<Note>
     ensures { result ≡ find (λ note. not (spec.is_total note.place)) notes.now }
 {
@@ -104,7 +105,7 @@ fn failing_elsewhere(alloc: Global, plan: &Plan, cert: &Cert) -> Result<Option<N
     Ok(first_elsewhere(&failing))
 }
 
-/// Returns the reason why the plan cannot be fitted, or `None` if there is none. `raised` are the
+/// Returns the reason why the plan cannot be fitted, or `None` if there is none. `raised` has the
 /// plan's pools with raised sizes.
 fn unfit(
     alloc: Global,
@@ -179,8 +180,8 @@ fn smallest_pools(alloc: Global, plan: &Plan) -> Result<Vec<Pool>, AllocError>
 }
 
 /// Returns the plan with each core and each queue set to 1. [`fitted`] raises the sizes of that
-/// plan to the least cores and queues with which the certificate accepts the plan. These can be
-/// smaller than the declared ones.
+/// plan to the least cores and queues with which the certificate accepts the plan. These sizes can
+/// be smaller than the declared sizes.
 ///
 /// # Errors
 ///

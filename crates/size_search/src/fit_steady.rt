@@ -1,4 +1,5 @@
-//! The least sizes for the steady certificate, which is used if the rounds find no sizes.
+//! The least sizes for the steady certificate, in which one vector is both the bound and the
+//! blocked vector of every pool. They are used if the rounds find no sizes.
 
 ghost use Rattle.std.specs.Prelude.{◌≡◌, ◌≤◌, IfOk, IfSome, IfNone, IsTrue};
 ghost use Rattle.job_bodies.specs.WellFormed.{IsWellFormed};

@@ -1,13 +1,14 @@
-//! Laws about fitted plans. Each law is the contract of a function with an empty body.
+//! Laws about fitted plans, whose cores and queues were raised to what a certificate needs. Each
+//! law is the contract of a function with an empty body.
 
 ghost use Rattle.size_search.specs.Fitted.{FittedSizesAreLeast, AcceptedPlansFit, LargerSizesAreAccepted, SmallestFitIsLeast};
 ghost use Rattle.size_search.specs.Widened.{WidenedMaxesAreLeast};
 ghost use Rattle.size_search.specs.Unfit.{ReportedCoresNeedLargerMaxes};
 
-/// Call a plan *larger* if it differs from the given one only in cores and queues, and none is
-/// smaller. States that the fitted plan is larger, that the certificate accepts it, and that no
-/// larger plan that the certificate accepts has a smaller core or queue. If there is no fitted
-/// plan, the certificate accepts no larger plan.
+/// States that the fitted plan is larger, that the certificate accepts it, and that no larger plan
+/// that the certificate accepts has a smaller core or queue. If there is no fitted plan, the
+/// certificate accepts no larger plan. A plan is *larger* here if it differs from the given one
+/// only in cores and queues, and none of them is smaller.
 pub fn fitted_sizes_are_least()
     ensures { FittedSizesAreLeast }
 {}
@@ -17,8 +18,8 @@ pub fn accepted_plans_fit()
     ensures { AcceptedPlansFit }
 {}
 
-/// States that a certificate that accepts a plan also accepts it with other cores and queues, if no
-/// core and no limit of a bound is smaller.
+/// States that a certificate that accepts a plan still accepts it with other cores and queues, if
+/// no core is smaller and the total of no bound has a smaller limit.
 pub fn larger_sizes_are_accepted()
     ensures { LargerSizesAreAccepted }
 {}
@@ -32,14 +33,14 @@ pub fn smallest_fit_is_least()
 /// States that a larger maximum never allows a smaller core. Take sizes with which the certificate
 /// accepts the plan, and in which no maximum is smaller than the plan's. Their cores are at least
 /// those that the certificate needs with the plan's maximums. So their maximums are at least those
-/// of the widened plan.
+/// of the widened plan, in which each maximum was raised to the core that the certificate needs.
 pub fn widened_maxes_are_least()
     ensures { WidenedMaxesAreLeast }
 {}
 
 /// States that a pool needs a larger maximum if its core is the reason why the plan is not fitted.
-/// The pool's maximum is larger in all sizes with which the certificate accepts the plan and in
-/// which no maximum is smaller than the plan's.
+/// If the certificate accepts the plan with other sizes, and no maximum is smaller than before, the
+/// maximum of this pool is larger than before.
 pub fn reported_cores_need_larger_maxes()
     ensures { ReportedCoresNeedLargerMaxes }
 {}

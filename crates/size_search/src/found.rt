@@ -7,7 +7,7 @@ use cert_text::Cert;
 use job_bodies::Plan;
 use std::alloc::AllocError;
 
-/// The result of a search for sizes.
+/// The result of a search for sizes: a plan with new sizes, or the reason why no sizes were found.
 #[derive(Drop)]
 pub enum SizesFound {
     /// A plan with new sizes, and a certificate that accepts it.
@@ -19,15 +19,14 @@ pub enum SizesFound {
 /// The reason why no sizes were found.
 #[derive(Clone, Copy, PartialEq, Eq)]
 pub enum NoSizes {
-    /// A cause for which no certificate accepts the plan with any sizes. The plan can still be
-    /// safe.
+    /// No certificate accepts the plan with any sizes, for this reason. The plan can still be safe.
     Cause(Cause),
-    /// The first attempt failed at the pool with this number, and the plan's steady certificate
-    /// needs sizes above 1,000,000 or has a weight above its limit. Other sizes can exist.
+    /// The plan's steady certificate needs sizes above 1,000,000 or has a weight above its limit,
+    /// and the first attempt failed at the pool with this number. Other sizes can exist.
     TooLarge(usize),
 }
 
-/// The obstacle at which an attempt failed.
+/// The point at which an attempt to find sizes failed.
 #[derive(Clone, Copy, PartialEq, Eq)]
 pub(crate) enum Obstacle {
     /// The pool with this number, for which no vector or no size was found.
@@ -37,9 +36,9 @@ pub(crate) enum Obstacle {
 }
 
 impl Obstacle {
-    /// Returns the number of the pool to report: that of the obstacle, or 0 if the obstacle names
-    /// no pool of the plan. The search is not trusted, so an obstacle can name a pool that does not
-    /// exist.
+    /// Returns the number of the pool to report. This is the pool of the obstacle, or 0 if the
+    /// obstacle names no pool of the plan. The search is not trusted, so an obstacle can name a
+    /// pool that does not exist.
     pub(crate) fn pool(self, plan: &Plan) -> usize
         requires { 0 < length plan.now.pools }
         ensures { result < length plan.now.pools }

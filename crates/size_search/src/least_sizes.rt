@@ -10,8 +10,8 @@ use cert_text::Cert;
 use job_bodies::Plan;
 use std::alloc::{AllocError, Global};
 
-/// Returns the plan with the least sizes that the certificate needs, or the obstacle if there are
-/// none.
+/// Returns the plan with the least sizes that the certificate needs. Returns an obstacle if no
+/// sizes are enough.
 pub(crate) fn least_sizes(
     alloc: Global,
     plan: &Plan,
@@ -30,8 +30,8 @@ pub(crate) fn least_sizes(
 }
 
 /// Returns the plan with its maximums raised until none is below the core that its pool needs.
-/// Raising one maximum can make another raise necessary. Repeats the raises at most once for each
-/// pool: if that is not enough, some maximum was raised twice, and no sizes are enough.
+/// Raising one maximum can make another raise necessary, so the raises are repeated, at most once
+/// for each pool. If that is not enough, some maximum was raised twice, and no sizes are enough.
 fn widest(alloc: Global, plan: &Plan, cert: &Cert) -> Result<Result<Plan, Unfit>, AllocError>
     ensures { IfOk result (λ answer. IfOk answer (IsLeastWide plan.now cert.now)) }
 {
@@ -61,7 +61,7 @@ fn have_same_maxes(plan: &Plan, other: &Plan) -> bool {
         .all(|(pool, other)| pool.max == other.max)
 }
 
-/// Returns the obstacle for the reason why the maximums could not be raised.
+/// Returns the obstacle that corresponds to the reason why the maximums could not be raised.
 fn obstacle_of_wide(unfit: Unfit) -> Obstacle {
     match unfit {
         Unfit::Core(pool) => Obstacle::Pool(pool),
@@ -69,9 +69,9 @@ fn obstacle_of_wide(unfit: Unfit) -> Obstacle {
     }
 }
 
-/// Returns the obstacle for the reason why the plan with raised maximums could not be fitted. A
-/// core above its pool's maximum gives an unknown obstacle, since it need not exceed the limit of
-/// sizes.
+/// Returns the obstacle that corresponds to the reason why the plan with raised maximums could not
+/// be fitted. A core above its pool's maximum becomes an unknown obstacle, since it need not exceed
+/// the limit of sizes.
 fn obstacle_of_fit(unfit: Unfit) -> Obstacle {
     match unfit {
         Unfit::Queue(pool) => Obstacle::Pool(pool),

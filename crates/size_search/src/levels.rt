@@ -1,4 +1,4 @@
-//! The levels of classes, each above the levels of the classes that it submits.
+//! The levels of classes. The level of a class is above the levels of the classes that it submits.
 
 ghost use Rattle.std.specs.Prelude.{◌≡◌, ◌≤◌, ℕ, IfOk, map, slice_index};
 ghost use Rattle.job_bodies.specs.declared.limits.TheConstants.{MAX_CLASSES};
@@ -20,7 +20,7 @@ pub(crate) fn number_at(numbers: &[u64], place: usize) -> u64
     }
 }
 
-/// Returns the least level above those of the classes that the body submits.
+/// Returns the least level that is above the levels of the classes that the body submits.
 fn level_above(levels: &[u64], body: &[Action]) -> u64
     requires { (k : ℕ) → slice_index levels.now k ≤ MAX_CLASSES }
     ensures { result ≡ spec.level_above levels.now body.now }
@@ -34,8 +34,8 @@ fn level_above(levels: &[u64], body: &[Action]) -> u64
     highest
 }
 
-/// Returns, for each class, the least level above those that `levels` has for the classes that it
-/// submits.
+/// Returns, for each class, the least level that is above the current levels of the classes that it
+/// submits. `levels` has the current levels.
 fn next_levels(alloc: Global, plan: &Plan, levels: &[u64]) -> Result<Vec<u64>, AllocError>
     requires { (k : ℕ) → slice_index levels.now k ≤ MAX_CLASSES }
     ensures { IfOk result (λ next.

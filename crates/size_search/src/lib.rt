@@ -1,4 +1,5 @@
-//! The search for pool sizes that make a plan safe, and the causes for which no sizes do.
+//! The search for pool sizes with which a certificate accepts a plan. If no sizes can be enough,
+//! the search returns the cause.
 //!
 //! The heuristics of the search are not trusted: [`search_sizes`] returns only sizes that
 //! [`fitted`] or [`cert_check::accepts`] has accepted.

@@ -19,13 +19,14 @@ impl PoolThreads {
         }
     }
 
-    /// Returns the sum of the increases of core and maximum that make both at least this core.
+    /// Returns the sum of the increases of core and maximum that are necessary to make both at
+    /// least this core.
     pub(crate) fn shortfall(self, core: u64) -> u64 {
         let max = core.saturating_sub(self.max);
         core.saturating_sub(self.core).saturating_add(max)
     }
 
-    /// Returns the sum by which core and maximum exceed those of `other`.
+    /// Returns the sum by which core and maximum exceed the core and maximum of `other`.
     pub(crate) fn growth(self, other: PoolThreads) -> u64 {
         let max = self.max.saturating_sub(other.max);
         self.core.saturating_sub(other.core).saturating_add(max)

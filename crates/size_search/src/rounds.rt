@@ -1,4 +1,6 @@
-//! The rounds in which pools get ranks, with larger cores if necessary.
+//! The rounds in which pools get ranks. In each round, the pools whose cores are large enough for
+//! their blocked vectors get the number of the round as their rank. If there is no such pool, the
+//! round raises the core of one pool.
 
 use crate::found::{AttemptError, Obstacle};
 use crate::pool_threads::{PoolThreads, maxes_of};
@@ -16,8 +18,8 @@ pub(crate) struct RankAssignment {
     pub(crate) assigned: Vec<Option<(u64, CacheHit)>>,
     /// Whether a maximum was raised.
     pub(crate) has_widened: bool,
-    /// The largest number of pools from which one round had to choose a pool to raise, or 0 if
-    /// every round had a pool with a large enough core.
+    /// The largest number of pools from which a round had to choose one pool to raise. It is 0 if
+    /// each round had a pool with a large enough core.
     pub(crate) choices: usize,
 }
 
@@ -87,8 +89,8 @@ impl RankAssignment {
         any
     }
 
-    /// Gives the rank to the `choice`-th pool in the order of shortfalls, and raises its core to
-    /// what the pool needs.
+    /// Gives the rank to the `choice`-th pool in ascending order of shortfalls, and raises its core
+    /// to what the pool needs.
     fn assign_one(
         &mut self,
         hits: &[CacheHit],
@@ -107,8 +109,8 @@ impl RankAssignment {
         Ok(())
     }
 
-    /// Returns the obstacle of a round in which no pool can get the core that it needs: the pool
-    /// with the smallest shortfall.
+    /// Returns the obstacle of a round in which each pool needs a core above the limit. The
+    /// obstacle is the pool with the smallest shortfall.
     fn obstacle_of(&self, hits: &[CacheHit]) -> Obstacle {
         match self.choice_of(hits, 0) {
             Some(hit) => Obstacle::Pool(hit.pool),
@@ -116,7 +118,7 @@ impl RankAssignment {
         }
     }
 
-    /// Returns the `choice`-th pool in the order of shortfalls, counted from 0.
+    /// Returns the `choice`-th pool in ascending order of shortfalls, counted from 0.
     fn choice_of(&self, hits: &[CacheHit], choice: usize) -> Option<CacheHit> {
         for hit in hits {
             let shortfall = self.shortfall(hit);
@@ -140,8 +142,8 @@ impl RankAssignment {
         }
     }
 
-    /// Returns the pool's shortfall: the sum of the increases of its core and maximum that this
-    /// vector requires.
+    /// Returns the pool's shortfall: the sum of the increases of its core and maximum that its
+    /// blocked vector requires.
     fn shortfall(&self, hit: &CacheHit) -> u64 {
         match self.threads.get(hit.pool) {
             Some(pool_threads) => pool_threads.shortfall(core_for(hit)),
@@ -150,8 +152,8 @@ impl RankAssignment {
     }
 }
 
-/// Returns the core that a pool with this blocked vector needs: one thread more than can be
-/// blocked.
+/// Returns the core that a pool with this blocked vector needs: one thread more than the number of
+/// jobs that can be blocked.
 fn core_for(hit: &CacheHit) -> u64 {
     hit.total.saturating_add(1)
 }
@@ -167,8 +169,8 @@ fn within_limit(alloc: Global, hits: &[CacheHit]) -> Result<Vec<CacheHit>, Alloc
 /// Gives each pool a rank and a blocked vector, starting with these cores and maximums. In each
 /// round, all pools whose core is large enough get the rank. If there are none, raises the core of
 /// the pool with the smallest shortfall (the sum by which its core and maximum must grow), and
-/// gives the rank to this pool. The first time that this happens, passes over the `passed_over`
-/// pools with the smallest shortfalls, and raises the next one.
+/// gives the rank to this pool. The first time that this happens, skips the `passed_over` pools
+/// with the smallest shortfalls, and raises the core of the next pool.
 pub(crate) fn assign_ranks(
     alloc: Global,
     cache: &mut VectorCache,

@@ -1,4 +1,5 @@
-//! The rows of a plan's steady vector.
+//! The rows of the vector of a plan's steady certificate. A row has the weights of one class or
+//! client kind.
 
 ghost use Rattle.std.specs.Prelude.{◌≡◌, ◌≤◌, ◌<◌, ◌+◌, [], IfOk, IfSome, IfNone, false, length, map, slice_set, slice_index};
 ghost use Rattle.std.specs.Bool.{OnTrue, OnFalse};

@@ -22,13 +22,13 @@ use job_bodies::{MAX_POOLS, Plan};
 use least_vectors::Levels;
 use std::alloc::{AllocError, Global};
 
-/// The maximum number of further attempts that raise another pool first. In a plan with more than
-/// [`FEW_POOLS`] pools, also the maximum number of attempts that reset one pool to its declared
-/// sizes.
+/// The maximum number of further attempts that raise another pool first. It also limits the
+/// attempts that reset one pool to its declared sizes, if the plan has more than [`FEW_POOLS`]
+/// pools.
 const FURTHER_ATTEMPTS: usize = 3;
 
-/// The maximum number of pools in a plan for which each pool whose core or maximum has grown is
-/// reset in an attempt of its own.
+/// The number of pools up to which one further attempt is made for each raised pool, with this pool
+/// reset to its declared sizes. In a plan with more pools, only the most raised pools are reset.
 const FEW_POOLS: usize = 8;
 
 /// Searches for sizes with which a certificate accepts the plan, with few and small increases. If
@@ -40,12 +40,12 @@ const FEW_POOLS: usize = 8;
 /// sizes to what the certificate needs. Further attempts raise another pool first, or start with
 /// one pool reset to its declared sizes. The result is the attempt with the smallest sum of
 /// increases. If no attempt succeeds, the result is the plan's steady certificate with the least
-/// sizes for it. Unless the steady certificate is too large, sizes are returned only if a new
-/// search finds a certificate of the plan with these sizes.
+/// sizes for it. A new search finds a certificate of the plan with the returned sizes, unless the
+/// steady certificate is too large.
 ///
-/// If no sizes are found, either the plan has a cause for which no sizes are enough, or the steady
-/// certificate is too large. So if the steady certificate is not too large, sizes are found exactly
-/// when some exist: when no class submits itself, directly or through other classes, and no
+/// If no sizes are found, either the plan has a cause (a reason why no sizes are enough), or the
+/// steady certificate is too large. So if the steady certificate is not too large, sizes are found
+/// exactly when some exist: when no class submits itself, directly or through other classes, and no
 /// repeating client causes a submit that is never got.
 ///
 /// The contract proves that the certificate accepts the plan with these sizes, and that they are
@@ -76,7 +76,7 @@ pub fn search_sizes(
     search_without_first(alloc, plan)
 }
 
-/// Searches for sizes without a given certificate.
+/// Searches for sizes if no certificate is given that accepts the plan.
 fn search_without_first(alloc: Global, plan: &Plan) -> Result<SizesFound, AllocError>
     ensures found { IfOk result (IsFound plan.now) }
     ensures decided { IfOk result (IsDecided plan.now) }
@@ -88,7 +88,7 @@ fn search_without_first(alloc: Global, plan: &Plan) -> Result<SizesFound, AllocE
     Ok(found)
 }
 
-/// Searches for sizes for a plan that has no cause for which no sizes are enough.
+/// Searches for sizes for a plan for which [`cause_of`] finds no cause.
 fn sizes_without_cause(alloc: Global, plan: &Plan) -> Result<SizesFound, AllocError>
     requires free { IsWithoutCause plan.now }
     requires well_formed { IsWellFormed plan.now }
@@ -114,8 +114,8 @@ fn sizes_by_rounds(alloc: Global, plan: &Plan) -> Result<Result<(Plan, Cert), Ob
     }
 }
 
-/// Returns a certificate that can be expected to accept the plan with other sizes. It has not been
-/// checked.
+/// Returns a certificate that is likely to accept the plan with other sizes. The certificate was
+/// not checked.
 pub(crate) fn unchecked_certificate(
     alloc: Global,
     plan: &Plan,
@@ -142,7 +142,7 @@ fn cheapest_attempt(
     }
 }
 
-/// Returns the cheapest of the attempts that start with the plan's own sizes.
+/// Returns the cheapest of the attempts that start with the plan's declared sizes.
 fn best_from_declared(
     alloc: Global,
     cache: &mut VectorCache,
@@ -251,8 +251,8 @@ fn most_raised_pools(
     Ok(raised)
 }
 
-/// Returns the cores and maximums that the attempt needs, except that this pool has its declared
-/// ones.
+/// Returns the cores and maximums that the attempt needs, after this pool is reset to its declared
+/// core and maximum.
 fn reset_pool(
     alloc: Global,
     best: &Attempt,

@@ -30,10 +30,10 @@ enum Recheck {
 }
 
 /// Returns the plan with these sizes if a new search finds a certificate that accepts it. If the
-/// new search finds a certificate that needs larger sizes, repeats this with those sizes, at most
-/// [`MAX_TURNS`] times. Otherwise returns the plan with the sizes for its steady certificate, with
-/// which the search always finds a certificate. If those sizes are too large, returns the plan with
-/// the current sizes.
+/// new search finds a certificate that needs larger sizes, repeats this with the larger sizes, at
+/// most [`MAX_TURNS`] times. Otherwise returns the plan with the sizes for its steady certificate,
+/// with which the search always finds a certificate. If those sizes are too large, returns the plan
+/// with the current sizes.
 pub(crate) fn stabilize(
     alloc: Global,
     plan: &Plan,
@@ -64,8 +64,8 @@ pub(crate) fn stabilize(
     or_fit_steady(alloc, plan, fit, cert)
 }
 
-/// Searches for a certificate of the fitted plan. If no size has grown, does not search, since the
-/// plan keeps its certificate.
+/// Searches for a certificate of the fitted plan. Skips the search if no size has grown, since the
+/// plan then keeps its certificate.
 fn recheck_plan(alloc: Global, plan: &Plan, fit: &Plan) -> Result<Recheck, AllocError> {
     if growth(plan, fit) == 0 {
         return Ok(Recheck::Same);

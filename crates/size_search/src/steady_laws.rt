@@ -1,11 +1,12 @@
-//! The law of steady certificates, the contract of a function with an empty body.
+//! The law of steady certificates, as the contract of a function with an empty body. In the steady
+//! certificate of a plan, one vector is both the standing and the blocked vector of every pool.
 
 ghost use Rattle.size_search.specs.SteadyLaws.{SteadyCertificatesAccept};
 
-/// States when the steady certificate accepts its plan. If no class submits itself, no repeating
-/// client causes a submit that is never got, and the weights are within their limit, then only
-/// conditions on the certificate's total can fail. So the certificate accepts the plan exactly when
-/// every queue is at least the total and every core is larger than the total.
+/// States when the steady certificate accepts its plan. Assume that no class submits itself, that
+/// no repeating client causes a submit that is never got, and that the weights are within their
+/// limit. Then only conditions on the certificate's total can fail, so the certificate accepts the
+/// plan exactly when every queue is at least the total and every core is larger than the total.
 pub fn steady_certificates_accept()
     ensures { SteadyCertificatesAccept }
 {}

@@ -12,7 +12,8 @@ ghost use Rattle.size_search.specs.Reaching.{Has, Covers, Grows, IsReaching, unf
 use job_bodies::{Action, Plan};
 use std::alloc::{AllocError, Global};
 
-/// A set of classes that are submitted.
+/// A set of classes whose jobs are submitted, and the classes whose bodies have not been scanned
+/// yet.
 #[derive(Drop)]
 pub(crate) struct SubmittedClasses {
     /// For each class, whether the set has it.

@@ -1,4 +1,5 @@
-//! The reasons why a plan cannot be fitted.
+//! The reasons why a plan cannot be fitted to a certificate. Fitting raises the cores and queues to
+//! what the certificate needs.
 
 ghost use Rattle.std.specs.Prelude.{◌≡◌};
 ghost use Rattle.std.specs.List.{enumerate_from};
@@ -10,9 +11,10 @@ use soundness::Note;
 /// The reason why no choice of cores and queues makes the certificate accept the plan.
 #[derive(Clone, Copy, Debug, PartialEq, Eq)]
 pub enum Unfit {
-    /// The certificate has another shape than the plan.
+    /// The certificate does not have the shape of the plan, or one of its numbers is above the
+    /// limit.
     Shape,
-    /// The first condition that fails and does not depend on cores and queues.
+    /// The first condition that fails and that does not depend on cores and queues.
     Condition(Note),
     /// The core of the pool with this number would be above the pool's maximum or, if maximums can
     /// be raised, above 1,000,000.

@@ -10,14 +10,15 @@ use weights::submitted_class;
 /// plan needs a quarter of them.
 const MAX_VECTORS: usize = 32_768;
 
-/// The kind of a vector, and for a blocked vector two further properties. Together with the
-/// maximums and `enough`, this determines a pool's lightest vector.
+/// The kind of a vector and, for a blocked vector, two further properties. Together with the other
+/// fields of [`CacheKey`], this determines a pool's lightest vector.
 #[derive(PartialEq, Drop)]
 enum VectorKey {
     Standing,
     Lifetime,
     Blocked {
-        /// For each class, whether a get of its jobs by a job of this pool is counted.
+        /// For each class, whether a get of a job of that class is counted if a job of this pool
+        /// performs it.
         counted: Vec<bool>,
         /// Whether the workers of other pools can have weight.
         lending: bool,
@@ -34,7 +35,7 @@ struct CacheKey {
     enough: u64,
 }
 
-/// A cache key with its vector.
+/// A cache key with the vector that was found for it.
 #[derive(Drop)]
 struct CacheEntry {
     key: CacheKey,
@@ -42,7 +43,7 @@ struct CacheEntry {
 }
 
 impl CacheEntry {
-    /// Returns whether the vector of this entry is the result for the key.
+    /// Returns whether the vector of this entry is also the result for the key.
     fn matches_key(&self, key: &CacheKey) -> bool {
         self.key.enough == key.enough
             && self.key.vector == key.vector
@@ -51,16 +52,16 @@ impl CacheEntry {
 
     /// Returns whether the cached vector is also the result for these maximums. A pool whose
     /// workers got weight must have the same maximum as in the entry. Any other pool may have a
-    /// larger one: with it, weight of a worker of this pool would add no less to the total, so a
-    /// new search would give the worker no weight either.
+    /// larger maximum. Weight of its workers would then add at least as much to the total, so a new
+    /// search would give them no weight either.
     fn is_valid_for(&self, maxes: &[u64]) -> bool {
         self.key.maxes.iter().zip(maxes).enumerate().all(|(pool, (before, now))| before == now
             || (before < now && !self.is_lender(pool)))
     }
 
     /// Returns whether the workers of the pool got weight in the search for the cached vector.
-    /// Returns `false` if there is no vector. Such a search gave workers weight only because of a
-    /// class that is never submitted, and larger maximums are not tried again for such a class.
+    /// Returns `false` if the search found no vector, so that the search is not repeated for larger
+    /// maximums.
     fn is_lender(&self, pool: usize) -> bool {
         match &self.answer {
             Some(summary) => summary.lenders.contains(&pool),
@@ -77,7 +78,7 @@ struct PoolCache {
     entries: Vec<CacheEntry>,
 }
 
-/// The total of a cached vector, and the place of the vector in the cache.
+/// The total of a pool's lightest vector, and the place of the vector in the cache.
 #[derive(Clone, Copy)]
 pub(crate) struct CacheHit {
     pub(crate) pool: usize,
@@ -98,7 +99,7 @@ impl CacheHit {
     }
 }
 
-/// A plan whose sizes are searched for, with the vectors computed so far.
+/// A plan, and a cache of the vectors that were computed for it with different maximums.
 #[derive(Drop)]
 pub(crate) struct VectorCache<'a> {
     pub(crate) plan: &'a Plan,
@@ -130,8 +131,9 @@ impl<'a> VectorCache<'a> {
         })
     }
 
-    /// Returns the pool's lightest vector of this kind for these maximums. Once the limit of
-    /// computed vectors is reached, returns only cached vectors.
+    /// Returns the pool's lightest vector of this kind for these maximums. Returns an unknown
+    /// obstacle as the error if the vector is not in the cache and the limit of computed vectors
+    /// was reached.
     pub(crate) fn lightest(
         &mut self,
         alloc: Global,
@@ -210,8 +212,8 @@ impl PoolCache {
         })
     }
 
-    /// Returns, for each class, whether a get of its jobs by a job of this pool is counted, if the
-    /// pool has this rank.
+    /// Returns, for each class, whether a get of a job of that class is counted if a job of this
+    /// pool performs it. `rank` is the rank of this pool.
     fn counted(&self, alloc: Global, reach: &[u64], rank: u64) -> Result<Vec<bool>, AllocError> {
         self.gets
             .iter()

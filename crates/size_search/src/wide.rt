@@ -46,8 +46,8 @@ fn widened_pools(alloc: Global, plan: &Plan, cert: &Cert) -> Result<Vec<Pool>, A
 /// smaller than the plan's, have at least these maximums. If the raises increase totals, the
 /// certificate can need still larger cores.
 ///
-/// If the certificate has another shape than the plan, or needs a core above 1,000,000, there are
-/// no such sizes, and the reason is returned.
+/// If the certificate does not fit the plan, or needs a core above 1,000,000, there are no such
+/// sizes, and the reason is returned.
 ///
 /// # Errors
 ///

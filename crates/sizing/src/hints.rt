@@ -86,8 +86,9 @@ fn is_directory(rt: &impl Files, name: &str) -> bool {
     }
 }
 
-/// Returns what is wrong with a file that the arguments name, and the file's name. Their command
-/// found a fault in a text.
+/// Returns the name of a file and a hint that says what is wrong with the file. The command with
+/// these arguments has found a fault in a text. The file is one of its arguments, and lacks a text
+/// or has a text of another kind. Returns `None` if no such file is found.
 pub(crate) fn hint_of<'a>(
     rt: &impl Files,
     alloc: Global,

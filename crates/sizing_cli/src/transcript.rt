@@ -20,8 +20,8 @@ use support::Counter;
 /// Replays the lines from the plan's start state up to the first impossible event. The lines after
 /// it are only parsed.
 ///
-/// A malformed line replaces the replies to the lines before it, so no answer is given before all
-/// lines are read.
+/// If a line is malformed, the answer reports only the first such line, without the replies to the
+/// lines before it. So the answer is known only when all lines have been read.
 pub fn replay_lines(alloc: Global, plan: &Plan, lines: EventLines<'_>) -> Result<Answer, AllocError>
     requires { length lines < 2 ^ 64 }
     ensures { IfOk result (λ answer. answer ≡ replay_of_lines plan.now (all_from 0 lines.entry)) }

@@ -13,20 +13,20 @@ ghost use Rattle.soundness.specs.Headline.{
 };
 ghost use Rattle.soundness.specs.Headline.{AcceptedPlansMaySkip, AcceptedPlansMakeProgressWithSkips, AcceptedPlansDrainWithSkips};
 
-/// Proves that, if a certificate accepts a well-formed plan, every reachable state is safe: no
-/// submit was refused, each pool is within its maximum and its queue's capacity, and no set of
-/// unfinished jobs waits only for its own members, now or at later gets.
+/// Proves that, if a certificate accepts a well-formed plan, every reachable state is safe. In a
+/// safe state, no submit was refused, each pool is within its maximum and its queue's capacity, and
+/// no set of unfinished jobs waits only for its own members, now or at later gets.
 pub fn accepted_plans_are_safe()
     ensures { AcceptedPlansAreSafe }
 {}
 
-/// Proves that, if a certificate accepts a well-formed plan, an event of a job or a take is
-/// possible in every reachable state with an unfinished job.
+/// Proves that a well-formed plan makes progress if a certificate accepts it: in every reachable
+/// state with an unfinished job, an event of a job or a take from a queue is possible.
 pub fn accepted_plans_make_progress()
     ensures { AcceptedPlansMakeProgress }
 {}
 
-/// Proves that a well-formed plan that a certificate accepts drains. If no client acts after a
+/// Proves that a well-formed plan drains if a certificate accepts it. If no client acts after a
 /// reachable state, the number of job events and takes that follow is at most the remaining work of
 /// the state's jobs. When no job event and no take is possible any longer, no job is unfinished.
 /// Threads above core may end in between.
@@ -34,9 +34,9 @@ pub fn accepted_plans_drain()
     ensures { AcceptedPlansDrain }
 {}
 
-/// Proves that, if each pool of a well-formed plan has a standing or a lifetime vector whose rows
-/// hold, no reachable state has a refused submit, a pool with more threads than its maximum, or a
-/// queue longer than its capacity. No ranks and no blocked vectors are needed.
+/// Proves that a well-formed plan refuses nothing if each pool has a standing or a lifetime vector
+/// whose rows hold. No reachable state then has a refused submit, a pool with more threads than its
+/// maximum, or a queue longer than its capacity. No ranks and no blocked vectors are needed.
 pub fn bounded_plans_refuse_nothing()
     ensures { BoundedPlansRefuseNothing }
 {}
@@ -47,14 +47,14 @@ pub fn accepted_plans_are_java_safe()
     ensures { AcceptedPlansAreJavaSafe }
 {}
 
-/// Proves that, if a certificate accepts a well-formed plan, an event of a job or a take is
-/// possible in every reachable state with an unfinished job, even if a submit takes the separate
-/// steps of Java's `execute`.
+/// Proves that a well-formed plan makes progress if a certificate accepts it, even if a submit
+/// takes the separate steps of Java's `execute`: in every reachable state with an unfinished job,
+/// an event of a job or a take from a queue is possible.
 pub fn accepted_plans_make_java_progress()
     ensures { AcceptedPlansMakeJavaProgress }
 {}
 
-/// Proves that a well-formed plan that a certificate accepts drains even if a submit takes the
+/// Proves that a well-formed plan drains if a certificate accepts it, even if a submit takes the
 /// separate steps of Java's `execute`. If no client acts after a reachable state, the number of job
 /// events and takes that follow is at most three times the remaining work of the state's jobs. When
 /// no job event and no take is possible any longer, no job is unfinished. Threads above core may
@@ -63,41 +63,42 @@ pub fn accepted_plans_java_drain()
     ensures { AcceptedPlansJavaDrain }
 {}
 
-/// Proves that, if each pool of a well-formed plan has a standing or a lifetime vector whose rows
-/// hold, the following is true even if a submit takes the separate steps of Java's `execute`: no
-/// reachable state has a refused submit, a pool with more threads than its maximum, or a queue
-/// longer than its capacity.
+/// Proves that a well-formed plan refuses nothing if each pool has a standing or a lifetime vector
+/// whose rows hold, even if a submit takes the separate steps of Java's `execute`. No reachable
+/// state then has a refused submit, a pool with more threads than its maximum, or a queue longer
+/// than its capacity.
 pub fn bounded_plans_java_refuse_nothing()
     ensures { BoundedPlansJavaRefuseNothing }
 {}
 
-/// Proves that, if each pool of a well-formed plan has a standing or a lifetime vector whose rows
-/// hold, the following is true of each pool with a standing vector: no call of `execute` ever finds
-/// its queue full, and so no call requests a thread above core from it.
+/// Proves that no call of Java's `execute` ever finds the queue of a pool with a standing vector
+/// full, so that no call requests a thread above core from this pool. Each pool of the well-formed
+/// plan must have a standing or a lifetime vector whose rows hold.
 pub fn standing_pools_are_not_asked()
     ensures { StandingPoolsAreNotAsked }
 {}
 
-/// Proves that, if a certificate accepts a well-formed plan, every reachable state is safe even if
-/// each submit takes the separate steps of Java's `execute`, and if clients and jobs may skip
-/// submits of their bodies together with the gets of these submits, and may get their jobs of one
-/// class in any order. An actor decides anew each time that it reaches the submit or the get.
+/// Proves that, if a certificate accepts a well-formed plan, every reachable state is safe under
+/// weaker assumptions. Each submit may take the separate steps of Java's `execute`. Clients and
+/// jobs may skip submits of their bodies together with the gets of these submits, and may get their
+/// jobs of one class in any order. An actor decides anew each time that it reaches the submit or
+/// the get.
 pub fn accepted_plans_may_skip()
     ensures { AcceptedPlansMaySkip }
 {}
 
-/// Proves that, if a certificate accepts a well-formed plan, the plan makes progress even if actors
-/// skip submits and exchange alike jobs: in every reachable state with an unfinished job, an event
-/// of a job or a take is possible, without a further skip or exchange.
+/// Proves that a well-formed plan makes progress if a certificate accepts it, even if actors skip
+/// submits and exchange their jobs of one class. In every reachable state with an unfinished job,
+/// an event of a job or a take from a queue is possible, without a further skip or exchange.
 pub fn accepted_plans_make_progress_with_skips()
     ensures { AcceptedPlansMakeProgressWithSkips }
 {}
 
-/// Proves that a well-formed plan that a certificate accepts drains even if actors skip submits and
-/// exchange alike jobs. If no client acts after a reachable state, the number of job events, takes
-/// and skips by jobs that follow is at most three times the remaining work of the state's jobs.
-/// When no job event and no take is possible any longer, no job is unfinished. Threads above core
-/// may end and jobs may be exchanged in between.
+/// Proves that a well-formed plan drains if a certificate accepts it, even if actors skip submits
+/// and exchange their jobs of one class. If no client acts after a reachable state, the number of
+/// job events, takes and skips by jobs that follow is at most three times the remaining work of the
+/// state's jobs. When no job event and no take is possible any longer, no job is unfinished.
+/// Threads above core may end and jobs may be exchanged in between.
 pub fn accepted_plans_drain_with_skips()
     ensures { AcceptedPlansDrainWithSkips }
 {}

@@ -2,8 +2,8 @@
 //!
 //! Each theorem is the contract of a function with an empty body. The definitions are in `specs/`.
 //! A running program uses only [`Note`] and its [`Section`]. The theorems also hold if a submit
-//! takes several steps, as in Java's `execute`, and if clients and jobs skip a submit together with
-//! its get, or get jobs of one class in any order.
+//! takes several steps, as in Java's `execute`. They also hold if clients and jobs skip submits
+//! together with their gets, or get jobs of one class in any order.
 #![tactic(auto)]
 
 mod acceptance_laws;

@@ -2,7 +2,8 @@
 
 use weights::{Place, Rule};
 
-/// A section of a certificate's conditions: the ranks, or one vector of the pool with this index.
+/// A section of a certificate's conditions: the conditions of the ranks, or the conditions of one
+/// vector of the pool with this index.
 #[derive(Clone, Copy, Debug, PartialEq, Eq)]
 pub enum Section {
     Ranks,
@@ -11,8 +12,8 @@ pub enum Section {
     Blocked(usize),
 }
 
-/// A condition of a certificate: the inequality `left <= right` that a rule requires at a place,
-/// and the section to which it belongs.
+/// A condition of a certificate, and the section to which it belongs. The condition is the
+/// inequality `left <= right` that a rule requires at a place.
 #[derive(Clone, Copy, Debug, PartialEq, Eq)]
 pub struct Note {
     pub section: Section,

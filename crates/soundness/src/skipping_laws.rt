@@ -11,16 +11,16 @@ pub fn done_within_queued()
     ensures { DoneWithinQueued }
 {}
 
-/// Proves what changes when an actor's jobs at two positions are exchanged: afterwards, a get of
-/// each of the two submits finds the job that a get of the other one found before. Every other get
-/// finds the same job as before, and each job keeps its class, its creator and its stage.
+/// Proves what changes when an actor's jobs at two submits are exchanged. Afterwards, a get of
+/// either submit finds the job that a get of the other submit found before. Every other get finds
+/// the same job as before, and each job keeps its class, its creator and its stage.
 pub fn exchanges_swap_two_gets()
     ensures { ExchangesSwapTwoGets }
 {}
 
-/// Proves that an actor at a get can get another of its jobs instead. That job must be done and
-/// have the class of the job for which the get waits, and neither of the two may have been got. The
-/// actor exchanges the two jobs, and its next event gets the done one.
+/// Proves that an actor at a get can get another of its jobs instead. This job must be done and
+/// have the class of the job for which the get waits, and no get may have returned either of the
+/// two jobs. The actor exchanges the two jobs, and its next event gets the done job.
 pub fn alike_jobs_are_got_in_any_order()
     ensures { AlikeJobsAreGotInAnyOrder }
 {}

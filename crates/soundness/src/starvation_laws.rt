@@ -3,16 +3,17 @@
 ghost use Rattle.soundness.specs.CountedGets.{FewerThanCoreMayBlock, NoLooseWaitingSets};
 ghost use Rattle.soundness.specs.Drain.{FullIsWhole, FullIsOfThePlan};
 
-/// Proves that, if the rows of the ranks and of a pool's blocked vector hold, then in every
-/// reachable state fewer jobs of the pool than its core size are at a counted get or before one.
+/// Proves that fewer jobs of a pool than its core size can be blocked in a reachable state, if the
+/// rows of the ranks and of the pool's blocked vector hold. A job can be blocked if it runs, and
+/// its current action or a later action is a counted get.
 pub fn fewer_than_core_may_block()
     ensures { FewerThanCoreMayBlock }
 {}
 
-/// Proves that, if the rows of the ranks and of a blocked vector for each pool hold, no reachable
-/// state has a set of unfinished jobs that wait only for members of the set, now or at later gets.
-/// In such a set each running member has created an unfinished member, and its body still has a get
-/// of a job of that member's class.
+/// Proves that jobs never wait only for each other, if the rows of the ranks and of a blocked
+/// vector for each pool hold. No reachable state has a set of unfinished jobs that wait only for
+/// members of the set, now or at later gets. In a set of this kind, each running member has created
+/// an unfinished member of some class, and its body still has a get of a job of this class.
 pub fn no_loose_waiting_sets()
     ensures { NoLooseWaitingSets }
 {}

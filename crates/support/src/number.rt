@@ -1,4 +1,4 @@
-//! The numbers of the faults.
+//! The numbers that identify faults, in code and in messages.
 
 // ---- faults of a plan
 

@@ -15,15 +15,17 @@ use std::alloc::{AllocError, Global};
 
 /// The suite for commands that use no threads.
 ///
-/// - `replay`, `check`, `explain`, `conform`, `learn` and `learn strict`: the whole input. The
-///   answer is the output, with the exit status on the last line. The test repeats the command in
-///   pieces and, if the input is short, with a source and a sink that fail at each call in turn.
+/// - `replay`, `check`, `explain`, `conform`, `learn` and `learn strict`: the input of the command.
+///   The answer is the output, with the exit status on the last line. The test then repeats the
+///   command with a source and a sink that transfer a small piece in each call. If the input is
+///   short, it also repeats the command with a source or a sink that fails at one call, for each
+///   call in turn. It appends a note to the answer for each unexpected result.
 /// - `check and explain`: an input of both commands. The answer is that of `check`, followed by
 ///   that of `explain` if it differs.
-/// - `prefixes of a replay`, `prefixes of a check` and `prefixes of an explain`: an input. The
-///   command answers each proper prefix of it. The answer of the test is the answer to the empty
-///   prefix, followed by each answer that differs from the one before, with the length of its
-///   prefix.
+/// - `prefixes of a replay`, `prefixes of a check` and `prefixes of an explain`: an input. The test
+///   runs the command on each proper prefix of the input, from the shortest to the longest. Its
+///   answer is the output for the empty prefix, followed by each output that differs from the
+///   previous one, with the length of its prefix.
 /// - `words`: the arguments of a command line, each followed by a newline.
 pub struct SequentialCommands;
 

@@ -1,4 +1,5 @@
-//! The conditions of the blocked vector of a pool.
+//! The conditions of the blocked vector of a pool, which bounds the number of the pool's jobs that
+//! wait at counted gets. [`Rule`] explains the names of the rows.
 
 ghost use Rattle.std.specs.Prelude.{◌≡◌, ◌==◌, ◌&&◌, ◌<◌, ◌+◌, ◌∷◌, [], if◌then◌else◌, ℕ, IsTrue, Some, length, map, slice_get};
 ghost use Rattle.std.specs.List.{flat_map};
@@ -18,8 +19,8 @@ use job_bodies::{Action, Class, Plan};
 /// A failing row of a blocked vector: its `left` is greater than its `right`.
 pub type BlockedFault = Row;
 
-/// Passes row B1 of the action at `position` of class `number` to the visitor, if the action is a
-/// counted get.
+/// Passes row B1 of the action at `position` of class `number` to the visitor. Does nothing if the
+/// action is not a counted get.
 fn visit_counted_row<C: Counted, V: RowVisitor>(
     counted: &C,
     vector: &Vector,
@@ -65,8 +66,8 @@ fn visit_counted_rows<C: Counted, V: RowVisitor>(
     }
 }
 
-/// Passes row B1 of each counted get of class `number` to the visitor, if the class belongs to the
-/// pool.
+/// Passes row B1 of each counted get of class `number` to the visitor. Does nothing if the class
+/// does not belong to the pool.
 fn visit_counted_rows_of<C: Counted, V: RowVisitor>(
     plan: &Plan,
     pool: usize,
@@ -108,8 +109,8 @@ fn visit_all_counted_rows<C: Counted, V: RowVisitor>(
     }
 }
 
-/// Passes all conditions of the pool's blocked vector to the visitor: V2 to V7, then B1 of each
-/// counted get of each class of the pool, then B2.
+/// Passes all conditions of the pool's blocked vector to the visitor, in this order: V2 to V7, B1
+/// of each counted get of each class of the pool, B2.
 pub fn visit_blocked_rows<C: Counted, V: RowVisitor>(
     plan: &Plan,
     pool: usize,

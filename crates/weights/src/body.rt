@@ -1,4 +1,5 @@
-//! The rows of the actions of a body.
+//! The rows of the actions of a body. Each row compares the weights of an actor before and after
+//! one action.
 
 ghost use Rattle.std.specs.Prelude.{◌≡◌, ◌<◌, ℕ, List, length, slice_index, slice_index_or, IsTrue};
 ghost use Rattle.job_bodies.specs.declared.action.Action.TheVariants.{Work};
@@ -22,7 +23,7 @@ pub(crate) enum BodyOwner {
 }
 
 impl BodyOwner {
-    /// Returns the place of the action at `position` of the body.
+    /// Returns the place of the action at `position` of the owner's body.
     fn place_at(self, position: usize) -> Place
         ensures { result ≡ place_at self position }
     {
@@ -33,7 +34,7 @@ impl BodyOwner {
     }
 }
 
-/// A body, and the weight of its actor at each position.
+/// A body, and the weight of an actor at each position of the body.
 #[derive(Clone, Copy)]
 pub(crate) struct Body<'a> {
     pub(crate) actor: BodyOwner,
@@ -41,8 +42,8 @@ pub(crate) struct Body<'a> {
     pub(crate) weights: &'a [u64],
 }
 
-/// Returns the class of the job that the submit at position `submit` of the body creates, or 0 if
-/// that position has no submit.
+/// Returns the class that the submit at position `submit` of the body names, or 0 if that position
+/// has no submit.
 pub fn submitted_class(actions: &[Action], submit: usize) -> usize
     ensures { result ≡ submitted_class actions.now submit }
 {
@@ -52,7 +53,7 @@ pub fn submitted_class(actions: &[Action], submit: usize) -> usize
     }
 }
 
-/// Returns the weight that a get of a job of the class gives its actor.
+/// Returns the weight that an actor receives when it gets a job of the class.
 fn returned_weight(get_return: GetReturn, plan: &Plan, vector: &Vector, class: usize) -> u64
     requires fits { IsTrue (spec.vector_fits plan.now vector.now) }
     requires class { class < length plan.now.classes }

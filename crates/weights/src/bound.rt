@@ -1,4 +1,4 @@
-//! The vector that bounds the queue of a pool.
+//! The vector that bounds the queue of a pool, so that the pool never refuses a job.
 
 ghost use Rattle.std.specs.Prelude.{◌≡◌, ◌<◌, IsTrue, length};
 ghost use Rattle.job_bodies.specs.Plan.{pool_at};
@@ -11,13 +11,14 @@ use crate::lifetime::lifetime_limit;
 use crate::{RowVisitor, StandingFault, Vector};
 use job_bodies::Plan;
 
-/// A vector that shows that a pool never refuses a job.
+/// A vector which shows that a pool never refuses a job.
 #[derive(Debug, Drop)]
 pub enum Bound {
-    /// A standing vector: the number of queued jobs never exceeds the capacity of the queue.
+    /// A standing vector. It shows that the number of queued jobs never exceeds the capacity of the
+    /// queue.
     Standing(Vector),
-    /// A lifetime vector: the number of all jobs that are ever submitted to the pool is at most the
-    /// number that its queue and its threads have room for.
+    /// A lifetime vector. It shows that the queue and the threads have room for all jobs that are
+    /// ever submitted to the pool.
     Lifetime(Vector),
 }
 
@@ -38,8 +39,9 @@ impl Bound {
         matches!(self, Bound::Lifetime(_))
     }
 
-    /// Returns the limit of the vector's total: the capacity of the queue, or for a lifetime vector
-    /// the number of jobs that the pool accepts before it can refuse one.
+    /// Returns the limit of the vector's total. For a standing vector, this is the capacity of the
+    /// queue. For a lifetime vector, it is the number of jobs that the pool accepts before it can
+    /// refuse one.
     pub fn limit(&self, plan: &Plan, pool: usize) -> u64
         requires { pool < length plan.now.pools }
         ensures { result ≡ spec.bound_limit plan.now pool self.now }

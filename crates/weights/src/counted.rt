@@ -1,9 +1,9 @@
-//! The gets that are counted.
+//! The rule that decides which gets are counted.
 
 ghost use Rattle.std.specs.Prelude.{◌≡◌, ℕ, Bool};
 
-/// A rule that decides which gets are counted. The blocked vector of a pool gives the jobs of the
-/// pool weight at counted gets. A get that is not counted waits for a job that always makes
+/// A rule that decides which gets are counted. In the blocked vector of a pool, the jobs of the
+/// pool have weight at counted gets. A get that is not counted waits for a job that always makes
 /// progress.
 pub trait Counted {
     // Whether the rule has an answer for this position of this class.

@@ -1,4 +1,4 @@
-//! The gets that are counted because of the ranks and reaches of a certificate.
+//! The rule by which the ranks and reaches of a certificate decide which gets are counted.
 
 ghost use Rattle.std.specs.Prelude.{◌≡◌, ◌<◌, IsTrue, Some, length, slice_get};
 ghost use Rattle.job_bodies.specs.Plan.{class_at};
@@ -27,9 +27,9 @@ fn is_counted_in(plan: &Plan, ranks: &Ranks, number: usize, class: &Class, posit
 }
 
 impl Ranks {
-    /// Returns whether the action at `position` of the class is a counted get. A get is counted
-    /// unless the job that it gets is of a class whose reach is below the rank of this class's
-    /// pool.
+    /// Returns whether the action at `position` of the class is a counted get. A get is not counted
+    /// if the reach of the class of its job is below the rank of this class's pool. Every other get
+    /// is counted.
     pub fn is_counted(&self, plan: &Plan, class: usize, position: usize) -> bool
         requires fits { IsTrue (spec.ranks_fit plan.now self.now) }
         requires class { class < length plan.now.classes }

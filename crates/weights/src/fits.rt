@@ -28,8 +28,9 @@ fn are_small_rows(rows: &[Vec<u64>]) -> bool
 }
 
 impl Vector {
-    /// Returns whether the vector has a number for each pool, for each point of each class and for
-    /// each position of each client kind, and each number is at most [`MAX_WEIGHT`].
+    /// Returns whether the vector has the shape of the plan, and each number is at most
+    /// [`MAX_WEIGHT`]. A vector of this shape has a number for each pool, for each point of each
+    /// class and for each position of each client kind.
     pub fn fits(&self, plan: &Plan) -> bool
         ensures { result ≡ spec.vector_fits plan.now self.now }
     {

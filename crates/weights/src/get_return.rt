@@ -15,7 +15,7 @@ pub enum GetReturn {
 }
 
 impl GetReturn {
-    /// Returns the rule of a get.
+    /// Returns the rule that limits the weight of the actor after a get: V5 or L5.
     pub fn rule(self) -> Rule
         ensures { result ≡ get_rule self }
     {

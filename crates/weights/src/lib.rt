@@ -1,8 +1,9 @@
-//! The parts of a certificate, and the conditions on them: vectors of weights, which bound queued, submitted and blocked
-//! jobs, and ranks of pools.
+//! The parts of a certificate and the conditions on them. The parts are vectors of weights, which
+//! bound queued, submitted and blocked jobs, and the ranks of pools.
 //!
-//! A walk over the conditions passes each of them, a [`Row`], to a [`RowVisitor`]. Functions such
-//! as [`Vector::standing_fault`] return the first condition that fails.
+//! A [`Row`] is one condition at one place of the plan. A walk over the conditions passes each row
+//! to a [`RowVisitor`]. Functions such as [`Vector::standing_fault`] return the first condition
+//! that fails.
 #![tactic(auto)]
 
 mod blocked;

@@ -1,5 +1,5 @@
 //! The conditions of the lifetime vector of a pool: the queue and the threads have room for all
-//! jobs that are ever submitted.
+//! jobs that are ever submitted. [`Rule`] explains the names of the rows.
 
 ghost use Rattle.std.specs.Prelude.{◌≡◌, ◌==◌, ◌<◌, ◌∷◌, [], if◌then◌else◌, IsTrue, Some, length, map, slice_get};
 ghost use Rattle.std.specs.List.{flat_map, enumerate_from};
@@ -15,8 +15,8 @@ ghost use Rattle.weights.specs.Visits.{Visits};
 use crate::{FirstFault, GetReturn, Place, Row, RowVisitor, Rule, StandingFault, Vector};
 use job_bodies::{Class, Plan, Pool};
 
-/// Returns the number of jobs that a pool accepts before it can refuse one: the capacity of its
-/// queue plus its maximum, minus its prestarted threads.
+/// Returns the number of jobs that a pool accepts before it can refuse one. This is the capacity of
+/// its queue plus its maximum, minus its prestarted threads.
 pub(crate) fn lifetime_limit(pool: &Pool) -> u64
     requires { IsTrue (has_valid_sizes pool.now) }
     ensures { result ≡ lifetime.lifetime_limit pool.now }
@@ -40,7 +40,7 @@ fn visit_worker_rows<V: RowVisitor>(plan: &Plan, vector: &Vector, visitor: &mut 
     }
 }
 
-/// Passes row L2 of each of these weights of the class to the visitor.
+/// Passes row L2 of each of these weights to the visitor. They are weights of a job of the class.
 fn visit_l2_rows<V: RowVisitor>(class: usize, weights: &[u64], visitor: &mut V)
     ensures { Visits V.HasSeen visitor.old visitor.new
         (map (λ weight. row L2 (place.Class class) 1 weight) weights.now) }
@@ -50,7 +50,8 @@ fn visit_l2_rows<V: RowVisitor>(class: usize, weights: &[u64], visitor: &mut V)
     }
 }
 
-/// Passes row L2 of each weight of class `number` to the visitor, if the class belongs to the pool.
+/// Passes row L2 of each weight of class `number` to the visitor. Does nothing if the class does
+/// not belong to the pool.
 fn visit_l2_rows_of<V: RowVisitor>(
     plan: &Plan,
     pool: usize,
@@ -82,8 +83,8 @@ fn visit_all_l2_rows<V: RowVisitor>(plan: &Plan, pool: usize, vector: &Vector, v
 }
 
 impl Vector {
-    /// Passes all conditions of the pool's lifetime vector to the visitor: L1 of each pool, then V2
-    /// to V7 with L5 in place of V5, then L2 of each weight of each class of the pool, then L3.
+    /// Passes all conditions of the pool's lifetime vector to the visitor, in this order: L1 of
+    /// each pool, V2 to V7 with L5 in place of V5, L2 of each weight of each class of the pool, L3.
     pub fn visit_lifetime_rows<V: RowVisitor>(&self, plan: &Plan, pool: usize, visitor: &mut V)
         requires fits { IsTrue (spec.vector_fits plan.now self.now) }
         requires pool { pool < length plan.now.pools }

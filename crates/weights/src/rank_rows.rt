@@ -1,4 +1,4 @@
-//! The conditions of ranks: K1, K2 and K3.
+//! The conditions of ranks: K1, K2 and K3, which [`Rule`] explains.
 
 ghost use Rattle.std.specs.Prelude.{◌≡◌, ◌<◌, ◌+◌, IsTrue, Some, length, slice_get};
 ghost use Rattle.std.specs.List.{flat_map, enumerate_from};
@@ -17,8 +17,8 @@ use job_bodies::{Action, Class, Plan};
 /// A failing row of ranks: its `left` is greater than its `right`.
 pub type RankFault = Row;
 
-/// Returns row K2 of the get at `position` of class `number`: the reach of the class is at least
-/// the reach of the class of the job that it gets.
+/// Returns row K2 of the get at `position` of class `number`. The row requires that the reach of
+/// the class is at least the reach of the class of the get's job.
 fn get_row(
     plan: &Plan,
     ranks: &Ranks,
@@ -42,8 +42,8 @@ fn get_row(
     )
 }
 
-/// Returns row K3 of the submit at `position` of class `number`: the level of the class is above
-/// the level of the submitted class.
+/// Returns row K3 of the submit at `position` of class `number`. The row requires that the level of
+/// the class is above the level of the submitted class.
 fn submit_row(plan: &Plan, ranks: &Ranks, number: usize, position: usize, submitted: usize) -> Row
     requires fits { IsTrue (spec.ranks_fit plan.now ranks.now) }
     requires class { number < length plan.now.classes }
@@ -61,7 +61,7 @@ fn submit_row(plan: &Plan, ranks: &Ranks, number: usize, position: usize, submit
 }
 
 /// Passes the row of the action at `position` of class `number` to the visitor: K2 of a get, or K3
-/// of a submit.
+/// of a submit. Other actions have no row.
 fn visit_action_row<V: RowVisitor>(
     plan: &Plan,
     ranks: &Ranks,
@@ -89,7 +89,8 @@ fn visit_action_row<V: RowVisitor>(
     }
 }
 
-/// Returns row K1 of class `number`: its reach is at least the rank of its pool.
+/// Returns row K1 of class `number`. The row requires that the reach of the class is at least the
+/// rank of the class's pool.
 fn own_row(plan: &Plan, ranks: &Ranks, number: usize, class: &Class) -> Row
     requires fits { IsTrue (spec.ranks_fit plan.now ranks.now) }
     requires well_formed { IsWellFormed plan.now }
@@ -125,7 +126,7 @@ fn visit_action_rows<V: RowVisitor>(
     }
 }
 
-/// Passes the rows of class `number` to the visitor: K1, then those of its actions.
+/// Passes the rows of class `number` to the visitor: K1, then K2 of each get and K3 of each submit.
 fn visit_class_rows<V: RowVisitor>(
     plan: &Plan,
     ranks: &Ranks,
@@ -144,8 +145,8 @@ fn visit_class_rows<V: RowVisitor>(
 }
 
 impl Ranks {
-    /// Passes all conditions of the ranks to the visitor. They are, for each class, K1, then K2 of
-    /// each get and K3 of each submit.
+    /// Passes all conditions of the ranks to the visitor: for each class, K1, and then K2 of each
+    /// get and K3 of each submit.
     pub fn visit_rank_rows<V: RowVisitor>(&self, plan: &Plan, visitor: &mut V)
         requires { IsTrue (spec.ranks_fit plan.now self.now) }
         ensures { Visits V.HasSeen visitor.old visitor.new (spec.rank_rows plan.now self.now) }

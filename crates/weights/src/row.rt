@@ -1,4 +1,4 @@
-//! A condition of a certificate, and its place in the plan.
+//! A row: one condition of a certificate at one place in the plan.
 
 ghost use Rattle.std.specs.Prelude.{◌≡◌};
 ghost use Rattle.weights.specs.Row.{fails, row};
@@ -8,24 +8,24 @@ ghost use Rattle.weights.specs.Row.{fails, row};
 pub enum Rule {
     /// The reach of a class is at least the rank of its pool.
     K1,
-    /// The reach of a class is at least that of each class whose jobs it gets.
+    /// The reach of a class is at least the reach of each class whose jobs it gets.
     K2,
-    /// The level of a class is above that of each class that it submits.
+    /// The level of a class is above the level of each class that it submits.
     K3,
     /// `work` does not increase the weight of its actor.
     V2,
     /// The weight of an actor before a submit is at least its weight afterwards plus the weight of
     /// the queued job.
     V3,
-    /// The weight of a job at its first position is at most the weight of the queued job plus that
-    /// of a worker of its pool.
+    /// The weight of a job at its first position is at most the weight of the queued job plus the
+    /// weight of a worker of its pool.
     V4,
     /// A get increases the weight of its actor by at most the weight of the done job.
     V5,
-    /// The weight of a job at its end is at least the weight of the done job plus that of a worker
-    /// of its pool.
+    /// The weight of a job at its end is at least the weight of the done job plus the weight of a
+    /// worker of its pool.
     V6,
-    /// A client that repeats weighs at its end at least as much as at its start.
+    /// The weight of a client that repeats is at least as large at its end as at its start.
     V7,
     /// In the standing vector of a pool, a queued job of the pool weighs at least 1.
     S1,
@@ -35,14 +35,14 @@ pub enum Rule {
     L1,
     /// In the lifetime vector of a pool, a job of the pool weighs at least 1 at every point.
     L2,
-    /// The total of the lifetime vector of a pool is at most the number of jobs that the queue and
-    /// the threads of the pool have room for.
+    /// The total of the lifetime vector of a pool is at most the number of jobs for which the queue
+    /// and the threads of the pool have room.
     L3,
     /// In a lifetime vector, a get does not increase the weight of its actor.
     L5,
     /// In the blocked vector of a pool, a job of the pool weighs at least 1 at each counted get.
     B1,
-    /// The total of the blocked vector of a pool is less than core.
+    /// The total of the blocked vector of a pool is less than the core size of the pool.
     B2,
 }
 

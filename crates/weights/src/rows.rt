@@ -1,4 +1,5 @@
-//! The rows V2 to V7 of a vector, for all classes and client kinds of a plan.
+//! The rows V2 to V7 of a vector, for all classes and client kinds of a plan. [`Rule`] explains
+//! their names.
 
 ghost use Rattle.std.specs.Prelude.{◌≡◌, ◌+◌, IsTrue, Some, length, slice_get};
 ghost use Rattle.std.specs.List.{flat_map, enumerate_from};
@@ -14,8 +15,8 @@ use crate::body::{Body, BodyOwner, visit_body_rows};
 use crate::{GetReturn, Place, Row, RowVisitor, Rule, Vector};
 use job_bodies::{Class, Client, Plan};
 
-/// Returns row V4 of class `number`: the weight of a job at its first position is at most the
-/// weight of the queued job plus that of a worker of its pool.
+/// Returns row V4 of class `number`. The row requires that the weight of a job at its first
+/// position is at most the weight of the queued job plus the weight of a worker of its pool.
 fn take_row(plan: &Plan, vector: &Vector, number: usize, class: &Class) -> Row
     requires fits { IsTrue (spec.vector_fits plan.now vector.now) }
     requires well_formed { IsWellFormed plan.now }
@@ -34,8 +35,8 @@ fn take_row(plan: &Plan, vector: &Vector, number: usize, class: &Class) -> Row
     )
 }
 
-/// Returns row V6 of class `number`: the weight of a job at its end is at least the weight of the
-/// done job plus that of a worker of its pool.
+/// Returns row V6 of class `number`. The row requires that the weight of a job at its end is at
+/// least the weight of the done job plus the weight of a worker of its pool.
 fn end_row(plan: &Plan, vector: &Vector, number: usize, class: &Class) -> Row
     requires fits { IsTrue (spec.vector_fits plan.now vector.now) }
     requires well_formed { IsWellFormed plan.now }
@@ -54,7 +55,7 @@ fn end_row(plan: &Plan, vector: &Vector, number: usize, class: &Class) -> Row
     )
 }
 
-/// Passes the rows of class `number` to the visitor: V4, then those of its actions, then V6.
+/// Passes the rows of class `number` to the visitor: V4, then the rows of its actions, then V6.
 fn visit_class_rows<V: RowVisitor>(
     get_return: GetReturn,
     plan: &Plan,
@@ -79,8 +80,8 @@ fn visit_class_rows<V: RowVisitor>(
     visitor.visit(end_row(plan, vector, number, class));
 }
 
-/// Returns row V7 of client kind `number`: the weight of a client at its end is at least its weight
-/// at its start.
+/// Returns row V7 of client kind `number`. The row requires that the weight of a client at its end
+/// is at least its weight at its start.
 fn loop_row(plan: &Plan, vector: &Vector, number: usize, client: &Client) -> Row
     requires fits { IsTrue (spec.vector_fits plan.now vector.now) }
     requires well_formed { IsWellFormed plan.now }
@@ -97,8 +98,8 @@ fn loop_row(plan: &Plan, vector: &Vector, number: usize, client: &Client) -> Row
     )
 }
 
-/// Passes the rows of client kind `number` to the visitor: those of its actions, and V7 if it
-/// repeats.
+/// Passes the rows of client kind `number` to the visitor: the rows of its actions, and then V7 if
+/// the kind repeats.
 fn visit_client_rows<V: RowVisitor>(
     get_return: GetReturn,
     plan: &Plan,

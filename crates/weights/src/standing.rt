@@ -1,5 +1,5 @@
 //! The conditions of the standing vector of a pool: the number of queued jobs never exceeds the
-//! capacity of the queue.
+//! capacity of the queue. [`Rule`] explains the names of the rows.
 
 ghost use Rattle.std.specs.Prelude.{◌≡◌, ◌==◌, ◌<◌, ◌∷◌, [], if◌then◌else◌, IsTrue, Some, length, map, slice_get};
 ghost use Rattle.job_bodies.specs.WellFormed.{IsWellFormed};
@@ -15,7 +15,8 @@ ghost use Rattle.weights.specs.Visits.{Visits};
 use crate::{FirstFault, GetReturn, Place, Row, RowFault, RowVisitor, Rule, StandingFault, Vector};
 use job_bodies::{Class, Plan};
 
-/// Passes row S1 of class `number` to the visitor, if the class belongs to the pool.
+/// Passes row S1 of class `number` to the visitor. Does nothing if the class does not belong to the
+/// pool.
 fn visit_queued_row<V: RowVisitor>(
     plan: &Plan,
     pool: usize,
@@ -52,8 +53,8 @@ fn visit_queued_rows<V: RowVisitor>(plan: &Plan, pool: usize, vector: &Vector, v
 }
 
 impl Vector {
-    /// Passes all conditions of the pool's standing vector to the visitor: V2 to V7, then S1 of
-    /// each class of the pool, then S2.
+    /// Passes all conditions of the pool's standing vector to the visitor, in this order: V2 to V7,
+    /// S1 of each class of the pool, S2.
     pub fn visit_standing_rows<V: RowVisitor>(&self, plan: &Plan, pool: usize, visitor: &mut V)
         requires fits { IsTrue (spec.vector_fits plan.now self.now) }
         requires pool { pool < length plan.now.pools }

@@ -1,12 +1,12 @@
-//! Vectors of weights.
+//! Vectors of weights. A vector gives a weight to each point of a plan.
 
 ghost use Rattle.std.specs.Prelude.{◌≡◌, ◌<◌, length, map};
 ghost use Rattle.weights.specs.Vector as spec;
 
 use std::marker::Model;
 
-/// The weights of all points of a plan, for one bound of one pool, in plan order. Each weight is
-/// from 0 to [`MAX_WEIGHT`](job_bodies::MAX_WEIGHT).
+/// The weights of all points of a plan, in plan order. A certificate has two vectors for each pool.
+/// Each weight is from 0 to [`MAX_WEIGHT`](job_bodies::MAX_WEIGHT).
 #[derive(Debug, Drop)]
 pub struct Vector {
     /// The weight of one worker of each pool.

@@ -1,4 +1,4 @@
-//! Visitors of rows.
+//! Visitors of rows, which are the conditions of a certificate.
 
 ghost use Rattle.std.specs.Prelude.{◌≡◌, ◌∷◌, [], List, None};
 ghost use Rattle.weights.specs.declared.row.Row.{Row as FirstFailing};
@@ -18,10 +18,10 @@ pub trait RowVisitor {
         ensures { Visits HasSeen self.old self.new (row ∷ []) };
 }
 
-/// A visitor that finds the first failing row. Allocates no memory.
+/// A visitor that stores the first failing row. Allocates no memory.
 #[derive(Clone, Copy)]
 pub struct FirstFault {
-    /// The first failing row of those that were visited, or `None` if none of them fails.
+    /// The first visited row that fails, or `None` if no visited row fails.
     pub found: Option<RowFault>,
 }
 

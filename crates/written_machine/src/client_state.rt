@@ -1,6 +1,6 @@
 //! The state of a client.
 
-/// The state of a client: its kind, and its position in the body of the kind.
+/// The state of a client: its client kind, and its position in the body of the kind.
 #[derive(Clone, Copy, PartialEq, Eq)]
 pub struct ClientState {
     pub kind: usize,

@@ -31,15 +31,17 @@ pub fn gets_have_children()
     ensures { GetsHaveChildren }
 {}
 
-/// Proves that the test for a waiting set accepts exactly the lists of jobs that are waiting sets:
-/// a waiting set has at least one job, each of its jobs is queued or at a get, and each waits only
+/// Proves that the test for a waiting set accepts exactly the lists of jobs that are waiting sets.
+/// A waiting set has at least one job, each of its jobs is queued or at a get, and each waits only
 /// for members of the set.
 pub fn waiting_sets_are_tested()
     ensures { WaitingSetsAreTested }
 {}
 
-/// Proves that, in every reachable state of a well-formed plan, each waiting set is a loose waiting
-/// set: each running member waits for a member that it created and gets at its position or later.
+/// Proves that, in every reachable state of a well-formed plan, each waiting set is also a loose
+/// waiting set. In a loose waiting set, a running member need not be at a get yet: the set contains
+/// a job that the member created, and the body of the member has a get of a job of that class at
+/// the member's position or later.
 pub fn waiting_sets_are_loose()
     ensures { WaitingSetsAreLoose }
 {}
@@ -50,8 +52,8 @@ pub fn full_waiting_sets_stay()
     ensures { FullWaitingSetsStay }
 {}
 
-/// Proves that, in every reachable state of a well-formed plan, if core equals the maximum in each
-/// pool with a queued member of a waiting set, these pools have their maximum of threads.
+/// Proves that, in every reachable state of a well-formed plan, the pools with queued members of a
+/// waiting set have their maximums of threads, if core equals the maximum in all these pools.
 pub fn fixed_pools_are_full()
     ensures { FixedPoolsAreFull }
 {}

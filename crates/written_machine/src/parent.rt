@@ -1,6 +1,7 @@
-//! Actors, which create jobs.
+//! Actors: the clients and the jobs, which can create jobs.
 
-/// An actor, such as the creator of a job: the client or the job with this number.
+/// An actor: the client or the job with this number. The parent of a job is the actor that created
+/// the job.
 #[derive(Clone, Copy, PartialEq, Eq)]
 pub enum Parent {
     Client(usize),
