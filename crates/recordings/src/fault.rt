@@ -11,7 +11,7 @@ use std::fmt;
 pub enum FaultReason {
     /// The line has none of the forms of a line.
     Form,
-    /// The line is well-formed, and breaks this rule.
+    /// The line has a valid form but breaks this rule.
     LineRule(LineRule),
 }
 
