@@ -26,7 +26,8 @@ use std::thread::Threads;
 
 /// Returns the answer to an input of this kind. If the answer contains the output of a command, the
 /// exit status follows on the last line. An input is the text of a plan, unless a kind says
-/// otherwise.
+/// otherwise. "With single bytes" means that the source and the sink transfer one byte in each
+/// call.
 ///
 /// - `certify`: the output of `certify` with one worker. The test repeats the command with 64
 ///   workers. If the text is short, it also repeats it with two workers, with single bytes, and
