@@ -1,4 +1,5 @@
-//! The draft of a plan, whose bodies are being learned.
+//! The draft of a plan, whose bodies are being learned. A label is the name of a class or client
+//! kind in the recording.
 
 ghost use Rattle.std.specs.Prelude.{◌≡◌, ◌==◌, ◌&&◌, length, List, OnOk, IfOk, IfErr, string_bytes};
 ghost use Rattle.std.specs.List.{All, Contains};
@@ -43,7 +44,7 @@ impl PlanDraft {
         }
     }
 
-    /// Adds the class or client kind that the line names, unless the plan already has it.
+    /// Adds the class or client kind that the line names, unless the draft already has it.
     ///
     /// # Errors
     ///
