@@ -1,4 +1,4 @@
-//! The class of a submit among those of a body.
+//! The classes of a job that a body submits. A job may belong to several classes.
 
 ghost use Rattle.std.specs.Prelude.{◌≡◌, Some};
 ghost use Rattle.conformance.specs.Path as spec;
@@ -7,18 +7,18 @@ ghost use Rattle.conformance.specs.Candidate.{IsCandidate, next_candidate, with_
 
 use job_bodies::Action;
 
-/// The class of a submit among those that a body submits.
+/// The class of a job, among the classes that a body submits.
 #[derive(Clone, Copy)]
 pub(crate) enum Candidate {
-    /// The body submits none of its classes.
+    /// The body submits no class of the job.
     None,
-    /// The body submits only this one of its classes.
+    /// The body submits only this class of the job.
     One(usize),
-    /// The body submits several of its classes.
+    /// The body submits several classes of the job.
     Several,
 }
 
-/// Returns the class of a submit among those that the body submits.
+/// Returns which of these classes of a job the body submits.
 pub(crate) fn candidate_of(body: &[Action], classes: &Vec<usize>) -> Candidate
     ensures { IsCandidate body.now (Submits classes.now) result }
 {
@@ -29,7 +29,7 @@ pub(crate) fn candidate_of(body: &[Action], classes: &Vec<usize>) -> Candidate
     found
 }
 
-/// Returns the candidate after one more class of the submit.
+/// Returns the candidate after one more class of the job.
 fn next_candidate(body: &[Action], found: Candidate, class: usize) -> Candidate
     ensures { result ≡ next_candidate body.now found class }
 {

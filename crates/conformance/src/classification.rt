@@ -80,7 +80,7 @@ impl ActorClassifier {
         }
     }
 
-    /// Returns the path of the actor: the stored one if it has ended, and the path so far if it is
+    /// Returns the path of the actor: the whole path if it has ended, and the path so far if it is
     /// open.
     ///
     /// # Errors

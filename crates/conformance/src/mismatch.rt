@@ -16,7 +16,7 @@ use support::push_number;
 pub struct PathMismatch {
     pub actor: RecordedActor,
     pub label: ActorLabel,
-    /// The step after the longest prefix of its path that a body explains.
+    /// The step after the longest prefix of the path that a body explains.
     pub step: DeviatingStep,
     /// The last step of that prefix, or `None` if the prefix is empty.
     pub after: Option<NamedStep>,
@@ -27,32 +27,32 @@ pub struct PathMismatch {
 pub enum DeviatingStep {
     /// The actor submitted a job of this class to this pool. Its body has no such submit left.
     Submits(ActorLabel),
-    /// The actor submitted a job of this class to this pool, while too many of its jobs were open. Its
-    /// body has such a submit left.
+    /// The actor submitted a job of this class to this pool while too many jobs of the actor were
+    /// open. Its body has such a submit left.
     SubmitsWhileOpen {
         label: ActorLabel,
         excess: OpenExcess,
     },
-    /// The actor got a job of this class and pool.
+    /// The actor got a job of this class and pool. Its body has no such get left.
     Gets(ActorLabel),
-    /// The actor submitted this job, whose own path matches no class of its label. The plan has such
-    /// a class in the pool.
+    /// The actor submitted this job. The path of the job matches no class of its label, although
+    /// the plan has such a class in the pool.
     SubmitsMismatched {
         job: usize,
         label: ActorLabel,
     },
-    /// The actor submitted this job, and the plan has no such class in the pool.
+    /// The actor submitted this job, and the plan has no class of its label in the pool.
     SubmitsUnplanned {
         job: usize,
         label: ActorLabel,
     },
-    /// The actor ended before a get of its body, while this job was open: the first of its jobs that
-    /// it did not get.
+    /// The actor ended before a get of its body. This job is the first of its jobs that it did not
+    /// get.
     EndsOpen {
         job: usize,
         label: ActorLabel,
     },
-    /// The actor ended before a get of its body, and got all its jobs.
+    /// The actor got all its jobs, and ended before a get of its body.
     Ends,
 }
 

@@ -1,4 +1,5 @@
-//! Laws about paths and the machine, stated as contracts of empty functions.
+//! Laws about paths and the machine of a plan. Each law is the contract of a function with an empty
+//! body.
 
 ghost use Rattle.conformance.specs.FollowedActors.{PlannedActorsAreFollowed};
 ghost use Rattle.conformance.specs.LaggingRun.{PathsAreFollowed, RunsStayReachable};
@@ -7,8 +8,8 @@ ghost use Rattle.conformance.specs.LaggingRun.{PathsAreFollowed, RunsStayReachab
 /// actor, whatever others do in between. The machine's actor makes the submits of the path in their
 /// order. It passes the other actions of its body directly before a submit and before the end: it
 /// skips submits, and gets no job that is still open in the path. So each of its gets comes no
-/// sooner than the path's. While the path of a job waits, the body still has a get of that class.
-/// The states of such a run are reachable, so they are safe.
+/// sooner than the same get in the path. While a job waits in a get of its path, its body still has
+/// a get of that class. The states of such a run are reachable, so they are safe.
 pub fn paths_are_followed()
     ensures followed { PathsAreFollowed }
     ensures reachable { RunsStayReachable }
