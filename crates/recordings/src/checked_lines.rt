@@ -35,8 +35,8 @@ impl<'a> CheckedLines<'a> {
         }
     }
 
-    /// Returns the number of lines that [`next`](CheckedLines::next) has returned. This is the line
-    /// number of the last of them, since lines are numbered from 1.
+    /// Returns the number of lines that [`next`](CheckedLines::next) has returned. Since lines are
+    /// numbered from 1, this is also the line number of the last returned line.
     pub fn number(&self) -> usize
         ensures { result ≡ self.now.number }
     {

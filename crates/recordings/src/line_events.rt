@@ -9,7 +9,8 @@ ghost use Rattle.recordings.specs.InvalidationList as stored;
 use crate::invalidation::InvalidatingEvent;
 use crate::{Line, RecordedActor};
 
-/// Returns the invalidating event that the line reports, if any. A later line may discard the event.
+/// Returns the invalidating event that the line reports, if any. A later line may discard the
+/// event.
 pub(crate) fn event_of(line: &Line<'_>) -> Option<InvalidatingEvent>
     ensures { result ≡ spec.event_of (line_view line.now) }
 {
@@ -44,8 +45,8 @@ pub(crate) fn is_same_type(one: InvalidatingEvent, other: InvalidatingEvent) -> 
     one.word() == other.word()
 }
 
-/// Returns true if the line discards the event. It does so if the event is a get that timed out or
-/// was interrupted, and the line reports a further get of the same job by the same actor.
+/// Returns true if the line discards the event. It discards a get that timed out or was interrupted
+/// if it reports a further get of the same job by the same actor.
 pub(crate) fn excuses(event: InvalidatingEvent, line: &Line<'_>) -> bool
     ensures { result ≡ stored.excuses (line_view line.now) event }
 {
@@ -56,7 +57,8 @@ pub(crate) fn excuses(event: InvalidatingEvent, line: &Line<'_>) -> bool
     }
 }
 
-/// Returns true if the line belongs to the actor whose next line can discard the event.
+/// Returns true if the event is pending until the next line of an actor, and the line belongs to
+/// this actor.
 pub(crate) fn ends_pending(event: InvalidatingEvent, line: &Line<'_>) -> bool
     ensures { result ≡ stored.ends_pending (line_view line.now) event }
 {

@@ -17,7 +17,7 @@ pub struct RecordingLines<'a> {
     rest: &'a [u8],
 }
 
-/// A line that has none of the forms of a line of a recording.
+/// A line that has none of the forms in `docs/RECORDING.md`.
 #[derive(Clone, Copy, PartialEq, Eq)]
 pub struct BadLine;
 

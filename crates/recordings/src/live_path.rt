@@ -71,7 +71,7 @@ impl LivePath {
         Ok(())
     }
 
-    /// Appends a get of the job if the path has the submit of the job but no get of it.
+    /// Appends a get of the job if the path has a submit but no get of the job.
     ///
     /// # Errors
     ///

@@ -82,8 +82,8 @@ impl PathTable {
         Ok(())
     }
 
-    /// Appends a get of the job to the path of this actor, if the path has the job's submit but no
-    /// get of it. Has no effect if the actor is not live.
+    /// Appends a get of the job to the path of this actor, if the path has a submit but no get of
+    /// the job. Has no effect if the actor is not live.
     ///
     /// # Errors
     ///
