@@ -24,8 +24,8 @@ pub fn unfinished_jobs_are_live()
     ensures { UnfinishedJobsAreLive }
 {}
 
-/// Proves that, in every reachable state of a well-formed plan, the test on the live view accepts a
-/// set of job numbers exactly when the set is a waiting set.
+/// Proves that the test on the live view accepts a set of job numbers exactly when the set is a
+/// waiting set. This holds in every reachable state of a well-formed plan.
 pub fn waiting_sets_are_seen()
     ensures { WaitingSetsAreSeen }
 {}
