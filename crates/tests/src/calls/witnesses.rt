@@ -134,9 +134,9 @@ const CASES: &[Case] = &[
     (UNUSED_MAX, &STUCK, &[0, 1], "StuckNow([0, 1]) after 2"),
 ];
 
-/// A list of events is a witness if its last event is a refused submit, or if the given jobs, in
-/// ascending order, wait only for each other after the last event. They wait permanently if the
-/// pool has all its threads.
+/// A list of events is a witness if its last event is a refused submit, or if the given jobs wait
+/// only for each other after the last event. The numbers of the jobs must be in ascending order.
+/// The jobs wait permanently if the pool has all its threads.
 #[test]
 fn lists_that_are_witnesses(rt: HostRuntime) -> Result<(), Fail> {
     let alloc = rt.alloc();
