@@ -152,8 +152,8 @@ impl PlanDraft {
     }
 
     /// Returns the client kind of a round with this label and path. If the path matches no body of
-    /// the label's kinds, replaces one of these bodies or adds a kind. Returns `None` if no body was
-    /// found that covers the path.
+    /// the label's kinds, replaces one of these bodies or adds a kind. Returns `None` if no body
+    /// was found that covers the path.
     ///
     /// # Errors
     ///

@@ -58,8 +58,8 @@ impl LabelRounds {
     ///
     /// # Errors
     ///
-    /// - [`LearnError::InferenceLimit`] if a round does not have the number that the rules of recordings
-    ///   require.
+    /// - [`LearnError::InferenceLimit`] if a round does not have the number that the rules of
+    ///   recordings require.
     /// - [`LearnError::Memory`] if memory runs out.
     pub(crate) fn take(&mut self, line: &Line<'_>) -> Result<(), LearnError>
         ensures ok { (before : List RecordedLine)

@@ -27,8 +27,8 @@ pub(crate) enum JobStep {
 /// belong to. If `marks_gets` is true, `is_got` is true only for the jobs that the path gets.
 /// Otherwise it is true for all jobs.
 ///
-/// Returns `None` if the job of a submit cannot belong to any class, if a get names no submit, or if
-/// no body can cover the path because it is too long.
+/// Returns `None` if the job of a submit cannot belong to any class, if a get names no submit, or
+/// if the path is too long for any body.
 ///
 /// # Errors
 ///
