@@ -260,7 +260,7 @@ fn deviating_submit(
     }
 }
 
-/// Returns the deviation of a submit of a job whose own path matches a class.
+/// Returns the deviation for a submit, if the path of the submitted job matches a class.
 fn submit_of_body(label: ActorLabel, excess: Option<OpenExcess>) -> DeviatingStep
     ensures { result ≡ spec.submit_of_body label excess }
 {

@@ -11,7 +11,7 @@ use recordings::RecordedActor;
 use std::alloc::AllocError;
 use support::push_number;
 
-/// An actor whose label is in the plan and whose path matches none of the bodies of that label.
+/// An actor whose path matches no body of its label. The label is in the plan.
 #[derive(Drop)]
 pub struct PathMismatch {
     pub actor: RecordedActor,
@@ -65,8 +65,8 @@ pub enum NamedStep {
     Gets(String),
 }
 
-/// Appends a description of the mismatch, such as `job 44 of class order in pool web submitted price
-/// to pool database; its body has no such submit after get stock`.
+/// Appends a description of the mismatch, such as `job 44 of class order in pool web submitted
+/// price to pool database; its body has no such submit after get stock`.
 pub(crate) fn push_mismatch(
     text: &mut String,
     plan: &Plan,

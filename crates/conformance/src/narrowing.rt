@@ -87,7 +87,7 @@ fn picked_class(body: &[Action], from: &mut usize, classes: &[usize], pick: Pick
     }
 }
 
-/// Returns the first of the classes that the body submits.
+/// Returns the first class in `classes` that the body submits.
 fn first_class(body: &[Action], classes: &[usize]) -> Option<usize>
     ensures { IfSome result (λ class. Contains classes.now class) }
 {
@@ -99,7 +99,7 @@ fn first_class(body: &[Action], classes: &[usize]) -> Option<usize>
     None
 }
 
-/// Returns the last of the classes that the body submits.
+/// Returns the last class in `classes` that the body submits.
 fn last_class(body: &[Action], classes: &[usize]) -> Option<usize>
     ensures { IfSome result (λ class. Contains classes.now class) }
 {
@@ -112,8 +112,8 @@ fn last_class(body: &[Action], classes: &[usize]) -> Option<usize>
     last
 }
 
-/// Returns the class of the first submit of one of the classes, starting at the index `from` of the
-/// body, and moves `from` past that submit.
+/// Finds the first submit of one of the classes at or after index `from` of the body. Returns its
+/// class, and moves `from` past the submit.
 fn next_class(body: &[Action], from: &mut usize, classes: &[usize]) -> Option<usize>
     ensures { IfSome result (λ class. Contains classes.now class) }
 {

@@ -25,8 +25,8 @@ use std::alloc::{AllocError, Global};
 ///
 /// The result is [`PathMatch::Undecided`] only if a job of the path may belong to several classes
 /// that the body submits, and none of the assignments that were tried matches. Three assignments
-/// are tried, one for each rule of `Pick`: each job has the first of its classes that the body
-/// submits, or the last of them, or the class of the next submit that fits.
+/// are tried. Among the classes of a job that the body submits, they choose the first class, the
+/// last class, or the class of the next submit that fits.
 ///
 /// The number of steps is at most proportional to the length of the body times that of the path.
 ///

@@ -61,9 +61,9 @@ impl PoolComparison {
         }
     }
 
-    /// Reads line `number`. Appends a pool that is not in the plan at its first line, and each
-    /// [`Difference`] of a pool at the first line that has it. The number of prestarted threads is
-    /// compared only in the first line of a pool.
+    /// Reads line `number`. Appends the pool if the plan lacks it and this is the first line of the
+    /// pool. Appends each [`Difference`] between the pool and the plan that no earlier line had.
+    /// The number of prestarted threads is compared only in the first line of a pool.
     ///
     /// # Errors
     ///

@@ -1,4 +1,4 @@
-//! The classified actors whose path matches no body of the plan, and those for which this is
+//! The first actors whose paths match no body of the plan, and the first actors for which this is
 //! undecided.
 
 ghost use Rattle.std.specs.Prelude.{◌≡◌, ◌++◌, ◌∷◌, [], ℕ, List, OnOk};
