@@ -13,7 +13,8 @@ pub struct ClassifiedActor {
     pub pool: String,
     /// The submits and gets of the actor, in order.
     pub path: Vec<RecordedStep>,
-    /// The classes that the job can belong to, or the kinds of the round. This is decided only if
-    /// it is decided for all jobs that the actor submitted, directly or through other jobs.
+    /// The classes that the job can belong to, or the kinds of the round. The match is decided only
+    /// if the match of each job that the actor submitted, directly or through other jobs, is
+    /// decided.
     pub family: FamilyMatch,
 }

@@ -17,8 +17,8 @@ pub(crate) enum Pick {
     First,
     /// The last of the job's classes that the body submits.
     Last,
-    /// The class of the body's next submit whose class is one of the job's classes. The search
-    /// begins after the submit that was picked for an earlier job.
+    /// The class of the body's next submit of a class of the job. The search begins after the
+    /// submit that was picked for an earlier job.
     InOrder,
 }
 
