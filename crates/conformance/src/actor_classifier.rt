@@ -1,4 +1,5 @@
-//! The classes that the jobs of a recording can belong to, and the client kinds of its rounds.
+//! The classification of actors: the classes that the jobs of a recording can belong to, and the
+//! client kinds that its rounds can belong to.
 
 ghost use Rattle.std.specs.Prelude.{◌≡◌, ◌<◌, ◌++◌, ◌∷◌, [], ℕ, List, None, Some, OnOk, IfOk, is_some, true, MatchOption};
 ghost use Rattle.support.specs.Numbered.{count_of};
@@ -25,12 +26,14 @@ use std::alloc::{AllocError, Global};
 
 /// A classifier for the actors of a recording.
 ///
-/// It stores the path of each open actor, the path of each ended actor that waits for a job of its
-/// path, and the classes of each settled job whose submitter is not settled. A job that was
-/// refused, cancelled or removed and never ran stays open until the recording ends.
+/// It classifies an actor once the actor has ended and the jobs of its path are classified. The
+/// actor is then settled. The classifier stores the paths of the other actors, and the classes of
+/// each settled job whose submitter is not settled. A job that was refused, cancelled or removed
+/// and never ran stays open until the recording ends.
 ///
-/// The path of an actor that waits is scanned only once in all, from one unsettled job to the next.
-/// No contract states the time for a line, or the order of the actors that become settled with it.
+/// The path of an ended actor is scanned only once in total: each scan continues at the unsettled
+/// job that stopped the scan before it. No contract states the time for a line, or the order of the
+/// actors that become settled with it.
 #[derive(Drop)]
 pub struct ActorClassifier {
     pub(crate) paths: Paths,
@@ -42,7 +45,7 @@ pub struct ActorClassifier {
 }
 
 impl ActorClassifier {
-    /// Creates a classifier, before the first line.
+    /// Creates a classifier in its state before the first line.
     pub fn new(alloc: Global) -> ActorClassifier
         ensures represents { (plan : plans.Plan) → IsClassifierOf plan result [] }
         ensures reported { (plan : plans.Plan) → AreResultsSoFarOf plan [] [] }
@@ -271,7 +274,8 @@ impl ActorClassifier {
     }
 }
 
-/// The progress of an actor that has ended.
+/// The progress of an ended actor: the length of the prefix of its path whose jobs are settled, and
+/// whether that is the whole path.
 #[derive(Clone, Copy)]
 struct Progress {
     known: usize,

@@ -8,16 +8,16 @@ use crate::line_query::{LineQuery, first_line, label_in, pool_in};
 use recordings::RecordedActor;
 use std::alloc::{AllocError, Global};
 
-/// The label of an actor.
+/// The label of an actor: the names in the line that submits the job or begins the round.
 #[derive(Drop)]
 pub struct ActorLabel {
-    /// The class that a job's submit names, or the kind that a round's begin names.
+    /// The class in the `submit` line of a job, or the kind in the `begin` line of a round.
     pub name: String,
-    /// The pool that a job's submit names. It is empty for a round.
+    /// The pool in the `submit` line of a job. It is empty for a round.
     pub pool: String,
 }
 
-/// Returns the label of an actor. Both names are empty if no line gives the actor a label.
+/// Returns the label of an actor. Both names are empty if no line submits or begins the actor.
 ///
 /// # Errors
 ///
@@ -43,7 +43,8 @@ pub(crate) fn label_of(
     }
 }
 
-/// Returns the pool that the first line of this kind names. It is empty if there is no such line.
+/// Returns the pool in the first line that meets the condition. It is empty if no line meets the
+/// condition.
 ///
 /// # Errors
 ///

@@ -1,4 +1,5 @@
-//! The unsettled actors of a recording.
+//! The unsettled actors of a recording. An actor is settled once it has ended and all jobs of its
+//! path are settled.
 
 ghost use Rattle.std.specs.Prelude.{◌≡◌, ◌+◌, ℕ, nat_eq, true, OnOk, IfOk, None, Some, is_some, if◌then◌else◌};
 ghost use Rattle.std.specs.List.Sorted.{IsNonDecreasing};
@@ -14,7 +15,7 @@ use recordings::{RecordedActor, RecordedStep};
 use std::alloc::{AllocError, Global};
 use support::IdMap;
 
-/// An unsettled actor. It is open, or it has ended and waits for a job of its path.
+/// An unsettled actor. It is open, or it has ended and a job of its path is unsettled.
 #[derive(Drop)]
 pub(crate) struct UnsettledActor {
     /// The class of a job, or the kind of a round.
@@ -23,15 +24,15 @@ pub(crate) struct UnsettledActor {
     pub(crate) pool: String,
     /// The submitter of a job, unless the job was refused.
     pub(crate) submitter: Option<RecordedActor>,
-    /// The state of an actor that has ended.
+    /// The path and its settled prefix if the actor has ended, or `None` if it is open.
     pub(crate) ended_path: Option<EndedPath>,
 }
 
-/// The state of an actor that has ended and waits for jobs of its path.
+/// The path of an ended actor that is not settled.
 #[derive(Drop)]
 pub(crate) struct EndedPath {
     pub(crate) path: Vec<RecordedStep>,
-    /// The length of the prefix of the path whose jobs are all settled.
+    /// The length of a prefix of the path. All jobs in the prefix are settled.
     pub(crate) known: usize,
 }
 
@@ -63,7 +64,7 @@ impl ActorTable {
         }
     }
 
-    /// Inserts an actor.
+    /// Inserts an unsettled actor, or replaces it.
     pub(crate) fn insert(
         &mut self,
         actor: RecordedActor,
@@ -104,7 +105,7 @@ impl ActorTable {
         self.insert(actor, kept)
     }
 
-    /// Removes the submitter of a refused job, which belongs to no path.
+    /// Removes the submitter of a refused job, because this job is no part of the submitter's path.
     pub(crate) fn clear_submitter(&mut self, job: usize)
         ensures { (one : RecordedActor)
             → in_table self.new one
@@ -137,7 +138,7 @@ impl ActorTable {
         }
     }
 
-    /// Returns the state of the actor, if it is in the table and has ended.
+    /// Returns the path and its settled prefix, if the actor is in the table and has ended.
     pub(crate) fn ended_path(&self, actor: RecordedActor) -> Option<&EndedPath>
         ensures { option_copied result
             ≡ option_and_then (λ kept. kept.ended_path) (in_table self.now actor) }
@@ -171,7 +172,7 @@ impl ActorTable {
         }
     }
 
-    /// Removes and returns the actor.
+    /// Removes the actor, and returns it if it was in the table.
     pub(crate) fn remove(&mut self, actor: RecordedActor) -> Option<UnsettledActor>
         ensures value { result ≡ in_table self.old actor }
         ensures later { (one : RecordedActor)

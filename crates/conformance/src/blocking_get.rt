@@ -1,4 +1,4 @@
-//! The get that keeps a body from its next submit of a class.
+//! The get that blocks a body before its next submit of a class.
 
 ghost use Rattle.std.specs.Prelude.{◌≡◌, ◌+◌, ◌==◌, ◌&&◌, nat_lt, if◌then◌else◌, length};
 ghost use Rattle.conformance.specs.BlockingGet as spec;
@@ -7,24 +7,25 @@ use crate::body_gets::BodyGet;
 use crate::row::has_submit_at;
 use job_bodies::Action;
 
-/// The part of a body from the last index where the body can be to a later index.
+/// The part of a body between an index and the last earlier index where the body can be.
 #[derive(Clone, Copy)]
 enum Way {
     /// The body can be at no earlier index.
     Unreached,
     /// The body may pass every get between the two indices.
     Free,
-    /// The body may not pass some get between the two indices. Of the first such get and the later
-    /// gets of its class, this is the one after which the fewest jobs of the class are open.
+    /// The body may not pass a get between the two indices. The field is the get with the smallest
+    /// limit among the first such get and the later gets of the same class.
     Blocked(BodyGet),
 }
 
-/// Returns the get that keeps the body from its next submit of the class. `row` says for each index
-/// whether the body can be there, and `passes` for each get whether the body may pass it.
+/// Returns the get that blocks the body before its next submit of the class. `row` says for each
+/// index whether the body can be there, and `passes` says for each get whether the body may pass
+/// it.
 ///
-/// The next submit is the first that the body cannot reach, after an index where it can be. If the
-/// body may not pass gets of several classes before the submit, the class is that of the first one.
-/// Of its gets, the one after which the fewest jobs are open is returned.
+/// A blocking get comes after the last index where the body can be, and the body may not pass it.
+/// The next submit is the first submit of the class after a blocking get. The result is the get
+/// with the smallest limit among the first blocking get and the later gets of its class.
 pub(crate) fn blocking_get(
     row: &[bool],
     passes: &[bool],
@@ -48,15 +49,16 @@ pub(crate) fn blocking_get(
     None
 }
 
-/// Returns the way to an index, by the way from earlier indices. `is_at` says whether the body can be
-/// at the index.
+/// Returns the way to an index. `is_at` says whether the body can be at the index. If it cannot,
+/// the way is `before`.
 fn way_at(before: Way, is_at: bool) -> Way
     ensures { result ≡ spec.way_at before is_at }
 {
     if is_at { Way::Free } else { before }
 }
 
-/// Returns the get that keeps the body from this index, if the index is a submit of the class.
+/// Returns the get that blocks the body on the way to an index, if the action at the index is a
+/// submit of the class.
 fn blocking_at(way: Way, is_submit: bool) -> Option<BodyGet>
     ensures { result ≡ spec.blocking_at way is_submit }
 {
@@ -66,7 +68,7 @@ fn blocking_at(way: Way, is_submit: bool) -> Option<BodyGet>
     }
 }
 
-/// Returns the way over one more action. `get` is the action, if it is a get, and `passes` says
+/// Returns the way extended by one action. `get` is the action, if it is a get, and `passes` says
 /// whether the body may pass it.
 fn way_after(way: Way, passes: bool, get: Option<BodyGet>) -> Way
     ensures { result ≡ spec.way_after way passes get }
@@ -81,8 +83,7 @@ fn way_after(way: Way, passes: bool, get: Option<BodyGet>) -> Way
     }
 }
 
-/// Returns the second get if fewer jobs of the same class are open after it, and the first one
-/// otherwise.
+/// Returns `get` if it has the class of `least` and a smaller limit. Otherwise returns `least`.
 fn least_get(least: BodyGet, get: Option<BodyGet>) -> BodyGet
     ensures { result ≡ spec.least_get least get }
 {

@@ -6,7 +6,7 @@ ghost use Rattle.conformance.specs.FamilyMatch as spec;
 
 use job_bodies::{Action, Plan};
 
-/// Returns the body of a class, or an empty one if there is no such class.
+/// Returns the body of a class, or an empty body if there is no such class.
 pub(crate) fn class_body(plan: &Plan, class: usize) -> &[Action]
     ensures value { result.now ≡ spec.class_body plan.now class }
     ensures short { length result.now ≤ MAX_ACTIONS }
@@ -17,7 +17,7 @@ pub(crate) fn class_body(plan: &Plan, class: usize) -> &[Action]
     }
 }
 
-/// Returns the body of a client kind, or an empty one if there is no such kind.
+/// Returns the body of a client kind, or an empty body if there is no such kind.
 pub(crate) fn client_body(plan: &Plan, client: usize) -> &[Action]
     ensures value { result.now ≡ spec.client_body plan.now client }
     ensures short { length result.now ≤ MAX_ACTIONS }

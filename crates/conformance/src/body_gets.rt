@@ -15,11 +15,11 @@ use std::alloc::{AllocError, Global};
 pub(crate) struct BodyGet {
     /// The class of the job that it gets.
     pub(crate) class: usize,
-    /// The number of jobs of the class that are open in the body after it.
+    /// The number of jobs of the class that are open in the body after the get.
     pub(crate) limit: usize,
 }
 
-/// Returns the gets of the body, with an entry for each action.
+/// Returns an entry for each action of the body: the get, or `None` if the action is no get.
 ///
 /// # Errors
 ///
@@ -36,8 +36,8 @@ pub(crate) fn body_gets(alloc: Global, body: &[Action]) -> Result<Vec<Option<Bod
     Ok(gets)
 }
 
-/// Updates the open jobs of the body after the action at this index, and returns the get if it is
-/// one.
+/// Updates the open jobs of the body for the action at this index. If the action is a get, returns
+/// it.
 fn pass_action(
     body: &[Action],
     index: usize,
@@ -61,7 +61,7 @@ fn pass_action(
     }
 }
 
-/// Removes the job of the submit from the open jobs, and returns its get.
+/// Removes the job of the submit from the open jobs, and returns the get of this job.
 fn pass_get(body: &[Action], submit: usize, jobs: &mut Vec<usize>) -> BodyGet
     ensures jobs { jobs.new.items ≡ filter (λ other. not (other == submit)) jobs.old.items }
     ensures class { result.class ≡ submitted_class body.now submit }
@@ -87,8 +87,8 @@ fn submitted_class(body: &[Action], submit: usize) -> usize
     }
 }
 
-/// Returns an index of the body such that an actor of this kind may get a job of the class exactly
-/// while its body is before the index.
+/// Returns a bound for the indices of the body. An actor of this kind may get a job of the class at
+/// each index below the bound.
 pub(crate) fn end_of_gets(kind: ActorKind, gets: &[Option<BodyGet>], class: usize) -> usize
     ensures { (body : List Action)
         → spec.AreGets body gets.now

@@ -1,4 +1,4 @@
-//! The classes of a submit that a body submits.
+//! The classes of a job that a body submits. A job may belong to several classes.
 
 ghost use Rattle.std.specs.Prelude.{◌≡◌, Some};
 ghost use Rattle.conformance.specs.Path as spec;
@@ -7,18 +7,18 @@ ghost use Rattle.conformance.specs.Candidate.{IsCandidate, next_candidate, with_
 
 use job_bodies::Action;
 
-/// The classes of a submit that a body submits: none, one, or several.
+/// The class of a job, among the classes that a body submits.
 #[derive(Clone, Copy)]
 pub(crate) enum Candidate {
-    /// The body submits none of the classes.
+    /// The body submits no class of the job.
     None,
-    /// The body submits only this one of the classes.
+    /// The body submits only this class of the job.
     One(usize),
-    /// The body submits several of the classes.
+    /// The body submits several classes of the job.
     Several,
 }
 
-/// Returns which of these classes the body submits.
+/// Returns which of these classes of a job the body submits.
 pub(crate) fn candidate_of(body: &[Action], classes: &Vec<usize>) -> Candidate
     ensures { IsCandidate body.now (Submits classes.now) result }
 {
@@ -29,7 +29,7 @@ pub(crate) fn candidate_of(body: &[Action], classes: &Vec<usize>) -> Candidate
     found
 }
 
-/// Adds a class of the submit to those found before, if the body submits it.
+/// Returns the candidate after one more class of the job.
 fn next_candidate(body: &[Action], found: Candidate, class: usize) -> Candidate
     ensures { result ≡ next_candidate body.now found class }
 {

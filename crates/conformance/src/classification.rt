@@ -18,8 +18,8 @@ use recordings::{RecordedActor, RecordedStep};
 use std::alloc::{AllocError, Global};
 
 impl ActorClassifier {
-    /// Classifies the actor by its path, and appends the result to `reported`. Drops the classes of the
-    /// jobs that it submitted.
+    /// Classifies the actor by its path, and appends the result to `reported`. Drops the classes of
+    /// the jobs that it submitted.
     ///
     /// # Errors
     ///
@@ -80,7 +80,7 @@ impl ActorClassifier {
         }
     }
 
-    /// Returns the path of the actor: the stored one if it has ended, and the path so far if it is
+    /// Returns the path of the actor: the whole path if it has ended, and the path so far if it is
     /// open.
     ///
     /// # Errors

@@ -7,14 +7,14 @@ use recordings::{RecordedActor, RecordedStep};
 #[derive(Drop)]
 pub struct ClassifiedActor {
     pub actor: RecordedActor,
-    /// The class that the job's submit names, or the kind that the round's begin names.
+    /// The class in the `submit` line of a job, or the kind in the `begin` line of a round.
     pub label: String,
-    /// The pool that the job's submit names. It is empty for a round.
+    /// The pool in the `submit` line of a job. It is empty for a round.
     pub pool: String,
-    /// The steps of the actor (`recordings`).
+    /// The submits and gets of the actor, in order.
     pub path: Vec<RecordedStep>,
-    /// The classes that the job can belong to, or the kinds of the round. This is decided only if
-    /// the classes of all jobs below are: the jobs that the actor submitted, those that these
-    /// submitted, and so on.
+    /// The classes that the job can belong to, or the kinds of the round. The match is decided only
+    /// if the match of each job that the actor submitted, directly or through other jobs, is
+    /// decided.
     pub family: FamilyMatch,
 }

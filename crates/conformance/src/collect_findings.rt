@@ -293,9 +293,9 @@ fn push_invalidation(
     Ok(())
 }
 
-/// Returns the class and the pool of the job of an event. For a call of `invokeAny`, returns the
-/// label of the actor and the pool of the recording's first call. For jobs without lines, returns
-/// the first pool that an `unseen` line names.
+/// Returns the class and the pool of the event's job. For a call of `invokeAny`, returns the
+/// actor's class or kind, and the pool of the first such call. For jobs without lines, returns an
+/// empty name, and the pool of the first line that reports such jobs.
 fn subject_of(
     alloc: Global,
     recording: &[u8],

@@ -29,7 +29,7 @@ pub enum Conformance {
     /// The first invalid line of the recording. No comparison was made.
     Invalid(RecordingFault),
     /// Every difference from the plan and every event that invalidates a SAFE answer, each listed
-    /// once. Findings are ordered by line, then by type; those without a line come last. The
+    /// once. Findings are ordered by line, then by type. Findings without a line come last. The
     /// recording conforms if the list is empty.
     Compared(Vec<Finding>),
 }
@@ -38,18 +38,17 @@ pub enum Conformance {
 ///
 /// The findings are exactly these, each listed once:
 ///
-/// - every way in which a pool differs from the plan, with the first line that shows it, and every
-///   pool of the plan that the recording lacks;
+/// - every difference between a recorded pool and the plan, with the first line that shows it, and
+///   every pool of the plan that the recording lacks;
 /// - every label that is not in the plan, with the first line that has it;
 /// - for each label of the plan, the actor with the smallest number whose path matches no body,
-///   with its first step that no body explains and the line of that step. If the step is a submit
-///   that the body still has, the open jobs that keep the body from it are part of the finding;
-/// - for each label of the plan, the actor with the smallest number for which this is undecided. If
-///   each label is one class in each pool, there is none;
+///   with its first step that no body explains and the line of that step;
+/// - for each label of the plan, the actor with the smallest number for which it is undecided which
+///   bodies its path matches. This does not occur if each label is one class in each pool;
 /// - for each client kind, the first line at which it has more rounds than the plan allows. Each
-///   round counts as the first kind that it can belong to. A round for which this is undecided
-///   counts in no kind;
-/// - the first get of a job by an actor that did not submit it;
+///   round counts as the first kind that it can belong to. A round whose kind is undecided counts
+///   in no kind;
+/// - the first get of a job by an actor other than its submitter, before the submitter got the job;
 /// - for each event type that invalidates a SAFE answer, its first line.
 ///
 /// If no finding concerns a label, a path or a number of rounds, all jobs and rounds behave as

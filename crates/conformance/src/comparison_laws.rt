@@ -1,18 +1,19 @@
-//! Laws about the comparisons, stated as contracts of empty functions.
+//! Laws about the comparisons of pools and rounds. Each law is the contract of a function with an
+//! empty body.
 
 ghost use Rattle.conformance.specs.ComparisonLaws.{DeviationsAddUp, ExcessesAddUp, PoolsAreAsPlanned, PoolsAreRecorded, RoundsAreWithinPlan};
 
-/// Proves that the differences of all lines are those found line by line. If there are none, each
-/// recorded pool is in the plan and as planned in each of its lines, where the number of prestarted
-/// threads counts only in the first one. If the recording is also whole, each pool of the plan has
-/// a line.
+/// Proves that the comparison line by line finds all differences between the pools. If there are
+/// none, each recorded pool is in the plan and as planned in each of its lines. The number of
+/// prestarted threads counts only in a pool's first line. If the recording ends with `end`, each
+/// pool of the plan also has a line.
 pub fn pools_are_as_planned()
     ensures adds_up { DeviationsAddUp }
     ensures as_planned { PoolsAreAsPlanned }
     ensures recorded { PoolsAreRecorded }
 {}
 
-/// Proves that the excesses of all lines are those found line by line. If there are none, no client
+/// Proves that the count line by line finds all excesses of rounds. If there are none, no client
 /// kind ever has more rounds than the plan allows.
 pub fn rounds_are_within_plan()
     ensures adds_up { ExcessesAddUp }

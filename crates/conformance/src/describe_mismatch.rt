@@ -20,9 +20,9 @@ use job_bodies::Plan;
 use recordings::{RecordedActor, RecordedStep};
 use std::alloc::{AllocError, Global};
 
-/// Describes the first step of the actor that deviates from each body of its label. Returns the
-/// number of the line of that step, and the description. `classless` has the jobs whose path matches
-/// no class of the plan.
+/// Describes the first deviating step of the actor: the step after the longest prefix of its path
+/// that a body explains. Returns the line number of this step, and the description. `classless` has
+/// the jobs whose paths match no class of the plan.
 ///
 /// # Errors
 ///
@@ -62,7 +62,7 @@ pub(crate) fn describe_mismatch(
     Ok((number_of(&line), mismatch))
 }
 
-/// Returns the number of the line that was found.
+/// Returns the number of the line, if one was found.
 fn number_of(found: &Option<FoundLine>) -> Option<usize>
     ensures { result ≡ option_map (λ found. found.number) found.now }
 {
@@ -74,8 +74,8 @@ fn number_of(found: &Option<FoundLine>) -> Option<usize>
 
 /// Appends the conditions of the lines that [`describe_mismatch`] looks up for this actor.
 ///
-/// No contract states them, because they affect only the time: a line whose condition is missing is
-/// searched for in the text.
+/// A missing condition costs only time, because the line is then searched for in the text. So no
+/// contract states which conditions are appended.
 ///
 /// # Errors
 ///
@@ -112,7 +112,7 @@ fn job_of(step: JobStep) -> usize {
     }
 }
 
-/// A step of an actor: what it did with a job.
+/// A step of an actor: a submit or a get of the job with this number.
 #[derive(Clone, Copy)]
 enum JobStep {
     Submits(usize),
@@ -138,7 +138,8 @@ fn got_at(path: &[RecordedStep], submit: usize) -> Option<JobStep>
     }
 }
 
-/// Returns the condition for the line of the step or, if there is no step, for the actor's last line.
+/// Returns the condition for the line of the step. Without a step, returns the condition for the
+/// line that ends the actor.
 fn line_query_of(actor: RecordedActor, step: Option<JobStep>) -> LineQuery
     ensures { result ≡ spec.line_query_of actor step }
 {
@@ -187,7 +188,8 @@ fn deviating_step(
     }
 }
 
-/// Returns the deviation of an actor that ended, with its first open job if there is one.
+/// Returns the deviation of an actor that ended too early. `job` is its first open job, if there is
+/// one.
 fn deviating_end(
     alloc: Global,
     first: &FirstLines<'_>,
@@ -204,7 +206,7 @@ fn deviating_end(
     }
 }
 
-/// Returns the first job of a path that no step of it gets.
+/// Returns the first job that the path submits and does not get.
 fn open_job(path: &[RecordedStep]) -> Option<usize>
     ensures { result ≡ spec.first_open path.now }
 {
@@ -220,7 +222,8 @@ fn open_job(path: &[RecordedStep]) -> Option<usize>
     None
 }
 
-/// Returns the job of the step at this index of a path, if it is a submit and no step gets its job.
+/// Returns the job of the step at this index of the path, if the step is a submit and the path does
+/// not get the job.
 fn open_job_at(path: &[RecordedStep], place: usize, step: RecordedStep) -> Option<usize>
     ensures { option_to_list result ≡ spec.open_job_at path.now (place, step) }
 {
@@ -257,7 +260,7 @@ fn deviating_submit(
     }
 }
 
-/// Returns the deviation of a submit of a job whose own path matches a class.
+/// Returns the deviation for a submit, if the path of the submitted job matches a class.
 fn submit_of_body(label: ActorLabel, excess: Option<OpenExcess>) -> DeviatingStep
     ensures { result ≡ spec.submit_of_body label excess }
 {
@@ -267,7 +270,7 @@ fn submit_of_body(label: ActorLabel, excess: Option<OpenExcess>) -> DeviatingSte
     }
 }
 
-/// Returns true if the plan has such a class in the pool.
+/// Returns true if the plan has a class in this pool that a job of this label may belong to.
 #[tactic(auto, using(crate::proofs::UnplannedAfter::is_filled))]
 fn is_planned_class(plan: &Plan, class: &str, pool: &str) -> bool
     ensures { result ≡ is_planned_class plan.now class.now pool.now }

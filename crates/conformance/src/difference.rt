@@ -20,10 +20,10 @@ pub enum Difference {
     KindOfQueue(QueueKind),
     /// The capacity of the queue, in jobs.
     Capacity { recorded: u64, planned: u64 },
-    /// Core threads may time out. Those of a plan never do.
+    /// Core threads may time out. In a plan they never do.
     CoreTimeout,
-    /// The number of threads when the recording began. A plan with `prestart` has all core threads
-    /// then, and one without it has none.
+    /// The number of threads when the recording began. In a plan, a pool with `prestart` has all
+    /// core threads then, and any other pool has none.
     Prestarted { recorded: u64, planned: u64 },
 }
 

@@ -1,4 +1,4 @@
-//! The ends of actors.
+//! The lines that end actors.
 
 ghost use Rattle.std.specs.Prelude.{◌≡◌};
 ghost use Rattle.recordings.specs.RecordingLine.{line_view};

@@ -1,4 +1,4 @@
-//! The number of rounds of each client kind.
+//! The rounds of each client kind, compared with the plan.
 
 ghost use Rattle.std.specs.Prelude.{◌≡◌, ◌++◌, ◌∷◌, [], ℕ, List, Option, OnOk, IfOk};
 ghost use Rattle.recordings.specs.RecordingLine.{RecordedLine, line_view};
@@ -17,8 +17,8 @@ use job_bodies::Plan;
 use recordings::Line;
 use std::alloc::{AllocError, Global};
 
-/// The first line at which each kind has more rounds than the plan allows, for the lines read so
-/// far.
+/// For each client kind, the first line read so far at which it has more rounds than the plan
+/// allows.
 #[derive(Drop)]
 pub(crate) struct ExcessTracker {
     rounds: OpenRounds,
@@ -27,7 +27,7 @@ pub(crate) struct ExcessTracker {
 }
 
 impl ExcessTracker {
-    /// Creates the counters, before the first line.
+    /// Creates the tracker in its state before the first line.
     ///
     /// # Errors
     ///
@@ -43,8 +43,8 @@ impl ExcessTracker {
         })
     }
 
-    /// Counts line `number` of a valid recording. A round counts as its kind in `others` or, if it
-    /// has none there, as the first kind of its label.
+    /// Counts the rounds in line `number` of a valid recording. A round counts as its kind in
+    /// `others`. If `others` does not have the round, it counts as the first kind of its label.
     ///
     /// # Errors
     ///
@@ -72,8 +72,8 @@ impl ExcessTracker {
 }
 
 /// Returns, for each kind, the first line at which it has more rounds than the plan allows. The
-/// recording must be valid. A round counts as its kind in `others` or, if it has none there, as the
-/// first kind of its label.
+/// recording must be valid. A round counts as its kind in `others`. If `others` does not have the
+/// round, it counts as the first kind of its label.
 ///
 /// # Errors
 ///

@@ -5,18 +5,18 @@ ghost use Rattle.conformance.specs.PathMatch as spec;
 
 use crate::open_excess::OpenExcess;
 
-/// The longest prefix of a path that begins a path of a body.
+/// The longest prefix of a path that a body explains. A body explains a prefix if a path that
+/// matches the body begins with the prefix.
 #[derive(Clone, Copy, PartialEq, Eq)]
 pub struct ExplainedPrefix {
-    /// The number of its steps.
+    /// The number of steps in the prefix.
     pub length: usize,
-    /// If the next step is a submit that the body still has, the open jobs that keep the body from
-    /// it. `None` if it is another step, or if the body has no such submit left.
+    /// The open jobs that block the body, if the next step is a submit that the body still has.
+    /// `None` if it is a get, if the body has no such submit left, or if there is no next step.
     pub excess: Option<OpenExcess>,
 }
 
-/// Returns the longer of two prefixes. If their lengths are the same, returns the first one if it has
-/// open jobs, and the second one otherwise.
+/// Returns the longer of two prefixes, or `other` if they have the same length.
 pub(crate) fn longer(one: ExplainedPrefix, other: ExplainedPrefix) -> ExplainedPrefix
     ensures { result ≡ spec.longer one other }
 {

@@ -15,13 +15,14 @@ use std::alloc::{AllocError, Global};
 /// The result of matching a path against a family of classes or client kinds.
 #[derive(Drop)]
 pub struct FamilyMatch {
-    /// The numbers of the members whose body the path matches, in ascending order.
+    /// The numbers of the classes or client kinds whose bodies the path matches, in ascending
+    /// order.
     pub members: Vec<usize>,
-    /// The longest prefix of the path that a body of the family explains. It is the whole path if there
-    /// is a member, and it is empty if the family is empty.
+    /// The longest prefix of the path that a body of the family explains. It is the whole path if
+    /// there is a member, and it is empty if the family is empty.
     pub explained: ExplainedPrefix,
-    /// True if it was decided for each body of the family. Otherwise there may be more members, and
-    /// a longer prefix may be explained.
+    /// True if each match with a body of the family was decided. Otherwise there may be more
+    /// members, and a longer prefix may be explained.
     pub is_decided: bool,
 }
 
@@ -41,7 +42,7 @@ impl FamilyMatch {
         }
     }
 
-    /// Matches the path against one more body, that of the entry `number`.
+    /// Matches the path against the body of class or client kind `number`, and adds the result.
     pub(crate) fn match_body(
         &mut self,
         alloc: Global,

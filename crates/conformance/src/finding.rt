@@ -9,7 +9,8 @@ use crate::unplanned::NotPlanned;
 use crate::{Difference, PoolDeviation, RoundExcess};
 use recordings::{ForeignGet, Invalidation, RecordedActor};
 
-/// The sort keys of one line: a rank of 4 bits, and a number of 60 bits.
+/// The number of sort keys for one line. A sort key ends with a rank of 4 bits and a number of 60
+/// bits.
 const RANKS: u128 = 1 << 64;
 
 const NUMBERS: u128 = 1 << 60;
@@ -24,23 +25,23 @@ pub enum Finding {
     Pool(PoolDeviation),
     /// A label that is not in the plan.
     NotPlanned(NotPlanned),
-    /// Of the actors of one label whose path matches no body, the one with the smallest number, and
-    /// the line of its first deviating step. The label is in the plan.
+    /// The first actor of a label, by number, whose path matches no body, and the line of its first
+    /// deviating step. The label is in the plan.
     PathMismatch {
         line: Option<usize>,
         mismatch: PathMismatch,
     },
-    /// Of the actors of one label for which it is undecided which bodies their path matches, the one
-    /// with the smallest number. The label is in the plan. The result for this label is neither yes
-    /// nor no.
+    /// The first actor of a label, by number, for which it is undecided which bodies its path
+    /// matches. The label is in the plan. So the comparison has no complete result for this label.
     NotDecided {
         actor: RecordedActor,
         label: ActorLabel,
     },
-    /// More rounds of a kind than the plan allows, where each round counts as the first kind that
-    /// it can belong to. A round for which this is undecided counts in no kind.
+    /// More rounds of a kind than the plan allows. Each round counts as the first kind that it can
+    /// belong to. A round whose kind is undecided counts in no kind.
     TooMany(RoundExcess),
-    /// The first get of a job by an actor that did not submit it, with the labels of both.
+    /// The first get of a job by an actor other than its submitter, with the labels of the actor
+    /// and of the job.
     ForeignGet {
         get: ForeignGet,
         label: ActorLabel,
@@ -49,14 +50,14 @@ pub enum Finding {
     /// The first line of an event type that invalidates a SAFE answer.
     Invalidation {
         invalidation: Invalidation,
-        /// The class and the pool of the job. For a call of `invokeAny`, the label of the actor and
-        /// the pool of the call; for jobs without lines, their pool.
+        /// The class and the pool of the job. For a call of `invokeAny`, the class or kind of the
+        /// actor, and the pool of the call. For jobs without lines, only their pool.
         label: ActorLabel,
     },
 }
 
 impl Finding {
-    /// Returns the number of its line, if it has one.
+    /// Returns the line number of the finding, if it has a line.
     pub fn line(&self) -> Option<usize>
         ensures { result ≡ spec.line_of self.now }
     {
@@ -71,8 +72,8 @@ impl Finding {
         }
     }
 
-    /// Returns its sort key: by the number of the line, with the findings without a line last, then
-    /// by the type of the finding, then by a number of the plan or of the recording.
+    /// Returns the sort key. It orders findings by line, then by type, and then by the number that
+    /// [`number`](Finding::number) returns. Findings without a line come last.
     pub(crate) fn sort_key(&self) -> u128
         ensures { result ≡ spec.sort_key self.now }
     {
@@ -86,8 +87,8 @@ impl Finding {
         self.line().unwrap_or(usize::MAX)
     }
 
-    /// Returns the rank of its type: pools come first, then labels, paths, numbers of rounds, gets
-    /// and events.
+    /// Returns the rank of the finding's type: pools come first, then labels, paths, numbers of
+    /// rounds, foreign gets and events.
     fn rank(&self) -> usize
         ensures value { result ≡ spec.rank_of self.now }
         ensures few { result < 8 }
@@ -110,7 +111,7 @@ impl Finding {
         }
     }
 
-    /// Returns the number that orders the findings of its type on one line.
+    /// Returns the number that orders findings of the same line and type.
     fn number(&self) -> usize
         ensures { result ≡ spec.number_of self.now }
     {

@@ -21,8 +21,8 @@ use recordings::RecordedActor;
 use std::alloc::AllocError;
 
 impl ActorClassifier {
-    /// Classifies each unsettled actor at the end of the recording, by the lines up to there.
-    /// Appends the jobs to `reported` in descending order of their numbers, then the rounds.
+    /// Classifies each actor that is still unsettled at the end of the recording. Appends the jobs
+    /// to `reported` in descending order of their numbers, then the rounds.
     ///
     /// # Errors
     ///

@@ -1,4 +1,4 @@
-//! The actor with the smallest number of each label.
+//! For each label, the actor with the smallest number.
 
 ghost use Rattle.std.specs.Prelude.{◌≡◌, ◌++◌, ◌∷◌, [], List, OnOk, position};
 ghost use Rattle.conformance.specs.declared.classified_actor.ClassifiedActor as classified_actors;
@@ -8,7 +8,7 @@ use crate::ClassifiedActor;
 use recordings::RecordedActor;
 use std::alloc::{AllocError, Global};
 
-/// A set of actors that keeps, for each label, the one with the smallest number.
+/// A set that keeps, for each label, the actor with the smallest number.
 #[derive(Drop)]
 pub(crate) struct FirstActors {
     pub(crate) actors: Vec<ClassifiedActor>,
@@ -24,7 +24,8 @@ impl FirstActors {
         }
     }
 
-    /// Adds an actor, unless the set has one of the same label with a number that is not larger.
+    /// Adds an actor, unless the set has an actor of the same label whose number is the same or
+    /// smaller.
     ///
     /// # Errors
     ///

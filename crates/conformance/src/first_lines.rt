@@ -1,4 +1,4 @@
-//! The first lines of a recording that meet some conditions, found in one pass over its text.
+//! The first lines of a recording that meet some conditions. One pass over the text finds them all.
 
 ghost use Rattle.std.specs.Prelude.{◌≡◌, ◌+◌, ◌++◌, ◌∷◌, [], List, OnOk, IfOk, length, string_bytes};
 ghost use Rattle.recordings.specs.RecordingLine.{RecordedLine, line_view};
@@ -20,19 +20,18 @@ use std::marker::Model;
 pub(crate) struct FoundLine {
     /// The number of the line, from 1.
     pub(crate) number: usize,
-    /// The class of a submit or the kind of a begin. It is empty for any other line.
+    /// The class in a `submit` line, or the kind in a `begin` line. It is empty for any other line.
     label: String,
-    /// The pool that the line names, if it submits a job, calls `invokeAny` or reports jobs without
-    /// lines. It is empty for any other line.
+    /// The pool in a `submit`, `any` or `unseen` line. It is empty for any other line.
     pool: String,
 }
 
-/// For each of some conditions, the first line that meets it, or `None` if no line does.
+/// A map from conditions to the first lines that meet them, or to `None` if no line does.
 pub(crate) type LineTable = HashMap<LineQuery, Option<FoundLine>>;
 
 /// The text of a recording, and the first lines that meet some conditions.
 ///
-/// Contracts see it as the text.
+/// In contracts, its value is the text.
 #[derive(Drop)]
 pub(crate) struct FirstLines<'a> {
     text: &'a [u8],
@@ -72,9 +71,8 @@ impl<'a> FirstLines<'a> {
         Ok(FirstLines { text, table })
     }
 
-    /// Returns the first line that meets the condition. This takes a look-up if the condition is
-    /// one of those that were given to [`new`](FirstLines::new), and a search in the text
-    /// otherwise.
+    /// Returns the first line that meets the condition. This takes a look-up if the condition was
+    /// passed to [`new`](FirstLines::new). Otherwise it takes a search in the text.
     ///
     /// # Errors
     ///
@@ -119,7 +117,8 @@ fn seek(table: &mut LineTable, query: LineQuery) -> Result<(), AllocError>
     Ok(())
 }
 
-/// Reads all lines. Reads none if no condition is sought.
+/// Reads all lines, and stores the first line for each condition. Reads no lines if there are no
+/// conditions.
 fn note_lines(alloc: Global, text: &[u8], table: &mut LineTable) -> Result<(), AllocError>
     ensures { spec.AreFirst [] table.old → OnOk result (spec.AreFirst (lines_of text.now) table.new) }
 {
@@ -135,7 +134,7 @@ fn note_lines(alloc: Global, text: &[u8], table: &mut LineTable) -> Result<(), A
     Ok(())
 }
 
-/// Stores line `number` for the condition that it meets, if no earlier line does.
+/// Stores line `number` for the condition that it meets, if no earlier line meets this condition.
 fn note_line(
     alloc: Global,
     number: usize,
@@ -169,7 +168,7 @@ fn note_match(
     Ok(())
 }
 
-/// Returns true if the table has the condition, without a line.
+/// Returns true if the table has the condition, but no line for it yet.
 fn is_sought(table: &LineTable, query: LineQuery) -> bool
     ensures { result ≡ spec.is_sought table.now query }
 {

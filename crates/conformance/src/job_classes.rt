@@ -1,4 +1,4 @@
-//! The classes of the settled jobs.
+//! The classes of the settled jobs. A job is settled once it is classified.
 
 ghost use Rattle.std.specs.Prelude.{◌≡◌, ◌≤◌, ◌&&◌, ◌++◌, ◌∷◌, [], ℕ, List, OnOk, IfOk, IsTrue, None, Some, is_some, if◌then◌else◌, ◌==◌, length};
 ghost use Rattle.recordings.specs.RecordingLine.{RecordedLine};
@@ -21,8 +21,8 @@ pub(crate) struct JobClasses {
     pub(crate) is_decided: bool,
 }
 
-/// A map from job numbers to the classes of jobs. It has the jobs that are settled, that is,
-/// classified, and whose submitters are not settled yet.
+/// A map from jobs to the classes that they can belong to. It has the settled jobs whose submitters
+/// are not settled.
 #[derive(Drop)]
 pub(crate) struct ClassTable {
     jobs: IdMap<JobClasses>,
@@ -50,7 +50,8 @@ impl ClassTable {
         self.jobs.insert(job, classes)
     }
 
-    /// Stores the classes of the actor, if it is a job that belongs to its submitter's path.
+    /// Stores the classes of the actor, if it is a job in the path of its submitter. Refused jobs
+    /// and rounds are in no path.
     ///
     /// # Errors
     ///
@@ -75,8 +76,8 @@ impl ClassTable {
         Ok(())
     }
 
-    /// Returns the index of the first submit of an unsettled job in the path, starting at `from`,
-    /// or the length of the path.
+    /// Returns the index of the first submit of an unsettled job in the path, starting at `from`.
+    /// Returns the length of the path if there is no such submit.
     pub(crate) fn first_unsettled(&self, path: &[RecordedStep], from: usize) -> usize
         ensures within { from ≤ length path.now → result ≤ length path.now }
         ensures before { AreSettledBefore self.now path.now from
@@ -100,9 +101,9 @@ impl ClassTable {
         }
     }
 
-    /// Replaces the contents of the list with the steps of the path, each submit with the classes
-    /// of its job, and removes these jobs from the table. Returns true if the classes of all of
-    /// them are decided.
+    /// Replaces the contents of `steps` with the steps of the path. Each submit has the classes of
+    /// its job, and the job is removed from the table. Returns true if the classes of all these
+    /// jobs are decided.
     ///
     /// # Errors
     ///

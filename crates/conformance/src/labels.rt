@@ -48,7 +48,7 @@ impl LabelSet {
     }
 }
 
-/// Returns a class and its pool as one label, separated by a space, as a submit line has them.
+/// Returns a class and its pool as one label. A space separates them, as in a `submit` line.
 pub(crate) fn pair(alloc: Global, class: &str, pool: &str) -> Result<String, AllocError>
     ensures { IfOk result (λ text. string_bytes text ≡ pair_text class.now pool.now) }
 {

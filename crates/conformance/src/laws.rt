@@ -1,9 +1,9 @@
-//! Laws about the actors of a recording, stated as contracts of empty functions.
+//! Laws about the actors of a recording. Each law is the contract of a function with an empty body.
 
 ghost use Rattle.conformance.specs.Laws.{PathsStay, JobsAreLater, ClassesStay, KindsStay, ClassesAreDetermined, KindsAreDetermined};
 
-/// Proves that later lines change neither the path of an ended actor nor the classes of a settled
-/// one.
+/// Proves that later lines do not change the path of an ended actor or the classes of a settled
+/// actor.
 pub fn settled_actors_stay()
     ensures paths { PathsStay }
     ensures later { JobsAreLater }

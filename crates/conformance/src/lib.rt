@@ -1,7 +1,12 @@
-//! The comparison of a recording with a plan.
-//!
-//! Each recorded job and client is matched with the bodies of the plan. [`conform`] returns every difference, in the order of
+//! The comparison of a recording with a plan. [`conform`] returns every difference, in the order of
 //! the lines.
+//!
+//! An actor is a recorded job or round. Its label is the class and the pool in its `submit` line,
+//! or the kind in its `begin` line. The family of a label `query` has the classes or client kinds
+//! `query`, `query_2`, `query_3` and so on. The path of an actor is its submits and gets. The
+//! comparison matches the path with the bodies of the family, and so classifies the actor: it finds
+//! the classes or client kinds that the actor can belong to. An actor is settled once it is
+//! classified.
 #![tactic(auto)]
 
 mod actor_classifier;

@@ -8,7 +8,7 @@ ghost use Rattle.conformance.specs.LineQuery as spec;
 use crate::well_formed_lines::WellFormedLines;
 use recordings::{Line, RecordedActor};
 
-/// The condition of a search.
+/// A condition on a line of a recording.
 #[derive(Clone, Copy, PartialEq, Eq, Hash)]
 pub(crate) enum LineQuery {
     /// The line that submits this job.
@@ -17,7 +17,7 @@ pub(crate) enum LineQuery {
     Begin(usize),
     /// A line that records that the actor got this job.
     Got { actor: RecordedActor, job: usize },
-    /// The last line of the actor.
+    /// The line that ends the actor.
     Last(RecordedActor),
     /// A call of `invokeAny`.
     InvokesAny,
@@ -105,8 +105,8 @@ pub(crate) fn first_line(text: &[u8], line_query: LineQuery) -> Option<(usize, L
     None
 }
 
-/// Returns the class of a submit line or the kind of a begin line, and an empty label for any other
-/// line.
+/// Returns the class in a `submit` line or the kind in a `begin` line. Returns an empty label for
+/// any other line.
 pub(crate) fn label_in<'a>(line: &Line<'a>) -> &'a str
     ensures { result.now ≡ spec.label_in (line_view line.now) }
 {
@@ -117,8 +117,8 @@ pub(crate) fn label_in<'a>(line: &Line<'a>) -> &'a str
     }
 }
 
-/// Returns the pool of a submit line, of a call of `invokeAny` or of jobs without lines, and an
-/// empty name for any other line.
+/// Returns the pool in a `submit`, `any` or `unseen` line. Returns an empty name for any other
+/// line.
 pub(crate) fn pool_in<'a>(line: &Line<'a>) -> &'a str
     ensures { result.now ≡ spec.pool_in (line_view line.now) }
 {

@@ -14,7 +14,8 @@ use crate::{ActorKind, PathState, PathStep};
 use job_bodies::Plan;
 use std::alloc::{AllocError, Global};
 
-/// Returns the classes that a job of this label in this pool may belong to, by its path.
+/// Matches the path of a job against the bodies of the classes that jobs of this label in this pool
+/// may belong to.
 ///
 /// # Errors
 ///
@@ -55,7 +56,8 @@ pub fn classes_of_path(
     Ok(reported)
 }
 
-/// Returns the client kinds that a round of this label may belong to, by its path.
+/// Matches the path of a round against the bodies of the client kinds that rounds of this label may
+/// belong to.
 ///
 /// # Errors
 ///

@@ -11,12 +11,12 @@ use recordings::RecordedActor;
 use std::alloc::AllocError;
 use support::push_number;
 
-/// An actor whose label is in the plan and whose path matches none of the bodies of that label.
+/// An actor whose path matches no body of its label. The label is in the plan.
 #[derive(Drop)]
 pub struct PathMismatch {
     pub actor: RecordedActor,
     pub label: ActorLabel,
-    /// The first step of its path that deviates from each body of the label.
+    /// The step after the longest prefix of the path that a body explains.
     pub step: DeviatingStep,
     /// The step before it, or `None` if it is the first step of the path.
     pub after: Option<NamedStep>,
@@ -27,32 +27,32 @@ pub struct PathMismatch {
 pub enum DeviatingStep {
     /// The actor submitted a job of this class to this pool. Its body has no such submit left.
     Submits(ActorLabel),
-    /// The actor submitted a job of this class to this pool, while too many of its jobs were open. Its
-    /// body has such a submit left.
+    /// The actor submitted a job of this class to this pool while too many jobs of the actor were
+    /// open. Its body has such a submit left.
     SubmitsWhileOpen {
         label: ActorLabel,
         excess: OpenExcess,
     },
-    /// The actor got a job of this class and pool.
+    /// The actor got a job of this class and pool. Its body has no such get left.
     Gets(ActorLabel),
-    /// The actor submitted this job, whose own path matches no class of its label. The plan has such
-    /// a class in the pool.
+    /// The actor submitted this job. The path of the job matches no class of its label, although
+    /// the plan has such a class in the pool.
     SubmitsMismatched {
         job: usize,
         label: ActorLabel,
     },
-    /// The actor submitted this job, and the plan has no such class in the pool.
+    /// The actor submitted this job, and the plan has no class of its label in the pool.
     SubmitsUnplanned {
         job: usize,
         label: ActorLabel,
     },
-    /// The actor ended before a get of its body, while this job was open: the first of its jobs that
-    /// it did not get.
+    /// The actor ended before a get of its body. This job is the first of its jobs that it did not
+    /// get.
     EndsOpen {
         job: usize,
         label: ActorLabel,
     },
-    /// The actor ended before a get of its body, and got all its jobs.
+    /// The actor got all its jobs, and ended before a get of its body.
     Ends,
 }
 
@@ -65,8 +65,8 @@ pub enum NamedStep {
     Gets(String),
 }
 
-/// Appends a description of the mismatch, such as `job 44 of class order in pool web submitted price
-/// to pool database; its body has no such submit after get stock`.
+/// Appends a description of the mismatch, such as `job 44 of class order in pool web submitted
+/// price to pool database; its body has no such submit after get stock`.
 pub(crate) fn push_mismatch(
     text: &mut String,
     plan: &Plan,

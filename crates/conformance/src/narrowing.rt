@@ -9,20 +9,21 @@ use crate::step::PathStep;
 use job_bodies::Action;
 use std::alloc::{AllocError, Global};
 
-/// A rule that picks one of the classes of each job of a path, among those that a body submits.
+/// A rule that picks one of the classes of each job in a path. It picks only classes that a body
+/// submits.
 #[derive(Clone, Copy)]
 pub(crate) enum Pick {
     /// The first of the job's classes that the body submits.
     First,
     /// The last of the job's classes that the body submits.
     Last,
-    /// The class of the body's next submit of one of the job's classes. The submit comes after
-    /// those that were picked for earlier jobs.
+    /// The class of the body's next submit of a class of the job. The search begins after the
+    /// submit that was picked for an earlier job.
     InOrder,
 }
 
-/// Returns the path with the class that the rule picks for each job. A job for which it picks none
-/// has no classes.
+/// Returns the path with the class that the rule picks for each job. If the rule picks no class for
+/// a job, the job has no classes in the result.
 ///
 /// # Errors
 ///
@@ -75,7 +76,7 @@ fn one_class(alloc: Global, picked: Option<usize>) -> Result<Vec<usize>, AllocEr
     Ok(fewer)
 }
 
-/// Returns the class that the rule picks among these.
+/// Returns the class that the rule picks from `classes`.
 fn picked_class(body: &[Action], from: &mut usize, classes: &[usize], pick: Pick) -> Option<usize>
     ensures { IfSome result (λ class. Contains classes.now class) }
 {
@@ -86,7 +87,7 @@ fn picked_class(body: &[Action], from: &mut usize, classes: &[usize], pick: Pick
     }
 }
 
-/// Returns the first of the classes that the body submits.
+/// Returns the first class in `classes` that the body submits.
 fn first_class(body: &[Action], classes: &[usize]) -> Option<usize>
     ensures { IfSome result (λ class. Contains classes.now class) }
 {
@@ -98,7 +99,7 @@ fn first_class(body: &[Action], classes: &[usize]) -> Option<usize>
     None
 }
 
-/// Returns the last of the classes that the body submits.
+/// Returns the last class in `classes` that the body submits.
 fn last_class(body: &[Action], classes: &[usize]) -> Option<usize>
     ensures { IfSome result (λ class. Contains classes.now class) }
 {
@@ -111,8 +112,8 @@ fn last_class(body: &[Action], classes: &[usize]) -> Option<usize>
     last
 }
 
-/// Returns the class of the first submit of one of the classes, starting at the index `from` of the
-/// body, and moves `from` past that submit.
+/// Finds the first submit of one of the classes at or after index `from` of the body. Returns its
+/// class, and moves `from` past the submit.
 fn next_class(body: &[Action], from: &mut usize, classes: &[usize]) -> Option<usize>
     ensures { IfSome result (λ class. Contains classes.now class) }
 {

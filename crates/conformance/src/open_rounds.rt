@@ -14,7 +14,7 @@ use recordings::Line;
 use std::alloc::{AllocError, Global};
 use support::IdMap;
 
-/// The kind of each open round, or `None` for an open round of no kind.
+/// A map from open rounds to their kinds, or to `None` if a round has no kind.
 #[derive(Drop)]
 pub(crate) struct OpenRounds {
     kinds: IdMap<Option<usize>>,

@@ -12,12 +12,12 @@ use recordings::RecordedActor;
 use std::alloc::{AllocError, Global};
 use support::IdMap;
 
-/// The kinds of the rounds that do not count as the first kind of their label. A round counts as no
-/// kind if it is undecided which kinds it can belong to.
+/// A map from rounds to the kinds that they count as. It has only the rounds that do not count as
+/// the first kind of their label. A round whose kind is undecided counts as no kind.
 #[derive(Drop)]
 pub(crate) struct OtherKinds {
     kinds: IdMap<Option<usize>>,
-    /// True if there is such a round.
+    /// True if the map has a round.
     pub(crate) has_any: bool,
 }
 
@@ -32,8 +32,7 @@ impl OtherKinds {
         }
     }
 
-    /// Records an actor if it is a round that counts as another kind than the first of its label, or
-    /// as none.
+    /// Adds the actor if it is a round that does not count as the first kind of its label.
     ///
     /// # Errors
     ///
@@ -51,8 +50,8 @@ impl OtherKinds {
         Ok(())
     }
 
-    /// Returns the kind of a round: the recorded one or, if there is none, the first kind of
-    /// `label`.
+    /// Returns the kind that a round counts as. This is the first kind of `label` if the map does
+    /// not have the round.
     pub(crate) fn kind_of(&self, plan: &Plan, round: usize, label: &str) -> Option<usize>
         ensures { result ≡ spec.kind_by plan.now self.now round label.now }
     {

@@ -17,16 +17,16 @@ use std::alloc::{AllocError, Global};
 
 /// Matches the path of an actor against a body.
 ///
-/// The path matches if it and the body can be walked together, each in its own order, so that at
-/// each moment, for each class, at most as many jobs are open in the path as in the body. A submit
-/// of the path goes together with a submit of the same class of the body. The body may submit more.
+/// The path matches if it and the body can be walked together, each in its own order. At each
+/// moment, for each class, the path must have at most as many open jobs as the body. Each submit of
+/// the path goes together with a submit of the same class in the body. The body may submit more.
 /// The path may get its jobs in any order, and sooner than the body. A job gets only jobs of
 /// classes that its body still gets.
 ///
 /// The result is [`PathMatch::Undecided`] only if a job of the path may belong to several classes
-/// that the body submits, and none of the assignments that were tried matches. Three are tried:
-/// each job has the first of its classes that the body submits, or the last of them, or the class
-/// of the next submit of the body that fits.
+/// that the body submits, and none of the assignments that were tried matches. Three assignments
+/// are tried. Among the classes of a job that the body submits, they choose the first class, the
+/// last class, or the class of the next submit that fits.
 ///
 /// The number of steps is at most proportional to the length of the body times that of the path.
 ///
@@ -69,7 +69,8 @@ pub fn match_path(
     }
 }
 
-/// Matches the path against the body, without a choice among the classes of a job.
+/// Matches the path against the body. The result is undecided if the body submits several classes
+/// of a job.
 ///
 /// # Errors
 ///
@@ -112,7 +113,8 @@ fn match_exactly(
     Ok(match_at_end(&state, body, path, path_state))
 }
 
-/// Returns true if the path matches with one of the assignments that are tried.
+/// Returns true if the path matches the body with the classes that one of the rules of [`Pick`]
+/// picks.
 ///
 /// # Errors
 ///
@@ -137,7 +139,7 @@ fn fits_narrowed(
     Ok(fits)
 }
 
-/// Returns true if the path matches after each job is assigned the class that the rule picks.
+/// Returns true if the path matches the body with the classes that the rule picks.
 ///
 /// # Errors
 ///
@@ -161,7 +163,7 @@ fn fits_with(
     }
 }
 
-/// Returns the result for a path whose steps are all walked.
+/// Returns the result after the last step of the path.
 fn match_at_end(
     state: &WalkState,
     body: &[Action],

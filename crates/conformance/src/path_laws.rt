@@ -1,16 +1,15 @@
-//! Laws about paths and the machine, stated as contracts of empty functions.
+//! Laws about paths and the machine of a plan. Each law is the contract of a function with an empty
+//! body.
 
 ghost use Rattle.conformance.specs.FollowedActors.{PlannedActorsAreFollowed};
 ghost use Rattle.conformance.specs.LaggingRun.{PathsAreFollowed, RunsStayReachable};
 
 /// Proves that the machine of an accepted plan can follow each path that matches the body of an
-/// actor, whatever others do in between. The machine's actor can reach each submit of the path, in
+/// actor, whatever other actors do in between. The machine's actor makes the submits of the path in
 /// their order. It passes the other actions of its body directly before a submit and before the
-/// end: it skips submits, and gets no job that is still open in the path. So each of its gets
-/// comes no sooner than the path's. The pool takes the job of each submit of the path within three
-/// events of the actor, whatever others do before each of them. After a get of the path the actor
-/// goes on once the job is done. While the path of a job waits, the body still has a get of that
-/// class. The states of such a run are reachable, so they are safe.
+/// end: it skips submits, and gets no job that is still open in the path. So each of its gets comes
+/// no sooner than the same get in the path. While a job waits in a get of its path, its body still
+/// has a get of that class. The states of such a run are reachable, so they are safe.
 pub fn paths_are_followed()
     ensures followed { PathsAreFollowed }
     ensures reachable { RunsStayReachable }

@@ -7,8 +7,8 @@ use crate::explained_prefix::ExplainedPrefix;
 pub enum PathMatch {
     /// The path matches the body.
     Fits,
-    /// The path does not match, and this is its longest prefix that begins a path of the body. The
-    /// step after the prefix deviates, or the actor ended too early if there is none.
+    /// The path does not match. The field is the longest prefix that the body explains. The step
+    /// after the prefix deviates. If there is no such step, the actor ended too early.
     Deviates(ExplainedPrefix),
     /// A job of the path may belong to several classes that the body submits, and none of the
     /// assignments that were tried matches.

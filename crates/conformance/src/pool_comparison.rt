@@ -23,13 +23,14 @@ pub enum PoolDeviation {
         line: usize,
         pool: String,
     },
-    /// A line in which the plan's pool of this number differs from the plan.
+    /// A line in which a pool differs from the plan. `pool` is the number of the pool in the plan.
     Differs {
         line: usize,
         pool: usize,
         difference: Difference,
     },
-    /// A pool of the plan, by number, without a line in a recording that ends with `end`.
+    /// A pool of the plan has no line, although the recording ends with `end`. `pool` is its number
+    /// in the plan.
     NotRecorded {
         pool: usize,
     },
@@ -48,7 +49,7 @@ pub struct PoolComparison {
 }
 
 impl PoolComparison {
-    /// Creates a comparison, before the first line.
+    /// Creates a comparison in its state before the first line.
     pub fn new(alloc: Global) -> PoolComparison
         ensures { (plan : plans.Plan) → IsPoolComparisonOf plan result [] }
     {
@@ -60,9 +61,9 @@ impl PoolComparison {
         }
     }
 
-    /// Reads line `number`. Appends a pool that is not in the plan at its first line, and each
-    /// [`Difference`] of a pool at the first line that has it. The number of prestarted threads is
-    /// compared only in the first line of a pool.
+    /// Reads line `number`. Appends the pool if the plan lacks it and this is the first line of the
+    /// pool. Appends each [`Difference`] between the pool and the plan that no earlier line had.
+    /// The number of prestarted threads is compared only in the first line of a pool.
     ///
     /// # Errors
     ///
@@ -86,8 +87,8 @@ impl PoolComparison {
         self.note(plan, number, line, found)
     }
 
-    /// Appends each pool of the plan without a line, in the order of the plan, if the last line was
-    /// `end`.
+    /// If the last line was `end`, appends each pool of the plan that has no line, in the order of
+    /// the plan.
     ///
     /// # Errors
     ///
@@ -208,7 +209,7 @@ impl PoolComparison {
     }
 }
 
-/// Returns the number of the plan's pool with this name.
+/// Returns the number of the plan's pool with this name, if there is one.
 fn pool_named(plan: &Plan, name: &str) -> Option<usize>
     ensures is { result ≡ spec.pool_named plan.now name.now }
     ensures within { IfSome result (λ pool. pool < length plan.now.pools) }

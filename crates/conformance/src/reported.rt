@@ -1,4 +1,4 @@
-//! The differences of pools that were reported.
+//! The differences between pools that were already reported.
 
 ghost use Rattle.std.specs.Prelude.{◌≡◌, ◌&&◌, ◌||◌, ◌==◌, ℕ, OnOk, false};
 ghost use Rattle.conformance.specs.declared.difference.Difference as SettledPaths;
@@ -10,14 +10,14 @@ use crate::Difference;
 use std::alloc::{AllocError, Global};
 use std::collections::HashSet;
 
-/// A difference of the plan's pool of this number.
+/// A difference between a recorded pool and the plan, with the number of the pool in the plan.
 #[derive(Clone, Copy, PartialEq, Eq, Hash)]
 pub(crate) struct PoolDifference {
     pool: usize,
     difference: Difference,
 }
 
-/// A set of the differences that were reported for the pools of the plan.
+/// The set of the differences that were already reported.
 #[derive(Drop)]
 pub(crate) struct ReportedDifferences {
     items: HashSet<PoolDifference>,

@@ -24,7 +24,7 @@ pub struct RoundExcess {
     pub excess: Excess,
 }
 
-/// The rounds of one client kind.
+/// The number of rounds of one client kind, and whether it has exceeded the plan's limits.
 #[derive(Drop)]
 struct KindRounds {
     rounds: RoundCount,
@@ -94,7 +94,7 @@ pub struct RoundComparison {
 }
 
 impl RoundComparison {
-    /// Creates a comparison with this plan, before the first line.
+    /// Creates a comparison with this plan in its state before the first line.
     ///
     /// # Errors
     ///

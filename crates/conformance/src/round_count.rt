@@ -9,8 +9,8 @@ use std::marker::Model;
 
 /// A counter for the rounds of one client kind, with the limits of the plan.
 ///
-/// Contracts see it as the plan's `count` and `repeat`, and the numbers of rounds that began and
-/// ended.
+/// In contracts, its value is the plan's `count` and `repeat`, and the numbers of rounds that began
+/// and ended.
 #[derive(Drop)]
 pub struct RoundCount {
     count: u64,

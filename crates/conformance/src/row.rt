@@ -1,4 +1,5 @@
-//! Rows, which say for each index of a body whether the body can be there.
+//! Rows. A row says for each index of a body, and for its end, whether the body can be there after
+//! the steps of a path.
 
 ghost use Rattle.std.specs.Prelude.{◌≡◌, ◌<◌, ℕ, ◌+◌, false, ◌&&◌, ◌||◌, None, nat_lt, length, slice_get, slice_index_or};
 ghost use Rattle.std.specs.Option.{option_copied};
@@ -8,8 +9,8 @@ ghost use Rattle.conformance.specs.Path as spec;
 use crate::body_gets::BodyGet;
 use job_bodies::Action;
 
-/// Moves each index where the body can be over the submit of the class that is next there, and
-/// removes the index if another action is next.
+/// Moves the body past a submit of the class: from each index with such a submit to the next index.
+/// The body cannot move from any other index.
 pub(crate) fn shift_row(row: &mut [bool], body: &[Action], class: usize)
     requires { length row.old ≡ length body.now + 1 }
     ensures first { slice_index_or row.new 0 false ≡ false }
@@ -42,7 +43,7 @@ fn is_submit_of(class: usize, action: Option<&Action>) -> bool
     }
 }
 
-/// Removes the indices from `end` on.
+/// Removes `end` and all later indices from the row.
 pub(crate) fn cut_row(row: &mut [bool], end: usize)
     ensures { (index : ℕ) → slice_index_or row.new index false
         ≡ (slice_index_or row.old index false && nat_lt index end) }
@@ -54,7 +55,7 @@ pub(crate) fn cut_row(row: &mut [bool], end: usize)
     }
 }
 
-/// Adds the indices that the body can reach while the path makes no step. `passes` says for each
+/// Adds the indices that the body can reach without a step of the path. `passes` says for each
 /// action whether the body may pass it.
 pub(crate) fn close_row(row: &mut [bool], passes: &[bool])
     requires { length row.old ≡ length passes.now + 1 }
@@ -72,8 +73,8 @@ pub(crate) fn close_row(row: &mut [bool], passes: &[bool])
     }
 }
 
-/// Updates the entries of the gets of the class: the body may pass such a get if at least `count` jobs
-/// of the class are open in the body after it.
+/// Updates which gets of the class the body may pass when `count` jobs of the class are open in the
+/// path.
 pub(crate) fn update_passes(
     passes: &mut [bool],
     gets: &[Option<BodyGet>],

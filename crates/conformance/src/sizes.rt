@@ -69,7 +69,7 @@ fn is_array_or_linked(kind: QueueKind) -> bool
     matches!(kind, QueueKind::Array | QueueKind::Linked)
 }
 
-/// Appends the difference, unless the two sides agree.
+/// Appends the difference, unless `agree` is true.
 fn push_unless(
     found: &mut Vec<Difference>,
     agree: bool,

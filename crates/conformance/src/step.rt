@@ -3,21 +3,21 @@
 ghost use Rattle.std.specs.Prelude.{◌≡◌};
 ghost use Rattle.conformance.specs.PathStep as spec;
 
-/// A step of an actor, as far as bodies describe it.
+/// A step of an actor: a submit or a get.
 #[derive(Drop)]
 pub enum PathStep {
     /// A submit of a job that may belong to any of these classes, by their numbers in the plan.
     Submits(Vec<usize>),
-    /// A get of the job that the submit at this index of the same path made.
+    /// A get of the job of the submit at this index of the path.
     Gets(usize),
 }
 
-/// The kind of an actor, which decides which jobs it may get sooner than its body does.
+/// The kind of an actor. It decides which jobs the actor may get sooner than its body does.
 #[derive(Clone, Copy, PartialEq, Eq)]
 pub enum ActorKind {
     /// A job gets only jobs of classes that its body still gets.
     Job,
-    /// A round of a client gets any of its jobs.
+    /// A round of a client may get any of its jobs.
     Round,
 }
 
@@ -31,7 +31,7 @@ pub enum PathState {
 }
 
 impl PathStep {
-    /// Returns true if it is a submit of a job that may belong to this class.
+    /// Returns true if the step is a submit of a job that may belong to this class.
     pub fn submits(&self, class: usize) -> bool
         ensures { result ≡ spec.submits self.now class }
     {

@@ -1,4 +1,4 @@
-//! A survey of all lines of a recording, beside a plan.
+//! A survey of all lines of a recording: the facts for a comparison with a plan.
 
 ghost use Rattle.std.specs.Prelude.{◌≡◌, ◌++◌, ◌∷◌, [], ℕ, false, List, Option, OnOk, IfOk};
 ghost use Rattle.job_bodies.specs.Plan as plans;
@@ -23,7 +23,7 @@ use job_bodies::Plan;
 use recordings::{CheckedLines, Line, RecordedNotes, RecordingFault};
 use std::alloc::{AllocError, Global};
 
-/// The part of a survey that each line updates on its own.
+/// The part of a survey that does not depend on the classes of actors.
 #[derive(Drop)]
 pub(crate) struct LineSurvey {
     pools: PoolComparison,

@@ -14,20 +14,20 @@ use std::alloc::{AllocError, Global};
 /// A label that is not in the plan, with the number of the first line that has it.
 #[derive(Drop)]
 pub enum NotPlanned {
-    /// A job was submitted to this pool, and the plan has no such class in it.
+    /// A job of this class was submitted to this pool. The plan has no such class in the pool.
     Class {
         line: usize,
         class: String,
         pool: String,
     },
-    /// A round began, and the plan has no such client kind.
+    /// A round of this kind began. The plan has no such client kind.
     Kind {
         line: usize,
         kind: String,
     },
 }
 
-/// The labels that are not in the plan, for the lines read so far.
+/// The labels in the lines read so far that are not in the plan.
 #[derive(Drop)]
 pub(crate) struct UnplannedLabels {
     pub(crate) found: Vec<NotPlanned>,

@@ -1,4 +1,4 @@
-//! The classified actors whose path matches no body of the plan, and those for which this is
+//! The first actors whose paths match no body of the plan, and the first actors for which this is
 //! undecided.
 
 ghost use Rattle.std.specs.Prelude.{◌≡◌, ◌++◌, ◌∷◌, [], ℕ, List, OnOk};
@@ -16,8 +16,8 @@ use job_bodies::Plan;
 use recordings::RecordedActor;
 use std::alloc::{AllocError, Global};
 
-/// For each label of the plan, the actor with the smallest number whose path matches no body, and
-/// the one for which this is undecided.
+/// For each label of the plan, the first actor, by number, whose path matches no body, and the
+/// first actor for which this is undecided.
 #[derive(Drop)]
 pub(crate) struct Verdicts {
     pub(crate) mismatches: FirstActors,
@@ -27,7 +27,7 @@ pub(crate) struct Verdicts {
 }
 
 impl Verdicts {
-    /// Creates an empty record.
+    /// Creates the state before the first actor.
     pub(crate) fn new(alloc: Global) -> Verdicts
         ensures { (plan : plans.Plan) → spec.IsVerdictsOf plan [] result }
     {

@@ -1,4 +1,5 @@
-//! The state of the walks of a body and a path.
+//! The state of the walks of a body and a path. A walk goes through both together, each in its own
+//! order.
 
 ghost use Rattle.std.specs.Prelude.{◌≡◌, ℕ, false, List, Some, IfOk, OnOk, IsTrue, slice_get};
 ghost use Rattle.std.specs.List.{list_any};
@@ -20,12 +21,13 @@ use crate::step::{ActorKind, PathStep};
 use job_bodies::Action;
 use std::alloc::{AllocError, Global};
 
-/// The state of the walks of a body and a path, up to an index of the path.
+/// The state of all walks of a body and a path, up to an index of the path.
 #[derive(Drop)]
 pub(crate) struct WalkState {
     /// The open jobs of the path.
     jobs: Vec<OpenJob>,
-    /// For each action of the body, true if the body may pass it while these jobs are open.
+    /// For each action of the body, true if the body may pass it while these jobs are open in the
+    /// path.
     passes: Vec<bool>,
     /// For each index of the body and its end, true if the body can be there.
     row: Vec<bool>,
@@ -36,9 +38,10 @@ pub(crate) struct WalkState {
 pub(crate) enum Progress {
     /// The path and the body can be walked together up to this step.
     Advanced,
-    /// They cannot. If the step is a submit that the body still has, too many jobs are open.
+    /// The path and the body cannot be walked together up to this step. If the step is a submit
+    /// that the body still has, the field has the open jobs that block it.
     Stops(Option<OpenExcess>),
-    /// The job may be of several classes of the body.
+    /// The job of the step may belong to several classes that the body submits.
     Undecided,
 }
 
@@ -61,7 +64,7 @@ impl WalkState {
         })
     }
 
-    /// Takes a step of the path, the one at index `place`.
+    /// Takes `step`, which is at index `place` of the path.
     ///
     /// # Errors
     ///
@@ -102,7 +105,7 @@ impl WalkState {
         }
     }
 
-    /// Returns true if a submit of the class is next at an index where the body can be.
+    /// Returns true if the body can be at an index with a submit of the class.
     fn can_submit(&self, body: &[Action], class: usize) -> bool
         ensures can { IsTrue result → spec.CanSubmit body.now class self.now }
         ensures cannot { result ≡ false → ¬ spec.CanSubmit body.now class self.now }
@@ -115,8 +118,8 @@ impl WalkState {
         false
     }
 
-    /// Returns the open jobs that keep the body from its next submit of the class, or `None` if it has
-    /// no such submit where it can be or later.
+    /// Returns the open jobs that block the body before its next submit of the class. Returns
+    /// `None` if the body has no such submit left.
     fn open_excess(
         &self,
         body: &[Action],

@@ -1,4 +1,4 @@
-//! An iterator over the well-formed lines of a text.
+//! The well-formed lines of a text.
 
 ghost use Rattle.std.specs.Prelude.{◌≡◌, ◌≤◌, ◌∷◌, [], length, MatchOption};
 ghost use Rattle.recordings.specs.RecordingLine.{line_view};

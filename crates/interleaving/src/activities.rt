@@ -1,5 +1,5 @@
-//! The activity of the members of a set in each pool: how many of them run, and whether one is
-//! queued.
+//! The activity of a set of jobs in each pool: how many members run there, and whether a member is
+//! queued there.
 
 ghost use Rattle.std.specs.Prelude.{◌≡◌, ◌+◌, ◌<◌, ◌^◌, ℕ};
 ghost use Rattle.job_bodies.specs.WellFormed.{IsWellFormed};
@@ -10,7 +10,7 @@ use crate::plans::pool_of;
 use crate::{Phase, World};
 use job_bodies::{MAX_POOLS, Plan};
 
-/// The activity of the members of a set in one pool.
+/// The activity of a set of jobs in one pool.
 #[derive(Clone, Copy)]
 pub(crate) struct PoolActivity {
     /// Whether a member waits in the pool's queue.
@@ -20,8 +20,8 @@ pub(crate) struct PoolActivity {
 }
 
 impl PoolActivity {
-    /// Returns this activity with one more member, which is in this phase. If `is_new` is `false`,
-    /// the member is a duplicate and does not increase `at_work`.
+    /// Returns the activity after a member in this phase is added. If `is_new` is `false`, the
+    /// member was added before, and `at_work` does not change.
     fn with(self, phase: Phase, is_new: bool) -> PoolActivity
         requires { self.at_work + 1 < 2 ^ 64 }
         ensures { result ≡ activity_with self phase is_new }
@@ -43,7 +43,7 @@ impl PoolActivity {
 impl World {
     ghost use Rattle.interleaving.specs.OfPlan.{IsReachableView};
 
-    /// Returns the activity of the members in each pool. Looks up each member once.
+    /// Returns the activity of the members in each pool, by pool number. Looks up each member once.
     pub(crate) fn activities(&self, plan: &Plan, members: &Members<'_>) -> [PoolActivity; MAX_POOLS]
         requires of_plan { IsReachableView plan.now self.now.view }
         requires well_formed { IsWellFormed plan.now }

@@ -85,7 +85,7 @@ impl Clients {
     }
 
     /// Moves the client with this number to this position of its body. If the client is at the
-    /// start of its body, memory must have been reserved.
+    /// start of its body, `reserve_for` must have reserved memory.
     pub fn go_to(&mut self, number: usize, position: usize)
         requires { (client_of self.old.items number).position ≡ 0 → 0 < self.old.room }
         ensures { self.new.items

@@ -1,4 +1,4 @@
-//! A sequence of the stored data of jobs, by job number.
+//! The data of the live jobs, in a sequence indexed by job number.
 
 ghost use Rattle.std.specs.Prelude.{◌≡◌, ◌+◌, ◌<◌, ◌^◌, [], ◌∷◌, ◌++◌, length, is_some, IsSome, slice_set, ◌≤◌, ◌⊎◌, nat_eq, None, Some, OnOk};
 ghost use Rattle.std.specs.HashMap.{get, spare, Updates};
@@ -125,8 +125,8 @@ impl JobRing {
     ///
     /// # Errors
     ///
-    /// Returns `AllocError` if there is not enough memory, or if the number of jobs is at its
-    /// maximum.
+    /// Returns `AllocError` if there is not enough memory, or if the number of jobs ever created
+    /// would overflow.
     pub(crate) fn reserve(&mut self, live: usize) -> Result<(), AllocError>
         ensures items { self.new.items ≡ self.old.items }
         ensures span { self.new.span ≤ self.old.span }

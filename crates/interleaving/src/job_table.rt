@@ -1,4 +1,4 @@
-//! A table of the live jobs, which reuses the places of jobs that are no longer live.
+//! A table of the live jobs. A place in the table holds the data of one live job.
 
 ghost use Rattle.std.specs.Prelude.{◌≡◌, ◌+◌, ◌<◌, ◌^◌, [], ◌∷◌, ◌++◌, length, count_by, is_some, IsSome, slice_set, ◌≤◌, None, Some, OnOk};
 
@@ -64,7 +64,7 @@ impl JobTable {
         self.kept.len()
     }
 
-    /// Returns the number of places, free ones included.
+    /// Returns the number of places, both occupied and free.
     pub(crate) fn count(&self) -> usize
         ensures value { result ≡ self.now.places }
         ensures enough { count_by is_some self.now.items ≤ result }

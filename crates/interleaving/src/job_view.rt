@@ -43,9 +43,9 @@ impl JobView {
         actor == self.parent && submit == self.slot
     }
 
-    /// Returns this job as it is once the actor has created another job by the submit at this
-    /// position. Returns `None` if the same submit created this job and this job is done, because
-    /// it is then no longer live.
+    /// Updates this job when the actor creates another job by the submit at this position. If this
+    /// job is done and the same submit created it, it is no longer live, and the result is `None`.
+    /// Otherwise returns this job unchanged.
     pub fn drop_if_stale(self, actor: Parent, submit: usize) -> Option<JobView>
         ensures { result ≡ drop_if_stale actor submit (Some self) }
     {
@@ -56,8 +56,8 @@ impl JobView {
         }
     }
 
-    /// Returns this job as it is once job `parent` has finished. Returns `None` if `parent` created
-    /// this job and this job is done, because it is then no longer live.
+    /// Updates this job when job `parent` finishes. If this job is done and `parent` created it, it
+    /// is no longer live, and the result is `None`. Otherwise returns this job unchanged.
     pub fn drop_if_orphan(self, parent: usize) -> Option<JobView>
         ensures { result ≡ drop_if_orphan parent (Some self) }
     {

@@ -1,4 +1,5 @@
-//! A map from submit calls to the latest jobs that they created.
+//! A map from submit calls to the latest jobs that they created. A submit call is an actor and the
+//! position of a submit in the actor's body.
 
 ghost use Rattle.std.specs.Prelude.{◌≡◌, ◌≤◌, ◌<◌, None, Some, OnOk, if◌then◌else◌, ℕ};
 ghost use Rattle.written_machine.specs.declared.parent.Parent.{Parent};
@@ -9,8 +10,7 @@ use std::alloc::{AllocError, Global};
 use std::marker::Model;
 use written_machine::Parent;
 
-/// A map from an actor and the position of a submit in its body to the number of the latest job
-/// that the actor created by this submit.
+/// A map from submit calls to job numbers. A call's entry is the latest job that the call created.
 #[derive(Drop)]
 pub(crate) struct LatestJobs {
     of_clients: SubmitMap,
@@ -60,7 +60,7 @@ impl LatestJobs {
         }
     }
 
-    /// Records the job with this number as the latest one that the actor created by the submit at
+    /// Records the job with this number as the latest job that the actor created by the submit at
     /// this position. Memory must have been reserved.
     #[inline(always)]
     pub(crate) fn set(&mut self, actor: Parent, submit: usize, number: usize)
@@ -75,7 +75,7 @@ impl LatestJobs {
         }
     }
 
-    /// Removes the job that the map has for the actor and the submit at this position.
+    /// Removes the entry for the actor and the submit at this position, if there is one.
     #[inline(always)]
     pub(crate) fn remove(&mut self, actor: Parent, submit: usize)
         ensures found { (a : Parent) (t : ℕ)

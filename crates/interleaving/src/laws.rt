@@ -1,4 +1,6 @@
-//! Laws of live views. Each law is the contract of a function with an empty body.
+//! Laws of live views. The live view of a state has its live jobs, pools and clients, and the
+//! number of refusals. A waiting set is a set of unfinished jobs that wait only for each other.
+//! Each law is the contract of a function with an empty body.
 
 ghost use Rattle.interleaving.specs.Laws.{StartIsSeen, StepsCommute, UnfinishedJobsAreLive, WaitingSetsAreSeen, DeadJobsStayDead};
 
@@ -10,26 +12,25 @@ pub fn start_is_seen()
 {}
 
 /// Proves that a live view determines all later events. In every reachable state of a well-formed
-/// plan, an event is possible in the live view exactly when it is possible in the state. If it is
-/// possible, both give the same outcome, and the view after it is the live view of the state after
-/// it.
+/// plan, an event is possible in the live view exactly when it is possible in the state. If the
+/// event is possible, both have the same outcome, and the next view is the live view of the next
+/// state.
 pub fn steps_commute()
     ensures { StepsCommute }
 {}
 
-/// Proves that the live view of a state has as many unfinished jobs as the state.
+/// Proves that a state and its live view have the same number of unfinished jobs.
 pub fn unfinished_jobs_are_live()
     ensures { UnfinishedJobsAreLive }
 {}
 
-/// Proves that, in every reachable state of a well-formed plan, the test on the live view accepts a
-/// set of job numbers exactly when the set is a waiting set.
+/// Proves that the test on the live view accepts a set of job numbers exactly when the set is a
+/// waiting set. This holds in every reachable state of a well-formed plan.
 pub fn waiting_sets_are_seen()
     ensures { WaitingSetsAreSeen }
 {}
 
-/// Proves that a job that exists and is not live never becomes live, by any event in any reachable
-/// state of a well-formed plan.
+/// Proves that no event in a reachable state of a well-formed plan makes a job live again.
 pub fn dead_jobs_stay_dead()
     ensures { DeadJobsStayDead }
 {}

@@ -13,8 +13,8 @@ use std::alloc::{AllocError, Global};
 use std::marker::Model;
 use written_machine::Parent;
 
-/// The live jobs of a world, with an index of the latest jobs. If an actor may still get its jobs,
-/// the index has, for each of its submits, the latest live job that this submit created.
+/// The live jobs of a world, and an index from submits to the latest live jobs that they created.
+/// The index has the submits of the actors that may still get jobs: clients and unfinished jobs.
 #[derive(Drop)]
 pub struct LiveJobs {
     kept: JobTable,
@@ -54,7 +54,7 @@ impl LiveJobs {
         self.kept.made()
     }
 
-    /// Returns the number of places for live jobs, free ones included.
+    /// Returns the number of places for live jobs, both occupied and free.
     pub fn places(&self) -> usize
         ensures value { result ≡ self.now.places }
         ensures enough { count_by is_some self.now.jobs ≤ result }
@@ -96,8 +96,7 @@ impl LiveJobs {
         self.kept.set_phase(number, Phase::At(position));
     }
 
-    /// Removes the done job with this number, because its parent gets it. The job must be the only
-    /// live job of its submit.
+    /// Removes a done job when its parent gets it. The job must be the only live job of its submit.
     pub fn remove(&mut self, number: usize, job: JobView)
         requires live { live_job self.old.jobs number ≡ Some job }
         requires done { is_done job.phase ≡ true }
@@ -113,8 +112,8 @@ impl LiveJobs {
     ///
     /// # Errors
     ///
-    /// Returns `AllocError` if there is not enough memory, or if the number of jobs is at its
-    /// maximum. The jobs are then unchanged.
+    /// Returns `AllocError` if there is not enough memory, or if the number of jobs ever created
+    /// would overflow. The jobs are then unchanged.
     pub fn reserve_for(&mut self, actor: Parent) -> Result<(), AllocError>
         ensures jobs { self.new.jobs ≡ self.old.jobs }
         ensures places { self.new.places ≡ self.old.places }
@@ -125,8 +124,8 @@ impl LiveJobs {
         self.kept.reserve()
     }
 
-    /// Adds a new job. Of the earlier jobs of the same submit, only the one with number `latest`
-    /// can be done. If it is done, removes it. Memory must have been reserved.
+    /// Adds a new job. If job `latest` is a done job of the same submit, removes it. No other job
+    /// of this submit may be done. Memory must have been reserved.
     pub fn create(&mut self, latest: Option<usize>, job: JobView)
         requires room { 0 < room_for self.old.room job.parent }
         requires parent { WasMade self.old.jobs job.parent }

@@ -40,8 +40,8 @@ impl NextAction {
 impl World {
     ghost use Rattle.interleaving.specs.NextAction.{next_action_at};
 
-    /// Returns the position and the next action of the actor, or `None` if the actor does not exist
-    /// or is a job that does not run.
+    /// Returns the position and the next action of the actor. Returns `None` if there is no such
+    /// actor, or if it is a job that is not running.
     pub(crate) fn next_action(&self, plan: &Plan, actor: Parent) -> Option<NextAction>
         ensures value { result ≡ option_map next_action_at (point_in plan.now self.now.view actor) }
         ensures can_advance { IfSome result

@@ -1,4 +1,4 @@
-//! The events of a pool.
+//! The initial pools, and the events of a pool: an idle worker takes a job, or ends.
 
 ghost use Rattle.std.specs.Prelude.{◌≡◌, length, map, All, IsTrue, IfOk};
 ghost use Rattle.job_bodies.specs.WellFormed.{IsWellFormed, has_valid_sizes};

@@ -30,8 +30,7 @@ impl World {
     /// # Errors
     ///
     /// Returns `AllocError` if there is not enough memory for a submit or for a client's first
-    /// action, or if the number of jobs or of refusals is at its maximum. The world is then
-    /// unchanged.
+    /// action, or if the number of jobs or of refusals would overflow. The world is then unchanged.
     pub fn step(&mut self, plan: &Plan, event: Event) -> Result<Option<Outcome>, AllocError>
         requires { IsReachableView plan.now self.old.view }
 

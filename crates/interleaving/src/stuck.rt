@@ -22,9 +22,9 @@ use written_machine::Parent;
 impl World {
     ghost use Rattle.interleaving.specs.OfPlan.{IsReachableView};
 
-    /// Returns `true` if the jobs with these numbers, taken as a set, wait only for one another:
-    /// each is at a get of a member, or is queued in a pool that has no idle worker and runs only
-    /// members.
+    /// Returns `true` if the jobs with these numbers, the members, wait only for one another. Each
+    /// member must be at a get of a member, or be queued in a pool that has no idle worker and runs
+    /// only members.
     ///
     /// Returns `false` for an empty list, and if a number does not belong to an unfinished job.
     /// Allocates no memory. Looks up each member in the list a few times: by binary search if the

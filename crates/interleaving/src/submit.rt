@@ -20,8 +20,8 @@ impl World {
     ghost use Rattle.interleaving.specs.World.{ReusesPlaces};
 
     /// Performs a submit of the actor: offers a job of the class to the class's pool. If the body
-    /// has a get of this submit, the submit must not have a live job already. Allocates before it
-    /// changes anything, so that an error leaves the world unchanged.
+    /// has a get of this submit, no live job of this submit may exist yet. An error leaves the
+    /// world unchanged.
     pub(crate) fn submit(
         &mut self,
         plan: &Plan,

@@ -17,8 +17,8 @@ const TABLE_LEN: usize = 4096;
 
 /// A map from submit calls to job numbers.
 ///
-/// The entry of a call in `table` has the actor's number modulo the length of `table` as its index.
-/// If another call occupies this entry, the call is in `others`. A look-up reads `table` first.
+/// The index of a call in `table` is the actor's number modulo the length of `table`. If another
+/// call occupies the entry at this index, the call is in `others`. A look-up reads `table` first.
 #[derive(Drop)]
 pub(crate) struct SubmitMap {
     // The entries of the table, of which there are none before the first call of `reserve`.

@@ -87,7 +87,7 @@ impl World {
         self.jobs.len()
     }
 
-    /// Returns the number of places for live jobs, free ones included.
+    /// Returns the number of places for live jobs, both occupied and free.
     ///
     /// A step increases this number by at most 1, and only if it creates a job while each place
     /// holds a live job. The number never decreases.

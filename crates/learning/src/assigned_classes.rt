@@ -1,4 +1,5 @@
-//! The class assigned to each job.
+//! The classes assigned to jobs. A pass classifies each actor: it assigns a class to a job, and a
+//! client kind to a round.
 
 use conformance::PathStep;
 use recordings::RecordedStep;
@@ -46,8 +47,8 @@ impl AssignedClasses {
         Ok(())
     }
 
-    /// Removes the jobs that this path submits. Their submitter was classified, so they are not
-    /// needed any longer.
+    /// Removes the jobs that this path submits. They are no longer needed once their submitter is
+    /// classified.
     pub(crate) fn forget(&mut self, path: &[RecordedStep]) {
         for step in path {
             if let RecordedStep::Submits(job) = *step {
@@ -56,8 +57,8 @@ impl AssignedClasses {
         }
     }
 
-    /// Returns the path, in which each submit has the class assigned to its job. Returns `None` if
-    /// a job has no class.
+    /// Returns the path with the class that is assigned to the job of each submit. Returns `None`
+    /// if a job has no class.
     ///
     /// # Errors
     ///

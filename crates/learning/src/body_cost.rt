@@ -1,10 +1,10 @@
-//! The order in which bodies are preferred.
+//! The comparison of bodies by their cost.
 
 use job_bodies::Action;
 
-/// Returns true if the body is preferred to the other one: it has fewer open jobs or, if the numbers
-/// are the same, fewer actions. The number of open jobs is the sum, over all classes, of the most
-/// jobs of the class that are open at once.
+/// Returns true if the body costs less than the other body, or costs the same and has fewer
+/// actions. The cost of a class is the maximum number of its jobs that are open at once. The cost
+/// of a body is the sum over its classes.
 pub(crate) fn is_preferred(body: &[Action], other: &[Action]) -> bool {
     let peaks = sum_of_peaks(body);
     let other_peaks = sum_of_peaks(other);
@@ -23,7 +23,7 @@ fn sum_of_peaks(body: &[Action]) -> usize {
     sum
 }
 
-/// Returns true if no action before this index submits the class.
+/// Returns true if no action before this index submits a job of the class.
 fn is_first_submit(body: &[Action], position: usize, class: usize) -> bool {
     !body
         .iter()
@@ -31,7 +31,8 @@ fn is_first_submit(body: &[Action], position: usize, class: usize) -> bool {
         .any(|action| submits(action, class))
 }
 
-/// Returns the most jobs of the class that are open at once.
+/// Returns the maximum number of jobs of the class that are open at once. A job is open from its
+/// submit to its get.
 fn peak_of(body: &[Action], class: usize) -> usize {
     let mut open: usize = 0;
     let mut peak: usize = 0;

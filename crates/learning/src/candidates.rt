@@ -1,4 +1,4 @@
-//! Bodies that may cover several paths.
+//! Candidates: bodies that may cover several paths. A body covers a path if the path matches it.
 
 use crate::get_times::get_times;
 use crate::path_jobs::{JobStep, PathJob, job_steps};
@@ -7,25 +7,23 @@ use conformance::PathStep;
 use job_bodies::Action;
 use std::alloc::{AllocError, Global};
 
-/// The number of different choices.
+/// The number of different [`Choices`], and so of candidates.
 pub(crate) const CANDIDATES: usize = 8;
 
-/// The choices by which a candidate is made.
+/// The options for making a candidate.
 #[derive(Clone, Copy)]
 pub(crate) struct Choices {
-    /// True if no submit of the body is shared by a job that its path gets and a job that its path
-    /// does not get.
+    /// True if jobs with a get and jobs without a get have different submits in the candidate.
     pub(crate) marks_gets: bool,
-    /// True if the submits of the paths are joined from the last path to the first.
+    /// True if the submits of the paths are merged from the last path to the first.
     pub(crate) is_reversed: bool,
-    /// True if each submit of a path goes together with the last submit of the body that is possible
-    /// for it, and false if with the first one.
+    /// True if each path is matched with the last possible submits of the candidate instead of the
+    /// first.
     pub(crate) is_late: bool,
 }
 
 impl Choices {
-    /// Returns the choices that a number below [`CANDIDATES`] stands for. Each number stands for
-    /// different choices.
+    /// Returns the choices with this number, which is from 0 to [`CANDIDATES`] - 1.
     pub(crate) fn with_number(number: usize) -> Choices {
         Choices {
             marks_gets: number % 8 >= 4,
@@ -35,9 +33,9 @@ impl Choices {
     }
 }
 
-/// Returns a body with the submits of all paths, which gets each job as soon as the paths allow.
-/// Returns `None` if a path has a step without a job, or if there are more submits than a body may
-/// have.
+/// Returns a body that has the submits of all paths and gets each job as soon as the paths allow.
+/// Returns `None` if [`job_steps`] returns `None` for a path, or if the body would have more
+/// submits than a body may have.
 ///
 /// # Errors
 ///
@@ -72,8 +70,8 @@ fn all_job_steps(
     Ok(Some(all))
 }
 
-/// Returns the body that submits these jobs in order. It gets each job directly after the submit
-/// whose index is the job's entry in `times`, and never if the entry is `None`.
+/// Returns the body that submits these jobs in this order. `times` has, for each job, the index of
+/// the submit after which the body gets the job, or `None` if it does not get the job.
 fn body_with_gets(
     alloc: Global,
     common: &[PathJob],
@@ -89,8 +87,8 @@ fn body_with_gets(
     Ok(body)
 }
 
-/// Appends the gets of the jobs whose entry in `times` is `time`, in the order of their submits.
-/// `submits` has the indices of the submits in the body.
+/// Appends the gets that `times` has for submit number `time`, in the order of their submits.
+/// `submits` has the index of each submit in the body.
 fn push_gets(
     body: &mut Vec<Action>,
     submits: &[usize],

@@ -56,8 +56,8 @@ impl KindCount {
 ///
 /// # Errors
 ///
-/// - [`LearnError::InferenceLimit`] if a round has no kind, or if the name of its kind does not
-///   belong to the family of its label.
+/// - [`LearnError::InferenceLimit`] if a round has no kind, or if the name of its kind is not of
+///   the family of its label ([`is_of_family`]).
 /// - [`LearnError::Memory`] if memory runs out.
 pub(crate) fn kind_counts(
     alloc: Global,
@@ -177,7 +177,7 @@ fn kind_of(kinds: &[Option<usize>], round: usize) -> Option<usize>
     *kinds.get(round)?
 }
 
-/// Counts a round of the kind that began. Does nothing if `kind` is `None` or out of range.
+/// Counts the begin of a round of this kind. Does nothing if `kind` is `None` or out of range.
 ///
 /// # Errors
 ///
@@ -192,7 +192,7 @@ pub(crate) fn count_begin(counts: &mut [KindCount], kind: Option<usize>) -> Resu
     }
 }
 
-/// Counts a round of the kind that ended. Does nothing if `kind` is `None` or out of range.
+/// Counts the end of a round of this kind. Does nothing if `kind` is `None` or out of range.
 ///
 /// # Errors
 ///

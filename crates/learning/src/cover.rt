@@ -1,4 +1,4 @@
-//! Bodies that cover several paths.
+//! Bodies that cover several paths. A body covers a path if the path matches it.
 
 ghost use Rattle.std.specs.Prelude.{◌≡◌, ◌≤◌, ◌∷◌, [], length, IfOk, IfSome, IsSomeAnd, IsTrue};
 ghost use Rattle.std.specs.List.{list_any};
@@ -21,16 +21,17 @@ use conformance::{ActorKind, PathMatch, PathState, PathStep, match_path};
 use job_bodies::{Action, MAX_ACTIONS};
 use std::alloc::{AllocError, Global};
 
-/// Returns a body that each of the paths matches. They are paths of actors of this kind.
+/// Returns a body that each of the paths matches. The paths belong to actors of this kind.
 ///
-/// The result is the given body if all paths match it, and for a single path the body of its own
-/// steps. Otherwise several candidates are made. Each has a common supersequence of the submits of
-/// the paths, and gets each job as soon as the paths allow. The result is the candidate with the
-/// fewest open jobs, and among these the shortest one.
+/// If all paths match `body`, returns `body`. Otherwise, for a single path, returns the body whose
+/// actions are the steps of the path. For several paths, makes several candidates and returns the
+/// best that covers the paths. A candidate has a common supersequence of the submits of the paths,
+/// and gets each job as soon as the paths allow. The best candidate has the fewest open jobs, and
+/// among equals the fewest actions.
 ///
-/// Returns `None` if no candidate has at most [`MAX_ACTIONS`] actions. Other reasons are a submit
-/// whose job cannot belong to any class, a get that names no earlier submit, a second get of one
-/// submit, or a given body with `work` that a path does not match.
+/// Returns `None` if no body with at most [`MAX_ACTIONS`] actions is found. No body is found if the
+/// job of a submit cannot belong to any class, if a get names no earlier submit, or if two gets
+/// name the same submit. The same holds if `body` has `work` and a path does not match it.
 ///
 /// # Errors
 ///
@@ -87,7 +88,7 @@ fn new_body(
     }
 }
 
-/// Returns the best of the candidates that each of the paths matches.
+/// Returns the best candidate that all paths match, if there is one.
 fn best_candidate(
     alloc: Global,
     kind: ActorKind,

@@ -14,18 +14,18 @@ use crate::pass::run_pass;
 use job_bodies::Pool;
 use std::alloc::Global;
 
-/// The maximum number of passes. Two are typical: bodies change in the first pass, and every
-/// actor matches a body in the second one.
+/// The maximum number of passes. Two passes are typical: bodies change in the first, and every
+/// actor matches a body in the second.
 const MAX_PASSES: usize = 600;
 
-/// Changes the bodies until every actor of the part matches one. Returns the client kind of each
+/// Changes the bodies until every actor of the part matches a body. Returns the client kind of each
 /// round, by round number.
 ///
 /// # Errors
 ///
-/// - [`LearnError::InferenceLimit`] if an actor still matches no body when the bodies stop
-///   changing, or after [`MAX_PASSES`] passes. An example is an open actor that matches no body, if
-///   the recording continues after the part. Also if the actors need more than a plan may have.
+/// - [`LearnError::InferenceLimit`] if an actor matches no body after a pass that changed no body,
+///   or after [`MAX_PASSES`] passes. Also if the actors need more classes or client kinds than a
+///   plan may have.
 /// - [`LearnError::Memory`] if memory runs out.
 pub(crate) fn cover_all(
     alloc: Global,

@@ -1,4 +1,5 @@
-//! The draft of a plan, whose bodies are being learned.
+//! The draft of a plan, whose bodies are being learned. A label is the name of a class or client
+//! kind in the recording.
 
 ghost use Rattle.std.specs.Prelude.{◌≡◌, ◌==◌, ◌&&◌, length, List, OnOk, IfOk, IfErr, string_bytes};
 ghost use Rattle.std.specs.List.{All, Contains};
@@ -43,7 +44,7 @@ impl PlanDraft {
         }
     }
 
-    /// Adds the class or client kind that the line names, unless the plan already has it.
+    /// Adds the class or client kind that the line names, unless the draft already has it.
     ///
     /// # Errors
     ///
@@ -151,8 +152,8 @@ impl PlanDraft {
     }
 
     /// Returns the client kind of a round with this label and path. If the path matches no body of
-    /// the label's kinds, replaces one of these bodies or adds a kind. Returns `None` if no body was
-    /// found that covers the path.
+    /// the label's kinds, replaces one of these bodies or adds a kind. Returns `None` if no body
+    /// was found that covers the path.
     ///
     /// # Errors
     ///

@@ -1,4 +1,4 @@
-//! The set of actors that have ended and are not yet classified.
+//! The actors that have ended and are not yet classified.
 
 use recordings::{Line, RecordedActor};
 use std::alloc::{AllocError, Global};
@@ -20,7 +20,7 @@ impl EndedActors {
         }
     }
 
-    /// Adds the actor that the line ends, if the line ends one.
+    /// If the line ends an actor, adds this actor.
     ///
     /// # Errors
     ///

@@ -25,7 +25,7 @@ pub(crate) struct Entry {
     /// The name in the plan: the label, or the label followed by `_` and a number.
     pub(crate) name: String,
     pub(crate) body: Vec<Action>,
-    /// The paths that changed the body, which all match it.
+    /// The paths that changed the body. All of them match it.
     pub(crate) paths: Vec<Vec<PathStep>>,
 }
 
@@ -33,7 +33,7 @@ pub(crate) struct Entry {
 #[derive(Drop)]
 pub(crate) struct Entries {
     pub(crate) entries: Vec<Entry>,
-    /// The kind of the actors whose bodies these are.
+    /// The kind of the actors: jobs for classes, and rounds for client kinds.
     pub(crate) kind: ActorKind,
     /// The maximum number of entries in a plan. `beyond` is the reason to report if there are more.
     limit: usize,
@@ -66,7 +66,7 @@ impl Entries {
     ///
     /// # Errors
     ///
-    /// The errors of [`add`](Entries::add).
+    /// Returns the errors of [`add`](Entries::add).
     pub(crate) fn note(&mut self, label: &str, pool: usize) -> Result<(), LearnError>
         ensures ok { (lines : List RecordedLine) (beyond : Reason)
             → IsGiven lines beyond label.now pool
@@ -98,7 +98,8 @@ impl Entries {
     ///
     /// # Errors
     ///
-    /// - [`LearnError::InferenceLimit`] if a plan cannot have one more entry, or if the name would be too long.
+    /// - [`LearnError::InferenceLimit`] if a plan cannot have one more entry, or if the name would
+    ///   be too long.
     /// - [`LearnError::Memory`] if memory runs out.
     pub(crate) fn add(&mut self, label: &str, pool: usize) -> Result<(), LearnError>
         ensures ok { (lines : List RecordedLine) (beyond : Reason)

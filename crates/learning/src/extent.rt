@@ -11,12 +11,12 @@ pub enum Extent {
     Whole,
 }
 
-/// The maximum size of the start of a recording, in bytes. A start of this size usually has each path
-/// of the recording several times. A few passes over it cost little compared with one pass over a
-/// long recording.
+/// The maximum size of the start of a recording, in bytes. A start of this size usually contains
+/// each path of the recording several times. A few passes over the start cost little compared with
+/// one pass over a long recording.
 pub const START_BYTES: usize = 65_536;
 
-/// A prefix of a recording. It may end within a line, which is then not read.
+/// A prefix of a recording. If it ends within a line, this line is not read.
 #[derive(Clone, Copy)]
 pub(crate) struct RecordingPart<'a> {
     pub(crate) text: &'a [u8],

@@ -3,13 +3,13 @@
 use crate::path_jobs::{JobStep, PathJob, submitted_jobs};
 use std::alloc::{AllocError, Global};
 
-/// Returns, for each submit of a body, how early the body may get the job: the index of the submit
-/// after which the get may come, or `None` if the body must not get the job. `common` has the job
-/// of each submit of the body. The jobs that a path submits are a subsequence of `common`.
+/// Returns the earliest time at which a body may get each of its jobs. A time is the index of the
+/// submit after which the get may come, or `None` if the body must not get the job. `common` has
+/// the jobs that the body submits, in order. The jobs that a path submits are a subsequence of it.
 ///
-/// Each path is matched with the first possible submits of the body, or with the last possible ones
-/// if `is_late`. If the body's gets are at the returned times, the body has at each moment at least
-/// as many open jobs as each path. Equal jobs are got in the order of their submits.
+/// Each path is matched with the first possible submits of the body, or with the last possible
+/// submits if `is_late`. If the body's gets are at the returned times, the body has at each moment
+/// at least as many open jobs as each path. Equal jobs are got in the order of their submits.
 ///
 /// # Errors
 ///
@@ -30,8 +30,7 @@ pub(crate) fn get_times(
     Ok(times)
 }
 
-/// Replaces each of the times by the later one of it and its entry in `others`, or by `None` if one of
-/// them is `None`.
+/// Replaces each time by the time in `others` if that is later. `None` is later than any time.
 fn delay(times: &mut [Option<usize>], others: &[Option<usize>]) {
     for (time, other) in times.iter_mut().zip(others) {
         *time = later(*time, *other);
@@ -45,8 +44,7 @@ fn later(time: Option<usize>, other: Option<usize>) -> Option<usize> {
     }
 }
 
-/// Returns, for each submit of the body, true if a submit of the path goes together with it. `jobs`
-/// has the jobs that the path submits, in order.
+/// Returns, for each submit of the body, whether a path that submits these jobs is matched with it.
 fn made_submits(
     alloc: Global,
     common: &[PathJob],
@@ -88,8 +86,8 @@ fn mark(made: &mut [bool], index: usize) {
     }
 }
 
-/// Returns the earliest times for a single path. The body may get a job that the path does not submit
-/// directly after its submit, and each other job when the path gets it.
+/// Returns the times for a single path. The body may get a job at once if the path does not submit
+/// it, and otherwise when the path gets it.
 fn times_of_path(
     alloc: Global,
     common: &[PathJob],
@@ -128,8 +126,8 @@ fn record_gets(
     place
 }
 
-/// Sets the time of the first job of the body that equals the given one and has no time yet. Does
-/// nothing if the body has no get of the job.
+/// Records the time of a get for the first job in `common` that equals `job` and has no time yet.
+/// Does nothing if `job` has no get.
 fn record_get(common: &[PathJob], job: PathJob, time: usize, times: &mut [Option<usize>]) {
     if !job.is_got {
         return;

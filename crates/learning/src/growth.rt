@@ -1,4 +1,4 @@
-//! The change of bodies so that the observed paths match them.
+//! Changes of bodies, after which the observed paths match them.
 
 ghost use Rattle.std.specs.Prelude.{◌≡◌, List, OnOk, IfErr, string_bytes};
 ghost use Rattle.recordings.specs.RecordingLine.{RecordedLine};
@@ -12,7 +12,7 @@ use conformance::{ActorKind, PathMatch, PathState, PathStep, match_path};
 use job_bodies::Action;
 use std::alloc::{AllocError, Global};
 
-/// The maximum number of paths that one body is made for. The paths that it matches already do not
+/// The maximum number of paths that change one body. Paths that already match the body do not
 /// count.
 const MAX_PATHS: usize = 256;
 
@@ -57,15 +57,17 @@ impl Entries {
         Ok(None)
     }
 
-    /// Makes the path match the body of an entry with this label and pool. Changes the first entry for
-    /// which a body is found that the path and the entry's earlier paths match. If there is none, adds
-    /// an entry for the path alone. Skips each entry that is marked in `reachable`, because a job of
-    /// that class would submit jobs of its own class without end. Returns `None` if no body was found
-    /// for the path, or if no entry has this label and pool.
+    /// Changes the body of an entry with this label and pool, so that the path and the entry's
+    /// earlier paths match it. Takes the first entry for which such a body is found. If there is
+    /// none, adds an entry for the path alone.
+    ///
+    /// Skips each entry that is marked in `reachable`, because a job of that class would submit
+    /// jobs of its own class without end. Returns `None` if no body was found for the path, or if
+    /// no entry has this label and pool.
     ///
     /// # Errors
     ///
-    /// The errors of [`add`](Entries::add).
+    /// Returns the errors of [`add`](Entries::add).
     pub(crate) fn grow(
         &mut self,
         label: &str,
@@ -181,8 +183,8 @@ fn is_path_of(
     Ok(path_match == PathMatch::Fits)
 }
 
-/// Returns, for each class, whether these steps submit jobs of the class, directly or through the
-/// bodies of the classes that they submit.
+/// Returns, for each class, whether these steps lead to a job of the class: a step submits such a
+/// job, or the body of a submitted job leads to it.
 ///
 /// # Errors
 ///

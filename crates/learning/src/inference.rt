@@ -33,9 +33,10 @@ use std::alloc::{AllocError, Global};
 ///
 /// The whole recording is read once, for its names, its counts and its first invalid line. The
 /// selected part is read a few more times, usually twice, while the bodies change. If a label has
-/// several client kinds, the selected part must be the whole recording, and one more pass counts
-/// the rounds of each kind. The memory grows with the open actors, the plan, the paths that changed
-/// a body, at most 256 for each body, and the rounds of the selected part.
+/// several client kinds, one more pass counts the rounds of each kind. In this case the selected
+/// part must be the whole recording: otherwise the result is an [`InferenceLimit`]. The memory
+/// grows with the number of open actors, the size of the plan, the paths that changed a body (at
+/// most 256 for each body), and the number of rounds in the selected part.
 ///
 /// The contract promises that the bodies form a plan. It does not promise that the recording
 /// matches them: the caller compares the recording with the plan. It does not promise that a plan

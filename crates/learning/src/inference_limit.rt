@@ -5,7 +5,8 @@ ghost use Rattle.learning.specs.InferenceLimit.{inference_limit_text};
 
 use std::fmt;
 
-/// The reason why a valid recording gives no plan: it exceeds a limit of plans, or of learning.
+/// The reason why a valid recording gives no plan: the plan would exceed a limit, or no bodies were
+/// found.
 #[derive(Clone, Copy, PartialEq, Eq)]
 pub enum InferenceLimit {
     /// More pools than a plan may have.

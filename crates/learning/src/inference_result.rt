@@ -22,7 +22,7 @@ pub struct InferredPlan {
     pub plan: Plan,
     /// The number of rounds that began.
     pub rounds: usize,
-    /// The number of jobs that were submitted, including refused ones.
+    /// The number of jobs that were submitted, including refused jobs.
     pub jobs: usize,
     /// The number of rounds that began and did not end.
     pub unfinished_rounds: usize,

@@ -1,4 +1,4 @@
-//! Counters for the rounds of each label.
+//! Counters for the rounds of each label. The label of a round is the name in its `begin` line.
 
 ghost use Rattle.std.specs.Prelude.{◌≡◌, ◌+◌, ◌++◌, ◌∷◌, ◌==◌, [], ℕ, List, None, Some, if◌then◌else◌, slice_get, map, string_bytes, OnOk, IfOk, IfErr, IsTrue};
 ghost use Rattle.std.specs.List.{position};
@@ -20,8 +20,8 @@ use recordings::Line;
 use std::alloc::{AllocError, Global};
 use support::IdMap;
 
-/// Counters for the rounds of each label. If each label has one client kind, they also count the
-/// rounds of each kind.
+/// Counters for the rounds of each label. If each label has one client kind, the counters of a
+/// label are also those of its kind.
 #[derive(Drop)]
 pub(crate) struct LabelRounds {
     labels: Vec<String>,
@@ -29,8 +29,8 @@ pub(crate) struct LabelRounds {
     open_labels: IdMap<usize>,
     /// The number of rounds that have begun.
     begun: usize,
-    /// The counters for the rounds of each label, by label number. Only the first labels have
-    /// counters: as many as a plan can have client kinds.
+    /// The counters for the rounds of each label, by label number. Only the first
+    /// `MAX_CLIENT_KINDS` labels have counters.
     pub(crate) counts: Vec<KindCount>,
     alloc: Global,
 }
@@ -58,8 +58,8 @@ impl LabelRounds {
     ///
     /// # Errors
     ///
-    /// - [`LearnError::InferenceLimit`] if a round does not have the number that the rules of recordings
-    ///   require.
+    /// - [`LearnError::InferenceLimit`] if a round does not have the number that the rules of
+    ///   recordings require.
     /// - [`LearnError::Memory`] if memory runs out.
     pub(crate) fn take(&mut self, line: &Line<'_>) -> Result<(), LearnError>
         ensures ok { (before : List RecordedLine)

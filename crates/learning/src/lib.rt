@@ -1,7 +1,8 @@
-//! Derivation of a plan from a recording.
+//! Derivation of a plan from a recording. An actor is a recorded job or round, and its path is its
+//! submits and gets. `conformance::match_path` defines which paths match a body.
 //!
 //! [`learn`] infers a body for each class and client kind from the recorded paths. It does not
-//! compare the plan with the whole recording: the caller does.
+//! compare the plan with the whole recording: the caller must do so.
 #![tactic(auto)]
 
 mod assigned_classes;

@@ -35,13 +35,14 @@ pub(crate) struct Pass {
 /// Runs one pass over the part of the recording.
 ///
 /// If an actor matches no class or client kind of the plan, and each job that it submitted has a
-/// class, the pass changes a body so that the actor's path matches it. The path of an actor that has
-/// not ended may be incomplete. It changes a body only if no path of an ended actor did in this pass,
-/// and the recording does not continue after the part.
+/// class, the pass changes a body so that the actor's path matches it. The path of an actor that
+/// has not ended may be incomplete. For such an actor, the pass changes a body only if no path of
+/// an ended actor changed a body in this pass, and the recording does not continue after the part.
 ///
 /// # Errors
 ///
-/// - [`LearnError::InferenceLimit`] if the actors need more than a plan may have.
+/// - [`LearnError::InferenceLimit`] if the actors need more classes or client kinds than a plan may
+///   have.
 /// - [`LearnError::Memory`] if memory runs out.
 pub(crate) fn run_pass(
     alloc: Global,

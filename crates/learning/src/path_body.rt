@@ -18,7 +18,7 @@ use std::alloc::{AllocError, Global};
 /// its job can belong to.
 ///
 /// Returns `None` if the path is longer than a body may be, if the job of a submit cannot belong to
-/// any class, or if a get names no earlier submit or a submit that an earlier get names.
+/// any class, if a get names no earlier submit, or if two gets name the same submit.
 ///
 /// # Errors
 ///

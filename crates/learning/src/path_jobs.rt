@@ -4,15 +4,15 @@ use conformance::PathStep;
 use job_bodies::MAX_ACTIONS;
 use std::alloc::{AllocError, Global};
 
-/// The maximum length of a path that a body can cover: each submit of the path is one of the body,
-/// and each get of the path names a submit of its own.
+/// The maximum length of a path that a body can cover. Each submit of the path is matched with a
+/// different submit of the body, and each submit has at most one get.
 const MAX_STEPS: usize = 2 * MAX_ACTIONS;
 
-/// A job of a path, without its index. A body does not distinguish equal jobs.
+/// A job of a path, without its position. Equal jobs can be matched with the same submit of a body.
 #[derive(Clone, Copy, PartialEq, Eq)]
 pub(crate) struct PathJob {
     pub(crate) class: usize,
-    /// True if the body has a get of the job.
+    /// True if a body may have a get of the job.
     pub(crate) is_got: bool,
 }
 
@@ -24,11 +24,11 @@ pub(crate) enum JobStep {
 }
 
 /// Returns the steps of the path, each with its job. Each job has the first class that it can
-/// belong to. If `marks_gets`, the body has a get of a job only if the path has one, and otherwise
-/// it may have a get of each job.
+/// belong to. If `marks_gets` is true, `is_got` is true only for the jobs that the path gets.
+/// Otherwise it is true for all jobs.
 ///
-/// Returns `None` if the job of a submit cannot belong to any class, if a get names no submit, or if
-/// no body can cover the path because it is too long.
+/// Returns `None` if the job of a submit cannot belong to any class, if a get names no submit, or
+/// if the path is too long for any body.
 ///
 /// # Errors
 ///
@@ -58,7 +58,8 @@ fn job_step(path: &[PathStep], place: usize, marks_gets: bool) -> Option<JobStep
     }
 }
 
-/// Returns the job that the submit at this index makes.
+/// Returns the job of the submit at this index. Returns `None` if there is no submit, or if its job
+/// cannot belong to any class.
 fn job_at(path: &[PathStep], place: usize, marks_gets: bool) -> Option<PathJob> {
     match path.get(place)? {
         PathStep::Submits(classes) => Some(PathJob {
@@ -69,7 +70,7 @@ fn job_at(path: &[PathStep], place: usize, marks_gets: bool) -> Option<PathJob> 
     }
 }
 
-/// Returns true if the path gets the job that the submit at this index makes.
+/// Returns true if the path gets the job of the submit at this index.
 fn is_got(path: &[PathStep], place: usize) -> bool {
     path.iter().any(|step| gets(step, place))
 }

@@ -17,8 +17,7 @@ use job_bodies::Pool;
 use recordings::{CheckedLines, Line, RecordingFault, first_fault};
 use std::alloc::{AllocError, Global};
 
-/// The pools, classes and client kinds that the lines name, and the counts of their rounds and
-/// jobs.
+/// The pools, classes and client kinds that the lines name, and the numbers of rounds and jobs.
 #[derive(Drop)]
 pub(crate) struct RecordedNames {
     pub(crate) pools: Vec<Pool>,
@@ -35,11 +34,12 @@ pub(crate) struct RecordedNames {
 }
 
 /// Collects the names in all lines, with an empty body for each class and client kind. If a line is
-/// invalid, returns the first such line instead.
+/// invalid, returns the fault of the first invalid line instead.
 ///
 /// # Errors
 ///
-/// - [`LearnError::InferenceLimit`] if all lines are valid and they name more than a plan may have.
+/// - [`LearnError::InferenceLimit`] if all lines are valid, but their names exceed a limit of
+///   plans.
 /// - [`LearnError::Memory`] if memory runs out.
 pub(crate) fn recorded_names(
     alloc: Global,

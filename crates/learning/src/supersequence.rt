@@ -4,9 +4,9 @@ use crate::path_jobs::{JobStep, PathJob, submitted_jobs};
 use job_bodies::MAX_ACTIONS;
 use std::alloc::{AllocError, Global};
 
-/// Returns a list of jobs of which the submits of each path are a subsequence, or `None` if it
-/// would be longer than a body may be. The paths are added one by one, from the last one to the
-/// first if `is_reversed`.
+/// Returns a list of jobs that has the submitted jobs of each path as a subsequence. Returns `None`
+/// if the list would be longer than a body may be. The paths are merged one by one, from the last
+/// to the first if `is_reversed`.
 ///
 /// # Errors
 ///
@@ -55,8 +55,8 @@ fn is_subsequence(jobs: &[PathJob], of: &[PathJob]) -> bool {
     found >= jobs.len()
 }
 
-/// Returns a shortest common supersequence of two lists. If it may continue with the next job of
-/// either list, it continues with that of the first list.
+/// Returns a shortest common supersequence of two lists. If the next job may come from either list,
+/// takes it from the first list.
 fn merged(
     alloc: Global,
     first: &[PathJob],
@@ -91,8 +91,9 @@ fn push_from(jobs: &mut Vec<PathJob>, more: &[PathJob], index: usize) -> Result<
     Ok(())
 }
 
-/// Returns true if a shortest common supersequence of two suffixes may begin with the first job of
-/// the first one. `left` and `other_left` are the lengths of the suffixes, whose first jobs differ.
+/// Returns true if the next job of the merged list may come from the first list: the common
+/// subsequence after it is at least as long as after the next job of the second list. `left` and
+/// `other_left` are the numbers of jobs that remain in the lists.
 fn continues_first(lengths: &[Vec<usize>], left: usize, other_left: usize) -> bool {
     length_at(lengths, left.saturating_sub(1), other_left)
         >= length_at(lengths, left, other_left.saturating_sub(1))
@@ -105,9 +106,8 @@ fn length_at(lengths: &[Vec<usize>], left: usize, other_left: usize) -> usize {
     }
 }
 
-/// Returns the length of the longest common subsequence of each suffix of the first list and each
-/// suffix of the second one. The outer index is the length of the first suffix, and the inner one
-/// that of the second.
+/// Returns the length of the longest common subsequence for each suffix of the first list and each
+/// suffix of the second list. The outer index is the length of the first list's suffix.
 fn common_lengths(
     alloc: Global,
     first: &[PathJob],

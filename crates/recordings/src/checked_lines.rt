@@ -1,4 +1,4 @@
-//! An iterator over the lines of a recording, which checks each line against the rules.
+//! A reader of recordings that checks each line against the rules O1 to O7.
 
 ghost use Rattle.std.specs.Prelude.{◌≡◌, ◌≤◌, length, List, Option, IfOk};
 ghost use Rattle.recordings.specs.RecordingLine.{RecordedLine, lines_read};
@@ -10,9 +10,10 @@ use crate::trace_validator::TraceValidator;
 use crate::{BadLine, Line, RecordingLines};
 use std::alloc::{AllocError, Global};
 
-/// An iterator over the lines of a recording that checks each line against the lines before it.
+/// An iterator over the lines of a recording. It checks each line against the rules O1 to O7, given
+/// the lines before it.
 ///
-/// It reads each line once. Its size is that of [`TraceValidator`].
+/// It reads each line once and stores no line. Its size is that of [`TraceValidator`].
 #[derive(Drop)]
 pub struct CheckedLines<'a> {
     lines: RecordingLines<'a>,
@@ -34,17 +35,17 @@ impl<'a> CheckedLines<'a> {
         }
     }
 
-    /// Returns the number of valid lines that [`next`](CheckedLines::next) has returned. This is
-    /// also the line number, from 1, of the last of them.
+    /// Returns the number of lines that [`next`](CheckedLines::next) has returned. Since lines are
+    /// numbered from 1, this is also the line number of the last returned line.
     pub fn number(&self) -> usize
         ensures { result ≡ self.now.number }
     {
         self.number
     }
 
-    /// Returns the next line if it is valid, and its fault if it is bad. Returns `None` after the
-    /// last line of a valid recording. If the text has no complete line, returns the fault that
-    /// line 1 breaks [`LineRule::Frame`].
+    /// Returns the next line if it is valid, or its fault if it is bad. Returns `None` after the
+    /// last line of a valid recording. If the text has no newline, returns a fault: line 1 breaks
+    /// [`LineRule::Frame`].
     ///
     /// Do not call this method again after a fault.
     ///

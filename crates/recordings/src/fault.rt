@@ -9,9 +9,9 @@ use std::fmt;
 /// The reason why a line is bad.
 #[derive(Clone, Copy, PartialEq, Eq)]
 pub enum FaultReason {
-    /// The line has none of the forms of a line.
+    /// The line has none of the forms in `docs/RECORDING.md`.
     Form,
-    /// The line is well-formed, and breaks this rule.
+    /// The line has a valid form but breaks this rule.
     LineRule(LineRule),
 }
 

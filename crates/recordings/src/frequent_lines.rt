@@ -1,8 +1,8 @@
-//! A fast parser for the most frequent forms of line.
+//! A fast parser for the most frequent kinds of lines.
 //!
 //! The parser reads the words of a line from left to right, so it never searches for the newline.
-//! If it returns `None`, the line may be bad, have another form, or contain a number that is 0 or
-//! above 999,999,999.
+//! It returns `None` if the line is bad or of another kind, or has a number that is 0 or above
+//! 999,999,999. `line_forms` then parses the line.
 
 ghost use Rattle.std.specs.Prelude.{◌≡◌, ◌≤◌, ◌<◌, ◌+◌, ◌++◌, ◌∷◌, true, length, take, codes, decimal, Some, IfSome};
 ghost use Rattle.std.specs.List.{list_all};
@@ -15,8 +15,8 @@ ghost use Rattle.recordings.specs.declared.recording_line.RecordedActor.TheVaria
 use crate::recording_line::{Line, RecordedActor};
 use job_bodies::MAX_NAME_BYTES;
 
-/// The maximum number of digits of a number that the parser accepts. A number with so few digits is
-/// always within the limit, and needs no check.
+/// The maximum number of digits of a number that the parser accepts. A number with at most 9 digits
+/// is below `MAX_LINE_NUMBER`, and needs no check.
 const MOST_DIGITS: usize = 9;
 
 /// Parses the first line of a text, and returns it with the text after its newline.
@@ -73,7 +73,7 @@ fn split_round_line(round: usize, words: &[u8]) -> Option<(Line<'_>, &[u8])>
     split_action(RecordedActor::Round(round), words)
 }
 
-/// Parses `got J` or `submit J CLASS POOL` after an actor.
+/// Parses the rest of a line after its actor, which is `got J` or `submit J CLASS POOL`.
 #[inline(always)]
 fn split_action(actor: RecordedActor, words: &[u8]) -> Option<(Line<'_>, &[u8])>
     requires { is_valid_actor actor ≡ true }
@@ -91,7 +91,7 @@ fn split_action(actor: RecordedActor, words: &[u8]) -> Option<(Line<'_>, &[u8])>
     split_submit(actor, words)
 }
 
-/// Parses `J CLASS POOL` after `submit`.
+/// Parses the rest of a line after `submit`, which is `J CLASS POOL`.
 #[inline(always)]
 fn split_submit(actor: RecordedActor, words: &[u8]) -> Option<(Line<'_>, &[u8])>
     requires { is_valid_actor actor ≡ true }
@@ -179,7 +179,7 @@ fn is_name_byte(byte: u8) -> bool
     byte.is_ascii_lowercase() || byte.is_ascii_digit() || byte == b'_'
 }
 
-/// Converts the bytes of a name to a string without a check, since name bytes are ASCII.
+/// Converts the bytes of a name to a string. Needs no check for UTF-8, since name bytes are ASCII.
 #[inline(always)]
 fn name_text(name: &[u8]) -> &str
     requires { list_all is_name_byte name.now ≡ true }

@@ -1,4 +1,5 @@
-//! The events of a recording that invalidate a SAFE answer, and their texts.
+//! The events of a recording that invalidate a SAFE answer, and their texts. SAFE means that no
+//! order of the plan's events rejects a job or deadlocks.
 
 ghost use Rattle.std.specs.Prelude.{◌≡◌, Some};
 ghost use Rattle.recordings.specs.EventText as spec;
@@ -9,7 +10,7 @@ use std::fmt;
 
 /// An event that invalidates a SAFE answer for everything after its line.
 ///
-/// It formats as a short phrase without the line number, such as `job 4 was refused`.
+/// Its text is a short phrase without the line number, such as `job 4 was refused`.
 #[derive(Clone, Copy, PartialEq, Eq)]
 pub enum InvalidatingEvent {
     /// A pool refused the job that this actor submitted.
@@ -24,13 +25,13 @@ pub enum InvalidatingEvent {
     AnyInvoked { actor: RecordedActor },
     /// `shutdownNow` took the job out of its queue.
     Removed { job: usize },
-    /// The job's exception ended its thread.
+    /// The job threw an exception that ended the thread.
     Threw { job: usize },
-    /// A pool ran this number of jobs that have no line in the recording.
+    /// A pool ran jobs that no line reports. `jobs` is their number.
     Unseen { jobs: usize },
 }
 
-/// A line with an event that invalidates a SAFE answer.
+/// An event that invalidates a SAFE answer, with the line that reports it.
 #[derive(Clone, Copy, PartialEq, Eq)]
 pub struct Invalidation {
     /// The line number, from 1.
@@ -39,7 +40,7 @@ pub struct Invalidation {
 }
 
 impl InvalidatingEvent {
-    /// Returns the keyword of the lines that report such an event.
+    /// Returns the keyword of the lines that report events of this type, such as `refused`.
     pub fn word(self) -> &'static str
         ensures { result.now ≡ keyword_of self }
     {

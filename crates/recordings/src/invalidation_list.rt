@@ -1,4 +1,4 @@
-//! The events that invalidate a SAFE answer, as far as the lines read so far show.
+//! The events in the lines read so far that invalidate a SAFE answer.
 
 ghost use Rattle.std.specs.Prelude.{◌≡◌, ◌+◌, [], ℕ, None, OnOk, IfOk};
 ghost use Rattle.std.specs.List.{list_any};
@@ -16,11 +16,12 @@ use crate::{Line, RecordedActor};
 use std::alloc::{AllocError, Global};
 use std::collections::BTreeMap;
 
-/// The invalidating events that may be the first of their type: for each type the first event that
-/// no later line can discard, and the pending events before it.
+/// A list of invalidating events that may be the first of their type. An event is pending while the
+/// next line of its actor can discard it. For each type, the list has at least the first event that
+/// is not pending, and all pending events before it.
 ///
-/// The next line of its actor can discard a pending event. A line takes a look-up of its actor, and
-/// of an event only if the actor has a pending one.
+/// Processing a line takes one look-up of its actor, and one look-up of an event if the actor has a
+/// pending event.
 #[derive(Drop)]
 pub(crate) struct InvalidationList {
     // The events, by the numbers of their lines.
@@ -162,7 +163,7 @@ fn settle_event(
     }
 }
 
-/// Appends the event, unless the list has an event of the same type.
+/// Appends the event, unless `certain` has an event of the same type.
 fn push_type(
     certain: &mut Vec<InvalidatingEvent>,
     event: InvalidatingEvent,
@@ -194,7 +195,7 @@ fn firsts_of(
     Ok(firsts)
 }
 
-/// Appends the event, unless the list has an event of the same type.
+/// Appends the event, unless `invalidations` has an event of the same type.
 fn push_new_type(
     invalidations: &mut Vec<Invalidation>,
     invalidation: Invalidation,

@@ -12,7 +12,8 @@ use support::IdMap;
 pub(crate) struct JobState {
     started: bool,
     cancelled: bool,
-    /// The job that this job submitted in its last line.
+    /// The job that this job submitted in its last line. `refused` lines do not count. `None` if
+    /// the line is not a submit.
     last_submit: Option<usize>,
 }
 
@@ -62,19 +63,20 @@ impl Jobs {
         job < self.submitted && self.get(job).is_none_or(|state| state.cancelled)
     }
 
-    /// Returns the job that `job` submitted in its last line, if that line is a submit.
+    /// Returns the job that `job` submitted in its last line, if that line is a submit. `refused`
+    /// lines do not count.
     pub(crate) fn last_submit(&self, job: usize) -> Option<usize>
         ensures { result ≡ last_submit_in (job_at self.now job) }
     {
         self.get(job)?.last_submit
     }
 
-    /// Adds a job, which was submitted.
+    /// Adds a submitted job.
     ///
     /// # Errors
     ///
-    /// Returns `AllocError` if memory runs out or the number of jobs is at its maximum. The jobs
-    /// are then unchanged.
+    /// Returns `AllocError` if memory runs out, or if the number of submitted jobs would overflow.
+    /// The jobs are then unchanged.
     pub(crate) fn submit(&mut self, job: usize) -> Result<(), AllocError>
         ensures submitted { OnOk result (self.new.submitted ≡ self.old.submitted + 1) }
         ensures unfinished { OnOk result
@@ -131,7 +133,7 @@ impl Jobs {
         }
     }
 
-    /// Removes the job, which is done.
+    /// Removes the state of a job that is done.
     pub(crate) fn finish(&mut self, job: usize)
         ensures submitted { self.new.submitted ≡ self.old.submitted }
         ensures unfinished { (j : ℕ)

@@ -1,9 +1,9 @@
-//! A law about the lines of a recording, as the contract of an empty function.
+//! A law about the lines of a recording. The law is the contract of a function with an empty body.
 
 ghost use Rattle.recordings.specs.Laws.{RecordingLinesAreCanonical};
 
-/// Proves that each valid line has exactly one text, and no other text parses: a text parses as a
-/// line if and only if the line is valid and the text is the line's text.
+/// Proves that each valid line has exactly one text. A text parses as a line if and only if the
+/// line is valid and the text is its text.
 pub fn recording_lines_are_canonical()
     ensures { RecordingLinesAreCanonical }
 {}

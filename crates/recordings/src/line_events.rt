@@ -1,4 +1,4 @@
-//! The events that lines report, and the later lines on which they depend.
+//! The invalidating events that lines report, and the later lines that discard them.
 
 ghost use Rattle.std.specs.Prelude.{◌≡◌};
 ghost use Rattle.recordings.specs.RecordingLine.{line_view};
@@ -9,7 +9,8 @@ ghost use Rattle.recordings.specs.InvalidationList as stored;
 use crate::invalidation::InvalidatingEvent;
 use crate::{Line, RecordedActor};
 
-/// Returns the invalidating event that the line reports, if any. A later line may discard the event.
+/// Returns the invalidating event that the line reports, if any. A later line may discard the
+/// event.
 pub(crate) fn event_of(line: &Line<'_>) -> Option<InvalidatingEvent>
     ensures { result ≡ spec.event_of (line_view line.now) }
 {
@@ -37,14 +38,15 @@ pub(crate) fn getter_of(event: InvalidatingEvent) -> Option<RecordedActor>
     }
 }
 
-/// Returns true if both events have the same type.
+/// Returns true if lines with the same keyword report both events.
 pub(crate) fn is_same_type(one: InvalidatingEvent, other: InvalidatingEvent) -> bool
     ensures { result ≡ spec.is_same_type one other }
 {
     one.word() == other.word()
 }
 
-/// Returns true if the line discards the event, because it repeats the get of the event.
+/// Returns true if the line discards the event. It discards a get that timed out or was interrupted
+/// if it reports a further get of the same job by the same actor.
 pub(crate) fn excuses(event: InvalidatingEvent, line: &Line<'_>) -> bool
     ensures { result ≡ stored.excuses (line_view line.now) event }
 {
@@ -55,7 +57,8 @@ pub(crate) fn excuses(event: InvalidatingEvent, line: &Line<'_>) -> bool
     }
 }
 
-/// Returns true if the line belongs to the actor whose next line can discard the event.
+/// Returns true if the event is pending until the next line of an actor, and the line belongs to
+/// this actor.
 pub(crate) fn ends_pending(event: InvalidatingEvent, line: &Line<'_>) -> bool
     ensures { result ≡ stored.ends_pending (line_view line.now) event }
 {
@@ -86,7 +89,7 @@ fn repeats_get(actor: RecordedActor, job: usize, line: &Line<'_>) -> bool
     }
 }
 
-/// Returns true if the line belongs to the actor.
+/// Returns true if the line reports an action of the actor or the end of the actor.
 fn is_line_of(actor: RecordedActor, line: &Line<'_>) -> bool
     ensures { result ≡ is_of actor (line_view line.now) }
 {

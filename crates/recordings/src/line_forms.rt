@@ -68,7 +68,8 @@ fn round_line_of(round: usize, text: &[u8]) -> Option<Line<'_>>
     action_of(RecordedActor::Round(round), word, rest)
 }
 
-/// Parses an action of an actor, from the first word after the actor and the other words.
+/// Parses the rest of a line after its actor. `word` is the first word, and `rest` is the text
+/// after it.
 #[tactic(auto, unfolding(crate::specs::RecordingLine::action_of))]
 fn action_of<'a>(actor: RecordedActor, word: &[u8], rest: &'a [u8]) -> Option<Line<'a>>
     ensures { option_map line_view result ≡ spec.action_of actor word.now rest.now }
@@ -84,7 +85,7 @@ fn action_of<'a>(actor: RecordedActor, word: &[u8], rest: &'a [u8]) -> Option<Li
     job_action_of(actor, word, job)
 }
 
-/// Parses `J CLASS POOL` after `submit`.
+/// Parses the rest of a line after `submit`, which is `J CLASS POOL`.
 #[tactic(auto, unfolding(crate::specs::RecordingLine::submit_of))]
 fn submit_of(actor: RecordedActor, text: &[u8]) -> Option<Line<'_>>
     ensures { option_map line_view result ≡ spec.submit_of actor text.now }
@@ -100,7 +101,7 @@ fn submit_of(actor: RecordedActor, text: &[u8]) -> Option<Line<'_>>
     })
 }
 
-/// Parses an action on a job, from the word before the job's number.
+/// Parses the word between an actor and a job's number, such as `got`. Returns the line.
 #[tactic(auto, unfolding(crate::specs::RecordingLine::job_action_of))]
 fn job_action_of<'a>(actor: RecordedActor, word: &[u8], job: usize) -> Option<Line<'a>>
     ensures { option_map line_view result ≡ spec.job_action_of actor word.now job }
@@ -122,7 +123,7 @@ fn job_action_of<'a>(actor: RecordedActor, word: &[u8], job: usize) -> Option<Li
 
 // ---- other lines
 
-/// Parses a line without an actor, from its first word and the other words.
+/// Parses a line without an actor. `word` is its first word, and `rest` is the text after it.
 #[tactic(auto, unfolding(crate::specs::RecordingLine::other_line_of))]
 fn other_line_of<'a>(word: &[u8], rest: &'a [u8]) -> Option<Line<'a>>
     ensures { option_map line_view result ≡ spec.other_line_of word.now rest.now }

@@ -7,8 +7,8 @@ ghost use Rattle.recordings.specs.LineParts as spec;
 
 use crate::{Line, RecordedActor};
 
-/// Returns the actor to which this line belongs. Returns `None` for a line that begins a round or
-/// starts a job, and for a line without an actor.
+/// Returns the actor whose action or end the line reports. Returns `None` for a line that begins a
+/// round or starts a job, and for a line without an actor.
 pub(crate) fn actor_of(line: &Line<'_>) -> Option<RecordedActor>
     ensures { result ≡ spec.actor_of (line_view line.now) }
 {
@@ -33,7 +33,8 @@ pub(crate) fn actor_of(line: &Line<'_>) -> Option<RecordedActor>
     }
 }
 
-/// Returns the job that the line names, other than its actor and a job that it submits.
+/// Returns the job that the line names. The line's actor and a job that the line submits do not
+/// count.
 pub(crate) fn job_of(line: &Line<'_>) -> Option<usize>
     ensures { result ≡ spec.job_of (line_view line.now) }
 {

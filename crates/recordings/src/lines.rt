@@ -10,14 +10,14 @@ use crate::recording_line::Line;
 use memchr::memchr;
 use std::marker::Model;
 
-/// An iterator over the lines of a recording. [`next`](RecordingLines::next) parses one line, and
-/// the iterator stores none.
+/// An iterator over the lines of a recording. Each call of [`next`](RecordingLines::next) parses
+/// one line. The iterator stores no lines.
 #[derive(Drop)]
 pub struct RecordingLines<'a> {
     rest: &'a [u8],
 }
 
-/// A line that has none of the forms of a line of a recording.
+/// A line that has none of the forms in `docs/RECORDING.md`.
 #[derive(Clone, Copy, PartialEq, Eq)]
 pub struct BadLine;
 
@@ -46,7 +46,7 @@ impl<'a> RecordingLines<'a> {
     ///
     /// # Errors
     ///
-    /// Returns [`BadLine`] if the line has none of the forms. A further call returns the line after
+    /// Returns [`BadLine`] if the line has none of the forms. The next call returns the line after
     /// it.
     #[inline(always)]
     pub fn next(&mut self) -> Option<Result<Line<'a>, BadLine>>
@@ -65,8 +65,8 @@ impl<'a> RecordingLines<'a> {
 /// Parses the first line of any form, and returns it with the text after its newline. Returns
 /// `None` if the text has no newline.
 ///
-/// This function is inlined because a call would first clear the space for the return value, which
-/// costs time that the frequent lines do not need.
+/// This function is inlined because a call would first clear the space for its return value. That
+/// would slow down the frequent lines, which do not need this function.
 #[inline(always)]
 fn split_line(text: &[u8]) -> Option<(Result<Line<'_>, BadLine>, &[u8])>
     ensures { MatchOption result (lines_read text.now ≡ [])

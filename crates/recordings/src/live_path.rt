@@ -1,4 +1,4 @@
-//! The path of a live actor.
+//! The path of a live actor: the submits and gets of a round or a job that has not ended.
 
 ghost use Rattle.std.specs.Prelude.{◌≡◌, ◌++◌, ◌∷◌, [], OnOk, OnErr};
 ghost use Rattle.recordings.specs.ActorPath as spec;
@@ -10,7 +10,7 @@ use std::marker::Model;
 
 /// The path of a live actor, with an index that finds the submit of a job.
 ///
-/// Contracts see it as the list of its actions.
+/// In contracts, its value is the list of its actions.
 #[derive(Drop)]
 pub(crate) struct LivePath {
     steps: Vec<RecordedStep>,
@@ -71,7 +71,7 @@ impl LivePath {
         Ok(())
     }
 
-    /// Appends a get of the job if the path has the submit of the job but no get of it.
+    /// Appends a get of the job if the path has a submit but no get of the job.
     ///
     /// # Errors
     ///
@@ -92,7 +92,7 @@ impl LivePath {
         Ok(())
     }
 
-    /// Removes the submit of this job, which was refused, if it is the last action of the path.
+    /// Removes the submit of this refused job, if the submit is the last action of the path.
     pub(crate) fn drop_submit(&mut self, job: usize)
         ensures { self.new ≡ spec.without_submit job self.old }
     {

@@ -1,4 +1,5 @@
-//! Notes on a recording: what invalidates a SAFE answer, and the first foreign get.
+//! Notes on a recording: the events that invalidate a SAFE answer, and the first foreign get. A
+//! foreign get is a get of a job by an actor other than its submitter, before the submitter got it.
 
 ghost use Rattle.std.specs.Prelude.{◌≡◌, ◌+◌, ◌++◌, ◌∷◌, [], List, OnOk, IfOk, length};
 ghost use Rattle.recordings.specs.RecordingLine.{RecordedLine, line_view};
@@ -15,13 +16,11 @@ use crate::invalidation_list::InvalidationList;
 use crate::unclaimed::UnclaimedJobs;
 use std::alloc::{AllocError, Global};
 
-/// The events that invalidate a SAFE answer, and the first get of a job by an actor that did not
-/// submit it, for the lines read so far.
+/// The events that invalidate a SAFE answer, and the first foreign get, in the lines read so far.
 ///
-/// The notes store an entry for each event type, an entry for each actor whose last line is a
-/// `timeout` or `interrupted`, and the submitter of each job that its submitter has not got. So the
-/// size grows with the jobs that are never got. Processing a line takes a constant number of
-/// look-ups. No contract states the size or the time.
+/// The size grows with the number of jobs that their submitters have not got, and with the number
+/// of actors whose last line is `timeout` or `interrupted`. Processing a line takes a constant
+/// number of look-ups. No contract states the size or the time.
 #[derive(Drop)]
 pub struct RecordedNotes {
     pub(crate) invalidations: InvalidationList,
@@ -73,8 +72,8 @@ impl RecordedNotes {
         self.invalidations.firsts(alloc)
     }
 
-    /// Returns the first get of a job by an actor that did not submit the job, before the submitter
-    /// got it.
+    /// Returns the first get of a job by an actor other than its submitter, before the submitter
+    /// got the job.
     pub fn foreign_get(&self) -> Option<ForeignGet>
         ensures { (lines : List RecordedLine)
             → IsNotesOf self.now lines

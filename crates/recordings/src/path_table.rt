@@ -1,4 +1,4 @@
-//! A table of paths, either of rounds or of jobs.
+//! A table of the paths of rounds, or of the paths of jobs.
 
 ghost use Rattle.std.specs.Prelude.{◌≡◌, ℕ, [], OnOk, OnErr, None, Some, if◌then◌else◌, ◌==◌};
 ghost use Rattle.std.specs.Option.{option_map};
@@ -12,7 +12,8 @@ use crate::step::RecordedStep;
 use std::alloc::{AllocError, Global};
 use support::IdMap;
 
-/// A map from the numbers of the live rounds, or of the live jobs, to their paths.
+/// A map from numbers of actors to their paths. The actors are either the live rounds or the live
+/// jobs.
 #[derive(Drop)]
 pub(crate) struct PathTable {
     paths: IdMap<LivePath>,
@@ -81,8 +82,8 @@ impl PathTable {
         Ok(())
     }
 
-    /// Appends a get of the job to the path of this actor, if the path has the job's submit but no
-    /// get of it. Has no effect if the actor is not live.
+    /// Appends a get of the job to the path of this actor, if the path has a submit but no get of
+    /// the job. Has no effect if the actor is not live.
     ///
     /// # Errors
     ///
@@ -101,8 +102,8 @@ impl PathTable {
         Ok(())
     }
 
-    /// Removes the submit of the job, which was refused, from the path of this actor if it is the
-    /// last action. Has no effect if the actor is not live.
+    /// Removes the submit of a refused job from the path of this actor, if the submit is the last
+    /// action. Has no effect if the actor is not live.
     pub(crate) fn drop_submit(&mut self, number: usize, job: usize)
         ensures { (n : ℕ)
             → path_in self.new n

@@ -55,8 +55,8 @@ impl Paths {
         Ok(())
     }
 
-    /// Processes the next line of a valid recording, as [`take`](Paths::take) does. Returns the
-    /// path of the actor that the line ends, if it ends one.
+    /// Processes the next line of a valid recording, as [`take`](Paths::take) does. If a round or a
+    /// job ends with the line, returns its path.
     ///
     /// # Errors
     ///

@@ -1,5 +1,4 @@
-//! For each actor, the line of its get that timed out or was interrupted, until the next line of
-//! the actor removes it.
+//! Pending gets: gets that timed out or were interrupted, and whose actors have no later line yet.
 
 ghost use Rattle.std.specs.Prelude.{◌≡◌, OnOk, None, Some, if◌then◌else◌};
 ghost use Rattle.recordings.specs.declared.recording_line.RecordedActor as actors;
@@ -10,7 +9,7 @@ use crate::RecordedActor;
 use std::alloc::{AllocError, Global};
 use support::IdMap;
 
-/// A map from actors to line numbers.
+/// A map from actors to the line numbers of their pending gets.
 #[derive(Drop)]
 pub(crate) struct PendingLines {
     jobs: IdMap<usize>,
@@ -28,7 +27,7 @@ impl PendingLines {
         }
     }
 
-    /// Stores the line of the actor.
+    /// Stores the line number of the actor's pending get.
     ///
     /// # Errors
     ///
@@ -45,7 +44,7 @@ impl PendingLines {
         }
     }
 
-    /// Removes and returns the line of the actor.
+    /// Removes the actor's pending get, if there is one, and returns its line number.
     pub(crate) fn remove(&mut self, actor: RecordedActor) -> Option<usize>
         ensures line { result ≡ line_in self.old actor }
         ensures rest { (one : actors.RecordedActor)

@@ -6,8 +6,9 @@ ghost use Rattle.recordings.specs.PoolSizes as spec;
 use crate::words::{is_word, parse_number, parse_word_and_number, strip_word};
 use line_words::split_space;
 
-/// The settings of a pool. A number above [`MAX_LINE_NUMBER`](job_bodies::MAX_LINE_NUMBER), which
-/// no line can contain, is recorded as that limit.
+/// The settings of a pool. No number in a line is above
+/// [`MAX_LINE_NUMBER`](job_bodies::MAX_LINE_NUMBER): a recorder writes a larger value as this
+/// limit.
 #[derive(Clone, Copy, PartialEq, Eq)]
 pub struct PoolSizes {
     pub core: usize,

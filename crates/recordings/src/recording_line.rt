@@ -13,7 +13,7 @@ pub enum RecordedActor {
 /// A parsed line. Its names are slices of the text.
 #[derive(Clone, Copy)]
 pub enum Line<'a> {
-    /// The first line.
+    /// The first line of the recording, `recording 1`.
     Head,
     /// The recording of the pool began, or the settings of the pool changed to these.
     Pool {
@@ -49,7 +49,7 @@ pub enum Line<'a> {
     JobEnds {
         job: usize,
     },
-    /// The job is done, and its exception ended its thread.
+    /// The job is done: it threw an exception, which also ended the thread.
     JobThrew {
         job: usize,
     },
@@ -86,7 +86,7 @@ pub enum Line<'a> {
     ShutDown {
         pool: &'a str,
     },
-    /// The pool ran this number of jobs that have no line in the recording.
+    /// The pool ran jobs that no line reports. `jobs` is their number.
     Unseen {
         pool: &'a str,
         jobs: usize,

@@ -7,9 +7,9 @@ ghost use Rattle.recordings.specs.StoredState.{round_at, last_submit_of_round};
 use std::alloc::{AllocError, Global};
 use support::IdMap;
 
-/// The rounds in the lines read so far: the number of rounds that began, and for each open round
-/// the job that it submitted in its last line, if any. A round that began and has not ended is
-/// open.
+/// The rounds in the lines read so far. A round is open if it has begun and has not ended. The
+/// state is the number of rounds that have begun, and for each open round the job that it submitted
+/// in its last line, if any. `refused` lines do not count.
 #[derive(Drop)]
 pub(crate) struct Rounds {
     pub(crate) begun: usize,
@@ -36,17 +36,18 @@ impl Rounds {
     }
 
     /// Returns the job that the round submitted in its last line, if that line is a submit.
+    /// `refused` lines do not count.
     pub(crate) fn last_submit(&self, round: usize) -> Option<usize>
         ensures { result ≡ last_submit_of_round (round_at self.now round) }
     {
         *self.open.get(round)?
     }
 
-    /// Adds a round, which began.
+    /// Adds an open round.
     ///
     /// # Errors
     ///
-    /// Returns `AllocError` if memory runs out or the number of rounds is at its maximum. The
+    /// Returns `AllocError` if memory runs out, or if the number of rounds would overflow. The
     /// rounds are then unchanged.
     pub(crate) fn begin(&mut self, round: usize) -> Result<(), AllocError>
         ensures begun { OnOk result (self.new.begun ≡ self.old.begun + 1) }
@@ -62,7 +63,7 @@ impl Rounds {
         Ok(())
     }
 
-    /// Removes the round, which has ended.
+    /// Removes a round that has ended.
     pub(crate) fn end(&mut self, round: usize)
         ensures begun { self.new.begun ≡ self.old.begun }
         ensures going { (r : ℕ)

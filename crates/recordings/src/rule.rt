@@ -5,7 +5,7 @@ ghost use Rattle.recordings.specs.RuleText.{rule_text};
 
 use std::fmt;
 
-/// A rule that a line of a recording can break, given the lines before it.
+/// A rule for a line of a recording, given the lines before it.
 #[derive(Clone, Copy, PartialEq, Eq)]
 pub enum LineRule {
     /// O1: the first line is `recording 1`, and no other line is. No line comes after `end`.
@@ -20,8 +20,9 @@ pub enum LineRule {
     /// O5: a job has at most one `start` line. Its lines as an actor come after its `start` line,
     /// and the last of them is `end` or `threw`.
     Jobs,
-    /// O6: `refused` comes after the `submit` line of the same job by the same actor, with no other
-    /// line of the actor between them, and before the job's `start` line.
+    /// O6: `refused` comes after the `submit` line of the same job by the same actor, and before
+    /// the job's `start` line. Between `submit` and `refused`, the actor has only `refused` lines
+    /// of this job.
     Refusals,
     /// O7: `got` comes after the `end`, `threw` or `cancel` line of its job.
     Gets,

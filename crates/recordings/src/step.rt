@@ -1,14 +1,14 @@
-//! The actions in the paths of a recording.
+//! The actions in the paths of actors.
 
 ghost use Rattle.std.specs.Prelude.{◌≡◌};
 ghost use Rattle.recordings.specs.ActorPath as spec;
 
-/// An action in the path of an actor, which corresponds to an action of a body.
+/// A submit or a get in the path of an actor. It corresponds to an action of a body in a plan.
 #[derive(Clone, Copy, PartialEq, Eq)]
 pub enum RecordedStep {
     /// The actor submitted the job with this number.
     Submits(usize),
-    /// The actor got the job that the submit at this index of the same path submitted.
+    /// The actor got the job of the submit at this index of the path.
     Gets(usize),
 }
 
@@ -23,7 +23,7 @@ impl RecordedStep {
         }
     }
 
-    /// Returns whether this action is a get of the job that the submit at this index submitted.
+    /// Returns whether this action is a get of the job of the submit at this index of the path.
     pub fn gets(self, place: usize) -> bool
         ensures { result ≡ spec.gets place self }
     {

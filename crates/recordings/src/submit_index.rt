@@ -36,7 +36,7 @@ impl SubmitIndex {
         }
     }
 
-    /// Returns the index of the last entry of the job.
+    /// Returns the index of the last entry with this job, if there is one.
     pub(crate) fn find(&self, job: usize) -> Option<usize>
         requires { spec.IsOrdered self.now }
         ensures found { IfSome result (spec.IsLastOf self.now.entries.items job) }

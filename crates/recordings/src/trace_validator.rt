@@ -13,7 +13,7 @@ use crate::rule_check::first_broken_rule;
 use crate::state_update::apply_line;
 use std::alloc::{AllocError, Global};
 
-/// The state of the rule check: what the rules need to know about the lines read so far.
+/// The state of the rule check after the lines read so far.
 ///
 /// Its size grows with the number of pools, of rounds that have not ended and of jobs that are not
 /// done. A job that was refused, cancelled or removed and never ran is not done. Checking a line
@@ -42,8 +42,8 @@ impl TraceValidator {
         }
     }
 
-    /// Accepts the next line and returns `None` if the line breaks no rule. Otherwise returns the
-    /// first rule that it breaks, and leaves the state unchanged.
+    /// Checks the next line. If it breaks no rule, updates the state and returns `None`. Otherwise
+    /// returns the first rule that it breaks, and leaves the state unchanged.
     ///
     /// # Errors
     ///

@@ -10,14 +10,14 @@ use crate::{Line, RecordedActor};
 use std::alloc::{AllocError, Global};
 use support::IdMap;
 
-/// A map from jobs to their submitters. It has the jobs that their submitters have not got.
+/// A map from each unclaimed job to its submitter.
 #[derive(Drop)]
 pub(crate) struct UnclaimedJobs {
     submitters: IdMap<RecordedActor>,
 }
 
 impl UnclaimedJobs {
-    /// Creates an empty table.
+    /// Creates an empty map.
     pub(crate) fn new(alloc: Global) -> UnclaimedJobs
         ensures { (job : ℕ) → submitter_in result job ≡ None }
     {

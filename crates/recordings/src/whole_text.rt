@@ -9,8 +9,8 @@ use crate::fault::RecordingFault;
 use std::alloc::{AllocError, Global};
 
 /// Returns the fault of the first bad line of a recording, or `None` if it has no bad line. Ignores
-/// the text after the last newline. If the text has no complete line, returns the fault that line 1
-/// breaks [`LineRule::Frame`](crate::LineRule::Frame).
+/// the text after the last newline. If the text has no newline, returns a fault: line 1 breaks
+/// [`LineRule::Frame`](crate::LineRule::Frame).
 ///
 /// # Errors
 ///

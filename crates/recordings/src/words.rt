@@ -1,4 +1,4 @@
-//! Parsers for the first word of a line. They return its value with the text after the next space.
+//! Parsers for the first word of a text and the space after it.
 
 ghost use Rattle.std.specs.Prelude.{◌≡◌, option_map};
 ghost use Rattle.std.specs.Str.{bytes_eq};
@@ -31,7 +31,7 @@ pub(crate) fn name_of(text: &[u8]) -> Option<&str>
     }
 }
 
-/// Parses the first of several words as a number, and returns it with the other words.
+/// Parses a number and the space after it, and returns the number with the rest of the text.
 pub(crate) fn parse_number(text: &[u8]) -> Option<(usize, &[u8])>
     ensures { option_map (λ read. (read.0, read.1.now)) result ≡ spec.parse_number text.now }
 {
@@ -39,7 +39,7 @@ pub(crate) fn parse_number(text: &[u8]) -> Option<(usize, &[u8])>
     Some((number, after.strip_prefix(b" ")?))
 }
 
-/// Parses the first of several words as a name, and returns it with the other words.
+/// Parses a name and the space after it, and returns the name with the rest of the text.
 #[tactic(auto, unfolding(crate::specs::Words::parse_name))]
 pub(crate) fn parse_name(text: &[u8]) -> Option<(&str, &[u8])>
     ensures { option_map (λ read. (read.0.now, read.1.now)) result ≡ spec.parse_name text.now }
@@ -48,7 +48,7 @@ pub(crate) fn parse_name(text: &[u8]) -> Option<(&str, &[u8])>
     Some((name_of(word)?, rest))
 }
 
-/// Strips the first of several words if it is this word, and returns the other words.
+/// Strips this word and the space after it, and returns the rest of the text.
 #[tactic(auto, unfolding(crate::specs::Words::strip_word))]
 pub(crate) fn strip_word<'a>(word: &str, text: &'a [u8]) -> Option<&'a [u8]>
     ensures { option_map (λ rest. rest.now) result ≡ spec.strip_word word.now text.now }
@@ -61,7 +61,8 @@ pub(crate) fn strip_word<'a>(word: &str, text: &'a [u8]) -> Option<&'a [u8]>
     }
 }
 
-/// Parses this word and the number after it, and returns the number with the other words.
+/// Parses this word, a space, a number and a space, and returns the number with the rest of the
+/// text.
 #[tactic(auto, unfolding(crate::specs::Words::parse_word_and_number))]
 pub(crate) fn parse_word_and_number<'a>(word: &str, text: &'a [u8]) -> Option<(usize, &'a [u8])>
     ensures { option_map (λ read. (read.0, read.1.now)) result

@@ -26,7 +26,8 @@ use std::thread::Threads;
 
 /// Returns the answer to an input of this kind. If the answer contains the output of a command, the
 /// exit status follows on the last line. An input is the text of a plan, unless a kind says
-/// otherwise.
+/// otherwise. "With single bytes" means that the source and the sink transfer one byte in each
+/// call.
 ///
 /// - `certify`: the output of `certify` with one worker. The test repeats the command with 64
 ///   workers. If the text is short, it also repeats it with two workers, with single bytes, and
@@ -48,8 +49,8 @@ use std::thread::Threads;
 ///   of one state. `refute and replay` is the output of `replay` for the bundle.
 /// - `ask` and `ask strict`: the output of `ask`. `ask head` is the first line of it. For `ask
 ///   with` and `ask with strict`, the input is a bundle of a plan and a certificate. `ask json`,
-///   `ask json strict`, `ask json with`, `ask dot`, `ask github`, `ask github with`, `ask sarif` and
-///   `ask sarif with` are the same in another format.
+///   `ask json strict`, `ask json with`, `ask dot`, `ask github`, `ask github with`, `ask sarif`
+///   and `ask sarif with` are the same in another format.
 /// - `sizes`: the lines of the sizes that the search finds, without a search for a certificate
 ///   first. They have no exit status.
 pub fn answered<R: Threads + Wait + Sync>(

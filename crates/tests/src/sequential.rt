@@ -20,8 +20,8 @@ use std::alloc::{AllocError, Global};
 ///   command with a source and a sink that transfer a small piece in each call. If the input is
 ///   short, it also repeats the command with a source or a sink that fails at one call, for each
 ///   call in turn. It appends a note to the answer for each unexpected result.
-/// - `check and explain`: an input of both commands. The answer is that of `check`, followed by
-///   that of `explain` if it differs.
+/// - `check and explain`: an input of both commands. The answer is the output of `check`, followed
+///   by the output of `explain` if it differs.
 /// - `prefixes of a replay`, `prefixes of a check` and `prefixes of an explain`: an input. The test
 ///   runs the command on each proper prefix of the input, from the shortest to the longest. Its
 ///   answer is the output for the empty prefix, followed by each output that differs from the

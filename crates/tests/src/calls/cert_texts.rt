@@ -1,5 +1,5 @@
-//! Tests that the text of a certificate is read and written back, and that a bad text has its
-//! fault.
+//! Tests that the text of a certificate is read and written back, and that a bad text results in
+//! the right fault.
 
 use cert_text::{CertFault, read_cert, write_cert};
 use job_bodies::{Action, Class, Client, Plan, Pool};

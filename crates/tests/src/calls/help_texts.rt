@@ -1,10 +1,10 @@
-//! Help texts.
+//! Tests of the help texts.
 
 use command_line::read_words;
 use std::alloc::Global;
 use std::test::*;
 
-/// Arguments, and texts that their help contains.
+/// Cases: arguments that ask for help, and texts that the help contains.
 const TABLE: &[(&[&str], &[&str])] = &[
     (
         &["sizing", "--help"],
@@ -111,7 +111,7 @@ const TABLE: &[(&[&str], &[&str])] = &[
     ),
 ];
 
-/// Arguments that `clap` accepts and `ask` does not, and texts that their error contains.
+/// Cases: arguments that `clap` accepts but `ask` refuses, and texts that the error contains.
 const REFUSED: &[(&[&str], &[&str])] = &[
     (
         &["sizing", "ask", "--format", "xml", "shop.toml"],
@@ -142,14 +142,15 @@ const REFUSED: &[(&[&str], &[&str])] = &[
     ),
 ];
 
-/// The help names the first steps, and that of each command its usage, its answers and its options.
+/// The help of the program names the first steps. The help of a command names its usage, its
+/// answers and its options.
 #[test]
 fn arguments_that_ask_for_help(rt: HostRuntime) -> Result<(), Fail> {
     assert_eq!(rt; incomplete_error(rt.alloc(), TABLE)?, None);
     Ok(())
 }
 
-/// The error for options of `ask` that `clap` accepts says what is wrong with them.
+/// If `ask` refuses options that `clap` accepts, the error says what is wrong with them.
 #[test]
 fn arguments_that_ask_refuses(rt: HostRuntime) -> Result<(), Fail> {
     assert_eq!(rt; incomplete_error(rt.alloc(), REFUSED)?, None);

@@ -21,8 +21,8 @@ fn read(alloc: Global, plan: &str, cert: &str) -> Result<(Plan, Cert), Fail> {
     Ok((plan, cert))
 }
 
-/// The results for the first pool: the total of its first vector, and the first failing condition
-/// of each part of the certificate.
+/// The results for the first pool: the total of the vector of its bound, and for each part of the
+/// certificate the first condition that fails.
 #[derive(Clone, Copy, Debug, PartialEq, Eq)]
 struct Findings {
     total: u64,
@@ -170,8 +170,9 @@ fn the_first_condition_that_fails(rt: HostRuntime) -> Result<(), Fail> {
     Ok(())
 }
 
-/// Returns whether the get at this position of the class's body is counted. Returns `None` if the
-/// ranks do not have the shape of the plan or the body has no such position.
+/// Returns whether the get at this position of the class's body is counted: whether it may block a
+/// thread that others need. Returns `None` if the ranks do not have the shape of the plan, or if
+/// the body has no such position.
 fn is_counted(plan: &Plan, ranks: &Ranks, class: usize, position: usize) -> Option<bool> {
     let found = plan.class_at(class)?;
     if position >= found.body.len() || !ranks.fits(plan) {
@@ -180,8 +181,8 @@ fn is_counted(plan: &Plan, ranks: &Ranks, class: usize, position: usize) -> Opti
     Some(RanksOf::new(plan, ranks).counted(class, position))
 }
 
-/// Jobs of class `a` wait for jobs of `b`, which wait for jobs of `d`. The ranks decide which of
-/// these gets are counted.
+/// Jobs of class `a` wait for jobs of class `b`, which wait for jobs of class `d`. The ranks decide
+/// which of these gets are counted.
 #[test]
 fn gets_that_are_counted(rt: HostRuntime) -> Result<(), Fail> {
     let (plan, cert) = read(rt.alloc(), THERE_AND_BACK, THERE_AND_BACK_CERT)?;
@@ -206,8 +207,8 @@ fn higher(alloc: Global) -> Result<Ranks, AllocError> {
     })
 }
 
-/// A plan, a certificate, whether the standing vectors of the certificate are accepted, and whether
-/// the whole certificate is.
+/// A case: a plan, a certificate, whether `accepts_standing` accepts them, and whether `accepts`
+/// does.
 type Judged = (&'static str, &'static str, bool, bool);
 
 const JUDGED: &[Judged] = &[
@@ -230,7 +231,8 @@ fn what_is_accepted(rt: HostRuntime) -> Result<(), Fail> {
     Ok(())
 }
 
-/// `Certified::check` returns the plan and the certificate unchanged, accepted or not.
+/// `Certified::check` returns the plan and the certificate unchanged, whether it accepts them or
+/// not.
 #[test]
 fn what_is_certified(rt: HostRuntime) -> Result<(), Fail> {
     for (plan, cert, _, is_accepted) in JUDGED.iter().copied() {

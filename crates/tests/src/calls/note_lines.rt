@@ -1,4 +1,5 @@
-//! Tests of the line of a note, for each section of a certificate and each place.
+//! Tests of the lines that describe failing conditions, for each section of a certificate and each
+//! place.
 
 use plan_text::read_plan;
 use refusal_notes::{Note, Section, line};
@@ -14,7 +15,7 @@ const TWO_POOLS: &str = "
     client = [{ name = 'caller', count = 1, repeat = true, body = ['submit ask as x', 'get x'] }]
 ";
 
-/// The parts of a note, and the line of the note.
+/// A case: the parts of a failing condition, and the line that describes it.
 type Case = (Section, Place, Rule, u64, u64, &'static str);
 
 const LINES: &[Case] = &[

@@ -1,4 +1,5 @@
-//! A test of the search for sizes, in which more threads of a pool make the next pool need more.
+//! A test of the search for sizes. In its plan, each pool needs more threads if the next pool has
+//! more threads.
 
 use crate::calls::fits::plan_of;
 use job_bodies::Plan;

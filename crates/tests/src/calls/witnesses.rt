@@ -107,7 +107,8 @@ fn witness_text(alloc: Global, found: Option<Witness>) -> Result<String, AllocEr
     }
 }
 
-/// A plan, events, the jobs that should wait only for each other, and the expected result.
+/// A case: a plan, events, the numbers of the jobs that may wait only for each other, and the
+/// expected result.
 type Case = (
     &'static str,
     &'static [Event],
@@ -133,9 +134,9 @@ const CASES: &[Case] = &[
     (UNUSED_MAX, &STUCK, &[0, 1], "StuckNow([0, 1]) after 2"),
 ];
 
-/// A list of events is a witness if its last event is a refused submit, or if the given jobs, in
-/// ascending order, wait only for each other after the last event. They wait permanently if the
-/// pool has all its threads.
+/// A list of events is a witness if its last event is a refused submit, or if the given jobs wait
+/// only for each other after the last event. The numbers of the jobs must be in ascending order.
+/// The jobs wait permanently if the pool has all its threads.
 #[test]
 fn lists_that_are_witnesses(rt: HostRuntime) -> Result<(), Fail> {
     let alloc = rt.alloc();
@@ -164,9 +165,9 @@ fn a_witness_ends_at_its_first_refusal(rt: HostRuntime) -> Result<(), Fail> {
     Ok(())
 }
 
-/// A vector whose conditions hold shows that the pool never has more than its one core thread, and
-/// so that the jobs wait permanently. A vector shows nothing if its total exceeds the queue of 5,
-/// as for three clients of weight 2, or if it breaks a rule.
+/// If the conditions of a vector hold, the pool never has more than its one core thread, so the
+/// jobs wait permanently. A vector shows nothing if its total exceeds the queue of 5, as for three
+/// clients of weight 2, or if it breaks a rule.
 #[test]
 fn a_standing_vector_shows_that_jobs_wait_for_ever(rt: HostRuntime) -> Result<(), Fail> {
     let alloc = rt.alloc();

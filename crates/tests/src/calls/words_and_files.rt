@@ -40,7 +40,7 @@ client 0
 client 0
 ";
 
-/// Files in memory, which are found by name.
+/// A file system in memory: files that are found by name.
 #[derive(Clone, Copy)]
 struct FakeFiles;
 
@@ -109,7 +109,8 @@ const NO_CHANGE: &str = "pool p: core 1, max 1, queue 2\nchanges 0\n";
 
 const RUN: &str = "jobs 4, units 4, refused 0\n";
 
-/// The arguments with the program's name, the standard input, the exit status and the output.
+/// A case: the arguments with the program's name, the standard input, and the expected exit status
+/// and output.
 type Case = (&'static [&'static str], &'static str, Status, &'static str);
 
 const ANSWERS: &[Case] = &[

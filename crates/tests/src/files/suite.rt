@@ -1,4 +1,4 @@
-//! The run of all rows of the files of a suite.
+//! A runner for the rows of a suite's files.
 
 use crate::files::fill::{with_columns, with_names};
 use crate::files::repeat::repeated;

@@ -6,8 +6,8 @@ use report::{push_no_sizes, push_sizes};
 use size_search::{SizesFound, search_sizes};
 use std::alloc::{AllocError, Global};
 
-/// Returns the lines of the sizes that the search finds for the plan with this text, or of the
-/// reason why it finds none, or the fault of the text.
+/// Returns the lines for the plan with this text: the sizes that the search finds, or the reason
+/// why it finds none. If the text is not a plan, returns its fault.
 pub fn answer(alloc: Global, text: &str) -> Result<String, AllocError> {
     let mut lines = String::new(alloc);
     match read_plan(alloc, text.as_bytes()) {

@@ -24,8 +24,8 @@ pub fn certified<R: Threads + Wait + Sync>(
     Ok(answer)
 }
 
-/// Returns the output of `certify` for a plan's text or, if that is a bundle, the first line of the
-/// output of `check` for the bundle.
+/// Returns the output of `certify` for a plan's text. If that is a bundle, returns the first line
+/// of the output of `check` for the bundle instead.
 pub fn certified_and_checked<R: Threads + Wait + Sync>(
     rt: &R,
     alloc: Global,

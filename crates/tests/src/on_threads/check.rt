@@ -16,8 +16,8 @@ impl PoolGate for Open {
     }
 }
 
-/// Returns the result of the check of a bundle without threads. Appends the result on threads if it
-/// differs.
+/// Checks a bundle without threads, and returns the result. Appends each result on threads that
+/// differs from it.
 pub fn checked<R: Threads + Sync>(
     rt: &R,
     alloc: Global,

@@ -76,7 +76,8 @@ impl Ended {
         Ok(text)
     }
 
-    /// Returns the object in the page that was written, and how the run ended.
+    /// Returns the JSON object in the HTML page that the command wrote, followed by the exit status
+    /// or the fault.
     pub fn object_in_page(&self, alloc: Global) -> Result<String, AllocError> {
         let written = String::from_utf8_lossy(alloc, &self.written)?;
         let mut text = String::new(alloc);

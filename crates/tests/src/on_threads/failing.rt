@@ -15,8 +15,9 @@ const WRITE_FAILED: ServeFault = ServeFault { number: 61 };
 // The maximum number of bytes that a call of a failing source or sink reads or writes.
 const PIECE: usize = 250;
 
-/// Returns the output of the command. Appends a note if the result differs with single bytes, or is
-/// unexpected with a source or a sink that fails.
+/// Returns the output of the command. Appends a note if the result differs with a source and a sink
+/// that handle one byte in each call. Appends a note for each failing call with an unexpected
+/// result.
 pub fn run_with_failures<R: Threads + Wait + Sync>(
     rt: &R,
     alloc: Global,
@@ -31,8 +32,9 @@ pub fn run_with_failures<R: Threads + Wait + Sync>(
     Ok(answer)
 }
 
-/// Appends a note to the answer if the result of the command differs from `ended` with single
-/// bytes, or is unexpected with a source or a sink that fails.
+/// Appends notes to the answer: one if the result of the command differs from `ended` with a source
+/// and a sink that handle one byte in each call, and one for each failing call with an unexpected
+/// result.
 pub fn push_differences<R: Threads + Wait + Sync>(
     rt: &R,
     alloc: Global,

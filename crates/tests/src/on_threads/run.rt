@@ -29,8 +29,8 @@ pub fn ran<R: Threads + Wait + Sync>(
     Ended::of_input(rt, alloc, command, bundle)?.to_text(alloc)
 }
 
-/// Returns the output of `run` for an input that is a line with the number of rounds, from 1 to
-/// 1,000,000, and a bundle.
+/// Returns the output of `run` for this input. The first line of the input is the number of rounds,
+/// from 1 to 1,000,000. The rest is a bundle.
 pub fn ran_for<R: Threads + Wait + Sync>(
     rt: &R,
     alloc: Global,

@@ -6,8 +6,8 @@ use std::alloc::{AllocError, Global};
 /// A function that returns the answer to an input of a kind.
 pub type Answer = Box<dyn Fn(Global, &str, &[u8]) -> Result<String, AllocError> + Drop>;
 
-/// A suite that calls a function for each answer. The method of a suite gets no handle that can
-/// start threads, but the function has one.
+/// A suite that calls a function for each answer. The method of a suite cannot start threads, but
+/// the function can.
 #[derive(Drop)]
 pub struct OnThreads {
     answer: Answer,

@@ -1,4 +1,4 @@
-//! The run of a command from memory and to memory.
+//! Runs of commands whose input and output are in memory.
 
 use sizing_cli::{
     MemorySink, RecordingCommand, ReviewCommand, ServeFault, Sink, Source, Status, serve_alone,

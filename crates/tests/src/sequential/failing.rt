@@ -15,7 +15,7 @@ const WRITE_FAILED: ServeFault = ServeFault { number: 61 };
 // The maximum number of bytes that a stalling writer accepts in a call, before it accepts none.
 const STALLING_PIECE: usize = 60;
 
-/// An input, and the result of a command on it if no call fails.
+/// An input of a command, and the result of the command if no call fails.
 #[derive(Drop)]
 pub struct Case<'a> {
     pub input: &'a [u8],

@@ -42,8 +42,8 @@ const TWO_POOLS_CERT: &str = r#"{"version": 1, "pools": [
         "clients": [[0, 0, 0], [1, 0, 1]]}}],
     "ranks": {"pools": [1, 0], "reach": [1, 0, 1, 1], "levels": [1, 0, 1, 0]}}"#;
 
-/// A gate that holds the first call until there is another call, for at most 10,000 waits of a
-/// millisecond. It then refuses the pool of the first call.
+/// A gate that holds the first call until there is another call. If there is none within 10,000
+/// waits of a millisecond, it refuses the pool of the first call.
 #[derive(Drop)]
 struct Rendezvous<'a, C> {
     clock: &'a C,
@@ -75,7 +75,7 @@ impl PoolGate for Only {
     }
 }
 
-/// Two workers check two pools at the same time. A worker alone would not pass the gate.
+/// Two workers check two pools at the same time. The gate would refuse one worker alone.
 #[test]
 fn two_pools_are_looked_at_at_once(rt: HostRuntime) -> Result<(), Fail> {
     let gate = Rendezvous {

@@ -1,4 +1,4 @@
-//! A counter: a machine besides the world of a plan.
+//! A counter, which is a machine without a plan.
 
 ghost use Rattle.std.specs.Prelude.{◌≡◌, ℕ};
 

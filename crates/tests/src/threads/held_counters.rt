@@ -1,4 +1,5 @@
-//! Tests of each call of a held machine.
+//! Tests of each call of a held counter. A held machine is a machine with the history of its
+//! events.
 
 use crate::threads::counter::{Change, Tally};
 use held_machines::{Held, Receipt};

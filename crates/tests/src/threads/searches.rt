@@ -1,4 +1,5 @@
-//! Tests of the calls of a search to its gate.
+//! Tests that a search calls its gate once for each pool of a round, and ends if the gate refuses a
+//! pool.
 
 use cert_check::{PoolGate, accepts};
 use cert_search::{SearchFault, search};

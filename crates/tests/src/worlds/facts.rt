@@ -11,8 +11,8 @@ use std::alloc::{AllocError, Global};
 // the last of them does not exist.
 const CLIENTS_SHOWN: usize = 4;
 
-/// Returns the results of all look-ups of the world: the counts, the pools, the clients, and the
-/// jobs, including two numbers after the last job, which do not exist.
+/// Returns the results of all look-ups of the world: the counts, the pools, the clients and the
+/// jobs. Also looks up the two numbers after the last job, which have no job.
 pub fn facts(alloc: Global, plan: &Plan, world: &World) -> Result<Vec<String>, AllocError>
     requires { IsReachableView plan.now world.now.view }
 {
@@ -87,8 +87,9 @@ pub fn push_job(text: &mut String, job: Option<JobView>) -> Result<(), AllocErro
     }
 }
 
-/// Appends each result of a look-up that changed. If `before` is empty, all results changed. A
-/// number that was not looked up before had no client or job.
+/// Appends each result in `now` that differs from the result at the same index of `before`. If
+/// `before` is shorter than `now`, also appends the additional results, except those that end with
+/// `none`. If `before` is empty, appends all results.
 pub fn push_changed(
     said: &mut String,
     before: &[String],

@@ -8,7 +8,7 @@ use interleaving::{Event, Outcome, World};
 use job_bodies::Plan;
 use std::alloc::{AllocError, Global};
 
-/// Returns the answers to the lines, on one line each.
+/// Returns the answers to the lines of an input, on one line each.
 pub fn followed(
     alloc: Global,
     kind: &str,
