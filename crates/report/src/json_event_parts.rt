@@ -13,56 +13,6 @@ use plan_text::TextPlace;
 use serde_json::{Value, json};
 use std::alloc::{AllocError, Global};
 
-/// The members of the JSON object of an event, except `outcome` and `times`.
-#[derive(Drop)]
-pub(crate) struct EventParts {
-    pub(crate) action: Value,
-    pub(crate) actor: Value,
-    pub(crate) column: Value,
-    pub(crate) job: Value,
-    pub(crate) line: Value,
-    pub(crate) pool: Value,
-}
-
-/// Creates the object of an event.
-#[tactic(auto, unfolding(crate::specs::JsonEvents::event_data))]
-pub(crate) fn event_value(
-    alloc: Global,
-    parts: EventParts,
-    outcome: &str,
-    times: usize,
-) -> Result<Value, AllocError>
-    ensures { IfOk result (λ value. view value ≡ spec.event_data (record {
-      action = view parts.action;
-      actor = view parts.actor;
-      column = view parts.column;
-      job = view parts.job;
-      line = view parts.line;
-      outcome = outcome.now;
-      pool = view parts.pool;
-      times = times;
-    })) }
-{
-    let EventParts {
-        action,
-        actor,
-        column,
-        job,
-        line,
-        pool,
-    } = parts;
-    json!(in alloc; {
-        "action": action,
-        "actor": actor,
-        "column": column,
-        "job": job,
-        "line": line,
-        "outcome": outcome,
-        "pool": pool,
-        "times": times
-    })
-}
-
 /// Returns the place of the actor's action, or `None` if it is not known.
 pub(crate) fn actor_place(
     places: &PlanPlaces,
