@@ -58,7 +58,7 @@ fn push_vector(text: &mut String, vector: &Vector) -> Result<(), AllocError>
     text.push('}')
 }
 
-/// Appends the key and the vector of a pool's bound, with the comma that separates them from the
+/// Appends the key and the vector of a pool's bound, after a comma that separates them from the
 /// blocked vector.
 fn push_bound(text: &mut String, bound: &Bound) -> Result<(), AllocError>
     ensures { Pushes result text.old text.new (bound_text bound.now) }
