@@ -17,7 +17,7 @@ pub struct NumberRange {
 /// A diagnostic for one fault.
 #[derive(Drop)]
 pub struct Diagnostic {
-    /// The fault, as the other commands report it.
+    /// The fault: its number and position, as the other commands print them.
     pub fault: PlanFault,
     /// The place of the fault in the text.
     pub place: TextPlace,

@@ -40,7 +40,7 @@ pub(crate) fn most_at(needed: &[Option<u64>], pool: usize) -> Option<u64>
     }
 }
 
-/// Returns whether the pool of this number runs the jobs of some class that is marked as submitted.
+/// Returns whether some class that is marked as submitted runs in the pool of this number.
 pub(crate) fn gets_a_job(plan: &Plan, marks: &[bool], pool: usize) -> bool
     ensures { result ≡ spec.gets_a_job plan.now marks.now pool }
 {
@@ -64,14 +64,15 @@ pub(crate) fn may_grow(pool: &Pool) -> bool
 }
 
 /// Returns whether the pool's maximum is above its core size, but has no effect, because the queue
-/// has room for `most` jobs, the maximum number at once.
+/// never fills. `most` is the maximum number of jobs in the queue at once.
 pub(crate) fn has_useless_max(pool: &Pool, most: u64) -> bool
     ensures { result ≡ spec.has_useless_max pool.now most }
 {
     may_grow(pool) && most <= pool.queue
 }
 
-/// Returns whether a tenth of the queue's capacity is more than `most` jobs and more than 1.
+/// Returns whether the queue's capacity is far above `most`, the maximum number of jobs in it at
+/// once: a tenth of the capacity, rounded down, exceeds both `most` and 1.
 pub(crate) fn is_far_above(pool: &Pool, most: u64) -> bool
     ensures { result ≡ spec.is_far_above pool.now most }
 {

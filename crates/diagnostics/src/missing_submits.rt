@@ -14,8 +14,9 @@ struct Submit<'a> {
     class: &'a str,
 }
 
-/// Returns the message for a get of `name`, the action with the index `get`. No earlier action of
-/// the body submits a job under this name. `names` has the names under which they submit jobs.
+/// Returns the message for the action with the index `get`, a get of `name`. No earlier action of
+/// the body submits a job under this name. `names` has the names under which earlier actions submit
+/// jobs.
 pub(crate) fn missing_submit(
     alloc: Global,
     body: &[Value],
@@ -32,8 +33,8 @@ pub(crate) fn missing_submit(
     format!(in alloc; "nothing was submitted as {name}{right}")
 }
 
-/// Returns the likely cause: a submit of a class of this name without `as`, a similar name, or a
-/// submit of another class without `as`.
+/// Returns the likely cause, as the end of the message: a submit of a class of this name without
+/// `as`, a similar name, or a submit of another class without `as`.
 fn likely_cause(
     alloc: Global,
     body: &[Value],
@@ -56,7 +57,7 @@ fn likely_cause(
     }
 }
 
-/// Returns the end of the message if each earlier submit has an `as`.
+/// Returns the end of the message if each earlier submit of the body has an `as`.
 fn no_submit_before(
     alloc: Global,
     body: &[Value],
