@@ -55,9 +55,9 @@ fn confirm(
     confirmed(alloc, plan, found.events, members, &standing)
 }
 
-/// Returns a vector for each pool. If the search finds a standing vector, it is that one, and can
-/// prove that the pool never has more than core threads. Otherwise it has no weights and proves
-/// nothing. The list is empty if a class submits itself.
+/// Returns a vector for each pool, in plan order: the standing vector that the search finds, which
+/// can prove that the pool never has more than core threads, or a vector without weights, which
+/// proves nothing. The list is empty if a class submits itself.
 fn standing_vectors(alloc: Global, plan: &Plan) -> Result<Vec<Vector>, AllocError> {
     let mut vectors = Vec::new(alloc);
     let Some(levels) = Levels::of(alloc, plan)? else {
@@ -73,7 +73,7 @@ fn standing_vectors(alloc: Global, plan: &Plan) -> Result<Vec<Vector>, AllocErro
     Ok(vectors)
 }
 
-/// Returns the vector of a standing bound.
+/// Returns the vector of a standing bound, or a vector without weights for any other bound.
 fn standing_vector(alloc: Global, bound: Bound) -> Vector {
     match bound {
         Bound::Standing(vector) => vector,
