@@ -26,7 +26,8 @@ impl Model for PoolCert {
 }
 
 impl PoolCert {
-    /// Returns whether both vectors have the plan's shape and numbers within the limit.
+    /// Returns whether both vectors have the shape of the plan, and no number in them is above
+    /// [`MAX_WEIGHT`](job_bodies::MAX_WEIGHT).
     fn fits(&self, plan: &Plan) -> bool
         ensures { result ≡ spec.pool_cert_fits plan.now self.now }
     {
