@@ -16,9 +16,9 @@ use std::alloc::Global;
 /// A command of the program.
 #[derive(Clone, Copy, Debug, PartialEq, Eq)]
 pub enum Command {
-    /// A command that starts no thread and never blocks on one.
+    /// A command on a plan and a second text. It starts no thread and never waits for one.
     Sequential(ReviewCommand),
-    /// A command that starts no thread and reads a recording.
+    /// A command on a recording. It starts no thread and never waits for one.
     OnRecording(RecordingCommand),
     /// A command that starts threads and joins them.
     OnThreads(Task),
@@ -136,7 +136,7 @@ pub struct AskOptions {
 /// An output format of `ask`.
 #[derive(Clone, Copy, Debug, PartialEq, Eq)]
 pub enum Form {
-    /// Lines for a person.
+    /// Plain text for a person.
     Words,
     /// A JSON object, for a program.
     Json,
