@@ -1,4 +1,4 @@
-//! The classes through which a class submits itself.
+//! The search for the classes through which a class submits itself.
 
 use job_bodies::{Action, Plan};
 use std::alloc::{AllocError, Global};

@@ -80,7 +80,7 @@ pub(crate) fn is_far_above(pool: &Pool, most: u64) -> bool
 }
 
 /// Returns whether the clients of this kind submit jobs, and each pool to which they submit has one
-/// core thread and a queue with fewer places than there are clients of the kind.
+/// core thread and a queue capacity below the number of these clients.
 pub(crate) fn are_a_crowd(plan: &Plan, client: &Client) -> bool
     ensures { result ≡ spec.are_a_crowd plan.now client.now }
 {
@@ -105,8 +105,8 @@ fn submits_to_small_alone(plan: &Plan, count: u64, body: &[Action]) -> bool
     body.iter().all(|action| is_for_small(plan, count, *action))
 }
 
-/// Returns whether the action is no submit, or submits to a pool with one core thread whose queue
-/// has fewer places than `count`.
+/// Returns whether the action is not a submit, or is a submit to a pool with one core thread and a
+/// queue capacity below `count`.
 fn is_for_small(plan: &Plan, count: u64, action: Action) -> bool
     ensures { result ≡ spec.is_for_small plan.now count action }
 {
@@ -135,7 +135,7 @@ fn is_small_at(plan: &Plan, count: u64, pool: usize) -> bool
     }
 }
 
-/// Returns whether the pool has one core thread, and a queue with fewer places than `count`.
+/// Returns whether the pool has one core thread and a queue capacity below `count`.
 fn is_small(count: u64, pool: &Pool) -> bool
     ensures { result ≡ spec.is_small count pool.now }
 {

@@ -148,8 +148,8 @@ fn push_pools(
     Ok(())
 }
 
-/// Appends the lint that the pool gets no jobs, or the lints of its sizes that are larger than
-/// needed.
+/// Appends the lint that no job is submitted to the pool, if none is. Otherwise appends the lints
+/// of the pool's sizes that are larger than needed.
 fn push_pool(
     found: &mut Vec<Lint>,
     plan: &Plan,

@@ -106,8 +106,8 @@ fn named_after<'a>(body: &'a [Value], get: usize, name: &str) -> Option<Submit<'
     None
 }
 
-/// Returns a submit without `as` before the action with the index `get`: the first one of a class
-/// of this name or, if there is none, the last one.
+/// Returns a submit without `as` before the action with the index `get`. Prefers the first submit
+/// of a class with this name, and otherwise takes the last submit.
 fn unnamed_before<'a>(body: &'a [Value], get: usize, name: &str) -> Option<Submit<'a>> {
     let mut last = None;
     for (action, value) in body.iter().enumerate() {

@@ -88,8 +88,8 @@ fn in_single_line(
     })
 }
 
-/// Returns the faults that can be found: those of the plan, or a single syntax error if the text is
-/// not TOML.
+/// Returns all faults that the checks find: those of the plan, or a single syntax error if the text
+/// is not TOML.
 fn all_faults(
     alloc: Global,
     bytes: &[u8],
