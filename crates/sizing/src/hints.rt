@@ -64,7 +64,7 @@ pub(crate) fn reason_unwritten(rt: &impl Files, name: &str) -> &'static str {
     }
 }
 
-/// Returns whether there is a file of this name that is not a regular file, such as a pipe.
+/// Returns whether the file of this name exists and is not a regular file, such as a pipe.
 fn is_special(rt: &impl Files, name: &str) -> bool {
     match fs::metadata(rt, name) {
         Ok(found) => !found.is_file(),
