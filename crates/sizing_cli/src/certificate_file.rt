@@ -81,8 +81,8 @@ fn ensure_replaceable_text<'a>(
 }
 
 /// Returns whether a certificate may replace this text: the text is empty or is a certificate
-/// itself. Only the keys of a certificate are checked, because it may belong to an older version of
-/// the plan.
+/// itself. Only the keys of a certificate are checked, because that certificate may belong to an
+/// older version of the plan.
 fn is_replaceable(alloc: Global, text: &[u8]) -> Result<bool, AllocError>
     ensures { IfOk result (λ replaceable. replaceable ≡ spec.is_replaceable text.now) }
 {

@@ -115,7 +115,7 @@ fn lines_of(alloc: Global, plan: &Plan, found: &SizesFound) -> Result<Answer, Al
     }
 }
 
-/// Writes the sizes of the fitted plan. The answer is a no if they differ from the plan's.
+/// Writes the sizes of the fitted plan. The answer is a no if they differ from the declared sizes.
 fn sizes(alloc: Global, plan: &Plan, fit: &Plan) -> Result<Answer, AllocError>
     ensures { IfOk result (λ answer. answer ≡ spec.sizes_answer plan.now fit.now) }
 {

@@ -1,4 +1,5 @@
-//! The `refute` command: searches for a witness, and writes it as a story or as a bundle.
+//! The `refute` command. It searches for a witness, which is a list of events after which a submit
+//! is refused or jobs wait only for each other, and writes the witness as a story or as a bundle.
 
 ghost use Rattle.std.specs.Prelude.{◌≡◌, ◌++◌, ◌∷◌, IfOk, IfErr, IfSome, IfNone, IsTrue, codes};
 ghost use Rattle.sizing_cli.specs.Certify.{IsUncertified};

@@ -1,4 +1,5 @@
-//! The search for a confirmed witness against a plan.
+//! The search for a confirmed witness against a plan. A witness is a list of events after which a
+//! submit is refused or jobs wait only for each other.
 
 ghost use Rattle.std.specs.Prelude.{◌≤◌, IfOk, IfSome};
 ghost use Rattle.sizing_cli.specs.Refute.{IsWitnessOf};
