@@ -1,4 +1,5 @@
-//! The errors of a call with the arguments of a command line.
+//! The errors of [`serve_words`](crate::serve_words), which runs the command that the arguments
+//! name.
 
 ghost use Rattle.std.specs.Prelude.{◌≡◌};
 ghost use Rattle.sizing_cli.specs.declared.fault.CliError.TheVariants.{Serve, Words};

@@ -4,7 +4,8 @@
 use cert_check::PoolGate;
 use locked_runner::{Actor, Gate, GateFault};
 
-/// A gate that never stops a search or a check, and does the declared work of a run in no time.
+/// A gate that never stops a search or a check, and that takes no time for the declared work of a
+/// run.
 pub struct NoopGate;
 
 impl PoolGate for NoopGate {

@@ -56,9 +56,9 @@ fn confirm(
     confirmed(alloc, plan, found.events, members, &standing)
 }
 
-/// Returns a vector for each pool, in plan order: the standing vector that the search finds, which
-/// can prove that the pool never has more than core threads, or a vector without weights, which
-/// proves nothing. The list is empty if a class submits itself.
+/// Returns, for each pool in plan order, the standing vector that the search finds, or a vector
+/// without weights if it finds none. A standing vector can prove that the pool never has more than
+/// core threads. The list is empty if a class submits itself.
 fn standing_vectors(alloc: Global, plan: &Plan) -> Result<Vec<Vector>, AllocError> {
     let mut vectors = Vec::new(alloc);
     let Some(levels) = Levels::of(alloc, plan)? else {
