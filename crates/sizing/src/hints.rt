@@ -46,9 +46,8 @@ pub(crate) fn reason_of(rt: &impl Files, name: &str) -> &'static str {
     }
 }
 
-/// Returns the reason why the file could not be written, or an empty text if the reason is not
-/// known. Tries to open the file for writing again, which creates a missing file and keeps the
-/// content of an existing one. Does not open special files such as pipes, because that could block.
+/// Returns why the file could not be written, or an empty text if that is not known. Opens a regular
+/// or missing file for writing again, and keeps its content. Opening a pipe could block.
 pub(crate) fn reason_unwritten(rt: &impl Files, name: &str) -> &'static str {
     if is_special(rt, name) {
         return "";
@@ -64,7 +63,7 @@ pub(crate) fn reason_unwritten(rt: &impl Files, name: &str) -> &'static str {
     }
 }
 
-/// Returns whether the file of this name exists and is not a regular file, such as a pipe.
+/// Returns whether there is a file of this name that is not a regular file, such as a pipe.
 fn is_special(rt: &impl Files, name: &str) -> bool {
     match fs::metadata(rt, name) {
         Ok(found) => !found.is_file(),
