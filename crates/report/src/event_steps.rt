@@ -24,7 +24,7 @@ pub(crate) enum Actor {
     Pool(usize),
 }
 
-/// The numbers of threads of a pool.
+/// The numbers of all threads and of idle threads of a pool.
 #[derive(Clone, Copy)]
 pub(crate) struct PoolCounts {
     /// The index of the pool in the plan.
@@ -41,7 +41,8 @@ pub(crate) struct EventStep {
     /// a pool.
     pub(crate) action: Option<usize>,
     pub(crate) outcome: Outcome,
-    /// The pool that the event changed or that refused a submit, with its counts after the event.
+    /// The pool that the event changed, or that refused a submit, with its numbers of threads after
+    /// the event.
     pub(crate) pool: Option<PoolCounts>,
     /// The class of the job that a thread took from a queue.
     pub(crate) taken: Option<usize>,

@@ -53,7 +53,7 @@ fn plan_object(
     json!(in alloc; {"classes": classes, "clients": clients, "pools": pools, "text": text})
 }
 
-/// Converts the plan's text. The value is null if it is not UTF-8.
+/// Converts the plan's text to JSON. The value is null if the text is not UTF-8.
 fn text_value(alloc: Global, text: &[u8]) -> Result<Value, AllocError>
     ensures { IfOk result (λ value. view value ≡ spec.text_data text.now) }
 {

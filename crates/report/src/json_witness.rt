@@ -15,7 +15,7 @@ use job_bodies::Plan;
 use serde_json::{Value, json};
 use std::alloc::{AllocError, Global};
 
-/// Converts a witness of the plan.
+/// Converts a witness against the plan to JSON.
 ///
 /// # Errors
 ///

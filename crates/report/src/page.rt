@@ -50,8 +50,8 @@ pub fn faults_html(
     page_of(alloc, &line)
 }
 
-/// Returns the page of one fault with this message, which has no place in the plan's text. `file`
-/// is the name of the plan's file, and `text` its content.
+/// Returns the page of a single fault that has no place in the plan's text. `words` is its message.
+/// `file` is the name of the plan's file, and `text` its content.
 ///
 /// # Errors
 ///
