@@ -165,8 +165,8 @@ pub(crate) fn action_at(plan: &Plan, class: usize, position: usize) -> Option<Ac
     }
 }
 
-/// Returns the job whose result the job `number` waits for at this action. The list is empty if the
-/// action is not a get.
+/// Returns a list with the job that the job `number` waits for at this action. The list is empty if
+/// the action is not a get, or if the awaited job is not live.
 fn awaited(
     alloc: Global,
     world: &World,

@@ -1,4 +1,4 @@
-//! A witness as JSON: how it ends, its events, and its lines as `replay` reads them.
+//! A witness as JSON: how it ends, its events, and the event lines that `replay` reads.
 
 ghost use Rattle.std.specs.Prelude.{◌≡◌, IfOk};
 ghost use Rattle.serde_json.specs.View.{view};

@@ -1,4 +1,4 @@
-//! The answer of `ask` as a page for a browser, which shows the JSON answer.
+//! The HTML page for a browser, which shows the JSON answer of `ask`.
 
 ghost use Rattle.std.specs.Prelude.{IfOk, string_bytes};
 ghost use Rattle.report.specs.Page as spec;
