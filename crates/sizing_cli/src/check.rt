@@ -1,4 +1,4 @@
-//! The `check` command.
+//! The `check` command: decides whether a certificate accepts a plan.
 
 ghost use Rattle.std.specs.Prelude.{◌≡◌, IfOk, IsTrue};
 ghost use Rattle.cert_text.specs.Cert.{cert_fits};

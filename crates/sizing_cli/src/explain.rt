@@ -1,4 +1,4 @@
-//! The `explain` command.
+//! The `explain` command: lists the conditions of a certificate that fail.
 
 ghost use Rattle.std.specs.Prelude.{◌≡◌, IfOk, IsTrue};
 ghost use Rattle.cert_text.specs.Cert.{cert_fits};
