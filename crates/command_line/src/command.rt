@@ -85,7 +85,6 @@ pub enum Task {
 /// The parsed arguments of a command line.
 #[derive(Clone, Copy, PartialEq, Eq)]
 pub struct Cli<'a> {
-    /// The command.
     pub command: Command,
     /// The first file. It holds the plan or, if it is the only file, the whole input. `None` and
     /// `-` mean standard input.
@@ -129,7 +128,6 @@ pub enum AskInput {
 pub struct AskOptions {
     /// Whether a warning changes the exit status of a safe plan to 1.
     pub strict: bool,
-    /// The output format.
     pub form: Form,
 }
 
