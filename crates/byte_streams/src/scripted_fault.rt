@@ -1,4 +1,4 @@
-//! The call of a stream in memory that is to fail, for tests.
+//! A planned failure of a stream in memory, for tests.
 ghost use Rattle.std.specs.Prelude.{◌≡◌, ◌-◌, None, Some, IsTrue, ◌↔◌};
 ghost use Rattle.byte_streams.specs.ScriptedFault.{calls_after};
 

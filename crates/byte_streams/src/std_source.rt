@@ -32,7 +32,8 @@ impl<R: Read> StdSource<R> {
         }
     }
 
-    /// Returns the reader, as it is after the reads so far.
+    /// Returns the reader. The source has no buffer, so the reader is exactly after the bytes that
+    /// were read.
     pub fn into_inner(self) -> R
         ensures { result ≡ reader_of self }
     {

@@ -25,8 +25,8 @@ use job_bodies::{MAX_CERT_BYTES, Plan};
 use std::alloc::Global;
 use weights::{Bound, Ranks};
 
-/// Parses the bound of a pool's queue, which follows the blocked vector in the text. Returns it
-/// with the rest of the text.
+/// Parses the bound of a pool's queue, which follows the blocked vector in the text. Returns the
+/// bound and the rest of the text.
 fn parse_bound<'a>(
     alloc: Global,
     plan: &Plan,
@@ -104,7 +104,7 @@ fn parse_ranks<'a>(
     Ok((ranks, rest))
 }
 
-/// Strips the end of the text of `cert` after its ranks: the key `version`, the version and the
+/// Strips what follows the ranks of `cert` in its text: the key `version`, the version and the
 /// closing brace. Returns the rest of the text.
 fn strip_version<'a>(cert: &Cert, text: &'a [u8]) -> Result<&'a [u8], CanonicalError>
     ensures { IfOk result (λ rest. text.now ≡ version_text cert.now ++ rest.now) }

@@ -1,4 +1,5 @@
-//! Parsers of vectors in canonical form at the start of a text.
+//! Parsers of vectors in canonical form at the start of a text. A vector has a row of numbers for
+//! each class and each client kind, and a number for each pool.
 
 ghost use Rattle.std.specs.Prelude.{◌≡◌, IfOk, IsTrue, length, map};
 ghost use Rattle.std.specs.List.{list_all};

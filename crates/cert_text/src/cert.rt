@@ -1,4 +1,5 @@
-//! Certificates.
+//! Certificates: numbers for a plan that show that no pool refuses a job and that no jobs wait
+//! forever for each other.
 
 ghost use Rattle.std.specs.Prelude.{◌≡◌, ◌<◌, length};
 ghost use Rattle.std.specs.List.{list_all};
@@ -14,7 +15,7 @@ pub struct PoolCert {
     /// The vector that shows that the pool never refuses a job.
     pub bound: Bound,
     /// The vector that shows that at any time fewer jobs of the pool than core wait at counted
-    /// gets.
+    /// gets, which are the gets that can block a thread that other jobs need.
     pub blocked: Vector,
 }
 
@@ -25,7 +26,8 @@ impl Model for PoolCert {
 }
 
 impl PoolCert {
-    /// Returns whether both vectors have the plan's shape and numbers within the limit.
+    /// Returns whether both vectors have the shape of the plan, and no number in them is above
+    /// [`MAX_WEIGHT`](job_bodies::MAX_WEIGHT).
     fn fits(&self, plan: &Plan) -> bool
         ensures { result ≡ spec.pool_cert_fits plan.now self.now }
     {

@@ -1,5 +1,4 @@
-//! The shape of the JSON value of a certificate, in each version: the value at each key, and the
-//! length of each list.
+//! The shape of a certificate's JSON value in each version: its keys, and the length of each list.
 
 ghost use Rattle.std.specs.Prelude.{map, option_map};
 ghost use Rattle.support.specs.Reading.{read_each};

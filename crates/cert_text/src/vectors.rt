@@ -37,8 +37,8 @@ pub fn numbers_of(alloc: Global, value: &Value, count: usize) -> Result<Vec<u64>
     numbers_in(alloc, values)
 }
 
-/// Returns the number of weights in the row of a class: for a queued job, for each position of its
-/// body from 0 to the length of the body, and for a done job.
+/// Returns the number of weights in the row of a class: one for a queued job, one for each position
+/// of the body from 0 to its length, and one for a done job.
 pub fn class_points(plan: &Plan, class: usize) -> usize
     ensures { result ≡ spec.class_points plan.now class }
 {
@@ -48,8 +48,8 @@ pub fn class_points(plan: &Plan, class: usize) -> usize
     }
 }
 
-/// Returns the number of weights in the row of a client kind: for each position of its body from 0
-/// to the length of the body.
+/// Returns the number of weights in the row of a client kind: one for each position of the body
+/// from 0 to its length.
 pub fn client_points(plan: &Plan, client: usize) -> usize
     ensures { result ≡ spec.client_points plan.now client }
 {

@@ -17,9 +17,10 @@ use support::number::VERSION;
 /// A supported version of the text of a certificate.
 #[derive(Clone, Copy, PartialEq, Eq)]
 pub enum Version {
-    /// Each pool has a standing vector.
+    /// Each pool has a standing vector, which bounds the number of its queued jobs.
     One,
-    /// Each pool has a standing or a lifetime vector.
+    /// Each pool has a standing or a lifetime vector. A lifetime vector bounds the number of all
+    /// jobs that are ever submitted to the pool.
     Two,
 }
 

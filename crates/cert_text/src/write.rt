@@ -54,8 +54,8 @@ fn push_cert(text: &mut String, cert: &Cert) -> Result<(), AllocError>
     push_version(text, cert)
 }
 
-/// Appends the end of the text after the ranks: the key `version`, the version that the certificate
-/// needs, and the closing brace.
+/// Appends what follows the ranks in the text: the key `version`, the lowest version that can
+/// represent the certificate, and the closing brace.
 fn push_version(text: &mut String, cert: &Cert) -> Result<(), AllocError>
     ensures { Pushes result text.old text.new (version_text cert.now) }
 {

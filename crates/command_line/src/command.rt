@@ -1,4 +1,4 @@
-//! The commands, and the arguments that name them.
+//! The commands of the program, and the parsing of the arguments that select one of them.
 ghost use Rattle.std.specs.Prelude.{◌≡◌, IfOk, IfSome, codes, map, option_map};
 ghost use Rattle.clap.specs.Words.{FailsBy, first_of, found_of, rows_of, subcommand_rows_of};
 ghost use Rattle.command_line.specs.Command as spec;
@@ -16,9 +16,9 @@ use std::alloc::Global;
 /// A command of the program.
 #[derive(Clone, Copy, Debug, PartialEq, Eq)]
 pub enum Command {
-    /// A command that starts no thread and never blocks on one.
+    /// A command on a plan and a second text. It starts no thread and never waits for one.
     Sequential(ReviewCommand),
-    /// A command that starts no thread and reads a recording.
+    /// A command on a recording. It starts no thread and never waits for one.
     OnRecording(RecordingCommand),
     /// A command that starts threads and joins them.
     OnThreads(Task),
@@ -48,7 +48,7 @@ pub enum RecordingCommand {
     },
 }
 
-/// A command that searches, or runs a plan.
+/// A command that uses threads: it searches, or it runs a plan.
 #[derive(Clone, Copy, Debug, PartialEq, Eq)]
 pub enum Task {
     /// Searches for a certificate.
@@ -85,12 +85,12 @@ pub enum Task {
 /// The parsed arguments of a command line.
 #[derive(Clone, Copy, PartialEq, Eq)]
 pub struct Cli<'a> {
-    /// The command.
     pub command: Command,
-    /// The file of the plan, or of all texts if it is the only file. `None` and `-` mean standard
-    /// input.
+    /// The first file. It holds the plan or, if it is the only file, the whole input. `None` and
+    /// `-` mean standard input.
     pub first: Option<&'a str>,
-    /// The file of the second text.
+    /// The second file, which holds the text that follows the plan, or `None` if only one file is
+    /// named. `-` means standard input.
     pub second: Option<&'a str>,
     /// The file to which a certificate is written, if one is found.
     pub certificate: Option<&'a str>,
@@ -128,14 +128,13 @@ pub enum AskInput {
 pub struct AskOptions {
     /// Whether a warning changes the exit status of a safe plan to 1.
     pub strict: bool,
-    /// The output format.
     pub form: Form,
 }
 
 /// An output format of `ask`.
 #[derive(Clone, Copy, Debug, PartialEq, Eq)]
 pub enum Form {
-    /// Lines for a person.
+    /// Plain text for a person.
     Words,
     /// A JSON object, for a program.
     Json,

@@ -7,7 +7,7 @@ pub(crate) struct Help {
     pub(crate) position: usize,
     /// A line that says what the command does.
     pub(crate) about: &'static str,
-    /// The usage lines.
+    /// The usage lines, which list the command's arguments.
     pub(crate) usage: &'static str,
     /// The text after the list of arguments: the input, the answer and the exit statuses.
     pub(crate) notes: &'static str,

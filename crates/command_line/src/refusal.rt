@@ -1,4 +1,4 @@
-//! The errors for options that `clap` accepts and `ask` does not.
+//! The errors for arguments that `clap` accepts, but whose values or combination `ask` rejects.
 ghost use Rattle.std.specs.Prelude.{◌≡◌, IfOk};
 ghost use Rattle.clap.specs.Words.{kind_of};
 ghost use Rattle.clap.specs.declared.error.kind.ErrorKind.TheVariants.{ValueValidation};
@@ -10,7 +10,7 @@ use clap::error::ErrorKind;
 use clap::{ArgMatches, Command, Error};
 use std::alloc::{AllocError, Global};
 
-/// Creates the error for the options of the subcommand that was entered.
+/// Creates the error that says which of these arguments is wrong.
 pub(crate) fn refusal(
     alloc: Global,
     sizing: &mut Command<'_>,

@@ -101,7 +101,8 @@ fn is_length(text: &str) -> bool {
     }
 }
 
-/// Returns the range of the length of a `work`, if the text is a `work` with another length.
+/// Returns the valid range of the length of a `work`, if the text is a `work` with a length that is
+/// not valid.
 pub(crate) fn range_of_work(text: &str) -> Option<NumberRange> {
     let words = words_of(text);
     if words.verb == "work"

@@ -52,7 +52,8 @@ impl CheckedAction<'_> {
         self.report_with_range(collector, number, words, None)
     }
 
-    /// Reports a fault of the action. If it is a number out of its range, `range` is that range.
+    /// Reports a fault of the action. If the fault is a number that is out of range, `range` is the
+    /// valid range.
     fn report_with_range(
         &self,
         collector: &mut FaultCollector,
@@ -160,8 +161,8 @@ fn known_classes(alloc: Global, classes: &[&str]) -> Result<String, AllocError> 
     format!(in alloc; "; the classes are {all}")
 }
 
-/// Reports the action if a job was submitted under the name and not got yet. Otherwise adds the
-/// name to the slots.
+/// Checks a submit under this name. Reports the action if an earlier submit used the name and no
+/// action got its job yet. Otherwise adds the name to `slots`.
 fn check_slot_is_free<'a>(
     collector: &mut FaultCollector,
     checked: CheckedAction<'a>,
@@ -179,7 +180,8 @@ fn check_slot_is_free<'a>(
     Ok(())
 }
 
-/// Returns the action that submitted a job under this name, if no action got the job yet.
+/// Returns the index of the action that submitted a job under this name. Returns `None` if there is
+/// none, or if an action got the job.
 fn submit_in_use(slots: &[Slot<'_>], name: &str) -> Option<usize> {
     for slot in slots {
         if slot.name == name && slot.got.is_none() {

@@ -23,7 +23,8 @@ pub(crate) fn words_of_circle(
     Ok(words)
 }
 
-/// Returns the classes if the class submits itself through them, and otherwise no classes.
+/// Returns `between` if the class submits itself through these classes, and otherwise an empty
+/// slice.
 fn checked_circle<'a>(plan: &Plan, class: usize, between: &'a [usize]) -> &'a [usize]
     ensures { 0 < length result.now → IsTrue (spec.submits_through plan.now class result.now class) }
 {
@@ -56,7 +57,8 @@ fn push_itself(words: &mut String, name: &str) -> Result<(), AllocError>
     write!(words, "class {name} submits itself")
 }
 
-/// Appends the submits of a circle through these classes. Appends nothing if there are no classes.
+/// Appends the submits of the circle from the class through the classes `between` back to the
+/// class. Appends nothing if `between` is empty.
 fn push_circle(
     words: &mut String,
     plan: &Plan,
@@ -72,7 +74,7 @@ fn push_circle(
     push_steps(words, plan, class, between, class)
 }
 
-/// Appends the submits from the class `from` through these classes to the class `to`.
+/// Appends the submits that lead from the class `from` through these classes to the class `to`.
 fn push_steps(
     words: &mut String,
     plan: &Plan,

@@ -1,14 +1,15 @@
-//! The classes through which a class submits itself.
+//! The search for the classes through which a class submits itself.
 
 use job_bodies::{Action, Plan};
 use std::alloc::{AllocError, Global};
 
-/// A breadth-first search for a shortest circle of submits from a class back to itself.
+/// A breadth-first search for a shortest circle of submits, which leads from a class back to
+/// itself.
 #[derive(Drop)]
 struct CircleSearch {
     /// For each class that was found, the class that submits it.
     submitters: Vec<Option<usize>>,
-    /// The classes that were found, in order.
+    /// The classes that were found, in the order in which they were found.
     found: Vec<usize>,
 }
 
@@ -31,7 +32,7 @@ impl CircleSearch {
         Ok(())
     }
 
-    /// Adds the classes that the class submits.
+    /// Adds the classes that the body of the class submits.
     fn add_body(&mut self, plan: &Plan, class: usize) -> Result<(), AllocError> {
         if let Some(submitter) = plan.class_at(class) {
             for action in &submitter.body {
@@ -75,8 +76,8 @@ pub(crate) fn classes_between(
     Ok(between)
 }
 
-/// Appends the class that submits this one, then the class that submits that one, and so on, up to
-/// the class itself, which is not appended.
+/// Appends the other classes of the circle that the search found, from the last to the first: the
+/// submitter of `class`, then its submitter, and so on, until `class` is reached again.
 fn push_submitters(
     between: &mut Vec<usize>,
     search: &CircleSearch,

@@ -1,4 +1,4 @@
-//! The faults found so far.
+//! The collector of the faults that the checks of a plan's text find.
 
 ghost use Rattle.std.specs.Prelude.{◌≡◌, ◌<◌, ◌≤◌, length};
 

@@ -1,4 +1,4 @@
-//! Control characters in messages.
+//! Escaping of control characters in messages.
 
 ghost use Rattle.std.specs.Prelude.{◌≡◌, IfOk, string_bytes};
 ghost use Rattle.std.specs.Char.Escape.{escape_default};

@@ -7,7 +7,7 @@ use job_bodies::PlanFault;
 use plan_text::TextPlace;
 use std::alloc::AllocError;
 
-/// A range of numbers, with both ends.
+/// A range of numbers that includes both ends.
 #[derive(Clone, Copy)]
 pub struct NumberRange {
     pub low: u64,
@@ -17,13 +17,13 @@ pub struct NumberRange {
 /// A diagnostic for one fault.
 #[derive(Drop)]
 pub struct Diagnostic {
-    /// The fault, as the other commands report it.
+    /// The fault: its number and position, as the other commands print them.
     pub fault: PlanFault,
     /// The place of the fault in the text.
     pub place: TextPlace,
     /// A message that says what is wrong and how to fix it.
     pub what: String,
-    /// The valid range, if the fault is a number out of its range.
+    /// The valid range, if the fault is a number that is out of range.
     pub range: Option<NumberRange>,
 }
 

@@ -20,7 +20,8 @@ pub(crate) fn list_of(part: Part) -> &'static str {
     }
 }
 
-/// An entry of one of the plan's lists. `places` has the places of the whole text.
+/// An entry of one of the plan's lists, with `places`, the index of the positions in the whole
+/// text.
 #[derive(Clone, Copy)]
 pub(crate) struct PlacedEntry<'a> {
     pub(crate) part: Part,
@@ -101,7 +102,8 @@ impl<'a> PlacedEntry<'a> {
         self.report_with_range(collector, number, place, words, None)
     }
 
-    /// Reports a fault of the entry. If it is a number out of its range, `range` is that range.
+    /// Reports a fault of the entry. If the fault is a number that is out of range, `range` is the
+    /// valid range.
     pub(crate) fn report_with_range(
         &self,
         collector: &mut FaultCollector,
@@ -121,8 +123,8 @@ impl<'a> PlacedEntry<'a> {
         })
     }
 
-    /// Reports a fault of an action, with the message `class page, action 1 "get row": WORDS`. If it
-    /// is a number out of its range, `range` is that range.
+    /// Reports a fault of an action, with the message `class page, action 1 "get row": WORDS`. If
+    /// the fault is a number that is out of range, `range` is the valid range.
     pub(crate) fn report_action(
         &self,
         collector: &mut FaultCollector,

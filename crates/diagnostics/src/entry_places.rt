@@ -28,15 +28,15 @@ pub struct PoolPlaces {
     pub queue: Option<TextPlace>,
 }
 
-/// The places of a name, and of each action of its body.
+/// The places of the name of a class or client kind, and of each action of its body.
 #[derive(Drop)]
 pub struct BodyPlaces {
     pub name: Option<TextPlace>,
     pub actions: Vec<Option<TextPlace>>,
 }
 
-/// Returns the places of the plan's entries in its text. There is one for each pool, class, client
-/// kind and action of the plan. The contract does not say where they are.
+/// Returns the places of the plan's entries in its text. The result has an element for each pool,
+/// class, client kind and action of the plan. The contract does not say where the places are.
 ///
 /// # Errors
 ///

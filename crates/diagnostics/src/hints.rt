@@ -3,8 +3,8 @@
 ghost use Rattle.std.specs.Prelude.{◌≡◌, option_map};
 ghost use Rattle.diagnostics.specs.Hints as spec;
 
-/// Returns the end of the message for a size of 0: what to write instead, or which page says so. It
-/// is empty for keys other than `queue` and `core`.
+/// Returns the end of the message for a size of 0, which says what to write instead or which page
+/// explains it. It is empty for keys other than `queue` and `core`.
 pub(crate) fn zero_hint(key: &str) -> &'static str
     ensures { result.now ≡ spec.zero_hint key.now }
 {

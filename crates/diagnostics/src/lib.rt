@@ -1,9 +1,9 @@
-//! Diagnostics for the text of a plan, which say where a fault is, what is wrong and how to fix it;
-//! and lints, which warn of parts of a valid plan that are probably mistakes.
+//! Diagnostics and lints for the text of a plan. A diagnostic says where a fault is, what is wrong
+//! and how to fix it. A lint warns of a part of a valid plan that is probably a mistake.
 //!
-//! The first diagnostic is for the fault that the plan parser reports, and the warnings are exactly
-//! the lints of the plan. Each is printed in a line of its own. The contracts promise nothing else
-//! about messages and places.
+//! The first diagnostic is for the fault that the plan parser reports. The warnings are exactly the
+//! lints of the plan. Each diagnostic and each warning is printed on a line of its own. The
+//! contracts promise nothing else about messages and places.
 #![tactic(auto)]
 
 mod actions;

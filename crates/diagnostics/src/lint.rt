@@ -33,8 +33,8 @@ pub enum Lint {
     ClassWithoutJobs(usize),
     /// This client kind does not repeat: each of its clients goes through its body once.
     GoesOnce(usize),
-    /// Each pool to which this client kind submits has one core thread and a queue with fewer places
-    /// than there are clients of the kind.
+    /// Each pool to which this client kind submits has one core thread and a queue capacity below
+    /// the number of clients of the kind.
     Crowd(usize),
     /// The body of a class or client kind has a `work` whose length is also a size of the plan. The
     /// fields are: whether it is a class or a client kind, its number, the number of the action, and

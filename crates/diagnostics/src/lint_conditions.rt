@@ -40,7 +40,7 @@ pub(crate) fn most_at(needed: &[Option<u64>], pool: usize) -> Option<u64>
     }
 }
 
-/// Returns whether the pool of this number runs the jobs of some class that is marked as submitted.
+/// Returns whether some class that is marked as submitted runs in the pool of this number.
 pub(crate) fn gets_a_job(plan: &Plan, marks: &[bool], pool: usize) -> bool
     ensures { result ≡ spec.gets_a_job plan.now marks.now pool }
 {
@@ -64,14 +64,15 @@ pub(crate) fn may_grow(pool: &Pool) -> bool
 }
 
 /// Returns whether the pool's maximum is above its core size, but has no effect, because the queue
-/// has room for `most` jobs, the maximum number at once.
+/// never fills. `most` is the maximum number of jobs in the queue at once.
 pub(crate) fn has_useless_max(pool: &Pool, most: u64) -> bool
     ensures { result ≡ spec.has_useless_max pool.now most }
 {
     may_grow(pool) && most <= pool.queue
 }
 
-/// Returns whether a tenth of the queue's capacity is more than `most` jobs and more than 1.
+/// Returns whether the queue's capacity is far above `most`, the maximum number of jobs in it at
+/// once: a tenth of the capacity, rounded down, exceeds both `most` and 1.
 pub(crate) fn is_far_above(pool: &Pool, most: u64) -> bool
     ensures { result ≡ spec.is_far_above pool.now most }
 {
@@ -79,7 +80,7 @@ pub(crate) fn is_far_above(pool: &Pool, most: u64) -> bool
 }
 
 /// Returns whether the clients of this kind submit jobs, and each pool to which they submit has one
-/// core thread and a queue with fewer places than there are clients of the kind.
+/// core thread and a queue capacity below the number of these clients.
 pub(crate) fn are_a_crowd(plan: &Plan, client: &Client) -> bool
     ensures { result ≡ spec.are_a_crowd plan.now client.now }
 {
@@ -104,8 +105,8 @@ fn submits_to_small_alone(plan: &Plan, count: u64, body: &[Action]) -> bool
     body.iter().all(|action| is_for_small(plan, count, *action))
 }
 
-/// Returns whether the action is no submit, or submits to a pool with one core thread whose queue
-/// has fewer places than `count`.
+/// Returns whether the action is not a submit, or is a submit to a pool with one core thread and a
+/// queue capacity below `count`.
 fn is_for_small(plan: &Plan, count: u64, action: Action) -> bool
     ensures { result ≡ spec.is_for_small plan.now count action }
 {
@@ -134,7 +135,7 @@ fn is_small_at(plan: &Plan, count: u64, pool: usize) -> bool
     }
 }
 
-/// Returns whether the pool has one core thread, and a queue with fewer places than `count`.
+/// Returns whether the pool has one core thread and a queue capacity below `count`.
 fn is_small(count: u64, pool: &Pool) -> bool
     ensures { result ≡ spec.is_small count pool.now }
 {

@@ -29,8 +29,9 @@ pub(crate) fn lints_of(
     lints_with(alloc, plan, needed, is_safe_at_core, cause, &marks)
 }
 
-/// Returns the lints of the plan. `cause` is the reason why no sizes are enough, if there is one.
-/// `marks` has, for each class, whether clients submit it, directly or through other jobs.
+/// Returns the lints of the plan. `cause` is the reason why no certificate accepts the plan with
+/// any sizes, if there is such a reason. `marks` has, for each class, whether clients submit it,
+/// directly or through other jobs.
 fn lints_with(
     alloc: Global,
     plan: &Plan,
@@ -64,7 +65,8 @@ fn push_all(
     push_plan(found, plan, needed, marks)
 }
 
-/// Appends the lint of the reason why no sizes are enough, if there is one.
+/// Appends the lint for the reason why no certificate accepts the plan with any sizes. Appends
+/// nothing if `cause` is `None`.
 fn push_cause(found: &mut Vec<Lint>, cause: Option<Cause>) -> Result<(), AllocError>
     ensures { OnOk result (found.new.items ≡ found.old.items ++ spec.lints_of_cause cause) }
 {
@@ -146,8 +148,8 @@ fn push_pools(
     Ok(())
 }
 
-/// Appends the lint that the pool gets no jobs, or the lints of its sizes that are larger than
-/// needed.
+/// Appends the lint that no job is submitted to the pool, if none is. Otherwise appends the lints
+/// of the pool's sizes that are larger than needed.
 fn push_pool(
     found: &mut Vec<Lint>,
     plan: &Plan,

@@ -14,8 +14,9 @@ struct Submit<'a> {
     class: &'a str,
 }
 
-/// Returns the message for a get of `name`, the action with the index `get`. No earlier action of
-/// the body submits a job under this name. `names` has the names under which they submit jobs.
+/// Returns the message for the action with the index `get`, a get of `name`. No earlier action of
+/// the body submits a job under this name. `names` has the names under which earlier actions submit
+/// jobs.
 pub(crate) fn missing_submit(
     alloc: Global,
     body: &[Value],
@@ -32,8 +33,8 @@ pub(crate) fn missing_submit(
     format!(in alloc; "nothing was submitted as {name}{right}")
 }
 
-/// Returns the likely cause: a submit of a class of this name without `as`, a similar name, or a
-/// submit of another class without `as`.
+/// Returns the likely cause, as the end of the message: a submit of a class of this name without
+/// `as`, a similar name, or a submit of another class without `as`.
 fn likely_cause(
     alloc: Global,
     body: &[Value],
@@ -56,7 +57,7 @@ fn likely_cause(
     }
 }
 
-/// Returns the end of the message if each earlier submit has an `as`.
+/// Returns the end of the message if each earlier submit of the body has an `as`.
 fn no_submit_before(
     alloc: Global,
     body: &[Value],
@@ -105,8 +106,8 @@ fn named_after<'a>(body: &'a [Value], get: usize, name: &str) -> Option<Submit<'
     None
 }
 
-/// Returns a submit without `as` before the action with the index `get`: the first one of a class
-/// of this name or, if there is none, the last one.
+/// Returns a submit without `as` before the action with the index `get`. Prefers the first submit
+/// of a class with this name, and otherwise takes the last submit.
 fn unnamed_before<'a>(body: &'a [Value], get: usize, name: &str) -> Option<Submit<'a>> {
     let mut last = None;
     for (action, value) in body.iter().enumerate() {

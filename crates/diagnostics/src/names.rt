@@ -33,7 +33,7 @@ fn malformed_name(
     entry.report(collector, BAD_NAME, entry.value_place("name"), &rule)
 }
 
-/// Reports a name that an earlier entry of the list has, at this line.
+/// Reports that an earlier entry of the list, whose name is at this line, has the same name.
 fn duplicate_name(
     collector: &mut FaultCollector,
     entry: &PlacedEntry<'_>,
@@ -44,8 +44,8 @@ fn duplicate_name(
     entry.report(collector, DOUBLE_NAME, entry.value_place("name"), &words)
 }
 
-/// Returns the message that states the rule for names. It ends with a similar well-formed name, if
-/// there is one.
+/// Returns the message that states the rule for names. If a similar well-formed name exists, the
+/// message ends with it.
 pub(crate) fn name_rule(alloc: Global, name: &str) -> Result<String, AllocError> {
     let similar = well_formed_name(alloc, name)?;
     let rule =

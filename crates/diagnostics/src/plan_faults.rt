@@ -40,8 +40,8 @@ pub fn faults_of(alloc: Global, text: &[u8], fault: PlanFault) -> Result<Faults,
     })
 }
 
-/// Returns the diagnostic for the fault that the parser reports. If the checks did not find the
-/// fault, its message is the rule that the plan violates.
+/// Returns the diagnostic for the fault that the parser reports. If the checks did not find this
+/// fault, the message is the rule that the plan violates.
 fn first_of(
     alloc: Global,
     fault: PlanFault,
@@ -56,7 +56,7 @@ fn first_of(
     }
 }
 
-/// Returns these diagnostics, each with its message in a single line.
+/// Returns copies of these diagnostics in which each message is a single line.
 fn in_single_lines(alloc: Global, found: &[Diagnostic]) -> Result<Vec<Diagnostic>, AllocError>
     ensures single_lines { IfOk result (λ others. All HasSingleLine others.items) }
     ensures each { IfOk result (λ others. length others.items ≡ length found.now) }
@@ -88,8 +88,8 @@ fn in_single_line(
     })
 }
 
-/// Returns the faults that can be found: those of the plan, or a single syntax error if the text is
-/// not TOML.
+/// Returns all faults that the checks find: those of the plan, or a single syntax error if the text
+/// is not TOML.
 fn all_faults(
     alloc: Global,
     bytes: &[u8],

@@ -18,12 +18,12 @@ enum ValueKind {
     Body,
 }
 
-/// The rule for a key.
+/// The rule for a key of an entry: the type of its value, and whether the key is required.
 #[derive(Clone, Copy)]
 struct KeyRule {
     key: &'static str,
     wanted: ValueKind,
-    /// The hint if a required key is missing. It is empty for an optional key.
+    /// The hint for a missing key. It is empty if the key is optional.
     hint: &'static str,
 }
 

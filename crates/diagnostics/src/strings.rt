@@ -1,4 +1,4 @@
-//! Strings in a plan's text.
+//! Reading of strings and columns in a plan's text.
 
 use crate::syntax::line_of;
 use plan_text::TextPlace;

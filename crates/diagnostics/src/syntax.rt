@@ -48,8 +48,8 @@ pub(crate) fn not_toml(
     })
 }
 
-/// Returns the message for an error at this byte and place: a hint, if the mistake is a common one,
-/// and the parser's message.
+/// Returns the message for an error at this byte and place: the parser's message, preceded by a
+/// hint if the mistake is a common one.
 fn message_at(
     alloc: Global,
     text: &str,
@@ -85,7 +85,7 @@ fn format_hint(line: &str, number: usize) -> Option<&'static str> {
     character_hint(line)
 }
 
-/// Returns a hint for an error in an entry's header, in a value, or after it.
+/// Returns a hint for an error in an entry's header, in a value, or after a value.
 fn value_hint_at(text: &str, offset: usize, place: TextPlace, line: &str) -> Option<&'static str> {
     let rest = after_column(line, place.column);
     if is_in_list(text, offset, place) {
@@ -108,7 +108,7 @@ fn is_in_list(text: &str, offset: usize, place: TextPlace) -> bool {
     }
 }
 
-/// Returns a hint for the rest of a list.
+/// Returns a hint for an error in a list, given the rest of the line from the error on.
 fn list_hint(rest: &str) -> Option<&'static str> {
     if begins_with_action(rest) {
         Some("write quotes around each action, as in body = [\"work 5\"]")
@@ -123,7 +123,7 @@ fn begins_with_action(rest: &str) -> bool {
     rest.starts_with("work ") || rest.starts_with("submit ") || rest.starts_with("get ")
 }
 
-/// Returns a hint for the rest of a line, after a value, if it is a semicolon.
+/// Returns a hint if the rest of a line, which follows a value, is a semicolon.
 fn end_hint(rest: &str) -> Option<&'static str> {
     let after = rest.strip_prefix(';')?;
     if after.split('#').next().unwrap_or("").trim().is_empty() {

@@ -12,7 +12,7 @@ use std::alloc::{AllocError, Global};
 use support::number::{NO_SUCH_POOL, UNKNOWN_KEY, WRONG_TYPE};
 use toml::{Table, Value};
 
-/// The entries of a document, except for those that are not tables.
+/// The entries of a document, without those that are not tables.
 #[derive(Drop)]
 struct Lists<'a> {
     pools: Vec<PlacedEntry<'a>>,
@@ -43,7 +43,7 @@ fn unknown_lists(
     Ok(())
 }
 
-/// Reports the faults of the entries' values.
+/// Reports invalid sizes and counts, classes whose pool does not exist, and the faults of bodies.
 fn faults_of_lists(collector: &mut FaultCollector, lists: &Lists<'_>) -> Result<(), AllocError> {
     numbers_and_pools(collector, lists)?;
     all_bodies(collector, lists)

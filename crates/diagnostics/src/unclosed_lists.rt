@@ -1,6 +1,6 @@
 //! Lists that are not closed.
 
-/// The brackets of a list that are open at the end of a line.
+/// The list that is open at the end of a line, if there is one.
 #[derive(Clone, Copy)]
 struct OpenList {
     /// The line at which the list begins.
@@ -25,7 +25,8 @@ pub(crate) fn unclosed_list(text: &str, error: usize) -> Option<usize> {
     start_of(open, error, number.saturating_add(1))
 }
 
-/// Returns the line at which the list begins, if it is open and the error is from there to `end`.
+/// Returns the line at which the list begins, if the list is open and the line `error` is from its
+/// first line to the line `end`.
 fn start_of(open: OpenList, error: usize, end: usize) -> Option<usize> {
     if open.depth > 0 && (open.start..=end).contains(&error) {
         Some(open.start)
@@ -54,8 +55,8 @@ fn is_key(key: &str) -> bool {
             .all(|byte| byte.is_ascii_alphanumeric() || byte == b'_')
 }
 
-/// Returns the list that is open after this line. Outside of a list, an equals sign in a comment does
-/// not count.
+/// Returns the list that is open after this line. `open` is the list that is open before it. A new
+/// list can begin only after an equals sign that is not in a comment.
 fn after_line(open: OpenList, number: usize, line: &str) -> OpenList {
     if open.depth > 0 {
         return OpenList {

@@ -30,8 +30,8 @@ pub struct Warning {
 /// Returns a warning for each lint of the plan, in order. `text` is the plan's text. `needed` has,
 /// for each pool, the maximum number of jobs in its queue at once, or `None` if no standing vector
 /// bounds this number. `is_safe_at_core` says that a certificate accepts the plan that [`at_core`]
-/// returns. Each message is a single line, and a circle of submits in a message is one of the plan.
-/// The contract promises nothing else about places and messages.
+/// returns. Each message is a single line, and the plan has each circle of submits that a message
+/// lists. The contract promises nothing else about places and messages.
 ///
 /// [`at_core`]: crate::at_core
 ///

@@ -3,7 +3,7 @@
 ghost use Rattle.std.specs.Prelude.{◌≡◌};
 ghost use Rattle.job_bodies.specs.Plan as spec;
 
-/// An action of a body.
+/// An action of a body. The *actor* is the job or the client that performs the action.
 #[derive(Clone, Copy, Debug, PartialEq, Eq)]
 pub enum Action {
     /// The actor works for this number of units, from 1 to 1,000,000.
@@ -11,8 +11,9 @@ pub enum Action {
     /// The actor submits a job of the class with this index to the pool of the class, as Java's
     /// `submit` does, and continues.
     Submit(usize),
-    /// The actor waits for the job that its latest submit at this position of the same body
-    /// created, as Java's `Future.get` does. A body has at most one get for each of its submits.
+    /// The actor waits, as Java's `Future.get` does, for the job that it submitted at this position
+    /// of the same body. If it submitted several there, it waits for the latest. A body has at most
+    /// one get for each of its submits.
     Get(usize),
 }
 

@@ -1,4 +1,5 @@
-//! The checks of one entry of a plan. Each check returns a fault if the entry does not pass it.
+//! The checks of one entry of a plan: a pool, a class or a client kind. Each check returns a fault
+//! if the entry does not pass it.
 
 ghost use Rattle.std.specs.Prelude.{◌≡◌, ◌<◌, ◌++◌, ◌∷◌, [], List, length, map, take, slice_index_or};
 ghost use Rattle.job_bodies.specs.declared.action.Action.{Action};
@@ -60,9 +61,10 @@ pub(crate) fn check_length(part: Part, index: usize, body: &[Action]) -> Result<
     ensure(short, PlanFault::at_entry(part, index, TOO_MANY))
 }
 
-/// Returns whether one of these actions is a get of the submit at position `submit`. Uses `got`,
-/// the table of the submits that these actions get. The table has an entry for each position that a
-/// valid body can have.
+/// Returns whether one of these actions is a get of the submit at position `submit`.
+///
+/// `got` is a table of these actions: the element at a position is true if one of them is a get of
+/// the submit at that position. The function reads only the table, unless `submit` is past its end.
 fn has_get_in_table(actions: &[Action], got: &[bool; MAX_ACTIONS], submit: usize) -> bool
     requires { IsTableOf actions.now got.now }
     ensures { result ≡ has_get_of actions.now submit }
@@ -73,7 +75,8 @@ fn has_get_in_table(actions: &[Action], got: &[bool; MAX_ACTIONS], submit: usize
     }
 }
 
-/// Adds an action to `got`, the table of the submits that the earlier actions get.
+/// Adds an action to the table `got`. If the action is a get, the element at the position of its
+/// submit becomes true.
 fn add_to_table(got: &mut [bool; MAX_ACTIONS], action: Action)
     ensures { (actions : List Action)
         → IsTableOf actions got.old

@@ -1,4 +1,4 @@
-//! Copies of plans and their entries.
+//! The copying of plans, pools, classes and client kinds.
 
 ghost use Rattle.std.specs.Prelude.{◌≡◌, IfOk};
 

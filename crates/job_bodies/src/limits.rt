@@ -20,7 +20,8 @@ pub const MAX_WORK: u64 = 1_000_000;
 /// The maximum length of a name, in bytes. The minimum is 1.
 pub const MAX_NAME_BYTES: usize = 32;
 
-/// The maximum of each weight, rank, reach and level of a certificate. The minimum is 0.
+/// The maximum of each number in a certificate: its weights, ranks, reaches and levels. The minimum
+/// is 0.
 pub const MAX_WEIGHT: u64 = 1_000_000_000;
 
 /// The maximum size of a plan's text, in bytes.
@@ -36,10 +37,10 @@ pub const MAX_INPUT_BYTES: usize = 2_097_155;
 pub const MAX_RECORDED_BYTES: usize = 268_435_456;
 /// The maximum of each number in event lines and in lines of recordings. The minimum is 0.
 pub const MAX_LINE_NUMBER: usize = 1_000_000_000;
-/// The maximum number of rounds of a recording: the rounds are numbered from 0 to
-/// [`MAX_LINE_NUMBER`].
+/// The maximum number of rounds in a recording. A round is one pass of a client through its body.
+/// The rounds are numbered from 0 to [`MAX_LINE_NUMBER`].
 pub const MAX_RECORDED_ROUNDS: u64 = 1_000_000_001;
-/// The maximum number of steps of the comparison of a body with a recorded path.
+/// The maximum number of steps in which a body is compared with a recorded path.
 pub const MAX_PATH_STEPS: u64 = 1_000_000;
 
 /// The maximum number of threads of a search or a check. The minimum is 1.
@@ -55,7 +56,7 @@ pub const DEFAULT_STATES: u64 = 100_000;
 pub const MAX_ROUNDS: u64 = 1_000_000;
 /// The maximum number of clients of a run.
 pub const MAX_RUN_CLIENTS: u64 = 64;
-/// The maximum number of threads of all pools of a run in total.
+/// The maximum number of threads of a run, counted over all its pools.
 pub const MAX_RUN_CARRIERS: u64 = 64;
 /// The maximum number of events of a run. The number of events is computed from the plan before the
 /// run.

@@ -29,8 +29,8 @@ pub struct Pool {
     pub max: u64,
     /// The capacity of the queue in jobs: from 1 to 1,000,000.
     pub queue: u64,
-    /// Whether all core threads are started before the first job is submitted, as by Java's
-    /// `prestartAllCoreThreads`. The first jobs then wait in the queue until idle threads take
+    /// Whether all core threads are started before the first job is submitted, as Java's
+    /// `prestartAllCoreThreads` does. The first jobs then wait in the queue until idle threads take
     /// them. If `prestart` is false, the first jobs start threads.
     pub prestart: bool,
 }
@@ -154,8 +154,8 @@ impl Plan {
         Ok(Plan::of_well_formed(pools, classes, clients))
     }
 
-    /// Creates a plan from lists that are known to be well-formed. Parsers use it, since they have
-    /// made all checks already.
+    /// Creates a plan from lists that are known to be well-formed. A parser calls it after it has
+    /// made all checks itself.
     pub fn of_well_formed(pools: Vec<Pool>, classes: Vec<Class>, clients: Vec<Client>) -> Plan
         requires { IsWellFormed (plan_of_lists pools.items classes.items clients.items) }
         ensures { result ≡ plan_of_lists pools.items classes.items clients.items }

@@ -1,5 +1,6 @@
-//! Parsing of bodies, action by action. The parsers replace class names by class indices, and the
-//! slot of a get by the position of the submit that filled the slot.
+//! Parsing of bodies, action by action. The parsers replace class names by class indices. A *slot*
+//! is the name under which a body submits a job and gets it later. The parsers replace the slot of
+//! a get by the position of the submit that filled the slot.
 
 ghost use Rattle.std.specs.Prelude.{◌≡◌, List, ℕ, map, OnOk, Some};
 ghost use Rattle.support.specs.Reading as each;
@@ -20,7 +21,7 @@ use std::alloc::Global;
 use support::number::{BAD_ACTION, NO_SUCH_CLASS, SLOT_EMPTY, SLOT_OPEN};
 use support::{ReadError, read_each};
 
-/// The position of an action: the entry that has it, and its position in the body of that entry.
+/// The position of an action: its entry, and its index in the entry's body.
 #[derive(Clone, Copy)]
 struct ActionPlace {
     part: Part,

@@ -16,7 +16,7 @@ use std::marker::Model;
 use support::read_each;
 use toml::{Table, Value};
 
-/// A class as its text gives it: the pool is a name, and the actions are not parsed yet.
+/// A class as it is written in the text: its pool is a name, and its actions are not parsed yet.
 #[derive(Drop)]
 pub struct ClassEntry<'a> {
     pub name: &'a str,
@@ -30,7 +30,7 @@ impl<'a> Model for ClassEntry<'a> {
     ghost view = { λ k. record { name = k.name.now; pool = k.pool.now; body = map (λ text. text.now) k.body.items } };
 }
 
-/// A client kind as its text gives it: the actions are not parsed yet.
+/// A client kind as it is written in the text: its actions are not parsed yet.
 #[derive(Drop)]
 pub struct ClientEntry<'a> {
     pub name: &'a str,

@@ -1,4 +1,4 @@
-//! The table of one entry, with values of the expected types.
+//! The table of one entry, and the functions that read its values and check their types.
 
 ghost use Rattle.std.specs.Prelude.{◌≡◌, map};
 ghost use Rattle.toml.specs.View.{view};
@@ -15,8 +15,7 @@ use support::number::{MISSING_KEY, TOO_MANY, UNKNOWN_KEY, WRONG_TYPE};
 use support::{ReadError, read_each};
 use toml::{Table, Value};
 
-/// The table of one entry, with the list that has the entry and the index of the entry in this
-/// list.
+/// The table of one entry, the list that contains the entry, and the entry's index in that list.
 #[derive(Drop)]
 pub struct Entry<'a> {
     table: &'a Table,

@@ -8,7 +8,7 @@ use indexmap::IndexSet;
 use std::alloc::{AllocError, Global};
 use std::marker::Model;
 
-/// The distinct names of a list, in order. Finds the index of a name by a hash.
+/// The distinct names of a list, in order, with a hash table that finds the index of a name.
 #[derive(Drop)]
 pub struct Names<'a> {
     names: IndexSet<&'a str>,

@@ -44,7 +44,7 @@ enum LineState {
     Rest,
 }
 
-/// The tables of the tokens that were processed, and the state after them.
+/// The tables in the part of the text that was processed, and the parser's state after that part.
 #[derive(Drop)]
 struct Outline {
     at: LineState,

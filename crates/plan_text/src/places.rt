@@ -7,8 +7,8 @@ use std::alloc::{AllocError, Global};
 
 /// An index of the positions of the parts of a plan in its text.
 ///
-/// Any text has an index. The index may lack a part if the text is not TOML, or if it does not
-/// write the plan with `[[pool]]`, `[[class]]` and `[[client]]`. The functions then return `None`,
+/// Any text has an index. The index may lack a part if the text is not TOML, or if its entries do
+/// not have the headers `[[pool]]`, `[[class]]` and `[[client]]`. The functions then return `None`,
 /// and the caller uses the position of a larger part. The contracts do not say at which byte a part
 /// begins. Only [`place_at`] promises the line and column of a byte.
 #[derive(Drop)]

@@ -1,4 +1,4 @@
-//! The TOML document of a plan, as values.
+//! Building of the TOML document of a plan.
 
 ghost use Rattle.std.specs.Prelude.{◌≡◌, ◌≤◌, true, if◌then◌else◌, map, IfOk, OnOk};
 ghost use Rattle.toml.specs.Data.{boolean};

@@ -1,4 +1,4 @@
-//! The filled slots of a body, with the positions of the submits that filled them.
+//! The filled slots of a body. `submit CLASS as SLOT` fills a slot, and `get SLOT` empties it.
 
 ghost use Rattle.std.specs.Prelude.{◌≡◌, List, [], ℕ, map, None, Some, if◌then◌else◌, OnOk};
 ghost use Rattle.std.specs.Str.{bytes_eq};

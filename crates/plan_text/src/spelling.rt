@@ -1,5 +1,5 @@
 //! The texts of the actions of a body. A class is written as its name. The slot of a submit is
-//! named after the position of the submit.
+//! named after the position of the submit in the body.
 
 ghost use Rattle.std.specs.Prelude.{◌≡◌, map, IfOk, Some, string_bytes};
 ghost use Rattle.toml.specs.View.{view};

@@ -20,8 +20,8 @@ pub(crate) fn active_client_count(alloc: Global, events: &[Event]) -> Result<usi
     Ok(clients.len())
 }
 
-/// Returns the client of each event that is one of a client. A client is listed once for each of its
-/// events.
+/// Returns the client of each event in which a client acts, in the order of the events. A client is
+/// listed once for each of its events.
 fn active_clients(alloc: Global, mut events: &[Event]) -> Result<Vec<usize>, AllocError>
     ensures { IfOk result (λ clients. clients.items ≡ spec.active_clients events.now) }
 {

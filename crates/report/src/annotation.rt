@@ -13,7 +13,7 @@ use std::alloc::{AllocError, Global};
 pub(crate) enum Rule {
     /// The fault with this number.
     Fault(u8),
-    /// Faults that are left out, since at most 100 are reported.
+    /// The faults that are left out, because at most 100 are reported.
     MoreFaults,
     /// A warning about this lint.
     Warning(Lint),
@@ -30,7 +30,7 @@ pub(crate) enum Rule {
 pub(crate) struct Annotation {
     pub(crate) rule: Rule,
     pub(crate) message: String,
-    /// The place, if it is known. Otherwise the remark is about the whole file.
+    /// The place, or `None` if the remark is about the whole file or its place is not known.
     pub(crate) place: Option<TextPlace>,
 }
 

@@ -19,7 +19,8 @@ use std::alloc::{AllocError, Global};
 
 // ---- faults
 
-/// Returns an annotation for each fault that is reported, and one for those that are left out.
+/// Returns an annotation for each fault that is reported. If other faults are left out, one more
+/// annotation gives their number.
 pub(crate) fn fault_annotations(
     alloc: Global,
     faults: &Faults,
@@ -58,7 +59,8 @@ fn push_fault(
     push(alloc, found, rule, &fault.what, Some(fault.place))
 }
 
-/// Appends an annotation for this number of faults that are left out, if there are any.
+/// Appends an annotation with the number of faults that are left out. Appends nothing if the number
+/// is 0.
 fn push_omitted(
     alloc: Global,
     found: &mut Vec<Annotation>,
@@ -82,7 +84,8 @@ fn omitted_words(alloc: Global, omitted: usize) -> Result<String, AllocError>
     }
 }
 
-/// Returns an annotation for one fault with this message, which has no place in the plan's text.
+/// Returns an annotation for a single fault that has no place in the plan's text. `words` is its
+/// message.
 pub(crate) fn single_fault(
     alloc: Global,
     number: u8,
@@ -222,8 +225,8 @@ fn push_warning(
     push(alloc, found, rule, &warning.what, Some(warning.place))
 }
 
-/// Appends an annotation with the first line of the witness's description, and the annotations of the
-/// sizes.
+/// Appends the annotations of the answer NOT SAFE: one with the first line of the witness's
+/// description, and then those of the sizes.
 fn push_not_safe(
     alloc: Global,
     found: &mut Vec<Annotation>,
@@ -251,8 +254,8 @@ fn first_line(text: &str) -> &str
     }
 }
 
-/// Returns the place of the name of the pool that refuses the last submit, or `None` if the ending is
-/// another one.
+/// Returns the place of a pool's name, if the witness ends with a submit that the pool refuses.
+/// Returns `None` for any other ending, or if the place is not known.
 fn ending_place(places: &PlanPlaces, ending: &Ending) -> Option<TextPlace>
     ensures { result ≡ spec.ending_place places.now ending.now }
 {

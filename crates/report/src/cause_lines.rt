@@ -27,7 +27,7 @@ fn push_cause(text: &mut String, plan: &Plan, cause: NoSizes) -> Result<(), Allo
     text.push('\n')
 }
 
-/// Appends the reason, without a newline.
+/// Appends the reason why no sizes were found, without a newline.
 pub(crate) fn push_cause_words(
     text: &mut String,
     plan: &Plan,

@@ -1,4 +1,5 @@
-//! The queue of a pool, from the steps that queued jobs in it and took jobs from it.
+//! The queue of a pool, computed from steps that add jobs to it or take jobs from it. A step is an
+//! event that was performed.
 
 ghost use Rattle.std.specs.Prelude.{◌≡◌, ◌++◌, [], map, IfOk, OnOk};
 ghost use Rattle.serde_json.specs.View.{view};
@@ -11,7 +12,8 @@ use serde_json::Value;
 use std::alloc::{AllocError, Global};
 use std::collections::VecDeque;
 
-/// Converts the queue of a pool after these steps, the first of which is the first of the plan.
+/// Converts the queue of a pool to JSON. The queue is as it is after these steps, which begin at
+/// the plan's initial state.
 pub(crate) fn queue_value(
     alloc: Global,
     steps: &[EventStep],
@@ -35,7 +37,7 @@ fn push_jobs(values: &mut Vec<Value>, mut queue: VecDeque<usize>) -> Result<(), 
     Ok(())
 }
 
-/// Returns the queue of a pool after these steps.
+/// Returns the queue of a pool after these steps. The queue is empty before them.
 fn queue_after(
     alloc: Global,
     steps: &[EventStep],
@@ -62,7 +64,8 @@ fn add_all(
     Ok(())
 }
 
-/// Changes the queue of a pool as the step does.
+/// Updates the queue of a pool for one step: adds the job that the step queues in this pool, or
+/// removes the job that the step takes from it.
 fn add(queue: &mut VecDeque<usize>, step: EventStep, pool: usize) -> Result<(), AllocError>
     ensures { OnOk result (queue.new.items ≡ shown.queue_with pool queue.old.items step) }
 {

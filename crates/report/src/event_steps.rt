@@ -24,7 +24,7 @@ pub(crate) enum Actor {
     Pool(usize),
 }
 
-/// The numbers of threads of a pool.
+/// The numbers of all threads and of idle threads of a pool.
 #[derive(Clone, Copy)]
 pub(crate) struct PoolCounts {
     /// The index of the pool in the plan.
@@ -41,9 +41,10 @@ pub(crate) struct EventStep {
     /// a pool.
     pub(crate) action: Option<usize>,
     pub(crate) outcome: Outcome,
-    /// The pool that the event changed or that refused a submit, with its counts after the event.
+    /// The pool that the event changed, or that refused a submit, with its numbers of threads after
+    /// the event.
     pub(crate) pool: Option<PoolCounts>,
-    /// The class of the job that a thread took from a queue.
+    /// The class of the job that a thread took from a queue, or `None` if no job was taken.
     pub(crate) taken: Option<usize>,
 }
 
@@ -137,7 +138,7 @@ fn actor_of(kinds: &Clients, world: &World, event: Event) -> Actor
     }
 }
 
-/// Returns the class of a live job, or 0 if the job is not live.
+/// Returns the index of the class of a job. Returns 0 if the job is not live.
 fn class_of(world: &World, number: usize) -> usize
     ensures { result ≡ performed.class_seen world.now.view number }
 {

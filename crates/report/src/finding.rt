@@ -1,4 +1,5 @@
-//! The finding about a plan on which an answer rests.
+//! The finding about a plan: whether it is safe, and the certificate or the witness that shows it.
+//! An answer is written from a finding.
 
 use cert_text::Cert;
 use counterexample::Witness;

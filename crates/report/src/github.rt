@@ -48,7 +48,8 @@ pub fn faults_github(alloc: Global, file: &str, faults: &Faults) -> Result<Strin
     commands(alloc, file, &annotations)
 }
 
-/// Returns the command for one fault with this message, which has no place in the plan's text.
+/// Returns the command for a single fault that has no place in the plan's text. `words` is its
+/// message.
 ///
 /// # Errors
 ///

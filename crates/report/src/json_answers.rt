@@ -17,7 +17,7 @@ use job_bodies::Plan;
 use serde_json::{Value, json};
 use std::alloc::{AllocError, Global};
 
-/// The version of the object's members.
+/// The version of the JSON format, which each answer states as its member `format`.
 const FORMAT: u8 = 1;
 
 /// The members of an answer about a plan that depend on more than its name and its file.
@@ -75,8 +75,8 @@ pub fn faults_json(
     line_of(alloc, &value)
 }
 
-/// Returns the JSON text of one fault with this message, which has no place in the plan's text.
-/// `file` is the name of the plan's file, and `text` its content.
+/// Returns the JSON text of a single fault that has no place in the plan's text. `words` is its
+/// message. `file` is the name of the plan's file, and `text` its content.
 ///
 /// # Errors
 ///
@@ -96,7 +96,7 @@ pub fn fault_json(
     line_of(alloc, &value)
 }
 
-/// Returns the name of the answer.
+/// Returns the name of the answer, such as `NOT SAFE`.
 fn word_of(finding: &PlanFinding) -> &'static str
     ensures { result.now ≡ spec.word_of finding.now }
 {

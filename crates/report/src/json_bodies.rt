@@ -11,7 +11,7 @@ use plan_text::TextPlace;
 use serde_json::{Value, json};
 use std::alloc::{AllocError, Global};
 
-/// Converts the body of the class or client kind at this index.
+/// Converts the body of the class or client kind at this index to a JSON list.
 pub(crate) fn body_value(
     alloc: Global,
     plan: &Plan,
@@ -66,8 +66,8 @@ fn action_value(
     }
 }
 
-/// Converts the slot of a submit: its position in the body, or null if no get of the body gets the
-/// job.
+/// Converts the slot of a submit to JSON: the submit's position in the body, or null if the body
+/// has no get of the submit.
 fn slot_value(body: &[Action], submit: usize) -> Value
     ensures { view result ≡ spec.slot_data body.now submit }
 {

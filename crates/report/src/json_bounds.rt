@@ -1,4 +1,6 @@
-//! The bound of a queue and the shares in it as JSON, and the threads that wait.
+//! The bound of a queue as JSON, with the shares in it, and the number of threads that wait. A
+//! share is the part of a bound that the clients of one kind, or the threads of one pool, account
+//! for.
 
 ghost use Rattle.std.specs.Prelude.{◌≡◌, ◌++◌, IfOk, IsTrue, OnOk, map};
 ghost use Rattle.serde_json.specs.View.{view};
@@ -11,8 +13,9 @@ use serde_json::{Value, json};
 use std::alloc::{AllocError, Global};
 use weights::{Bound, Vector};
 
-/// Converts a pool's bound: the maximum number of jobs in its queue at one time, or ever submitted
-/// to it, and the share of each submitter. The value is null if the vector does not fit the plan.
+/// Converts a pool's bound to JSON: the maximum number of jobs in the queue at one time, or of jobs
+/// that are ever submitted to the pool, and the shares in this number. The value is null if the
+/// vector does not fit the plan.
 pub(crate) fn bound_value(alloc: Global, plan: &Plan, bound: &Bound) -> Result<Value, AllocError>
     ensures { IfOk result (λ value. view value ≡ spec.bound_data plan.now bound.now) }
 {
@@ -66,7 +69,7 @@ fn bound_object(
     })
 }
 
-/// Converts the shares of the client kinds, without those that are 0.
+/// Converts the shares of the client kinds to JSON, except those that are 0.
 fn clients_value(alloc: Global, plan: &Plan, shares: &[u64]) -> Result<Value, AllocError>
     ensures { IfOk result (λ value. view value ≡ spec.clients_data plan.now shares.now) }
 {
@@ -77,7 +80,7 @@ fn clients_value(alloc: Global, plan: &Plan, shares: &[u64]) -> Result<Value, Al
     Ok(Value::from(values))
 }
 
-/// Converts the shares of the pools' threads, without those that are 0.
+/// Converts the shares of the pools' threads to JSON, except those that are 0.
 fn threads_value(alloc: Global, plan: &Plan, shares: &[u64]) -> Result<Value, AllocError>
     ensures { IfOk result (λ value. view value ≡ spec.threads_data plan.now shares.now) }
 {
@@ -113,8 +116,9 @@ fn share_value(alloc: Global, jobs: u64, name: &str) -> Result<Value, AllocError
     json!(in alloc; {"jobs": jobs, "name": name})
 }
 
-/// Converts the maximum number of core threads that wait at counted gets at once, and the number of
-/// core threads that are left. The value is null if the vector does not fit the plan.
+/// Creates a JSON object with two numbers: the maximum number of core threads that wait at counted
+/// gets at once, and the number of the other core threads. A counted get can block a thread that
+/// other jobs need. The value is null if the vector does not fit the plan.
 pub(crate) fn blocked_value(
     alloc: Global,
     plan: &Plan,

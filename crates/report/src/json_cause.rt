@@ -1,4 +1,4 @@
-//! The cause for which no sizes were found, as JSON.
+//! The reason why no sizes were found, as JSON.
 
 ghost use Rattle.std.specs.Prelude.{◌≡◌, IfOk, string_bytes};
 ghost use Rattle.serde_json.specs.Data.{null, string};
@@ -15,7 +15,8 @@ use serde_json::{Value, json};
 use size_search::{Cause, NoSizes};
 use std::alloc::{AllocError, Global};
 
-/// Converts a cause: its kind, what it names, its place, and its words.
+/// Converts the reason to JSON: its kind, the entry that it names, the place of that entry, and the
+/// words for a reader.
 pub(crate) fn cause_value(
     alloc: Global,
     places: &PlanPlaces,

@@ -88,7 +88,8 @@ fn wait_values(
     Ok(values)
 }
 
-/// Appends what the job with this number waits for, if it waits.
+/// Appends the JSON value that says what the job with this number waits for. Appends nothing if the
+/// job does not wait.
 fn push_wait(
     values: &mut Vec<Value>,
     alloc: Global,
@@ -181,7 +182,8 @@ pub(crate) fn action_at(plan: &Plan, class: usize, position: usize) -> Option<Ac
     }
 }
 
-/// Returns the job for which the job with this number waits at this action, if the action is a get.
+/// Returns a list with the job that the job `number` waits for at this action. The list is empty if
+/// the action is not a get, or if the awaited job is not live.
 fn awaited(
     alloc: Global,
     world: &World,

@@ -29,7 +29,7 @@ pub(crate) fn actor_place(
     }
 }
 
-/// Converts the actor of an event.
+/// Converts the actor of an event to JSON.
 pub(crate) fn actor_value(alloc: Global, plan: &Plan, actor: Actor) -> Result<Value, AllocError>
     ensures { IfOk result (λ value. view value ≡ spec.actor_data plan.now actor) }
 {
@@ -78,7 +78,7 @@ pub(crate) fn outcome_word(outcome: Outcome) -> &'static str
     }
 }
 
-/// Returns the job that was made, got or taken, or that ended.
+/// Returns the job of the outcome: the job that was created, got or taken, or that ended.
 pub(crate) fn job_of(outcome: Outcome) -> Option<usize>
     ensures { result ≡ spec.job_of outcome }
 {

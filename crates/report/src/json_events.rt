@@ -1,5 +1,5 @@
-//! The events of a witness as JSON. Equal steps that clients of one kind do one after another are
-//! one event.
+//! The events of a witness as JSON. Consecutive equal steps of clients of one kind form a run,
+//! which is one JSON object.
 
 ghost use Rattle.std.specs.Prelude.{◌≡◌, ◌+◌, ◌==◌, ◌++◌, ◌∷◌, [], map, IfOk, OnOk};
 ghost use Rattle.serde_json.specs.View.{view};
@@ -27,7 +27,8 @@ struct OpenRun {
     last: EventStep,
 }
 
-/// Converts the steps, the first of which is the first of the plan, to a list of their runs.
+/// Converts the steps to a JSON list with an object for each run. The steps begin at the plan's
+/// initial state.
 pub(crate) fn events_value(
     alloc: Global,
     plan: &Plan,
@@ -42,7 +43,7 @@ pub(crate) fn events_value(
     Ok(Value::Array(values))
 }
 
-/// Appends the runs of the steps.
+/// Appends the JSON object of each run of the steps.
 fn push_runs(
     values: &mut Vec<Value>,
     alloc: Global,
@@ -125,14 +126,13 @@ fn is_later_outcome(first: Outcome, times: usize, next: Outcome) -> bool
     }
 }
 
-/// Returns whether the sum of two numbers is this total.
 fn is_sum(total: usize, number: usize, times: usize) -> bool
     ensures { result ≡ (total == number + times) }
 {
     number <= total && total - number == times
 }
 
-/// Appends a run. `steps` are all steps up to the last one of the run.
+/// Appends the JSON object of a run. `steps` are all steps up to the last one of the run.
 fn push_run(
     values: &mut Vec<Value>,
     alloc: Global,
@@ -173,7 +173,8 @@ fn run_value(
     })
 }
 
-/// Converts the pool of the last of these steps, as it is after that step.
+/// Converts the pool `pool` to JSON, as it is after these steps. The value is null if there is no
+/// pool.
 fn pool_value(
     alloc: Global,
     plan: &Plan,

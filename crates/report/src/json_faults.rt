@@ -11,7 +11,7 @@ use plan_text::TextPlace;
 use serde_json::{Value, json};
 use std::alloc::{AllocError, Global};
 
-/// Converts the faults of a plan's text.
+/// Converts the faults of a plan's text to JSON.
 pub(crate) fn faults_value(alloc: Global, faults: &Faults) -> Result<Value, AllocError>
     ensures { IfOk result (λ value. view value ≡ spec.faults_data faults.now) }
 {
@@ -19,7 +19,7 @@ pub(crate) fn faults_value(alloc: Global, faults: &Faults) -> Result<Value, Allo
     faults_from(alloc, first, &faults.others)
 }
 
-/// Creates a list with one fault without a place.
+/// Creates a JSON list with a single fault that has no place.
 pub(crate) fn single_fault(alloc: Global, number: u8, words: &str) -> Result<Value, AllocError>
     ensures { IfOk result (λ value. view value ≡ spec.single_fault_data number words.now) }
 {
@@ -27,7 +27,8 @@ pub(crate) fn single_fault(alloc: Global, number: u8, words: &str) -> Result<Val
     faults_from(alloc, fault, &[])
 }
 
-/// Converts a list of faults, of which the first is converted already.
+/// Creates a JSON list of faults: the fault `first`, which is already converted, and then the
+/// others.
 fn faults_from(alloc: Global, first: Value, others: &[Diagnostic]) -> Result<Value, AllocError>
     ensures { IfOk result (λ value. view value
         ≡ array (items_of (view first ∷ map spec.diagnostic_data others.now))) }
@@ -66,8 +67,8 @@ fn diagnostic_value(alloc: Global, diagnostic: &Diagnostic) -> Result<Value, All
     )
 }
 
-/// Converts a range to a list of its lowest and its highest number. The value is null if there is
-/// no range.
+/// Converts a range to a JSON list of its lowest and its highest number. The value is null if there
+/// is no range.
 fn range_value(alloc: Global, range: Option<NumberRange>) -> Result<Value, AllocError>
     ensures { IfOk result (λ value. view value ≡ spec.range_data range) }
 {

@@ -16,7 +16,7 @@ use job_bodies::Plan;
 use serde_json::{Value, json};
 use std::alloc::{AllocError, Global};
 
-/// Creates the members of an answer about a plan that was read from this text.
+/// Creates the members of an answer about a plan, which was read from `text`.
 pub(crate) fn finding_parts(
     alloc: Global,
     text: &[u8],
@@ -38,7 +38,7 @@ pub(crate) fn finding_parts(
     })
 }
 
-/// Converts the assumptions of the answer. Only SAFE has any.
+/// Converts the assumptions that the answer rests on to JSON. Only the answer SAFE has assumptions.
 fn assumptions_value(alloc: Global, finding: &PlanFinding) -> Result<Value, AllocError>
     ensures { IfOk result (λ value. view value ≡ spec.assumptions_data finding.now) }
 {

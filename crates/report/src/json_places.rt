@@ -9,7 +9,7 @@ use plan_text::TextPlace;
 use serde_json::Value;
 use size_search::{Cause, NoSizes};
 
-/// Converts the line of a place. The value is null if the place is not known.
+/// Converts the line of a place to JSON. The value is null if the place is not known.
 pub(crate) fn line_value(place: Option<TextPlace>) -> Value
     ensures { view result ≡ spec.line_data place }
 {
@@ -19,7 +19,7 @@ pub(crate) fn line_value(place: Option<TextPlace>) -> Value
     }
 }
 
-/// Converts the column of a place. The value is null if the place is not known.
+/// Converts the column of a place to JSON. The value is null if the place is not known.
 pub(crate) fn column_value(place: Option<TextPlace>) -> Value
     ensures { view result ≡ spec.column_data place }
 {
@@ -73,7 +73,7 @@ fn place_at(actions: &[Option<TextPlace>], action: usize) -> Option<TextPlace>
     }
 }
 
-/// Returns the place of the class, the action or the pool that the cause names.
+/// Returns the place of the class, the action or the pool that the reason `cause` names.
 pub(crate) fn cause_place(places: &PlanPlaces, cause: NoSizes) -> Option<TextPlace>
     ensures { result ≡ spec.cause_place places.now cause }
 {

@@ -43,7 +43,7 @@ pub(crate) fn text_only_value(alloc: Global, text: &[u8]) -> Result<Value, Alloc
     })
 }
 
-/// Converts the plan's text. The value is null if it is not UTF-8.
+/// Converts the plan's text to JSON. The value is null if the text is not UTF-8.
 fn text_value(alloc: Global, text: &[u8]) -> Result<Value, AllocError>
     ensures { IfOk result (λ value. view value ≡ spec.text_data text.now) }
 {

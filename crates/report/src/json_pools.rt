@@ -13,8 +13,8 @@ use job_bodies::{Plan, Pool};
 use serde_json::{Value, json};
 use std::alloc::{AllocError, Global};
 
-/// Converts the pools of a plan, each with its part of the certificate. `parts` is empty if no
-/// certificate accepts the plan.
+/// Converts the pools of a plan to JSON, each with its part of the certificate. `parts` is empty if
+/// no certificate accepts the plan.
 pub(crate) fn pools_value(
     alloc: Global,
     plan: &Plan,
@@ -101,7 +101,7 @@ fn pool_object(
     })
 }
 
-/// Converts the names of the pools that jobs of this pool wait for.
+/// Creates a JSON list of the names of the pools that jobs of this pool wait for.
 fn waits_value(alloc: Global, plan: &Plan, number: usize) -> Result<Value, AllocError>
     ensures { IfOk result (λ value. view value ≡ spec.waits_data plan.now number) }
 {

@@ -18,8 +18,8 @@ use serde_json::Value;
 use std::alloc::{AllocError, Global};
 use support::push_number;
 
-/// Converts the lines of a witness: one for each event, and a `stuck` line if jobs wait only for
-/// each other after the events.
+/// Converts the event lines of a witness to a JSON list: one for each event, and a `stuck` line if
+/// jobs wait only for each other after the events.
 pub(crate) fn replay_value(
     alloc: Global,
     plan: &Plan,
@@ -77,7 +77,8 @@ fn push_numbered(text: &mut String, words: &str, number: usize) -> Result<(), Al
     push_number(text, number as u64)
 }
 
-/// Appends a `stuck` line with the numbers of the members, if there are any.
+/// Appends a line `stuck` with the numbers of the jobs that wait only for each other. Appends
+/// nothing if there are none.
 fn push_question(
     values: &mut Vec<Value>,
     alloc: Global,

@@ -1,4 +1,4 @@
-//! Sizes that are enough as JSON, or the cause why there are none.
+//! Sizes that a certificate accepts, as JSON, or the reason why none were found.
 
 ghost use Rattle.std.specs.Prelude.{◌≡◌, ◌++◌, IfOk, OnOk, map, option_map};
 ghost use Rattle.serde_json.specs.View.{view};
@@ -81,7 +81,8 @@ fn size_value(alloc: Global, changes: Vec<Value>, fit: &Pool) -> Result<Value, A
     })
 }
 
-/// Converts the changes of a pool's sizes. There are none if the plan does not declare the pool.
+/// Converts the changes of a pool's sizes to JSON. There are none if the plan does not declare the
+/// pool.
 fn changes_of(
     alloc: Global,
     places: PoolPlaces,

@@ -7,7 +7,7 @@ ghost use Rattle.report.specs.JsonEvents as spec;
 use serde_json::Value;
 use std::alloc::{AllocError, Global};
 
-/// Converts a number, or `None` to null.
+/// Converts a number to JSON, and `None` to null.
 pub(crate) fn optional_number(number: Option<usize>) -> Value
     ensures { view result ≡ spec.optional_number number }
 {
@@ -17,14 +17,14 @@ pub(crate) fn optional_number(number: Option<usize>) -> Value
     }
 }
 
-/// Creates a list of these values.
+/// Creates a JSON list of these values.
 pub(crate) fn array_value(values: Vec<Value>) -> Value
     ensures { view result ≡ spec.list_data (map view values.items) }
 {
     Value::Array(values)
 }
 
-/// Converts a list of numbers.
+/// Converts a list of numbers to JSON.
 pub(crate) fn numbers_value(alloc: Global, numbers: &[usize]) -> Result<Value, AllocError>
     ensures { IfOk result (λ value. view value ≡ spec.numbers_data numbers.now) }
 {

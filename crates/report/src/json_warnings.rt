@@ -10,7 +10,7 @@ use plan_text::TextPlace;
 use serde_json::{Value, json};
 use std::alloc::{AllocError, Global};
 
-/// Converts each warning: its kind, its place and its message.
+/// Converts each warning to JSON: its kind, its place and its message.
 pub(crate) fn warnings_value(alloc: Global, warnings: &[Warning]) -> Result<Value, AllocError>
     ensures { IfOk result (λ value. view value ≡ spec.warnings_data warnings.now) }
 {

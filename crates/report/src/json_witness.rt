@@ -1,4 +1,4 @@
-//! A witness as JSON: how it ends, its events, and its lines as `replay` reads them.
+//! A witness as JSON: how it ends, its events, and the event lines that `replay` reads.
 
 ghost use Rattle.std.specs.Prelude.{◌≡◌, [], map, flat_map, IfOk};
 ghost use Rattle.serde_json.specs.View.{view};
@@ -21,7 +21,7 @@ use job_bodies::Plan;
 use serde_json::{Value, json};
 use std::alloc::{AllocError, Global};
 
-/// Converts a witness of the plan.
+/// Converts a witness against the plan to JSON.
 ///
 /// # Errors
 ///

@@ -1,5 +1,6 @@
-//! The report of `sizing ask` as text, JSON, page, picture, workflow commands and SARIF log; the
-//! lines of `sizing fit`; and the story of a witness.
+//! The report of `sizing ask` as text, JSON, HTML page, picture, workflow commands or SARIF log.
+//! This crate also writes the lines of `sizing fit` and the story of a witness. A witness is a list
+//! of events after which a submit is refused or jobs wait only for each other.
 #![tactic(auto)]
 
 mod active_clients;

@@ -1,4 +1,4 @@
-//! The answer of `ask` as a page for a browser, which shows the JSON answer.
+//! The HTML page for a browser, which shows the JSON answer of `ask`.
 
 ghost use Rattle.std.specs.Prelude.{IfOk, string_bytes};
 ghost use Rattle.report.specs.Page as spec;
@@ -50,8 +50,8 @@ pub fn faults_html(
     page_of(alloc, &line)
 }
 
-/// Returns the page of one fault with this message, which has no place in the plan's text. `file`
-/// is the name of the plan's file, and `text` its content.
+/// Returns the page of a single fault that has no place in the plan's text. `words` is its message.
+/// `file` is the name of the plan's file, and `text` its content.
 ///
 /// # Errors
 ///

@@ -1,6 +1,6 @@
-//! The picture of a plan, as a Graphviz graph. Pools are boxes with their sizes and classes,
-//! clients are outside them. An arrow is a submit, a dashed line a get, and a bold dashed line a
-//! counted get.
+//! The picture of a plan, as a Graphviz graph. A pool is a box with its sizes and classes. The
+//! clients are outside of the boxes. An arrow is a submit, a dashed line is a get, and a bold
+//! dashed line is a counted get, which can block a thread that other jobs need.
 
 ghost use Rattle.std.specs.Prelude.{◌≡◌, IfOk, option_map, string_bytes};
 ghost use Rattle.support.specs.Pushed.{Pushes};
@@ -232,8 +232,8 @@ fn push_class_line(text: &mut String, number: usize, name: &str) -> Result<(), A
     writeln!(text, "    class{number} [shape=box label=\"{name}\"]")
 }
 
-/// Appends a node that is not visible if the pool has no classes: Graphviz draws no box around
-/// nothing.
+/// Appends an invisible node if the pool has no classes, because Graphviz draws no box without
+/// nodes.
 fn push_hidden(text: &mut String, classes: &[Class], pool: usize) -> Result<(), AllocError>
     ensures { Pushes result text.old text.new (spec.hidden_node classes.now pool) }
 {

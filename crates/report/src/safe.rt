@@ -13,7 +13,7 @@ use job_bodies::{Plan, Pool};
 use std::alloc::{AllocError, Global};
 use weights::{Bound, Vector};
 
-/// Appends two lines for each pool, and a line that says what holds for all of them.
+/// Appends two lines for each pool, and a last line that says what the certificate guarantees.
 pub(crate) fn push_safe(
     alloc: Global,
     text: &mut String,
@@ -69,8 +69,8 @@ fn push_lines(
     push_waits(alloc, text, plan, number, pool, &part.blocked)
 }
 
-/// Returns the number of queue places that each pool needs, in the certificate's order. It is
-/// `None` unless a standing vector that fits the plan bounds the pool's queue.
+/// Returns the number of queue places that each pool needs, in the order of the certificate. The
+/// number is `None` unless a standing vector that fits the plan bounds the pool's queue.
 ///
 /// # Errors
 ///

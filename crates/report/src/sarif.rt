@@ -54,8 +54,8 @@ pub fn faults_sarif(alloc: Global, file: &str, faults: &Faults) -> Result<String
     log_of(alloc, file, &annotations)
 }
 
-/// Returns the log with one fault with this message, which has no place in the plan's text, on one
-/// line.
+/// Returns the log with a single fault that has no place in the plan's text, on one line. `words`
+/// is its message.
 ///
 /// # Errors
 ///
@@ -154,7 +154,7 @@ fn location_value(alloc: Global, file: &str, place: Option<TextPlace>) -> Result
     json!(in alloc; {"physicalLocation": physical_value(alloc, file, place)?})
 }
 
-/// Converts the file, and the place in it if it is known.
+/// Creates the SARIF object of the file and, if it is known, of the place in the file.
 fn physical_value(alloc: Global, file: &str, place: Option<TextPlace>) -> Result<Value, AllocError>
     ensures { IfOk result (λ value. view value ≡ spec.physical_data file.now place) }
 {
@@ -200,7 +200,7 @@ fn region_value(alloc: Global, place: TextPlace) -> Result<Value, AllocError>
 
 // ---- rules
 
-/// Converts the rules of the annotations, each once.
+/// Creates the SARIF list of the annotations' rules, each once.
 fn rules_value(alloc: Global, annotations: &[Annotation]) -> Result<Value, AllocError>
     ensures { IfOk result (λ value. view value ≡ spec.rules_data (remarks_in annotations.now)) }
 {

@@ -1,4 +1,5 @@
-//! The shares of clients and threads in a bound.
+//! The shares of clients and threads in a bound. A share is the part of the bound that the clients
+//! of one kind, or the threads of one pool, account for.
 
 ghost use Rattle.std.specs.Prelude.{◌≡◌, ◌+◌, IfOk, IsTrue, sum};
 ghost use Rattle.weights.specs.Vector.{total, vector_fits};
@@ -8,12 +9,12 @@ use job_bodies::Plan;
 use std::alloc::{AllocError, Global};
 use weights::Vector;
 
-/// The shares in the total of a vector.
+/// The shares in the total of a vector. Their sum is the total.
 #[derive(Drop)]
 pub struct Shares {
-    /// The share of each kind of clients, in plan order.
+    /// The share of the clients of each kind, in plan order.
     pub clients: Vec<u64>,
-    /// The share of each pool's threads, in plan order.
+    /// The share of the threads of each pool, in plan order.
     pub workers: Vec<u64>,
 }
 

@@ -1,4 +1,4 @@
-//! The annotations for the sizes to change, or for the cause why there are none.
+//! The annotations for the sizes to change, or for the reason why no sizes were found.
 
 ghost use Rattle.std.specs.Prelude.{◌≡◌, IfOk, option_map, string_bytes};
 ghost use Rattle.report.specs.Annotations.{Adds};
@@ -14,7 +14,8 @@ use plan_text::TextPlace;
 use size_search::{NoSizes, SizesFound};
 use std::alloc::{AllocError, Global};
 
-/// Appends an annotation for each size to change, or one for the cause if no sizes were found.
+/// Appends an annotation for each size to change. If no sizes were found, appends one annotation
+/// for the reason.
 pub(crate) fn push_sizes_found(
     alloc: Global,
     found: &mut Vec<Annotation>,
@@ -106,7 +107,7 @@ fn push_pool(
     push_change(alloc, found, rule, places.queue, pool, "queue", queue)
 }
 
-/// Appends an annotation for a size if it changes. `size` has the declared value and the fitted one.
+/// Appends an annotation if the size changes. `size` has the declared value and the fitted one.
 fn push_change(
     alloc: Global,
     found: &mut Vec<Annotation>,

@@ -2,8 +2,8 @@
 
 ghost use Rattle.report.specs.Sizes.{UnchangedSizesAreTheDeclaredPlan};
 
-/// Proves that a fitted plan equals the declared one if it differs at most in sizes, and no size
-/// changes.
+/// Proves that a fitted plan equals the declared one, if the two differ at most in their sizes and
+/// the number of sizes that change is 0.
 pub fn unchanged_sizes_are_the_declared_plan()
     ensures { UnchangedSizesAreTheDeclaredPlan }
 {}

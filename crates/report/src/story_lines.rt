@@ -1,4 +1,5 @@
-//! The lines of a story that show its events: consecutive turns with the same text are one line.
+//! The lines of a story that show its events. A turn is a group of consecutive steps of one actor.
+//! Consecutive turns with the same text are one line.
 
 ghost use Rattle.std.specs.Prelude.{◌≡◌, ◌<◌, ◌≤◌, ◌+◌, ◌-◌, ◌++◌, ◌∷◌, List, length, map, flat_map, slice_get, IfOk, OnOk};
 ghost use Rattle.support.specs.Pushed.{Pushes};
@@ -19,12 +20,12 @@ const FIRST_LINES: usize = 9;
 /// The number of lines after the line that replaces the middle lines.
 const LAST_LINES: usize = 10;
 
-/// Consecutive turns with the same text.
+/// A line of the story: consecutive turns with the same text.
 #[derive(Clone, Copy)]
 pub(crate) struct Line<'a> {
     pub(crate) text: &'a str,
     pub(crate) times: usize,
-    /// The number of steps up to the last one of the last turn.
+    /// The number of steps of the story from its start to the end of this line.
     pub(crate) end: usize,
 }
 
@@ -48,7 +49,7 @@ fn lines_of<'a>(alloc: Global, turns: &'a [Turn]) -> Result<Vec<Line<'a>>, Alloc
     Ok(lines)
 }
 
-/// Appends the turns as lines, each with as many turns as possible.
+/// Appends the lines of the turns. Each line has as many turns as possible.
 fn push_folded<'a>(lines: &mut Vec<Line<'a>>, turns: &'a [Turn]) -> Result<(), AllocError>
     ensures { OnOk result (map line_seen lines.new.items
         ≡ map line_seen lines.old.items ++ spec.lines (map turn_seen turns.now)) }
@@ -93,7 +94,8 @@ fn push_shown(text: &mut String, lines: &[Line<'_>]) -> Result<(), AllocError>
     }
 }
 
-/// Appends the first lines, a line for those that are left out, and the last ones.
+/// Appends the first lines, then a line with the number of events that are left out, and then the
+/// last lines.
 fn push_shortened(text: &mut String, lines: &[Line<'_>]) -> Result<(), AllocError>
     requires { 20 < length lines.now }
     ensures { Pushes result text.old text.new (seen.shortened_seen lines.now) }
@@ -105,8 +107,8 @@ fn push_shortened(text: &mut String, lines: &[Line<'_>]) -> Result<(), AllocErro
     push_each(text, &lines[last..])
 }
 
-/// Returns the number of steps up to the end of the line with this index, or 0 if there is no such
-/// line.
+/// Returns the number of steps from the start of the story to the end of the line with this index,
+/// or 0 if there is no such line.
 fn end_at(lines: &[Line<'_>], index: usize) -> usize
     ensures { result ≡ spec.end_of (slice_get (map line_seen lines.now) index) }
 {

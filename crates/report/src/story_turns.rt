@@ -1,4 +1,5 @@
-//! Turns of actors: consecutive steps of one actor, within one round of its body.
+//! The turns of a story. A turn is a group of consecutive steps of one actor within one pass
+//! through its body.
 
 ghost use Rattle.std.specs.Prelude.{◌≡◌, ◌<◌, ◌≤◌, ◌+◌, ◌++◌, ◌∷◌, List, length, map, codes, IfOk, OnOk};
 ghost use Rattle.support.specs.Pushed.{Pushes};
@@ -13,18 +14,18 @@ use job_bodies::Plan;
 use std::alloc::{AllocError, Global};
 
 /// Consecutive steps of one actor, such as `client web: works, submits page (queued)`. If a client
-/// begins again, its next step is in a new turn.
+/// starts its body again, its next step begins a new turn.
 #[derive(Drop)]
 pub(crate) struct Turn {
     pub(crate) actor: Actor,
     pub(crate) text: String,
-    /// Whether the client begins again with the last step of this turn.
+    /// Whether the last step of this turn is the one with which the client starts its body again.
     pub(crate) is_ended: bool,
-    /// The number of steps up to the last one of this turn.
+    /// The number of steps of the story from its start to the end of this turn.
     pub(crate) end: usize,
 }
 
-/// Returns the steps as turns, each as long as possible.
+/// Groups the steps into turns, each of which is as long as possible.
 ///
 /// # Errors
 ///
@@ -57,8 +58,8 @@ fn push_turns(
     push_turns_from(turns, alloc, plan, turn, rest, steps.len())
 }
 
-/// Appends this turn, with those of the steps that continue it, and the turns after it. `all` is the
-/// number of all steps of the story.
+/// Appends the turn `turn`, extended by the steps that continue it, and then the turns of the other
+/// steps. `all` is the number of all steps of the story.
 fn push_turns_from(
     turns: &mut Vec<Turn>,
     alloc: Global,
@@ -79,8 +80,8 @@ fn push_turns_from(
     Ok(())
 }
 
-/// Returns the open turn after one more step. If the step continues the given turn, this is that turn
-/// with the step. Otherwise appends the given turn, and returns the one that the step begins.
+/// Returns the last turn after one more step. If the step continues the turn `turn`, returns that
+/// turn with the step. Otherwise appends `turn`, and returns a new turn that begins with the step.
 fn after_step(
     turns: &mut Vec<Turn>,
     alloc: Global,
@@ -107,8 +108,8 @@ fn after_step(
     }
 }
 
-/// Returns the turn that the step begins. There are `all` steps, and `before` of them precede this
-/// one.
+/// Returns a new turn that begins with the step. The story has `all` steps, and `before` of them
+/// precede this one.
 fn new_turn(
     alloc: Global,
     plan: &Plan,
@@ -131,7 +132,8 @@ fn new_turn(
     })
 }
 
-/// Returns whether a step with this outcome ends its turn: the client begins again.
+/// Returns whether a step with this outcome is the last one of its turn: with this step, the client
+/// starts its body again.
 fn ends_turn(outcome: Outcome) -> bool
     ensures { result ≡ spec.ends_turn outcome }
 {

@@ -15,9 +15,9 @@ use weights::submitted_class;
 /// The maximum number of waiting jobs that are listed.
 const MAX_WAITS: usize = 20;
 
-/// Appends a line for each of the first members of a waiting set, of the form
-/// `job 0 (report) waits for job 1 (section)` or `job 1 (section) waits in the queue of p, ..`, and
-/// then how many more there are.
+/// Appends a line for each job in `members`, for at most 20 of them. These jobs wait only for each
+/// other. A line has the form `job 0 (report) waits for job 1 (section)` or `job 1 (section) waits
+/// in the queue of p, ..`. A last line has the number of the other jobs, if there are any.
 ///
 /// # Errors
 ///
@@ -59,7 +59,8 @@ fn push_each(
     Ok(())
 }
 
-/// Appends what the job with this number waits for, if it waits.
+/// Appends a line that says what the job with this number waits for. Appends nothing if the job
+/// does not wait.
 fn push_wait(text: &mut String, plan: &Plan, world: &World, number: usize) -> Result<(), AllocError>
     ensures { Pushes result text.old text.new (seen.wait_seen plan.now world.now.view number) }
 {
@@ -97,7 +98,8 @@ fn push_in_queue(text: &mut String, pool: &str) -> Result<(), AllocError>
     )
 }
 
-/// Appends the job for which a job of this class waits at the action, if the action is a get.
+/// Appends a line that says for which job the job `number` waits at this action. Appends nothing if
+/// the action is not a get.
 fn push_get(
     text: &mut String,
     plan: &Plan,

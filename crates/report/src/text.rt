@@ -67,7 +67,7 @@ fn not_decided(alloc: Global, plan: &Plan, sizes: &SizesFound) -> Result<String,
     Ok(text)
 }
 
-/// Appends the sizes that were found, or why there are none.
+/// Appends the sizes that were found, or the reason why none were found.
 fn push_found(text: &mut String, plan: &Plan, sizes: &SizesFound) -> Result<(), AllocError>
     ensures { Pushes result text.old text.new (spec.sizes_part plan.now sizes.now) }
 {

@@ -1,4 +1,4 @@
-//! The advice for a plan whose declared sizes are not safe, or not shown to be.
+//! The advice for a plan whose declared sizes are not safe, or are not known to be safe.
 
 ghost use Rattle.std.specs.Prelude.{◌≡◌};
 ghost use Rattle.support.specs.Pushed.{Pushes};
@@ -23,7 +23,8 @@ pub(crate) fn push_advice(
     }
 }
 
-/// Appends the reason for each size that grows.
+/// Appends the reason for each core size and each queue capacity that differs from the declared
+/// one.
 fn push_reasons(text: &mut String, plan: &Plan, fit: &Plan) -> Result<(), AllocError>
     ensures { Pushes result text.old text.new (spec.reasons_text plan.now fit.now) }
 {
@@ -73,7 +74,7 @@ fn push_queue(text: &mut String, declared: &Pool, fit: &Pool) -> Result<(), Allo
     )
 }
 
-/// Appends what to do if sizes alone do not help.
+/// Appends the advice for a plan for which no sizes were found.
 fn push_advice_for_cause(text: &mut String, cause: NoSizes) -> Result<(), AllocError>
     ensures { Pushes result text.old text.new (spec.cause_advice_text cause) }
 {
@@ -90,7 +91,7 @@ fn push_advice_for_cause(text: &mut String, cause: NoSizes) -> Result<(), AllocE
     }
 }
 
-/// Appends a line that says what is not decided.
+/// Appends the line of the answer NOT DECIDED that says what was not found.
 pub(crate) fn push_open(text: &mut String, sizes: &SizesFound) -> Result<(), AllocError>
     ensures { Pushes result text.old text.new (spec.open_text sizes.now) }
 {
@@ -98,7 +99,7 @@ pub(crate) fn push_open(text: &mut String, sizes: &SizesFound) -> Result<(), All
     text.push('\n')
 }
 
-/// Returns the words that say what is not decided.
+/// Returns the text of the answer NOT DECIDED that says what was not found.
 pub(crate) fn open_words(sizes: &SizesFound) -> &'static str
     ensures { result.now ≡ spec.open_words sizes.now }
 {

@@ -16,7 +16,8 @@ pub(crate) fn uri_of(alloc: Global, name: &str) -> Result<String, AllocError>
     Ok(uri)
 }
 
-/// Returns the prefix with which no reader takes the start of the name for a scheme or a host.
+/// Returns a prefix for the name, which keeps a reader of the URI from taking the start of the name
+/// for a scheme or a host. It is empty if the name needs none.
 fn path_start(name: &[u8]) -> &'static str
     ensures { result.now ≡ spec.path_start name.now }
 {

@@ -1,4 +1,5 @@
-//! The pools that wait for other pools.
+//! The waits between pools: a pool waits for another pool if one of its jobs gets a job of the
+//! other pool.
 
 ghost use Rattle.std.specs.Prelude.{◌≡◌, option_map};
 ghost use Rattle.std.specs.List.{list_any};

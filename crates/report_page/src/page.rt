@@ -1,4 +1,5 @@
-//! The page of an answer: the template with the answer's JSON text in the place of its mark.
+//! The page of an answer. It is a template with a placeholder, which the answer's JSON text
+//! replaces.
 
 ghost use Rattle.std.specs.Prelude.{◌≡◌, ◌++◌, IfOk, string_bytes};
 ghost use Rattle.support.specs.Pushed.{Pushes};
@@ -7,7 +8,7 @@ ghost use Rattle.report_page.specs.Page as spec;
 use crate::page_template::{AFTER, BEFORE};
 use std::alloc::{AllocError, Global};
 
-/// Returns the page of an answer, from its JSON text on one line.
+/// Returns the page of an answer, given the answer's JSON text on one line.
 ///
 /// # Errors
 ///
@@ -18,7 +19,8 @@ pub fn page_of(alloc: Global, json: &str) -> Result<String, AllocError>
     page_between(alloc, BEFORE, json, AFTER)
 }
 
-/// Returns the JSON text, as it is written in a script element, between these texts.
+/// Returns the text `before`, then the JSON text, escaped for a script element, and then the text
+/// `after`.
 fn page_between(alloc: Global, before: &str, json: &str, after: &str) -> Result<String, AllocError>
     ensures { IfOk result (λ page.
         string_bytes page ≡ (before.now ++ spec.script_text json.now) ++ after.now) }
@@ -29,7 +31,7 @@ fn page_between(alloc: Global, before: &str, json: &str, after: &str) -> Result<
     Ok(page)
 }
 
-/// Appends a JSON text as it is written in a script element.
+/// Appends a JSON text, escaped for a script element.
 fn push_script_text(page: &mut String, json: &str) -> Result<(), AllocError>
     ensures { Pushes result page.old page.new (spec.script_text json.now) }
 {
@@ -39,8 +41,8 @@ fn push_script_text(page: &mut String, json: &str) -> Result<(), AllocError>
     Ok(())
 }
 
-/// Appends a character as it is written in a script element: `<` as an escape, so that no tag begins
-/// in the text, and no newline. A JSON text has a newline only at its end.
+/// Appends a character, escaped for a script element. Replaces `<` by an escape, so that no tag
+/// begins in the text. Omits a newline, which a JSON text has only at its end.
 fn push_script_char(page: &mut String, c: char) -> Result<(), AllocError>
     ensures { Pushes result page.old page.new (spec.script_char c) }
 {

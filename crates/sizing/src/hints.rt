@@ -1,5 +1,5 @@
-//! What standard error says in addition to an answer or a fault: which text is missing or in the
-//! place of another one, and why a file could not be read or written.
+//! Hints for standard error, which follow an answer or a fault: that a file lacks a text, has a
+//! text of another kind or has wrong line ends, and why a file could not be read or written.
 
 use sizing_cli::{
     Command, RecordingCommand, ReviewCommand, StdFiles, Task, TextFiles, bundle_of, most_bytes,
@@ -13,25 +13,27 @@ const PLAN: &str = "a plan";
 
 const CERTIFICATE: &str = "a certificate";
 
-/// What is wrong with a named file, if its command found a fault in a text.
+/// A likely mistake in a file that the arguments name. It explains why the command found a fault in
+/// a text.
 #[derive(Clone, Copy)]
 pub(crate) enum Hint {
-    /// The file holds one text, and its command needs this text too.
+    /// The file holds only one text, but the command also needs this second text.
     MissingText(&'static str),
-    /// The line `%%` of the file ends with a carriage return.
+    /// The separator `%%` in the file is followed by a carriage return, so it separates nothing.
     ReturnAfterSeparator,
-    /// The file looks like `found`, and its command needs `wanted` in its place.
+    /// The file looks like a text of the kind `found`, but the command reads it as one of the kind
+    /// `wanted`.
     Misplaced {
         found: &'static str,
         wanted: &'static str,
     },
-    /// The file is in the place of a recording, and does not begin as one.
+    /// The command reads the file as a recording, but the file does not begin as one.
     NotRecording,
-    /// The file is in the place of events, and its lines end with a carriage return.
+    /// The command reads the file as events, but its lines end with carriage returns.
     ReturnsInEvents,
 }
 
-/// Returns why the file could not be read, or an empty text if that is not known.
+/// Returns the reason why the file could not be read, or an empty text if the reason is not known.
 pub(crate) fn reason_of(rt: &impl Files, name: &str) -> &'static str {
     match File::open(rt, name) {
         Ok(_) if is_directory(rt, name) => ": it is a directory",
@@ -86,9 +88,8 @@ fn is_directory(rt: &impl Files, name: &str) -> bool {
     }
 }
 
-/// Returns the name of a file and a hint that says what is wrong with the file. The command with
-/// these arguments has found a fault in a text. The file is one of its arguments, and lacks a text
-/// or has a text of another kind. Returns `None` if no such file is found.
+/// Returns a hint about a file that the arguments `words` name, and the file's name. The command
+/// found a fault in a text before this call. Returns `None` if no file shows a known mistake.
 pub(crate) fn hint_of<'a>(
     rt: &impl Files,
     alloc: Global,
@@ -113,8 +114,8 @@ fn text_of(rt: &impl Files, alloc: Global, command: Command, name: &str) -> Opti
         .ok()
 }
 
-/// Returns what is wrong with the first file, which has this text. `is_alone` says that there is no
-/// second file.
+/// Returns a hint about the first file, whose content is `text`. `is_alone` says that the arguments
+/// name no second file.
 fn hint_of_first(command: Command, text: &[u8], is_alone: bool) -> Option<Hint> {
     if let Command::OnRecording(RecordingCommand::Learn { .. }) = command {
         return hint_of_recording(text);
@@ -132,7 +133,8 @@ fn hint_of_first(command: Command, text: &[u8], is_alone: bool) -> Option<Hint> 
     hint_of_misplaced(text, PLAN)
 }
 
-/// Returns that this text is missing, or why the file's line `%%` separates nothing.
+/// Returns the hint that the text `second` is missing, or that a carriage return follows the
+/// separator `%%`.
 fn missing_text(text: &[u8], second: &'static str) -> Hint {
     if has_line(text, b"%%\r") {
         Hint::ReturnAfterSeparator
@@ -153,7 +155,7 @@ fn hint_of_recording(text: &[u8]) -> Option<Hint> {
     }
 }
 
-/// Returns what is wrong with the second file, which has this text.
+/// Returns a hint about the second file, whose content is `text`.
 fn hint_of_second(command: Command, text: &[u8]) -> Option<Hint> {
     match command {
         Command::OnRecording(RecordingCommand::Conform) => hint_of_recording(text),
@@ -186,7 +188,8 @@ fn hint_of_misplaced(text: &[u8], wanted: &'static str) -> Option<Hint> {
     }
 }
 
-/// Returns what the text looks like, or `None` if it looks like none of the three.
+/// Returns which kind of text this looks like: a recording, a certificate or a plan. Returns `None`
+/// if it looks like none of them.
 fn kind_of(text: &[u8]) -> Option<&'static str> {
     if text.starts_with(b"recording 1") {
         Some("a recording")
@@ -199,7 +202,7 @@ fn kind_of(text: &[u8]) -> Option<&'static str> {
     }
 }
 
-/// Returns whether a line of the text begins with the header of an entry of a plan.
+/// Returns whether a line of the text begins with `[[pool]]`, `[[class]]` or `[[client]]`.
 fn has_header(text: &[u8]) -> bool {
     text.split(|byte| *byte == b'\n')
         .any(|line| is_header(line))
@@ -219,7 +222,7 @@ fn ends_with_return(text: &[u8]) -> bool {
     }
 }
 
-/// Returns the second text that the command reads, if it needs two.
+/// Returns the name of the command's second text, or `None` if the command needs only one text.
 fn second_text(command: Command) -> Option<&'static str> {
     match command {
         Command::Sequential(ReviewCommand::Replay) => Some("the events"),

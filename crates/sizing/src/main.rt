@@ -45,8 +45,7 @@ fn main(rt: HostRuntime) -> ExitCode {
     }
 }
 
-/// Reports on standard error what is wrong with a named file, if a text is missing or in the place
-/// of another one.
+/// Prints a hint to standard error if a file that the arguments name shows a likely mistake.
 fn advise(rt: &HostRuntime, words: &[&str]) {
     if let Some((name, hint)) = hint_of(rt, rt.alloc(), words) {
         let _ = print_hint(rt, name, hint);
@@ -79,7 +78,7 @@ fn print_hint(rt: &impl Eprint, name: &str, hint: Hint) -> io::Result<()> {
     }
 }
 
-/// Returns whether the arguments ask for the version.
+/// Returns whether the error is a request for the version.
 fn asks_for_version(fault: &CliError<'_>) -> bool {
     match fault {
         CliError::Words(error) => error.kind() == ErrorKind::DisplayVersion,
@@ -109,7 +108,8 @@ fn words_of(rt: &HostRuntime) -> io::Result<Vec<String>> {
     Ok(words)
 }
 
-/// Reports that the arguments could not be read, and returns the exit status.
+/// Reports that the arguments could not be read, or that memory ran out, and returns the exit
+/// status.
 fn unread_words(rt: &(impl Eprint + Files), kind: io::ErrorKind) -> ExitCode {
     if kind == io::ErrorKind::OutOfMemory {
         return ended(rt, &CliError::from(AllocError));

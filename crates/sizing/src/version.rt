@@ -1,5 +1,5 @@
 //! The version of the program.
 
-/// The version and the commit. `make gate` and `make program` write them here, in the copy of the
+/// The version and the commit. `make gate` and `make program` replace this text, in the copy of the
 /// sources that they prove.
 pub(crate) const VERSION: &str = "(development)";

@@ -55,7 +55,7 @@ impl Answer {
         })
     }
 
-    /// Appends the reply to the event line `number`, counted from 1.
+    /// Appends the line that answers the event line `number`, counted from 1.
     pub fn push_reply(
         &mut self,
         plan: &Plan,
@@ -89,14 +89,15 @@ pub fn no_separator(alloc: Global) -> Result<Answer, AllocError>
     fault(format!(in alloc; "{}", FaultHead(number::NO_SEPARATOR))?)
 }
 
-/// Returns the answer to an input, or to event lines, that are too long.
+/// Returns the answer to an input that is too long, or whose event lines are too long.
 pub fn input_too_long(alloc: Global) -> Result<Answer, AllocError>
     ensures { IfOk result (λ answer. answer ≡ spec.input_too_long) }
 {
     fault(format!(in alloc; "{}", FaultHead(number::INPUT_TOO_LONG))?)
 }
 
-/// Returns the answer to a plan that is too large to run, with the limit that a run would exceed.
+/// Returns the answer to a plan that is too large to run. The answer names the limit that a run
+/// would exceed.
 pub fn too_large(alloc: Global, plan: &Plan) -> Result<Answer, AllocError>
     ensures { IfOk result (λ answer. answer ≡ too_large plan.now) }
 {

@@ -152,7 +152,7 @@ pub fn serve_words<'a, R: Threads + Wait + Sync, F: TextFiles, S: Source, K: Sin
     Ok(status)
 }
 
-/// Serves parsed arguments.
+/// Runs the command of the parsed arguments, and writes its answer.
 fn serve_parsed<'a, R: Threads + Wait + Sync, F: TextFiles, S: Source, K: Sink>(
     rt: &R,
     alloc: Global,

@@ -22,7 +22,7 @@ use std::alloc::Global;
 use std::sync::Wait;
 use std::thread::Threads;
 
-/// The answer of `ask`, and the text of the certificate that proves it, if there is one.
+/// The answer of `ask`, and the text of the certificate that it rests on, if it rests on one.
 #[derive(Drop)]
 pub struct AskOutput {
     pub output: Output,
@@ -48,8 +48,8 @@ impl AskOutput {
 ///
 /// # Errors
 ///
-/// Fails with fault 20 if memory runs out or a thread cannot be started, and with the faults 42 and
-/// 43 of the search.
+/// Fails with fault 20 if memory runs out or a thread cannot be started, and with fault 42 or 43 if
+/// a search ends with that fault.
 pub fn ask<R: Threads + Wait + Sync>(
     rt: &R,
     alloc: Global,
@@ -115,7 +115,7 @@ fn ask_text<R: Threads + Wait + Sync>(
     }
 }
 
-/// Answers for a plan and, if one is given, the text of a certificate.
+/// Returns the answer of `ask` for a plan and, if one is given, the text of a certificate.
 fn ask_plan<R: Threads + Wait + Sync>(
     rt: &R,
     alloc: Global,
@@ -163,7 +163,8 @@ fn ask_with<R: Threads + Wait + Sync>(
     }
 }
 
-/// Answers for a plan and, if one is given, a certificate that fits it.
+/// Returns the answer of `ask` for a plan and, if one is given, a certificate with the plan's
+/// shape.
 fn ask_found<R: Threads + Wait + Sync>(
     rt: &R,
     alloc: Global,

@@ -35,7 +35,7 @@ pub(crate) fn faults_answer(
     Ok(bad_text(text))
 }
 
-/// Writes the faults in this form.
+/// Writes the faults in the output format `form`.
 fn faults_text(
     alloc: Global,
     form: Form,
@@ -89,7 +89,7 @@ pub(crate) fn cert_fault_answer(
     Ok(bad_text(text))
 }
 
-/// Writes the fault of a certificate in this form and in these words.
+/// Writes the fault of a certificate in the output format `form`, with the message `words`.
 fn cert_fault_text(
     alloc: Global,
     form: Form,
@@ -110,7 +110,7 @@ fn cert_fault_text(
     }
 }
 
-/// Returns a line with these words and the number of a fault.
+/// Returns a line with this message and the number of the fault.
 fn numbered(alloc: Global, words: &str, number: u8) -> Result<String, AllocError>
     ensures { IfOk result (λ text. string_bytes text ≡ words.now ++ spec.fault_number number) }
 {

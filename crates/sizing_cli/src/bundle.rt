@@ -13,9 +13,10 @@ pub struct Bundle<'a> {
     pub second: &'a [u8],
 }
 
-/// Splits an input at its last line `%%`. If that is the input's last line, it needs no newline.
+/// Splits an input at its last line `%%`, which needs no newline if it ends the input. Returns
+/// `None` if no line is `%%`.
 ///
-/// It looks once at each line that contains a `%`, from the last one to the first.
+/// The function looks at each line that contains a `%` once, from the last one to the first.
 pub fn bundle_of(input: &[u8]) -> Option<Bundle<'_>>
     ensures { option_map (λ bundle. record { plan = bundle.plan.now; second = bundle.second.now })
         result
@@ -34,7 +35,7 @@ pub fn bundle_of(input: &[u8]) -> Option<Bundle<'_>>
     }
 }
 
-/// Returns where the last line of a text begins: after its last newline, or at 0.
+/// Returns the offset at which the last line of a text begins: after the last newline, or 0.
 fn last_line_start(text: &[u8]) -> usize
     ensures within { result ≤ length text.now }
     ensures behind_newline { IsAfterLastMatch (λ byte. byte == 10) text.now result }

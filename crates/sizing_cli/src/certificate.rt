@@ -27,14 +27,14 @@ pub(crate) const WORKERS: usize = DEFAULT_WORKERS as usize;
 /// time for the memory that it needs.
 const POOLS_OF_A_WORKER: usize = 16;
 
-/// Searches for a certificate in at most `workers` threads. If that finds none, searches for sizes,
-/// and returns their certificate if it also accepts the declared sizes. So `certify` finds a
-/// certificate whenever `fit` changes nothing.
+/// Searches for a certificate in at most `workers` threads. If that search finds none, searches for
+/// sizes, and returns the certificate of these sizes if it also accepts the declared ones. So
+/// `certify` finds a certificate whenever `fit` changes nothing.
 ///
 /// # Errors
 ///
-/// Fails with fault 20 if memory runs out or a thread cannot be started, and with the faults 42 and
-/// 43 of the search.
+/// Fails with fault 20 if memory runs out or a thread cannot be started, and with fault 42 or 43 if
+/// a search ends with that fault.
 pub(crate) fn certificate_of<R: Threads + Wait + Sync>(
     rt: &R,
     alloc: Global,
@@ -63,7 +63,7 @@ fn workers_of(plan: &Plan, most: usize) -> usize
     most.min(plan.pools().len() / POOLS_OF_A_WORKER).max(1)
 }
 
-/// Returns the certificate of the sizes that a search finds, if it accepts the declared sizes.
+/// Searches for sizes, and returns their certificate if it also accepts the declared sizes.
 fn certificate_of_sizes(alloc: Global, plan: &Plan) -> Result<Option<Cert>, AllocError>
     requires { accepted plan.now (steady_cert plan.now) ≡ false }
     ensures accepted { IfOk result
@@ -81,7 +81,8 @@ fn certificate_of_sizes(alloc: Global, plan: &Plan) -> Result<Option<Cert>, Allo
 pub(crate) enum SizesComparison {
     /// A certificate that accepts the plan with its declared sizes.
     Accepted(Cert),
-    /// Sizes that differ from the declared ones, or the reason why none were found.
+    /// The sizes that were found, which differ from the declared ones, or the reason why none were
+    /// found.
     Other(SizesFound),
 }
 

@@ -80,9 +80,9 @@ fn ensure_replaceable_text<'a>(
     }
 }
 
-/// Returns whether a certificate may replace this text: it is empty, or a certificate itself. Only
-/// the keys of a certificate are checked, because one of an older plan may not fit the plan of
-/// today.
+/// Returns whether a certificate may replace this text: the text is empty or is a certificate
+/// itself. Only the keys of a certificate are checked, because that certificate may belong to an
+/// older version of the plan.
 fn is_replaceable(alloc: Global, text: &[u8]) -> Result<bool, AllocError>
     ensures { IfOk result (λ replaceable. replaceable ≡ spec.is_replaceable text.now) }
 {
@@ -155,7 +155,7 @@ fn member_count(value: &Value) -> Option<usize>
     }
 }
 
-/// Writes the certificate that was found to the file named for it.
+/// Writes the certificate that was found to the file that the arguments name for it.
 #[tactic(auto, using(crate::proofs::SavedTexts::no_writes))]
 pub(crate) fn write_certificate<'a, F: TextFiles>(
     files: &mut F,

@@ -15,8 +15,8 @@ use std::sync::Wait;
 use std::thread::Threads;
 use support::number::{GATE, MEMORY};
 
-/// Returns the bundle of the two texts if it splits into them again and `check` accepts the
-/// bundle's own bytes.
+/// Joins the two texts to a bundle. Returns the bundle if it splits into the same two texts again
+/// and `check` accepts it, and otherwise `None`.
 pub fn certified_bundle<R: Threads + Wait + Sync>(
     rt: &R,
     alloc: Global,
@@ -71,7 +71,7 @@ fn is_certified<R: Threads + Wait + Sync>(
     }
 }
 
-/// Returns whether `check` accepts the two parts. It does not if either has a fault.
+/// Returns whether `check` accepts the two parts. A part with a fault is not accepted.
 fn is_accepted<R: Threads + Wait + Sync>(
     rt: &R,
     alloc: Global,

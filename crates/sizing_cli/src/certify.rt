@@ -34,8 +34,8 @@ enum CertificateSearch {
 ///
 /// # Errors
 ///
-/// Fails with fault 20 if memory runs out or a thread cannot be started, and with the faults 42 and
-/// 43 of the search and of the check.
+/// Fails with fault 20 if memory runs out or a thread cannot be started, and with fault 42 or 43 if
+/// the search or the check ends with that fault.
 pub fn certify<R: Threads + Wait + Sync>(
     rt: &R,
     alloc: Global,
@@ -116,7 +116,11 @@ fn found_text<R: Threads + Wait + Sync>(
     Ok(CertificateSearch::Text(text))
 }
 
-/// Returns the bundle of the two texts, which `check` accepts.
+/// Returns the bundle of the two texts, if `check` accepts it.
+///
+/// # Errors
+///
+/// Fails with fault 42 if `check` does not accept the bundle, which contradicts the search.
 fn bundle<R: Threads + Wait + Sync>(
     rt: &R,
     alloc: Global,

@@ -1,4 +1,4 @@
-//! The `check` command.
+//! The `check` command: decides whether a certificate accepts a plan.
 
 ghost use Rattle.std.specs.Prelude.{◌≡◌, IfOk, IsTrue};
 ghost use Rattle.cert_text.specs.Cert.{cert_fits};
@@ -12,8 +12,8 @@ use cert_text::Cert;
 use job_bodies::Plan;
 use std::alloc::{AllocError, Global};
 
-/// Returns the answer of `check`: whether the certificate accepts the plan, and both sides of each
-/// bound.
+/// Returns the answer of `check`: whether the certificate accepts the plan, and for each pool the
+/// totals of its vectors and the limits of these totals.
 pub fn check(alloc: Global, plan: &Plan, cert: &[u8]) -> Result<Answer, AllocError>
     ensures { IfOk result (λ answer. answer ≡ spec.check plan.now cert.now) }
 {

@@ -1,4 +1,4 @@
-//! The `explain` command.
+//! The `explain` command: lists the conditions of a certificate that fail.
 
 ghost use Rattle.std.specs.Prelude.{◌≡◌, IfOk, IsTrue};
 ghost use Rattle.cert_text.specs.Cert.{cert_fits};
@@ -12,8 +12,8 @@ use job_bodies::Plan;
 use refusal_notes::push_explanation;
 use std::alloc::{AllocError, Global};
 
-/// Returns the answer of `explain`: each condition of the certificate that fails, with both its
-/// sides.
+/// Returns the answer of `explain`: each condition of the certificate that fails, with the two
+/// numbers that the condition compares.
 pub fn explain(alloc: Global, plan: &Plan, cert: &[u8]) -> Result<Answer, AllocError>
     ensures { IfOk result (λ answer. answer ≡ spec.explain plan.now cert.now) }
 {

@@ -1,4 +1,5 @@
-//! The errors of a call with the arguments of a command line.
+//! The errors of [`serve_words`](crate::serve_words), which runs the command that the arguments
+//! name.
 
 ghost use Rattle.std.specs.Prelude.{◌≡◌};
 ghost use Rattle.sizing_cli.specs.declared.fault.CliError.TheVariants.{Serve, Words};
@@ -25,8 +26,8 @@ pub enum CliError<'a> {
     NoCommand,
     /// Both texts are to come from standard input.
     InputTwice,
-    /// One of two texts is itself a bundle of two texts: the one of this name, or standard input if
-    /// the name is `<stdin>`.
+    /// Two texts are given, and one of them is itself a bundle of two texts. The field is the name
+    /// of its file, or `<stdin>`.
     Bundle(&'a str),
     /// The file of this name could not be read: fault 60.
     Unread(&'a str),
@@ -34,8 +35,8 @@ pub enum CliError<'a> {
     CertificateNeedsFile,
     /// The name of the certificate's file is that of a directory.
     Directory(&'a str),
-    /// The file of this name, to which the certificate was to be written, holds something else. It
-    /// is left as it is.
+    /// The certificate was to be written to the file of this name, but the file holds another text.
+    /// The file is unchanged.
     Occupied(&'a str),
     /// The certificate could not be written to the file of this name: fault 61. The whole answer
     /// was written.

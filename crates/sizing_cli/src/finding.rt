@@ -25,13 +25,14 @@ use std::thread::Threads;
 /// The maximum number of states in which a witness is searched for.
 const STATES: usize = DEFAULT_STATES as usize;
 
-/// Finds out whether a plan is safe, and returns whether the given certificate is stale. Tries the
-/// given certificate first, then searches for one, then for a witness, and then for other sizes.
+/// Finds out whether a plan is safe, and returns whether the given certificate is stale, which
+/// means that it does not accept the plan. Tries the given certificate first, then searches for
+/// one, then for a witness, and then for other sizes.
 ///
 /// # Errors
 ///
-/// Fails with fault 20 if memory runs out or a thread cannot be started, and with the faults 42 and
-/// 43 of the search.
+/// Fails with fault 20 if memory runs out or a thread cannot be started, and with fault 42 or 43 if
+/// a search ends with that fault.
 pub(crate) fn finding_of<R: Threads + Wait + Sync>(
     rt: &R,
     alloc: Global,
@@ -49,7 +50,7 @@ pub(crate) fn finding_of<R: Threads + Wait + Sync>(
     }
 }
 
-/// Finds out whether a plan is safe, with this certificate given.
+/// Finds out whether a plan is safe, as [`finding_of`] does, when a certificate is given.
 fn finding_with<R: Threads + Wait + Sync>(
     rt: &R,
     alloc: Global,

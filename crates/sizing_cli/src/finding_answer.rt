@@ -30,9 +30,9 @@ use report::{
 use size_search::SizesFound;
 use std::alloc::{AllocError, Global};
 
-/// Writes the answer for this finding. `lowered` is the plan with its maximums lowered to the cores,
-/// if a certificate of it was found. Messages use `file` as the name of the plan's file. A given
-/// certificate is stale if it does not accept the plan.
+/// Writes the answer for this finding. If a certificate accepts the plan with each maximum lowered
+/// to the core size, `lowered` has that plan and that certificate. Messages use `file` as the name
+/// of the plan's file. `is_stale` says that a certificate was given that does not accept the plan.
 pub(crate) fn answer_of(
     alloc: Global,
     options: AskOptions,
@@ -61,7 +61,7 @@ pub(crate) fn answer_of(
     })
 }
 
-/// Returns the warnings about a plan, and one about a stale certificate if `is_stale`.
+/// Returns the warnings about a plan, followed by one about the given certificate if `is_stale`.
 fn warnings_for(
     alloc: Global,
     text: &[u8],
@@ -98,7 +98,7 @@ fn plan_warnings(
     }
 }
 
-/// Returns the warnings about a plan that is safe with its maximums lowered to the cores.
+/// Returns the warnings about a plan that is safe even if each maximum is lowered to the core size.
 fn lowered_warnings(
     alloc: Global,
     text: &[u8],
@@ -131,8 +131,9 @@ fn declared_warnings(
     Ok(warnings)
 }
 
-/// Returns how many queue places each pool needs. The certificate of the plan, or of the sizes that
-/// were found, shows the number. The list is empty if there is no certificate.
+/// Returns, for each pool, the maximum number of jobs in its queue at once. It follows from the
+/// certificate of the plan or, if the plan has none, of the sizes that were found. The list is
+/// empty if there is no certificate.
 fn needed_of(
     alloc: Global,
     plan: &Plan,
@@ -157,7 +158,7 @@ fn needed_by_sizes(alloc: Global, sizes: &SizesFound) -> Result<Vec<Option<u64>>
     }
 }
 
-/// Appends a warning about a stale certificate if `is_stale`.
+/// Appends a warning about the given certificate if `is_stale`.
 fn with_stale(
     alloc: Global,
     mut warnings: Vec<Warning>,
@@ -176,7 +177,7 @@ fn with_stale(
     Ok(warnings)
 }
 
-/// Writes the answer with these warnings.
+/// Writes the answer: the finding and these warnings, and the status that follows from them.
 fn answer_with(
     alloc: Global,
     options: AskOptions,
@@ -197,7 +198,7 @@ fn answer_with(
     Ok(Answer { text, status })
 }
 
-/// Writes the finding with these warnings in this form.
+/// Writes the finding and these warnings in the output format `form`.
 fn text_of(
     alloc: Global,
     form: Form,
@@ -322,7 +323,8 @@ fn status_of(strict: bool, warnings: &[Warning], finding: &PlanFinding) -> Statu
     }
 }
 
-/// Returns the text of the certificate that a finding rests on.
+/// Returns the text of the certificate that a finding rests on, or `None` if it rests on none or if
+/// the text would be too long to be read back.
 fn certificate_text(alloc: Global, finding: &PlanFinding) -> Result<Option<Vec<u8>>, AllocError>
     ensures { IfOk result (λ left.
         (plan : PlanValue)

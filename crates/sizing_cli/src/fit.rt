@@ -33,8 +33,8 @@ use support::number::MIXED;
 ///
 /// # Errors
 ///
-/// Fails with fault 20 if memory runs out or a thread cannot be started, and with the faults 42 and
-/// 43 of the search and of the check.
+/// Fails with fault 20 if memory runs out or a thread cannot be started, and with fault 42 or 43 if
+/// the search or the check ends with that fault.
 pub fn fit<R: Threads + Wait + Sync>(
     rt: &R,
     alloc: Global,
@@ -71,8 +71,8 @@ fn fit_plan<R: Threads + Wait + Sync>(
 ///
 /// # Errors
 ///
-/// Fails with fault 20 if memory runs out or a thread cannot be started, and with the faults 42 and
-/// 43 of the check of the bundle.
+/// Fails with fault 20 if memory runs out or a thread cannot be started, and with fault 42 or 43 if
+/// the check of the bundle ends with that fault.
 pub fn answer_of_sizes<R: Threads + Wait + Sync>(
     rt: &R,
     alloc: Global,
@@ -115,7 +115,7 @@ fn lines_of(alloc: Global, plan: &Plan, found: &SizesFound) -> Result<Answer, Al
     }
 }
 
-/// Writes the sizes of the fitted plan. The answer is a no if they differ from the plan's.
+/// Writes the sizes of the fitted plan. The answer is a no if they differ from the declared sizes.
 fn sizes(alloc: Global, plan: &Plan, fit: &Plan) -> Result<Answer, AllocError>
     ensures { IfOk result (λ answer. answer ≡ spec.sizes_answer plan.now fit.now) }
 {
@@ -139,7 +139,7 @@ fn no_sizes(alloc: Global, plan: &Plan, cause: NoSizes) -> Result<Answer, AllocE
     })
 }
 
-/// Writes the bundle for what the search found.
+/// Writes the bundle of the sizes that were found, or the reason why none were found.
 fn bundle<R: Threads + Wait + Sync>(
     rt: &R,
     alloc: Global,

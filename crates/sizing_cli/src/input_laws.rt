@@ -3,8 +3,8 @@
 ghost use Rattle.sizing_cli.specs.Laws.{InputsSplitAtTheLastSeparator, NoBundleWithoutASeparator};
 ghost use Rattle.sizing_cli.specs.SafeInput.{YesMeansSafe};
 
-/// States that an input is a bundle exactly when it consists of whole lines, which are the plan's
-/// text, then a line that is exactly `%%`, and then a second part without such a line.
+/// States that an input is a bundle exactly when it consists of three groups of whole lines: the
+/// plan's text, a line that is exactly `%%`, and a second part in which no line is `%%`.
 pub fn inputs_split_at_the_last_separator()
     ensures { InputsSplitAtTheLastSeparator }
 {}
@@ -14,9 +14,10 @@ pub fn no_bundle_without_a_separator()
     ensures { NoBundleWithoutASeparator }
 {}
 
-/// States what a yes of `check` means. The input holds a plan and a certificate for it, and every
-/// state that a list of events can reach is safe: no submit was refused, each pool keeps its sizes,
-/// and no unfinished jobs wait only for each other.
+/// States that a yes of `check` means that the plan is safe. If `check` answers yes, the input
+/// holds a plan and a certificate for it, and every state that a list of events can reach is safe:
+/// no submit was refused, each pool keeps its sizes, and no unfinished jobs wait only for each
+/// other.
 pub fn a_yes_means_safe()
     ensures { YesMeansSafe }
 {}

@@ -1,4 +1,4 @@
-//! A law of joined texts, the contract of a function with an empty body.
+//! A law of joined texts, as the contract of a function with an empty body.
 
 ghost use Rattle.sizing_cli.specs.Texts.{JoinedTextsSplitAgain};
 

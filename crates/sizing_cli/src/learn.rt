@@ -20,8 +20,8 @@ use learning::{Extent, InferenceLimit, InferenceResult, InferredPlan, START_BYTE
 use plan_text::write_plan;
 use std::alloc::{AllocError, Global};
 
-/// Returns the plan that a recording shows. The input is the recording. If `strict`, the answer has
-/// the plan only if the recording conforms to it.
+/// Returns a plan that is derived from the recording `input`. If `strict`, the answer has the plan
+/// only if the recording conforms to it.
 ///
 /// # Errors
 ///
@@ -40,8 +40,8 @@ pub fn learn_report(alloc: Global, strict: bool, input: &[u8]) -> Result<Answer,
     learn_from_all(alloc, strict, input)
 }
 
-/// Returns the answer with bodies derived from the start of the recording, if they explain all of
-/// it.
+/// Derives the bodies from the start of the recording. Returns the answer with them if they explain
+/// the whole recording.
 fn learn_from_start(
     alloc: Global,
     strict: bool,
@@ -56,7 +56,7 @@ fn learn_from_start(
     }
 }
 
-/// Returns the answer with bodies derived from the whole recording.
+/// Derives the bodies from the whole recording, and returns the answer with them.
 fn learn_from_all(alloc: Global, strict: bool, recording: &[u8]) -> Result<Answer, AllocError>
     ensures { IfOk result (spec.AnswersLines strict recording.now) }
 {
@@ -70,9 +70,9 @@ fn learn_from_all(alloc: Global, strict: bool, recording: &[u8]) -> Result<Answe
     }
 }
 
-/// Writes the inferred plan. Comments at its head list what the recording shows beyond it. Returns
-/// `None` if a job or a round did not follow its body, or if there are more rounds of a kind than
-/// the plan allows.
+/// Writes the inferred plan, after comments that list what the recording shows beyond the plan.
+/// Returns `None` if a job or a round did not follow its body, or if there are more rounds of a
+/// kind than the plan allows. A round is one pass of a client through its body.
 fn plan_answer(
     alloc: Global,
     strict: bool,
@@ -119,8 +119,8 @@ fn commented_plan(
     }
 }
 
-/// Returns whether [`write_plan`] writes the plan of the first text as the second text, and the
-/// second text is not too long.
+/// Returns whether the text `text` parses as a plan that [`write_plan`] writes as `written`, and
+/// `written` is not too long for a plan.
 fn reads_as(alloc: Global, text: &[u8], written: &[u8]) -> Result<bool, AllocError>
     ensures same { IfOk result (λ yes. IsTrue yes → plan_of text.now ≡ plan_of written.now) }
     ensures short { IfOk result (λ yes. IsTrue yes → length written.now ≤ MAX_PLAN_BYTES) }
@@ -212,8 +212,8 @@ fn push_comment(text: &mut String, plan: &Plan, finding: &Finding) -> Result<(),
     text.push('\n')
 }
 
-/// Returns the answer with a learned plan, whose text is given. If there are findings, the status is
-/// a no, and if `strict` they are written in place of the plan.
+/// Returns the answer with a learned plan, whose text is `text`. If there are findings, the status
+/// is a no. If `strict` is also set, the answer has the findings in place of the plan.
 fn learned_answer(
     alloc: Global,
     strict: bool,
@@ -241,8 +241,8 @@ fn learned_answer(
     })
 }
 
-/// Returns the findings, one on each line, of a recording that does not conform to the plan derived
-/// from it.
+/// Returns the text that replaces a derived plan if the recording does not conform to it. The text
+/// has one finding on each line.
 fn differences(alloc: Global, plan: &Plan, findings: &[Finding]) -> Result<String, AllocError>
     ensures { IfOk result (λ text. string_bytes text ≡ spec.differences plan.now findings.now) }
 {

@@ -1,4 +1,4 @@
-//! The ends of the lines of a recording.
+//! The hint about a malformed line of a recording that ends with a carriage return.
 
 ghost use Rattle.std.specs.Prelude.{◌≡◌, ◌-◌, ◌∷◌, [], MatchOption, option_map, slice_get};
 ghost use Rattle.recordings.specs.WholeLines.{whole_lines};

@@ -25,14 +25,15 @@ pub(crate) struct LoweredPlan {
 }
 
 /// Searches for a certificate of the plan with each maximum lowered to the core size of its pool.
-/// Returns `None` without a search if the plan is safe or not safe, or if no maximum is above its
-/// core size. A plan that is not safe needs no search: until the lowered plan refuses a submit,
-/// both plans behave alike, so a witness against the plan is also one against the lowered plan.
+/// Returns `None` if it finds none. Does not search if `finding` already says whether the plan is
+/// safe, or if no maximum is above its core size. A plan that is not safe needs no search: until
+/// the lowered plan refuses a submit, both plans behave alike, so a witness against the plan is
+/// also one against the lowered plan.
 ///
 /// # Errors
 ///
-/// Fails with fault 20 if memory runs out or a thread cannot be started, and with the faults 42 and
-/// 43 of the search.
+/// Fails with fault 20 if memory runs out or a thread cannot be started, and with fault 42 or 43 if
+/// a search ends with that fault.
 pub(crate) fn lowered_plan<R: Threads + Wait + Sync>(
     rt: &R,
     alloc: Global,

@@ -122,7 +122,7 @@ fn read_pair<'a, F: TextFiles, S: Source>(
     }
 }
 
-/// Returns an error if this text, which is one of two, is itself a bundle. The error contains
+/// Returns an error if `text`, one of a command's two texts, is itself a bundle. The error contains
 /// `name`, the name of the text's file.
 fn ensure_alone<'a>(name: Option<&'a str>, text: &[u8]) -> Result<(), CliError<'a>>
     ensures alone { IfOk result (λ _. bundle_of text.now ≡ None) }

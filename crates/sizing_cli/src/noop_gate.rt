@@ -1,9 +1,11 @@
-//! A gate for the program that never blocks.
+//! The gate that the program uses, which never blocks. Runs, searches and checks on threads call a
+//! gate.
 
 use cert_check::PoolGate;
 use locked_runner::{Actor, Gate, GateFault};
 
-/// A gate that admits every pool and does the declared work in no time.
+/// A gate that never stops a search or a check, and that takes no time for the declared work of a
+/// run.
 pub struct NoopGate;
 
 impl PoolGate for NoopGate {

@@ -38,7 +38,7 @@ pub fn serve_recording<S: Source, K: Sink>(
     write_reading(alloc, reading, &input, sink)
 }
 
-/// Runs the command on the recording in this input, and writes the answer to the sink.
+/// Runs the command on the recording in `input`, and writes the answer to the sink.
 pub(crate) fn write_reading<K: Sink>(
     alloc: Global,
     reading: RecordingCommand,

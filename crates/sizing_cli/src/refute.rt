@@ -1,4 +1,5 @@
-//! The `refute` command: searches for a witness, and writes it as a story or as a bundle.
+//! The `refute` command. It searches for a witness, which is a list of events after which a submit
+//! is refused or jobs wait only for each other, and writes the witness as a story or as a bundle.
 
 ghost use Rattle.std.specs.Prelude.{◌≡◌, ◌++◌, ◌∷◌, IfOk, IfErr, IfSome, IfNone, IsTrue, codes};
 ghost use Rattle.sizing_cli.specs.Certify.{IsUncertified};
@@ -27,8 +28,8 @@ use std::thread::Threads;
 ///
 /// # Errors
 ///
-/// Fails with fault 20 if memory runs out or a thread cannot be started, and with the faults 42 and
-/// 43 of the search for a certificate.
+/// Fails with fault 20 if memory runs out or a thread cannot be started, and with fault 42 or 43 if
+/// the search for a certificate ends with that fault.
 pub fn refute<R: Threads + Wait + Sync>(
     rt: &R,
     alloc: Global,
@@ -82,7 +83,8 @@ fn without_certificate(
     Ok(answer_of(alloc, refute_format, plan, search, text)?)
 }
 
-/// Writes the answer for the result of the search for a witness.
+/// Writes the answer: the witness, if the search found one, and otherwise the number of states that
+/// were searched.
 fn answer_of(
     alloc: Global,
     refute_format: RefuteFormat,
@@ -102,7 +104,7 @@ fn answer_of(
     }
 }
 
-/// Writes the witness in this form.
+/// Writes the witness in the output format `refute_format`.
 fn show(
     alloc: Global,
     refute_format: RefuteFormat,
@@ -193,7 +195,8 @@ fn events_too_long(alloc: Global) -> Result<Answer, AllocError>
     Answer::no(alloc, "no bundle: too many events\n")
 }
 
-/// Returns the status of an answer without a bundle: a no if a bundle was wanted.
+/// Returns the status of an answer that has no bundle: `Refused` if a bundle was requested, and
+/// otherwise `status`.
 fn without_bundle(refute_format: RefuteFormat, status: Status) -> Status
     ensures { result ≡ spec.without_bundle refute_format status }
 {

@@ -1,4 +1,4 @@
-//! The `replay` command.
+//! The `replay` command: performs events on a plan and reports the outcome of each.
 
 ghost use Rattle.std.specs.Prelude.{◌≡◌, IfOk};
 ghost use Rattle.sizing_cli.specs.Report as spec;

@@ -1,4 +1,4 @@
-//! The answer of a review to an input.
+//! The answers of the review commands: `replay`, `check` and `explain`.
 
 ghost use Rattle.std.specs.Prelude.{◌≡◌, IfOk};
 ghost use Rattle.sizing_cli.specs.Report as spec;
@@ -13,7 +13,7 @@ use job_bodies::Plan;
 use std::alloc::{AllocError, Global};
 use support::ReadError;
 
-/// Returns the review's answer to an input.
+/// Runs a review command on an input, and returns the answer.
 pub fn report(alloc: Global, review: ReviewCommand, input: &[u8]) -> Result<Answer, AllocError>
     ensures { IfOk result (λ answer. answer ≡ spec.report review input.now) }
 {
@@ -24,7 +24,7 @@ pub fn report(alloc: Global, review: ReviewCommand, input: &[u8]) -> Result<Answ
     }
 }
 
-/// Returns the review's answer for a plan and the second part of its bundle.
+/// Runs a review command on a plan and on the second part of its bundle, and returns the answer.
 fn answer_of(
     alloc: Global,
     review: ReviewCommand,

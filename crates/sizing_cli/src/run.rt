@@ -25,8 +25,8 @@ use support::number::RUN_TOO_LARGE;
 ///
 /// # Errors
 ///
-/// Fails with fault 20 if memory runs out or a thread cannot be started, and with the faults 41 to
-/// 43 of the run.
+/// Fails with fault 20 if memory runs out or a thread cannot be started, and with fault 41, 42 or
+/// 43 if the run ends with that fault.
 pub fn run_report<R: Threads + Wait + Sync>(
     rt: &R,
     alloc: Global,
@@ -95,7 +95,7 @@ fn run_certified<R: Threads + Wait + Sync>(
     }
 }
 
-/// Returns the line of a completed run, with its jobs and its units of work.
+/// Returns the answer to a completed run: a line with its numbers of jobs and of units of work.
 fn run_through(alloc: Global, jobs: u64, units: u64) -> Result<Answer, AllocError>
     ensures { IfOk result (λ answer. answer ≡ spec.run_through jobs units) }
 {

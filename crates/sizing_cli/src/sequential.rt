@@ -1,4 +1,4 @@
-//! The entry point of the reviews, which need no threads.
+//! The entry point of the review commands (`replay`, `check` and `explain`), which need no threads.
 
 ghost use Rattle.clap.specs.Words.{Text};
 ghost use Rattle.command_line.specs.declared.command.Command.TheVariants.{Sequential};
@@ -11,8 +11,8 @@ use command_line::ReviewCommand;
 use job_bodies::MAX_INPUT_BYTES;
 use std::alloc::Global;
 
-/// Reads an input, runs the review on it, and writes the answer to the sink. The whole answer is
-/// computed before its first byte is written.
+/// Reads an input, runs the review command on it, and writes the answer to the sink. The whole
+/// answer is computed before its first byte is written.
 ///
 /// It reads at most 2,097,156 bytes. Each read except the last takes at least one byte, so the call
 /// ends, whatever the source and the sink do.
@@ -35,7 +35,7 @@ pub fn serve_alone<S: Source, K: Sink>(
     write_review(alloc, review, &input, sink)
 }
 
-/// Runs the review on this input, and writes the answer to the sink.
+/// Runs the review command on this input, and writes the answer to the sink.
 pub(crate) fn write_review<K: Sink>(
     alloc: Global,
     review: ReviewCommand,

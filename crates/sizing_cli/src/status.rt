@@ -17,7 +17,7 @@ use support::number::{GATE, MEMORY, MIXED, READ_FAILED, WRITE_FAILED};
 /// The outcome of a command that gave an answer.
 #[derive(Clone, Copy, Debug, PartialEq, Eq)]
 pub enum Status {
-    /// Yes, or done.
+    /// Yes, or the command did what it was asked to do.
     Done,
     /// No: for example an event was refused or impossible, jobs are stuck, a condition of the
     /// certificate fails, no certificate or sizes were found, sizes would change, or the plan is
@@ -51,9 +51,9 @@ impl Status {
     }
 }
 
-/// The fault of a command that gave no complete answer: 20 Memory; 41 Strange of a run; 42 Mixed of
-/// a run or a search; 43 Gate of a run, a search or a check on threads; 60 ReadFailed; or 61
-/// WriteFailed.
+/// The fault of a command that gave no complete answer. The numbers are 20 (`Memory`), 41
+/// (`Strange`, a run), 42 (`Mixed`, a run or a search), 43 (`Gate`, a run, a search or a check on
+/// threads), 60 (`ReadFailed`) and 61 (`WriteFailed`).
 ///
 /// After 61 a prefix of the answer was written; after any other fault nothing was.
 #[derive(Clone, Copy, Debug, PartialEq, Eq)]

@@ -46,7 +46,7 @@ pub trait TextFiles {
     fn is_directory(&self, name: &str) -> bool
         ensures { IfSome (directory self.now name.now) (λ known. result ≡ known) };
 
-    /// Writes these bytes to a file, which is created or replaced.
+    /// Writes these bytes to a file. Creates the file, or replaces its content.
     ///
     /// # Errors
     ///

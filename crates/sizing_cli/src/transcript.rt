@@ -34,7 +34,8 @@ pub fn replay_lines(alloc: Global, plan: &Plan, lines: EventLines<'_>) -> Result
     }
 }
 
-/// Appends the replies to the lines, or returns the number of the first malformed line, from 1.
+/// Appends the replies to the event lines, up to the first impossible event. Returns the number of
+/// the first malformed line, counted from 1, if there is one.
 fn push_replies(
     alloc: Global,
     plan: &Plan,

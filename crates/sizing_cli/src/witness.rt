@@ -1,4 +1,5 @@
-//! The search for a confirmed witness against a plan.
+//! The search for a confirmed witness against a plan. A witness is a list of events after which a
+//! submit is refused or jobs wait only for each other.
 
 ghost use Rattle.std.specs.Prelude.{◌≤◌, IfOk, IfSome};
 ghost use Rattle.sizing_cli.specs.Refute.{IsWitnessOf};
@@ -55,9 +56,9 @@ fn confirm(
     confirmed(alloc, plan, found.events, members, &standing)
 }
 
-/// Returns a vector for each pool. If the search finds a standing vector, it is that one, and can
-/// prove that the pool never has more than core threads. Otherwise it has no weights and proves
-/// nothing. The list is empty if a class submits itself.
+/// Returns, for each pool in plan order, the standing vector that the search finds, or a vector
+/// without weights if it finds none. A standing vector can prove that the pool never has more than
+/// core threads. The list is empty if a class submits itself.
 fn standing_vectors(alloc: Global, plan: &Plan) -> Result<Vec<Vector>, AllocError> {
     let mut vectors = Vec::new(alloc);
     let Some(levels) = Levels::of(alloc, plan)? else {
@@ -73,7 +74,7 @@ fn standing_vectors(alloc: Global, plan: &Plan) -> Result<Vec<Vector>, AllocErro
     Ok(vectors)
 }
 
-/// Returns the vector of a standing bound.
+/// Returns the vector of a standing bound, or a vector without weights for any other bound.
 fn standing_vector(alloc: Global, bound: Bound) -> Vector {
     match bound {
         Bound::Standing(vector) => vector,

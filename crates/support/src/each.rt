@@ -7,7 +7,8 @@ ghost use Rattle.support.specs.Each.{IsReadOfEach};
 use crate::ReadError;
 use std::alloc::Global;
 
-/// Calls `read` with each element and its index, in order. Returns the values, or the first error.
+/// Calls `read` with each element and its index, in order. Returns the results of the calls, or the
+/// error of the first call that fails. No call follows an error.
 pub fn read_each<'a, X, Y: Drop, F, R>(
     alloc: Global,
     elements: &'a [X],

@@ -1,7 +1,7 @@
 //! Definitions and helpers that most other crates share.
 //!
-//! Lemmas about lists whose elements are given by index, [`IdMap`], the numbers and names of faults, the start of a
-//! fault's text, and numbers in decimal digits.
+//! They are lemmas about lists whose elements are given by index, the map [`IdMap`], the numbers
+//! and names of faults, the start of a fault's text, and the writing of numbers in decimal digits.
 #![tactic(auto)]
 
 mod counter;

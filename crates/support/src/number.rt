@@ -27,8 +27,9 @@ pub const NO_SUCH_CLASS: u8 = 10;
 pub const BAD_ACTION: u8 = 11;
 /// A submit fills a slot that is already filled.
 pub const SLOT_OPEN: u8 = 12;
-/// A get names an empty slot. In a plan that is built from lists, a get names a position instead:
-/// no earlier submit is at that position, or an earlier get names it too.
+/// A get names an empty slot. In a plan that is built from lists, a get names a position instead.
+/// The fault is then that the body has no earlier submit at that position, or that an earlier get
+/// names the same position.
 pub const SLOT_EMPTY: u8 = 13;
 
 // ---- out of memory
@@ -55,11 +56,14 @@ pub const CERT_TOO_LONG: u8 = 34;
 /// A run exceeds one of its limits.
 pub const RUN_TOO_LARGE: u8 = 40;
 /// The receipts of a client or a pool contain an event of another client or pool, or an event that
-/// the history does not contain.
+/// the history does not contain. The history lists the events of a run in order. A receipt is a
+/// thread's record of an event that the thread performed.
 pub const STRANGE: u8 = 41;
-/// The history and the receipts are not those of a complete run.
+/// The results of several threads contradict each other: the history and the receipts of a run are
+/// not those of a complete run, or the parts of a search do not fit together.
 pub const MIXED: u8 = 42;
-/// The gate for declared work failed.
+/// A gate failed: the code that does the declared work of a run, or the hook that a search or a
+/// check calls before each pool.
 pub const GATE: u8 = 43;
 
 // ---- faults of an input

@@ -12,7 +12,7 @@ use weights::Ranks;
 
 // ---- from clients
 
-/// Appends the edges from each kind of clients.
+/// Appends the edges from each client kind to the classes that it submits and gets.
 pub(crate) fn push_client_edges(text: &mut String, plan: &Plan) -> Result<(), AllocError>
     ensures { Pushes result text.old text.new (spec.client_edges plan.now) }
 {
@@ -51,7 +51,8 @@ fn push_client_edges_to(
 
 // ---- from classes
 
-/// Appends the edges from each class. The ranks determine which gets are counted.
+/// Appends the edges from each class to the classes that it submits and gets. The ranks determine
+/// which gets are counted.
 pub(crate) fn push_class_edges(
     text: &mut String,
     plan: &Plan,
@@ -178,7 +179,7 @@ fn is_counted(plan: &Plan, ranks: &Ranks, class: usize, position: usize) -> bool
 
 // ---- lines
 
-/// Appends the edge for the submits, of which there are `times`, if there are any.
+/// Appends one edge for `times` submits of a class. Appends nothing if `times` is 0.
 fn push_submit_edge(
     text: &mut String,
     kind: &str,
@@ -205,7 +206,8 @@ fn push_times(text: &mut String, times: usize) -> Result<(), AllocError>
     write!(text, " [label=\"{times}\"]")
 }
 
-/// Appends the edge for gets, if there are any. It is bold if one of them is counted.
+/// Appends one edge for the gets of a class, if `gets` says that there are any. The edge is bold if
+/// `counted` says that one of them is counted.
 fn push_get_edge(
     text: &mut String,
     kind: &str,
