@@ -38,7 +38,7 @@ module _ (kind : ActorKind) (body : List Action) (path : List PathStep) where
   -- After a get.
   progress_if : (b : Bool) (p job : ℕ) (new : WalkState) → slice_get path p ≡ Some (step.Gets job) → list_any (λ at. at) new.row.items ≡ b
       → (IsBegun new → IsStateAt kind body path (suc p) new) → ((q : ℕ) (jobs : List OpenJob) → Walks kind body path q (suc p) jobs → IsBegun new)
-      → IsProgress kind body path p (step.Gets job) new (cond b progress.Walked (progress.Stops None))
+      → IsProgress kind body path p (step.Gets job) new (cond b progress.Advanced (progress.Stops None))
   progress_if true p job new at_path e state begun =
       let found = begun_from_any new.row.items e in
       (subst (λ n. IsStateAt kind body path n new) (sym (add-one p)) (state found), found)
@@ -53,7 +53,7 @@ module _ (kind : ActorKind) (body : List Action) (path : List PathStep) where
 
   -- After a submit that the body can make too.
   pub progress_after_submit : (p class : ℕ) (one : PathStep) (old new : WalkState) → IsStateAt kind body path p old → CanSubmit body class old → IsAfterSubmit body p class old new → slice_get path p ≡ Some one
-      → IsCandidate body one (candidate.One class) → IsProgress kind body path p one new progress.Walked
+      → IsCandidate body one (candidate.One class) → IsProgress kind body path p one new progress.Advanced
   progress_after_submit p class one old new state can after at_path is =
       let lt = slice_get_within body can.0 (Submit class) (submit_is class (slice_get body can.0) can.2) in
       let here = and_from (is_at old can.0) (is_submit_of class (slice_get body can.0)) can.1 can.2 in

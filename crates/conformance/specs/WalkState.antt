@@ -59,10 +59,10 @@ abbrev pub CanSubmit : List Action → ℕ → WalkState → Type 0
 CanSubmit body class state = (index : ℕ) × (is_at state index ≡ true) × (is_submit_of class (slice_get body index) ≡ true)
 
 abbrev pub progress_of : WalkState → Progress
-progress_of state = if list_any (λ at. at) state.row.items then progress.Walked else progress.Stops None
+progress_of state = if list_any (λ at. at) state.row.items then progress.Advanced else progress.Stops None
 
 -- The walks after a further step of the path.
 abbrev pub IsProgress : ActorKind → List Action → List PathStep → ℕ → PathStep → WalkState → Progress → Type 0
-IsProgress kind body path place step new progress.Walked = IsStateAt kind body path (place + 1) new × IsBegun new
+IsProgress kind body path place step new progress.Advanced = IsStateAt kind body path (place + 1) new × IsBegun new
 IsProgress kind body path place step new (progress.Stops excess) = ((index : ℕ) (jobs : List OpenJob) → ¬ Walks kind body path index (place + 1) jobs) × IsReason kind body path place excess
 IsProgress kind body path place step new progress.Undecided = ¬ HasOneClass body step

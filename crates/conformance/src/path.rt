@@ -99,7 +99,7 @@ fn match_exactly(
     let mut state = WalkState::new(alloc, body)?;
     for (place, step) in path.iter().enumerate() {
         match state.take_step(kind, body, &gets, place, step)? {
-            Progress::Walked => {}
+            Progress::Advanced => {}
             Progress::Stops(excess) => {
                 return Ok(PathMatch::Deviates(ExplainedPrefix {
                     length: place,

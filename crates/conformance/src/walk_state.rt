@@ -35,7 +35,7 @@ pub(crate) struct WalkState {
 #[derive(Clone, Copy)]
 pub(crate) enum Progress {
     /// The path and the body can be walked together up to this step.
-    Walked,
+    Advanced,
     /// They cannot. If the step is a submit that the body still has, too many jobs are open.
     Stops(Option<OpenExcess>),
     /// The job may be of several classes of the body.
@@ -87,7 +87,7 @@ impl WalkState {
                 Candidate::One(class) => {
                     if self.can_submit(body, class) {
                         self.submit(body, gets, place, class)?;
-                        Ok(Progress::Walked)
+                        Ok(Progress::Advanced)
                     } else {
                         let excess = self.open_excess(body, gets, class);
                         Ok(Progress::Stops(excess))
@@ -184,7 +184,7 @@ impl WalkState {
         ensures { result ≡ spec.progress_of self.now }
     {
         if self.is_begun() {
-            Progress::Walked
+            Progress::Advanced
         } else {
             Progress::Stops(None)
         }

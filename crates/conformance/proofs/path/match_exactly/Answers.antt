@@ -34,7 +34,7 @@ pub loop-place-preserved : goal.loop-place-preserved
 loop-place-preserved c =
     let at = slice_get_read c.args.path.now (length c.args.path.now) c.loop-place.place c.index-path-place.result refl c.loop-place-test.true c.index-path-place.is in
     let progress = c.in_ok-take_step.ensures c.args.path.now at c.loop-place.invariant.is_state in
-    let walked = subst (λ p. IsProgress c.args.kind c.args.body.now c.args.path.now c.loop-place.place c.index-path-place.result c.take_step.new.self p) c.in-Walked.is progress in
+    let walked = subst (λ p. IsProgress c.args.kind c.args.body.now c.args.path.now c.loop-place.place c.index-path-place.result c.take_step.new.self p) c.in-Advanced.is progress in
     record { is_state = walked.0; begun = walked.1 }
 
 pub returns-clause-fits : goal.returns-clause-fits
