@@ -65,7 +65,7 @@ pub(crate) fn reason_unwritten(rt: &impl Files, name: &str) -> &'static str {
     }
 }
 
-/// Returns whether the directory that a file of this name is in exists.
+/// Returns whether the directory part of this file name exists.
 fn has_directory(rt: &impl Files, name: &str) -> bool {
     match name.rsplit_once('/') {
         Some((directory, _)) if !directory.is_empty() => fs::metadata(rt, directory).is_ok(),
