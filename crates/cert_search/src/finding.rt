@@ -40,10 +40,12 @@ impl From<AllocError> for SearchFault {
     }
 }
 
-/// Searches for a certificate of the plan with `workers` workers, 1 to 64. If the rounds find none,
-/// tries the plan's steady certificate, which depends only on the bodies. So `None` means that the
-/// steady certificate does not accept the plan with its own sizes. The plan can still be safe. If
-/// the sizes of a plan are large enough for its steady certificate, the result is a certificate
+/// Searches for a certificate of the plan in rounds, whose work `workers` workers share. `workers`
+/// is from 1 to 64. If the rounds find no certificate that accepts the plan, tries the plan's
+/// steady certificate, which depends only on the bodies. So `None` means that the steady
+/// certificate does not accept the plan with its own sizes. The plan can still be safe.
+///
+/// If the sizes of a plan are large enough for its steady certificate, the result is a certificate
 /// exactly when [`cause_of`](size_search::cause_of) finds no cause. The number of workers does not
 /// change the certificate. This is tested, and not proved.
 ///

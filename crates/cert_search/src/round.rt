@@ -19,9 +19,11 @@ use weights::{Bound, Vector, submitted_class};
 pub(crate) struct Round<'a> {
     pub(crate) plan: &'a Plan,
     pub(crate) levels: &'a Levels,
-    /// The reach of each class, if the pools without a rank get this round's rank.
+    /// The reach of each class, if the pools without a rank get this round's rank. The reach of a
+    /// class is the maximum of its pool's rank and of the reaches of the classes whose jobs it
+    /// gets.
     pub(crate) reach: &'a [u64],
-    /// The reach of each class in the previous round. It is empty in the first round.
+    /// The value of `reach` in the previous round. It is empty in the first round.
     pub(crate) reach_before: &'a [u64],
     /// The rank that pools get in this round: the round's number, counted from 0.
     pub(crate) rank: u64,

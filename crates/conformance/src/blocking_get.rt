@@ -49,8 +49,8 @@ pub(crate) fn blocking_get(
     None
 }
 
-/// Returns the way to an index. `is_at` says whether the body can be at the index. If it cannot,
-/// the way is `before`.
+/// Returns the [`Way`] to an index: [`Way::Free`] if the body can be at the index itself (`is_at`),
+/// and otherwise `before`, the way from the last earlier index where the body can be.
 fn way_at(before: Way, is_at: bool) -> Way
     ensures { result ≡ spec.way_at before is_at }
 {

@@ -45,7 +45,9 @@ pub(crate) fn narrowed(
     Ok(fewer)
 }
 
-/// Returns the step with the class that the rule picks.
+/// Returns a submit with the class that `pick` selects, or with no class if it selects none.
+/// Returns a get unchanged. [`Pick::InOrder`] searches the body from index `from`, and moves `from`
+/// past the submit that it finds.
 fn narrowed_step(
     alloc: Global,
     body: &[Action],

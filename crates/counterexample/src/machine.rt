@@ -109,7 +109,8 @@ impl<'a> Machine<'a> {
         Ok(Parent::Client(number))
     }
 
-    /// Returns the number of the client's client kind, or of the job's class.
+    /// Returns the index of the actor's client kind if it is a client, or of its class if it is a
+    /// job. Returns `None` for a client that has not moved and for a job that was not created.
     pub(crate) fn kind_of(&self, actor: Parent) -> Option<usize> {
         match actor {
             Parent::Client(number) => self.active_clients.get(number).map(|client| client.kind),

@@ -20,8 +20,8 @@ pub(crate) enum ReplayResult {
     Whole,
 }
 
-/// Performs the events in a new world of the plan, up to the first event that is a refused submit
-/// or is not possible.
+/// Performs the events in `world`, which must be in the plan's initial state. Stops after the first
+/// refused submit, or before the first event that is not possible.
 ///
 /// # Errors
 ///

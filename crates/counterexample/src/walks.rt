@@ -178,8 +178,9 @@ impl<'a> Walk<'a> {
         }
     }
 
-    /// Makes the choice with this index. The actor that makes it is selected by `newer`, the number
-    /// of actors that became ready for this choice after that actor.
+    /// Makes the choice with this index. If an actor that is ready for the choice makes it, `newer`
+    /// selects the actor: 0 for the actor that became ready last, 1 for the one before it, and so
+    /// on. If a new client starts or a thread takes a job, `newer` has no effect.
     pub(crate) fn choose(&mut self, place: usize, newer: usize) -> Result<WalkStep, AllocError> {
         match self.choices.all.get(place).copied() {
             Some(Choice::Begin(kind)) => {

@@ -29,9 +29,9 @@ pub(crate) fn lints_of(
     lints_with(alloc, plan, needed, is_safe_at_core, cause, &marks)
 }
 
-/// Returns the lints of the plan. `cause` is the reason why no certificate accepts the plan with
-/// any sizes, if there is such a reason. `marks` has, for each class, whether clients submit it,
-/// directly or through other jobs.
+/// Returns the lints of the plan. `needed` and `is_safe_at_core` are as in [`lints_of`]. `cause` is
+/// the reason why no certificate accepts the plan with any sizes, if there is such a reason.
+/// `marks` has, for each class, whether clients submit it, directly or through other jobs.
 fn lints_with(
     alloc: Global,
     plan: &Plan,

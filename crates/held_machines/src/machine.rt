@@ -28,7 +28,7 @@ pub trait Machine {
     // The stored state for a specification state.
     ghost stored_state: { Self → SpecState → Self.State };
 
-    /// Returns the stored state for the initial state.
+    /// Creates the stored state of the machine before its first event.
     ///
     /// # Errors
     ///

@@ -81,8 +81,9 @@ impl<'a> Target<'a> {
         }
     }
 
-    /// Returns the target without lenders if the limit is 0, because workers with weight would make
-    /// the total positive. Otherwise returns the target unchanged.
+    /// Returns the target unchanged if its limit is positive. If the limit is 0, returns the target
+    /// in which the workers of no pool may have weight, because a worker with weight would make the
+    /// total positive.
     pub(crate) fn without_useless_loans(self) -> Target<'a> {
         if self.limit > 0 {
             return self;

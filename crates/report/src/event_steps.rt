@@ -145,7 +145,8 @@ fn class_of(world: &World, number: usize) -> usize
     world.job(number).map_or(0, |job| job.class)
 }
 
-/// Returns the position of the event's actor in its body.
+/// Returns the position of the event's actor in its body. Returns 0 if the actor is a pool, a job
+/// that is not live, or a client that does not exist.
 fn position_of(world: &World, event: Event) -> usize
     ensures { result ≡ performed.position_seen world.now.view event }
 {

@@ -15,8 +15,8 @@ use serde_json::{Value, json};
 use size_search::{Cause, NoSizes};
 use std::alloc::{AllocError, Global};
 
-/// Converts the reason to JSON: its kind, the entry that it names, the place of that entry, and the
-/// words for a reader.
+/// Converts the reason to JSON: its kind, the entry that it names, the place of that entry, and a
+/// message that explains the reason.
 pub(crate) fn cause_value(
     alloc: Global,
     places: &PlanPlaces,

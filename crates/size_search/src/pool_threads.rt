@@ -26,7 +26,8 @@ impl PoolThreads {
         core.saturating_sub(self.core).saturating_add(max)
     }
 
-    /// Returns the sum by which core and maximum exceed the core and maximum of `other`.
+    /// Returns the amount by which core exceeds the core of `other`, plus the amount by which the
+    /// maximum exceeds the maximum of `other`. An amount is 0 if the size is not larger.
     pub(crate) fn growth(self, other: PoolThreads) -> u64 {
         let max = self.max.saturating_sub(other.max);
         self.core.saturating_sub(other.core).saturating_add(max)

@@ -1,5 +1,6 @@
-//! Hints for standard error, which follow an answer or a fault: that a file lacks a text, has a
-//! text of another kind or has wrong line ends, and why a file could not be read or written.
+//! Hints for standard error, which follow an answer or a fault. A hint says that a file lacks its
+//! second text, has a text of another kind or has wrong line ends, or why a file could not be read
+//! or written.
 
 use sizing_cli::{
     Command, RecordingCommand, ReviewCommand, StdFiles, Task, TextFiles, bundle_of, most_bytes,

@@ -8,8 +8,8 @@ use crate::plan_texts::answers::answered;
 use crate::plan_texts::lists::{built, written};
 use std::alloc::{AllocError, Global};
 
-/// The suite for texts of plans. The answer to an input is its plan or its fault, in one line,
-/// unless a kind says otherwise.
+/// The suite for texts of plans. The kinds of input are below. If the list gives no other answer,
+/// the answer to an input is its plan or its fault, in one line.
 ///
 /// - `plan`: the text of a plan.
 /// - `spelling`: the text of a plan. The test also reads it with a carriage return before each
