@@ -43,8 +43,8 @@ pub(crate) fn label_of(
     }
 }
 
-/// Returns the pool in the first line that meets the condition. It is empty if no line meets the
-/// condition.
+/// Returns the pool in the first line that meets the condition. Returns an empty name if no line
+/// meets the condition, or if that line has no pool.
 ///
 /// # Errors
 ///

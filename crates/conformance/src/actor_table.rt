@@ -81,7 +81,8 @@ impl ActorTable {
         }
     }
 
-    /// Inserts an open actor with this label.
+    /// Inserts an open actor with this label, or replaces the actor. `label` is the class of a job
+    /// or the kind of a round. A round has an empty `pool` and no `submitter`.
     ///
     /// # Errors
     ///
@@ -187,7 +188,7 @@ impl ActorTable {
         }
     }
 
-    /// Returns the numbers of the jobs, in ascending order.
+    /// Returns the numbers of the jobs in the table, in ascending order.
     ///
     /// # Errors
     ///
@@ -199,7 +200,7 @@ impl ActorTable {
         numbers_of(alloc, &self.jobs)
     }
 
-    /// Returns the numbers of the rounds, in ascending order.
+    /// Returns the numbers of the rounds in the table, in ascending order.
     ///
     /// # Errors
     ///

@@ -19,9 +19,9 @@ enum Way {
     Blocked(BodyGet),
 }
 
-/// Returns the get that blocks the body before its next submit of the class. `row` says for each
-/// index whether the body can be there, and `passes` says for each get whether the body may pass
-/// it.
+/// Returns the get that blocks the body before its next submit of the class, or `None` if there is
+/// no such get. `row` says for each index whether the body can be there, and `passes` says for each
+/// action whether the body may pass it.
 ///
 /// A blocking get comes after the last index where the body can be, and the body may not pass it.
 /// The next submit is the first submit of the class after a blocking get. The result is the get
@@ -57,8 +57,9 @@ fn way_at(before: Way, is_at: bool) -> Way
     if is_at { Way::Free } else { before }
 }
 
-/// Returns the get that blocks the body on the way to an index, if the action at the index is a
-/// submit of the class.
+/// Returns the get of [`Way::Blocked`] if `is_submit` is true. Otherwise, and for the other
+/// variants, returns `None`. `is_submit` says whether the action at the end of the way submits the
+/// class.
 fn blocking_at(way: Way, is_submit: bool) -> Option<BodyGet>
     ensures { result ≡ spec.blocking_at way is_submit }
 {
@@ -68,8 +69,8 @@ fn blocking_at(way: Way, is_submit: bool) -> Option<BodyGet>
     }
 }
 
-/// Returns the way extended by one action. `get` is the action, if it is a get, and `passes` says
-/// whether the body may pass it.
+/// Returns the [`Way`] extended by one action. `get` is the action, or `None` if the action is no
+/// get. `passes` says whether the body may pass the get.
 fn way_after(way: Way, passes: bool, get: Option<BodyGet>) -> Way
     ensures { result ≡ spec.way_after way passes get }
 {

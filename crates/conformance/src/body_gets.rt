@@ -36,8 +36,8 @@ pub(crate) fn body_gets(alloc: Global, body: &[Action]) -> Result<Vec<Option<Bod
     Ok(gets)
 }
 
-/// Updates the open jobs of the body for the action at this index. If the action is a get, returns
-/// it.
+/// Updates `jobs`, the submits whose jobs are open in the body, for the action at this index.
+/// Returns the action if it is a get, and `None` otherwise.
 fn pass_action(
     body: &[Action],
     index: usize,
@@ -61,7 +61,8 @@ fn pass_action(
     }
 }
 
-/// Removes the job of the submit from the open jobs, and returns the get of this job.
+/// Removes the submit at index `submit` from `jobs`, the submits whose jobs are open in the body.
+/// Returns the get of the removed submit's job.
 fn pass_get(body: &[Action], submit: usize, jobs: &mut Vec<usize>) -> BodyGet
     ensures jobs { jobs.new.items ≡ filter (λ other. not (other == submit)) jobs.old.items }
     ensures class { result.class ≡ submitted_class body.now submit }
@@ -87,8 +88,8 @@ fn submitted_class(body: &[Action], submit: usize) -> usize
     }
 }
 
-/// Returns a bound for the indices of the body. An actor of this kind may get a job of the class at
-/// each index below the bound.
+/// Returns a bound for the indices of the body. An actor of this kind may get a job of the class
+/// exactly at the indices below the bound.
 pub(crate) fn end_of_gets(kind: ActorKind, gets: &[Option<BodyGet>], class: usize) -> usize
     ensures { (body : List Action)
         → spec.AreGets body gets.now

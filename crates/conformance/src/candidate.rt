@@ -29,7 +29,7 @@ pub(crate) fn candidate_of(body: &[Action], classes: &Vec<usize>) -> Candidate
     found
 }
 
-/// Returns the candidate after one more class of the job.
+/// Returns `found`, the candidate for the earlier classes of the job, updated for one more class.
 fn next_candidate(body: &[Action], found: Candidate, class: usize) -> Candidate
     ensures { result ≡ next_candidate body.now found class }
 {

@@ -18,8 +18,8 @@ use recordings::{RecordedActor, RecordedStep};
 use std::alloc::{AllocError, Global};
 
 impl ActorClassifier {
-    /// Classifies the actor by its path, and appends the result to `reported`. Drops the classes of
-    /// the jobs that it submitted.
+    /// Classifies the actor by its path, and appends the result to `reported`. Removes the classes
+    /// of the jobs in the path from the classifier.
     ///
     /// # Errors
     ///

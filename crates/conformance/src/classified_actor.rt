@@ -13,8 +13,8 @@ pub struct ClassifiedActor {
     pub pool: String,
     /// The submits and gets of the actor, in order.
     pub path: Vec<RecordedStep>,
-    /// The classes that the job can belong to, or the kinds of the round. The match is decided only
-    /// if the match of each job that the actor submitted, directly or through other jobs, is
-    /// decided.
+    /// The classes that the job can belong to, or the kinds of the round. The match is undecided if
+    /// it is undecided for a job that the actor submitted, or for a job that such a job submitted,
+    /// and so on.
     pub family: FamilyMatch,
 }

@@ -294,8 +294,8 @@ fn push_invalidation(
 }
 
 /// Returns the class and the pool of the event's job. For a call of `invokeAny`, returns the
-/// actor's class or kind, and the pool of the first such call. For jobs without lines, returns an
-/// empty name, and the pool of the first line that reports such jobs.
+/// actor's class or kind, and the pool of the first such call. For jobs that no line submits,
+/// returns an empty name, and the pool of the first line that reports such jobs.
 fn subject_of(
     alloc: Global,
     recording: &[u8],

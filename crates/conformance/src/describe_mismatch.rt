@@ -20,9 +20,10 @@ use job_bodies::Plan;
 use recordings::{RecordedActor, RecordedStep};
 use std::alloc::{AllocError, Global};
 
-/// Describes the first deviating step of the actor: the step after the longest prefix of its path
-/// that a body explains. Returns the line number of this step, and the description. `classless` has
-/// the jobs whose paths match no class of the plan.
+/// Describes the first deviating step of the actor. This is the step after the longest prefix of
+/// the path that a body explains. Returns the line number of this step, or `None` if no line
+/// records it, and the description. `classless` has the jobs whose paths match no class of the
+/// plan.
 ///
 /// # Errors
 ///
@@ -206,7 +207,7 @@ fn deviating_end(
     }
 }
 
-/// Returns the first job that the path submits and does not get.
+/// Returns the first job that the path submits and does not get, or `None` if there is none.
 fn open_job(path: &[RecordedStep]) -> Option<usize>
     ensures { result ≡ spec.first_open path.now }
 {
@@ -260,7 +261,8 @@ fn deviating_submit(
     }
 }
 
-/// Returns the deviation for a submit, if the path of the submitted job matches a class.
+/// Returns the deviation for a submit of a job whose path matches a class. `excess` has the jobs
+/// that block the submit, or is `None` if the body has no such submit left.
 fn submit_of_body(label: ActorLabel, excess: Option<OpenExcess>) -> DeviatingStep
     ensures { result ≡ spec.submit_of_body label excess }
 {

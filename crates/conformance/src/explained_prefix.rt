@@ -12,7 +12,8 @@ pub struct ExplainedPrefix {
     /// The number of steps in the prefix.
     pub length: usize,
     /// The open jobs that block the body, if the next step is a submit that the body still has.
-    /// `None` if it is a get, if the body has no such submit left, or if there is no next step.
+    /// `None` if the next step is a get, if the body has no such submit left, or if there is no
+    /// next step.
     pub excess: Option<OpenExcess>,
 }
 

@@ -9,9 +9,10 @@ use job_bodies::Plan;
 use line_words::number_of;
 use std::alloc::{AllocError, Global};
 
-/// Returns true if an entry of this name is of the family of the label. The name must be the label
-/// itself, or the label, `_` and a number from 2 to 1,000,000,000 in decimal digits without leading
-/// zeros. For example, `query`, `query_2` and `query_17` are of the family of `query`.
+/// Returns true if a class or a client kind of this name belongs to the family of the label. It
+/// does if the name is the label itself, or the label, `_` and a number from 2 to 1,000,000,000 in
+/// decimal digits without leading zeros. For example, `query`, `query_2` and `query_17` are of the
+/// family of `query`.
 #[tactic(auto, unfolding(crate::specs::Family::is_of_family))]
 pub fn is_of_family(label: &str, name: &str) -> bool
     ensures value { result ≡ spec.is_of_family label.now name.now }

@@ -40,8 +40,8 @@ pub enum Finding {
     /// More rounds of a kind than the plan allows. Each round counts as the first kind that it can
     /// belong to. A round whose kind is undecided counts in no kind.
     TooMany(RoundExcess),
-    /// The first get of a job by an actor other than its submitter, with the labels of the actor
-    /// and of the job.
+    /// The first get of a job by an actor other than its submitter, before the submitter got the
+    /// job. The fields have the labels of the actor and of the job.
     ForeignGet {
         get: ForeignGet,
         label: ActorLabel,
@@ -51,7 +51,8 @@ pub enum Finding {
     Invalidation {
         invalidation: Invalidation,
         /// The class and the pool of the job. For a call of `invokeAny`, the class or kind of the
-        /// actor, and the pool of the call. For jobs without lines, only their pool.
+        /// actor, and the pool of the call. For jobs that no line submits, an empty name and the
+        /// pool.
         label: ActorLabel,
     },
 }

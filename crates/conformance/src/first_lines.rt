@@ -71,8 +71,9 @@ impl<'a> FirstLines<'a> {
         Ok(FirstLines { text, table })
     }
 
-    /// Returns the first line that meets the condition. This takes a look-up if the condition was
-    /// passed to [`new`](FirstLines::new). Otherwise it takes a search in the text.
+    /// Returns the first line that meets the condition, or `None` if no line does. This takes a
+    /// look-up if the condition was passed to [`new`](FirstLines::new). Otherwise it takes a search
+    /// in the text.
     ///
     /// # Errors
     ///
@@ -109,7 +110,7 @@ impl<'a> FirstLines<'a> {
     }
 }
 
-/// Adds the condition, before any line is read.
+/// Adds the condition to the table, with no line that meets it.
 fn seek(table: &mut LineTable, query: LineQuery) -> Result<(), AllocError>
     ensures { spec.AreFirst [] table.old → OnOk result (spec.AreFirst [] table.new) }
 {

@@ -19,9 +19,9 @@ pub(crate) enum LineQuery {
     Got { actor: RecordedActor, job: usize },
     /// The line that ends the actor.
     Last(RecordedActor),
-    /// A call of `invokeAny`.
+    /// A line that records a call of `invokeAny`.
     InvokesAny,
-    /// A line that reports jobs without lines.
+    /// A line that reports jobs that no line submits.
     Unseen,
 }
 
@@ -90,7 +90,8 @@ fn is_same_actor(one: RecordedActor, other: RecordedActor) -> bool
     }
 }
 
-/// Returns the first line of the text that meets the condition, with its number, from 1.
+/// Returns the first line of the text that meets the condition, and the number of this line, from
+/// 1. Returns `None` if no line meets the condition.
 pub(crate) fn first_line(text: &[u8], line_query: LineQuery) -> Option<(usize, Line<'_>)>
     ensures { spec.IsFirstLine (lines_of text.now) line_query (spec.found_seen result) }
 {

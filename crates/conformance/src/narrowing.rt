@@ -17,13 +17,13 @@ pub(crate) enum Pick {
     First,
     /// The last of the job's classes that the body submits.
     Last,
-    /// The class of the body's next submit of a class of the job. The search begins after the
-    /// submit that was picked for an earlier job.
+    /// The class of the next submit in the body that has a class of the job. The search begins
+    /// after the submit that was found for the job before, or at the start of the body.
     InOrder,
 }
 
-/// Returns the path with the class that the rule picks for each job. If the rule picks no class for
-/// a job, the job has no classes in the result.
+/// Returns the path with one class for each job, picked by the rule `pick`. A job for which the
+/// rule picks no class has no classes in the result.
 ///
 /// # Errors
 ///
@@ -67,7 +67,7 @@ fn narrowed_step(
     }
 }
 
-/// Returns the list of this class, or an empty list.
+/// Returns a list of the picked class, or an empty list if no class was picked.
 fn one_class(alloc: Global, picked: Option<usize>) -> Result<Vec<usize>, AllocError>
     ensures { IfOk result (λ fewer. fewer.items ≡ option_to_list picked) }
 {
@@ -78,7 +78,9 @@ fn one_class(alloc: Global, picked: Option<usize>) -> Result<Vec<usize>, AllocEr
     Ok(fewer)
 }
 
-/// Returns the class that the rule picks from `classes`.
+/// Returns the class of a job that the rule `pick` picks from its `classes`, or `None` if the body
+/// submits none of them. [`Pick::InOrder`] searches the body only from index `from`, and moves
+/// `from` past the submit that it finds.
 fn picked_class(body: &[Action], from: &mut usize, classes: &[usize], pick: Pick) -> Option<usize>
     ensures { IfSome result (λ class. Contains classes.now class) }
 {

@@ -11,7 +11,7 @@ pub struct OpenJob {
     pub class: usize,
 }
 
-/// Returns the number of jobs of the class.
+/// Returns the number of jobs in `jobs` that have the class.
 pub(crate) fn count_in(class: usize, jobs: &[OpenJob]) -> usize
     ensures { result ≡ spec.count_in class jobs.now }
 {

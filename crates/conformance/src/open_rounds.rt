@@ -14,7 +14,8 @@ use recordings::Line;
 use std::alloc::{AllocError, Global};
 use support::IdMap;
 
-/// A map from open rounds to their kinds, or to `None` if a round has no kind.
+/// A map from open rounds to the kinds that they count as, or to `None` if a round counts as no
+/// kind of the plan.
 #[derive(Drop)]
 pub(crate) struct OpenRounds {
     kinds: IdMap<Option<usize>>,
@@ -30,8 +31,9 @@ impl OpenRounds {
         }
     }
 
-    /// Reads the next line of a valid recording. Returns the kind of the round that the line begins
-    /// or ends.
+    /// Reads the next line of a valid recording. Returns the kind that the round counts as, if the
+    /// line begins or ends one, and `None` for any other line. A round counts as its kind in
+    /// `others`, or as the first kind of its label if `others` does not have the round.
     ///
     /// # Errors
     ///

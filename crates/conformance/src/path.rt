@@ -113,8 +113,8 @@ fn match_exactly(
     Ok(match_at_end(&state, body, path, path_state))
 }
 
-/// Returns true if the path matches the body with the classes that one of the rules of [`Pick`]
-/// picks.
+/// Returns true if the path matches the body when one of the rules of [`Pick`] selects the classes
+/// of its jobs.
 ///
 /// # Errors
 ///
@@ -139,7 +139,7 @@ fn fits_narrowed(
     Ok(fits)
 }
 
-/// Returns true if the path matches the body with the classes that the rule picks.
+/// Returns true if the path matches the body when the rule `pick` selects the classes of its jobs.
 ///
 /// # Errors
 ///
@@ -163,7 +163,8 @@ fn fits_with(
     }
 }
 
-/// Returns the result after the last step of the path.
+/// Returns the result for a path whose steps could all be walked together with the body. `state` is
+/// the state after the last step. A whole path matches only if the body can be at its end.
 fn match_at_end(
     state: &WalkState,
     body: &[Action],

@@ -15,9 +15,9 @@ pub fn paths_are_followed()
     ensures reachable { RunsStayReachable }
 {}
 
-/// Proves that the machine of an accepted plan can follow each job and each round of a recording
-/// in which all jobs and rounds behave as planned, with the body of each class or kind of its
-/// family whose body its path matches, and that there is one.
+/// Proves a fact about recordings in which all jobs and rounds behave as planned. The path of each
+/// job and each round matches the body of at least one class or kind of its family. The machine of
+/// an accepted plan can follow the job or the round with each body that its path matches.
 pub fn planned_actors_are_followed()
     ensures { PlannedActorsAreFollowed }
 {}

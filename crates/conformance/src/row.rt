@@ -9,8 +9,8 @@ ghost use Rattle.conformance.specs.Path as spec;
 use crate::body_gets::BodyGet;
 use job_bodies::Action;
 
-/// Moves the body past a submit of the class: from each index with such a submit to the next index.
-/// The body cannot move from any other index.
+/// Updates the row for a submit of the class in the path. The new row has the index after each
+/// submit of the class at which the body could be before. It has no other index.
 pub(crate) fn shift_row(row: &mut [bool], body: &[Action], class: usize)
     requires { length row.old ≡ length body.now + 1 }
     ensures first { slice_index_or row.new 0 false ≡ false }

@@ -72,7 +72,7 @@ impl LineSurvey {
         self.unplanned.take(plan, number, line)
     }
 
-    /// Adds the differences that only the end of the recording shows.
+    /// Adds the pools of the plan that the recording lacks, if the recording ends with `end`.
     ///
     /// # Errors
     ///

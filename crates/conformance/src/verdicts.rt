@@ -38,7 +38,8 @@ impl Verdicts {
         }
     }
 
-    /// Records the verdict on a classified actor.
+    /// Records the actor if its path matches no body, or if this is undecided. Ignores any other
+    /// actor.
     ///
     /// # Errors
     ///

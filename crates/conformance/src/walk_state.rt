@@ -64,7 +64,8 @@ impl WalkState {
         })
     }
 
-    /// Takes `step`, which is at index `place` of the path.
+    /// Updates the state for `step`, which is at index `place` of the path. `gets` has the gets of
+    /// the body, and `kind` is the kind of the actor.
     ///
     /// # Errors
     ///
@@ -145,7 +146,7 @@ impl WalkState {
         }
     }
 
-    /// Walks over a submit of the path, together with the body.
+    /// Updates the state for a submit of the class, at index `job` of the path.
     fn submit(
         &mut self,
         body: &[Action],
@@ -165,7 +166,8 @@ impl WalkState {
         Ok(())
     }
 
-    /// Walks over a get of the path. No walk is left if the job is not open.
+    /// Updates the state for a get of the job that was submitted at index `job` of the path. No
+    /// walk is left if this job is not open.
     fn get(&mut self, kind: ActorKind, body: &[Action], gets: &[Option<BodyGet>], job: usize)
         requires gets { AreGets body.now gets.now }
         requires tables { spec.HasTables body.now self.old }
@@ -182,7 +184,8 @@ impl WalkState {
         }
     }
 
-    /// Returns whether a walk is left.
+    /// Returns [`Progress::Advanced`] if a walk is left, and otherwise [`Progress::Stops`] without
+    /// open jobs.
     fn progress(&self) -> Progress
         ensures { result ≡ spec.progress_of self.now }
     {
