@@ -35,7 +35,8 @@ impl AssignedClasses {
         Ok(())
     }
 
-    /// Assigns the class to a job that was classified. Drops the job if it was refused.
+    /// Assigns the class to a job that was classified, or records that no class was found for it if
+    /// `class` is `None`. Drops the job instead if it was refused.
     ///
     /// # Errors
     ///

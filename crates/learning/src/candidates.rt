@@ -13,7 +13,8 @@ pub(crate) const CANDIDATES: usize = 8;
 /// The options for making a candidate.
 #[derive(Clone, Copy)]
 pub(crate) struct Choices {
-    /// True if jobs with a get and jobs without a get have different submits in the candidate.
+    /// True if jobs that their path gets and jobs that their path does not get are matched with
+    /// different submits of the candidate.
     pub(crate) marks_gets: bool,
     /// True if the submits of the paths are merged from the last path to the first.
     pub(crate) is_reversed: bool,
@@ -34,8 +35,8 @@ impl Choices {
 }
 
 /// Returns a body that has the submits of all paths and gets each job as soon as the paths allow.
-/// Returns `None` if [`job_steps`] returns `None` for a path, or if the body would have more
-/// submits than a body may have.
+/// The choices select one of several such bodies. Returns `None` if [`job_steps`] returns `None`
+/// for a path, or if the body would have more submits than a body may have.
 ///
 /// # Errors
 ///
@@ -87,8 +88,9 @@ fn body_with_gets(
     Ok(body)
 }
 
-/// Appends the gets that `times` has for submit number `time`, in the order of their submits.
-/// `submits` has the index of each submit in the body.
+/// Appends the gets that come directly after submit number `time`, in the order of the submits
+/// whose jobs they get. `submits` has the index of each submit in the body, and `times` has the
+/// number of the submit after which its job is got.
 fn push_gets(
     body: &mut Vec<Action>,
     submits: &[usize],

@@ -26,8 +26,9 @@ use std::alloc::{AllocError, Global};
 /// If all paths match `body`, returns `body`. Otherwise, for a single path, returns the body whose
 /// actions are the steps of the path. For several paths, makes several candidates and returns the
 /// best that covers the paths. A candidate has a common supersequence of the submits of the paths,
-/// and gets each job as soon as the paths allow. The best candidate has the fewest open jobs, and
-/// among equals the fewest actions.
+/// and gets each job as soon as the paths allow. The best candidate has the smallest sum, over its
+/// classes, of the maximum number of jobs that are open at once. Among equals, it has the fewest
+/// actions.
 ///
 /// Returns `None` if no body with at most [`MAX_ACTIONS`] actions is found. No body is found if the
 /// job of a submit cannot belong to any class, if a get names no earlier submit, or if two gets
@@ -69,7 +70,7 @@ pub fn covering_body(
     new_body(alloc, kind, paths)
 }
 
-/// Returns a body without `work` that each of the paths matches.
+/// Returns a body without `work` that each of the paths matches, or `None` if none is found.
 fn new_body(
     alloc: Global,
     kind: ActorKind,
@@ -144,7 +145,8 @@ fn is_work(action: Action) -> bool
     }
 }
 
-/// Returns true if the body is valid in a plan that has its classes.
+/// Returns true if the body is valid in a plan that has its classes: it is not too long, and its
+/// gets are valid.
 fn is_valid(body: &[Action]) -> bool
     ensures short { IsTrue result → length body.now ≤ MAX_ACTIONS }
     ensures valid_gets { IsTrue result → HasValidGets body.now }

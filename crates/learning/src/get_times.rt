@@ -44,7 +44,8 @@ fn later(time: Option<usize>, other: Option<usize>) -> Option<usize> {
     }
 }
 
-/// Returns, for each submit of the body, whether a path that submits these jobs is matched with it.
+/// Returns, for each submit of the body, whether a path is matched with it. `common` has the jobs
+/// that the body submits, and `jobs` those that the path submits.
 fn made_submits(
     alloc: Global,
     common: &[PathJob],
@@ -86,7 +87,8 @@ fn mark(made: &mut [bool], index: usize) {
     }
 }
 
-/// Returns the times for a single path. The body may get a job at once if the path does not submit
+/// Returns the times of [`get_times`] for a single path. `made` says for each submit of the body
+/// whether the path is matched with it. The body may get a job at once if the path does not submit
 /// it, and otherwise when the path gets it.
 fn times_of_path(
     alloc: Global,
@@ -106,8 +108,8 @@ fn times_of_path(
     Ok(times)
 }
 
-/// Records the gets of the path from index `from` to its next submit. Returns the index of that
-/// submit.
+/// Records `time` as the time of each get of the path from index `from` to the next submit of the
+/// path. Returns the index of that submit, or the length of the path if there is none.
 fn record_gets(
     common: &[PathJob],
     path: &[JobStep],
@@ -127,7 +129,7 @@ fn record_gets(
 }
 
 /// Records the time of a get for the first job in `common` that equals `job` and has no time yet.
-/// Does nothing if `job` has no get.
+/// Does nothing if `job.is_got` is false.
 fn record_get(common: &[PathJob], job: PathJob, time: usize, times: &mut [Option<usize>]) {
     if !job.is_got {
         return;

@@ -19,7 +19,8 @@ use std::alloc::{AllocError, Global};
 /// The state of a pass over a part of a recording.
 #[derive(Drop)]
 pub(crate) struct Pass {
-    /// The first client kind of the plan that each round can belong to, by round number.
+    /// The first client kind of the plan that each round can belong to, by round number, or `None`
+    /// if the round matches none.
     pub(crate) kinds: Vec<Option<usize>>,
     /// True if the pass changed a body.
     pub(crate) is_changed: bool,

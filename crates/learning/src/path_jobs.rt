@@ -8,7 +8,8 @@ use std::alloc::{AllocError, Global};
 /// different submit of the body, and each submit has at most one get.
 const MAX_STEPS: usize = 2 * MAX_ACTIONS;
 
-/// A job of a path, without its position. Equal jobs can be matched with the same submit of a body.
+/// A job of a path, without its position. Equal jobs of different paths can be matched with the
+/// same submit of a body.
 #[derive(Clone, Copy, PartialEq, Eq)]
 pub(crate) struct PathJob {
     pub(crate) class: usize,
@@ -59,7 +60,7 @@ fn job_step(path: &[PathStep], place: usize, marks_gets: bool) -> Option<JobStep
 }
 
 /// Returns the job of the submit at this index. Returns `None` if there is no submit, or if its job
-/// cannot belong to any class.
+/// cannot belong to any class. `marks_gets` is the parameter of [`job_steps`].
 fn job_at(path: &[PathStep], place: usize, marks_gets: bool) -> Option<PathJob> {
     match path.get(place)? {
         PathStep::Submits(classes) => Some(PathJob {

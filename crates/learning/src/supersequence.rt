@@ -32,7 +32,8 @@ pub(crate) fn common_supersequence(
     Ok(Some(common))
 }
 
-/// Returns the path with this number, counted from the end if `is_reversed`.
+/// Returns the path with this number, counted from the end if `is_reversed`. Returns an empty path
+/// if there is none.
 fn path_at(paths: &[Vec<JobStep>], number: usize, is_reversed: bool) -> &[JobStep] {
     let index = if is_reversed {
         paths.len().saturating_sub(number).saturating_sub(1)
@@ -91,9 +92,10 @@ fn push_from(jobs: &mut Vec<PathJob>, more: &[PathJob], index: usize) -> Result<
     Ok(())
 }
 
-/// Returns true if the next job of the merged list may come from the first list: the common
-/// subsequence after it is at least as long as after the next job of the second list. `left` and
-/// `other_left` are the numbers of jobs that remain in the lists.
+/// Returns true if the merged list may continue with the next job of the first list. It may if
+/// skipping this job leaves a common subsequence at least as long as skipping the next job of the
+/// second list. `left` and `other_left` are the numbers of jobs that remain in the lists. `lengths`
+/// is the table of [`common_lengths`].
 fn continues_first(lengths: &[Vec<usize>], left: usize, other_left: usize) -> bool {
     length_at(lengths, left.saturating_sub(1), other_left)
         >= length_at(lengths, left, other_left.saturating_sub(1))

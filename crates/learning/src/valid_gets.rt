@@ -29,7 +29,8 @@ fn is_valid_at(body: &[Action], position: usize) -> bool
     }
 }
 
-/// Returns true if a get at index `position` may name the submit at index `submit`.
+/// Returns true if a get at index `position` may name index `submit`: an earlier submit is there,
+/// and no earlier get names it.
 fn is_valid_get(body: &[Action], position: usize, submit: usize) -> bool
     ensures { result ≡ spec.is_valid_get body.now position submit }
 {
