@@ -89,8 +89,8 @@ fn body_with_gets(
 }
 
 /// Appends the gets that come directly after submit number `time`, in the order of the submits
-/// whose jobs they get. `submits` has the index of each submit in the body, and `times` has the
-/// number of the submit after which its job is got.
+/// whose jobs they get. `submits` has the index of each submit in the body. For each submit,
+/// `times` has the number of the submit after which the body gets its job, or `None`.
 fn push_gets(
     body: &mut Vec<Action>,
     submits: &[usize],

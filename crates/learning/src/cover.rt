@@ -27,8 +27,8 @@ use std::alloc::{AllocError, Global};
 /// actions are the steps of the path. For several paths, makes several candidates and returns the
 /// best that covers the paths. A candidate has a common supersequence of the submits of the paths,
 /// and gets each job as soon as the paths allow. The best candidate has the smallest sum, over its
-/// classes, of the maximum number of jobs that are open at once. Among equals, it has the fewest
-/// actions.
+/// classes, of the maximum number of jobs of the class that are open at once. Among equals, it has
+/// the fewest actions.
 ///
 /// Returns `None` if no body with at most [`MAX_ACTIONS`] actions is found. No body is found if the
 /// job of a submit cannot belong to any class, if a get names no earlier submit, or if two gets
