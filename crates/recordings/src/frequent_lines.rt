@@ -73,7 +73,8 @@ fn split_round_line(round: usize, words: &[u8]) -> Option<(Line<'_>, &[u8])>
     split_action(RecordedActor::Round(round), words)
 }
 
-/// Parses the rest of a line after its actor, which is `got J` or `submit J CLASS POOL`.
+/// Parses `got J` or `submit J CLASS POOL`, the text of a line after its actor. Returns the line
+/// with the text after its newline.
 #[inline(always)]
 fn split_action(actor: RecordedActor, words: &[u8]) -> Option<(Line<'_>, &[u8])>
     requires { is_valid_actor actor ≡ true }
@@ -91,7 +92,8 @@ fn split_action(actor: RecordedActor, words: &[u8]) -> Option<(Line<'_>, &[u8])>
     split_submit(actor, words)
 }
 
-/// Parses the rest of a line after `submit`, which is `J CLASS POOL`.
+/// Parses `J CLASS POOL`, the text of a line after `submit`. Returns the line with the text after
+/// its newline.
 #[inline(always)]
 fn split_submit(actor: RecordedActor, words: &[u8]) -> Option<(Line<'_>, &[u8])>
     requires { is_valid_actor actor ≡ true }
@@ -159,7 +161,8 @@ fn split_name(text: &[u8], end: u8) -> Option<(&str, &[u8])>
     Some((name_text(name), strip_byte(after, end)?))
 }
 
-/// Returns the length of the longest prefix that consists of name bytes.
+/// Returns the length of the longest prefix that consists of name bytes: `a` to `z`, `0` to `9` and
+/// `_`.
 #[inline(always)]
 fn count_name_bytes(text: &[u8]) -> usize
     ensures inside { result ≤ length text.now }

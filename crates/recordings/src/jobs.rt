@@ -13,7 +13,7 @@ pub(crate) struct JobState {
     started: bool,
     cancelled: bool,
     /// The job that this job submitted in its last line. `refused` lines do not count. `None` if
-    /// the line is not a submit.
+    /// this line is no submit, or if the job has no line yet.
     last_submit: Option<usize>,
 }
 

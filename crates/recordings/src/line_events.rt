@@ -57,8 +57,8 @@ pub(crate) fn excuses(event: InvalidatingEvent, line: &Line<'_>) -> bool
     }
 }
 
-/// Returns true if the event is pending until the next line of an actor, and the line belongs to
-/// this actor.
+/// Returns true if the event is a get that timed out or was interrupted, and the line belongs to
+/// the actor of this get. Then no later line can discard the event.
 pub(crate) fn ends_pending(event: InvalidatingEvent, line: &Line<'_>) -> bool
     ensures { result ≡ stored.ends_pending (line_view line.now) event }
 {

@@ -85,7 +85,7 @@ fn action_of<'a>(actor: RecordedActor, word: &[u8], rest: &'a [u8]) -> Option<Li
     job_action_of(actor, word, job)
 }
 
-/// Parses the rest of a line after `submit`, which is `J CLASS POOL`.
+/// Parses `J CLASS POOL`, the text of a line after `submit`.
 #[tactic(auto, unfolding(crate::specs::RecordingLine::submit_of))]
 fn submit_of(actor: RecordedActor, text: &[u8]) -> Option<Line<'_>>
     ensures { option_map line_view result ≡ spec.submit_of actor text.now }
@@ -101,7 +101,8 @@ fn submit_of(actor: RecordedActor, text: &[u8]) -> Option<Line<'_>>
     })
 }
 
-/// Parses the word between an actor and a job's number, such as `got`. Returns the line.
+/// Returns the line with this actor, this word, such as `got`, and this job. Returns `None` if no
+/// form has the word between an actor and a job.
 #[tactic(auto, unfolding(crate::specs::RecordingLine::job_action_of))]
 fn job_action_of<'a>(actor: RecordedActor, word: &[u8], job: usize) -> Option<Line<'a>>
     ensures { option_map line_view result ≡ spec.job_action_of actor word.now job }

@@ -73,7 +73,7 @@ impl RecordedNotes {
     }
 
     /// Returns the first get of a job by an actor other than its submitter, before the submitter
-    /// got the job.
+    /// got the job. Returns `None` if there is no such get.
     pub fn foreign_get(&self) -> Option<ForeignGet>
         ensures { (lines : List RecordedLine)
             → IsNotesOf self.now lines

@@ -53,7 +53,8 @@ impl PathTable {
         self.paths.insert(number, LivePath::new(self.alloc))
     }
 
-    /// Removes the actor with this number, and returns its path.
+    /// Removes the actor with this number, and returns its path. Returns `None` if the actor is not
+    /// live.
     pub(crate) fn end(&mut self, number: usize) -> Option<Vec<RecordedStep>>
         ensures path { option_map (λ path. path.items) result ≡ path_in self.old number }
         ensures gone { (n : ℕ)

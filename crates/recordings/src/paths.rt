@@ -56,7 +56,7 @@ impl Paths {
     }
 
     /// Processes the next line of a valid recording, as [`take`](Paths::take) does. If a round or a
-    /// job ends with the line, returns its path.
+    /// job ends with the line, returns its path, and otherwise `None`.
     ///
     /// # Errors
     ///
@@ -80,7 +80,7 @@ impl Paths {
         self.apply_line(line)
     }
 
-    /// Returns the path of the actor if it is live.
+    /// Returns the path of the actor, or `None` if it is not live.
     pub fn path(&self, actor: RecordedActor) -> Option<&[RecordedStep]>
         ensures { (before : List RecordedLine)
             → IsPathsOf self.now before

@@ -95,7 +95,7 @@ fn yes_or_no(word: &[u8]) -> Option<bool>
     }
 }
 
-/// Parses `queue KIND`, and returns the kind with the other words.
+/// Parses `queue KIND` at the start of the text, and returns the kind with the words after it.
 #[tactic(auto, unfolding(crate::specs::PoolSizes::parse_queue))]
 fn parse_queue(text: &[u8]) -> Option<(QueueKind, &[u8])>
     ensures { option_map (λ read. (read.0, read.1.now)) result ≡ spec.parse_queue text.now }
@@ -104,7 +104,8 @@ fn parse_queue(text: &[u8]) -> Option<(QueueKind, &[u8])>
     Some((queue_kind_of(word)?, rest))
 }
 
-/// Parses `timeout WORD`, and returns the other words with a flag that is `true` if WORD is `yes`.
+/// Parses `timeout WORD` at the start of the text. Returns `true` if WORD is `yes` and `false` if
+/// it is `no`, with the words after it.
 #[tactic(auto, unfolding(crate::specs::PoolSizes::parse_timeout))]
 fn parse_timeout(text: &[u8]) -> Option<(bool, &[u8])>
     ensures { option_map (λ read. (read.0, read.1.now)) result ≡ spec.parse_timeout text.now }
