@@ -13,8 +13,8 @@ impl World {
     ghost use Rattle.interleaving.specs.Answers.{MatchesResult};
 
     /// Gets the latest job that the actor created by the submit at position `submit`, and moves the
-    /// actor to its next position. If that job is not done, changes nothing and returns `None`.
-    /// `position` is the actor's current position, which must not be 0.
+    /// actor to its next position. If there is no such live job, or if it is not done, changes
+    /// nothing and returns `None`. `position` is the actor's current position, which must not be 0.
     pub(crate) fn get(&mut self, actor: Parent, position: usize, submit: usize) -> Option<Outcome>
         requires stands { IsClientAt self.old.view.clients actor position }
         requires begun { 0 < position }

@@ -1,4 +1,5 @@
-//! Live jobs: jobs that are queued or running, and done jobs that their parents may still get.
+//! Live jobs: jobs that are queued or running, and done jobs that their parents may still get. The
+//! parent of a job is the actor that submitted it.
 
 ghost use Rattle.std.specs.Prelude.{◌≡◌, Some};
 ghost use Rattle.interleaving.specs.ViewStep.{is_done, is_live_child, drop_if_stale, drop_if_orphan};
@@ -10,8 +11,8 @@ use written_machine::Parent;
 pub enum Phase {
     /// The job waits in its pool's queue.
     Queued,
-    /// A worker runs the job, which is at this position of its body. At its end, the position is
-    /// the length of the body.
+    /// A worker runs the job, which is at this position of its body. At the end of the body, the
+    /// position is the body's length.
     At(usize),
     /// The job is done, and its parent may still get it.
     Done,

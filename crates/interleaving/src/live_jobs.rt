@@ -78,7 +78,8 @@ impl LiveJobs {
     }
 
     /// Returns the number of the latest live job that the actor created by the submit at this
-    /// position of its body. The actor must be a client or an unfinished job.
+    /// position of its body, or `None` if there is none. The actor must be a client or an
+    /// unfinished job.
     pub fn latest(&self, actor: Parent, submit: usize) -> Option<usize>
         requires { may_get_in self.now.jobs actor ≡ true }
         ensures { result ≡ live_child self.now.jobs actor submit }
@@ -96,7 +97,8 @@ impl LiveJobs {
         self.kept.set_phase(number, Phase::At(position));
     }
 
-    /// Removes a done job when its parent gets it. The job must be the only live job of its submit.
+    /// Removes a done job when its parent gets it. `job` is the live job with this number. It must
+    /// be the only live job of its submit.
     pub fn remove(&mut self, number: usize, job: JobView)
         requires live { live_job self.old.jobs number ≡ Some job }
         requires done { is_done job.phase ≡ true }
@@ -124,8 +126,8 @@ impl LiveJobs {
         self.kept.reserve()
     }
 
-    /// Adds a new job. If job `latest` is a done job of the same submit, removes it. No other job
-    /// of this submit may be done. Memory must have been reserved.
+    /// Adds a new job. If the job with number `latest` is a done job of the same submit, removes
+    /// that job. No other job of this submit may be done. Memory must have been reserved.
     pub fn create(&mut self, latest: Option<usize>, job: JobView)
         requires room { 0 < room_for self.old.room job.parent }
         requires parent { WasMade self.old.jobs job.parent }
@@ -148,9 +150,9 @@ impl LiveJobs {
         self.unfinished += 1;
     }
 
-    /// Finishes the job with this number. The job stays live only if its parent may still get it
-    /// and it is the latest job of its submit. Removes the done jobs that this job created, since
-    /// no actor can get them any more.
+    /// Finishes the job with this number. `job` is that job before it finishes. The job stays live
+    /// only if its parent may still get it and it is the latest job of its submit. Removes the done
+    /// jobs that this job created, since no actor can get them any more.
     pub fn finish(&mut self, number: usize, job: JobView)
         requires live { live_job self.old.jobs number ≡ Some job }
         requires going { is_done job.phase ≡ false }

@@ -19,9 +19,9 @@ use written_machine::{Outcome, Parent};
 impl World {
     ghost use Rattle.interleaving.specs.World.{ReusesPlaces};
 
-    /// Performs a submit of the actor: offers a job of the class to the class's pool. If the body
-    /// has a get of this submit, no live job of this submit may exist yet. An error leaves the
-    /// world unchanged.
+    /// Performs a submit of the actor: offers a job of the class to the class's pool. `next` has
+    /// the position of the submit in the actor's body. If the body has a get of this submit, no
+    /// live job of this submit may exist yet. An error leaves the world unchanged.
     pub(crate) fn submit(
         &mut self,
         plan: &Plan,

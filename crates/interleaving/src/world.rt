@@ -98,7 +98,7 @@ impl World {
         self.jobs.places()
     }
 
-    /// Returns the pool with this number.
+    /// Returns the pool with this number, which must exist.
     pub fn pool(&self, pool: usize) -> &PoolState
         requires { pool < length self.now.view.pools }
         ensures { slice_get self.now.view.pools pool ≡ Some result.now }
