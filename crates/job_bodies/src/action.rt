@@ -12,8 +12,8 @@ pub enum Action {
     /// `submit` does, and continues.
     Submit(usize),
     /// The actor waits, as Java's `Future.get` does, for the job that it submitted at this position
-    /// of the same body. If it submitted several there, it waits for the latest. A body has at most
-    /// one get for each of its submits.
+    /// of the same body. If it submitted several there, because its body repeats, it waits for the
+    /// latest. A body has at most one get for each of its submits.
     Get(usize),
 }
 

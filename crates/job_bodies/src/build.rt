@@ -13,7 +13,8 @@ use crate::limits::{MAX_CLASSES, MAX_CLIENT_KINDS, MAX_POOLS};
 use crate::{Class, Client, Part, PlanFault, Pool};
 use support::number::TOO_MANY;
 
-/// Checks that each list has at most its maximum number of entries.
+/// Checks that none of the lists of pools, classes and client kinds has more entries than a plan
+/// may have.
 pub(crate) fn check_counts(
     pools: &[Pool],
     classes: &[Class],

@@ -53,7 +53,8 @@ pub(crate) fn check_client(clients: &[Client], index: usize) -> Result<(), PlanF
     ensure(valid, PlanFault::at_entry(Part::Client, index, BAD_NUMBER))
 }
 
-/// Checks that the body has at most the maximum number of actions.
+/// Checks that the body has at most [`MAX_ACTIONS`] actions. A fault names the entry at `index` in
+/// the list for `part`, which has the body.
 pub(crate) fn check_length(part: Part, index: usize, body: &[Action]) -> Result<(), PlanFault>
     ensures { result ≡ check_length part index body.now }
 {
@@ -101,7 +102,9 @@ fn is_valid_get(body: &[Action], got: &[bool; MAX_ACTIONS], position: usize, sub
         && !has_get_in_table(&body[..position], got, submit)
 }
 
-/// Checks the action at `position` of the body.
+/// Checks the action at `position` of the body. `classes` is the number of the plan's classes, and
+/// `got` is the table of the actions before `position`. A fault names the entry at `index` in the
+/// list for `part`, which has the body.
 fn check_action(
     classes: usize,
     part: Part,
@@ -123,7 +126,8 @@ fn check_action(
     ensure(valid, PlanFault::at_action(part, index, position, number))
 }
 
-/// Checks each action of the body in order.
+/// Checks each action of the body in order. `classes` is the number of the plan's classes. A fault
+/// names the entry at `index` in the list for `part`, which has the body.
 #[tactic(auto, using(crate::proofs::Loops::check_each_turn))]
 pub(crate) fn check_body(
     classes: usize,

@@ -1,5 +1,6 @@
 //! The limits of plans, certificates, texts, searches and runs. Parsers, checks and messages share
-//! them.
+//! them. A witness is a list of events after which a plan refuses a job or has jobs that wait only
+//! for each other. A run executes a plan on real threads.
 
 ghost use Rattle.std.specs.Prelude.{◌≡◌};
 ghost use Rattle.job_bodies.specs.WellFormed.{is_within};
