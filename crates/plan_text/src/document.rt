@@ -16,9 +16,9 @@ use support::ReadError;
 use support::number::{NOT_TOML, TOO_MANY, UNKNOWN_KEY, WRONG_TYPE};
 use toml::{Table, Value};
 
-/// Parses the bytes as a TOML document and returns its table. It is a fault if there are more bytes
-/// than a plan may have, if they are not UTF-8 or not TOML, or if a top-level key is not `pool`,
-/// `class` or `client`.
+/// Parses the bytes as a TOML document and returns its table. Returns a fault if there are more
+/// bytes than a plan may have, if they are not UTF-8 or not TOML, or if a top-level key is not
+/// `pool`, `class` or `client`.
 #[tactic(auto, unfolding(crate::specs::Document::document_of))]
 pub fn document_of(alloc: Global, bytes: &[u8]) -> Result<Table, TextError>
     ensures { Gives table_view result (spec.document_of bytes.now) }
@@ -87,7 +87,7 @@ pub fn list_in(value: &Value) -> Option<&[Value]>
 }
 
 /// Returns the elements of the top-level array at this key, or an empty slice if the key is absent.
-/// It is a fault if the value is not an array, or if it has more than `most` elements.
+/// Returns a fault if the value is not an array, or if it has more than `most` elements.
 #[tactic(auto, unfolding(crate::specs::Document::list_at))]
 pub fn list_at<'a>(document: &'a Table, key: &str, most: usize) -> Result<&'a [Value], TextError>
     ensures { Gives (λ values. map view values.now) result

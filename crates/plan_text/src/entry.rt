@@ -66,8 +66,8 @@ impl<'a> Entry<'a> {
         value_at(self.table, key).ok_or(self.refuses(MISSING_KEY))
     }
 
-    /// Returns the string at this key. It is a fault if the key is absent or the value has another
-    /// type.
+    /// Returns the string at this key. Returns a fault if the key is absent or the value has
+    /// another type.
     #[tactic(auto, unfolding(crate::specs::Entry::text_at))]
     pub fn text(&self, key: &str) -> Result<&'a str, TextError>
         ensures { Gives (λ text. text.now) result (spec.text_at (entry_view self.now) key.now) }
@@ -76,8 +76,8 @@ impl<'a> Entry<'a> {
         value.as_str().ok_or(self.refuses(WRONG_TYPE))
     }
 
-    /// Returns the integer at this key, as a count. It is a fault if the key is absent or the value
-    /// has another type.
+    /// Returns the integer at this key, as a count. Returns a fault if the key is absent or the
+    /// value has another type.
     #[tactic(auto, unfolding(crate::specs::Entry::number_at))]
     pub fn number(&self, key: &str) -> Result<u64, TextError>
         ensures { Gives (λ number. number) result (spec.number_at (entry_view self.now) key.now) }
@@ -87,8 +87,8 @@ impl<'a> Entry<'a> {
         Ok(count_of(number))
     }
 
-    /// Returns the boolean at this key, or `false` if the key is absent. It is a fault if the value
-    /// has another type.
+    /// Returns the boolean at this key, or `false` if the key is absent. Returns a fault if the
+    /// value has another type.
     #[tactic(auto, unfolding(crate::specs::Entry::flag_at))]
     pub fn flag(&self, key: &str) -> Result<bool, TextError>
         ensures { Gives (λ flag. flag) result (spec.flag_at (entry_view self.now) key.now) }
@@ -99,7 +99,7 @@ impl<'a> Entry<'a> {
         value.as_bool().ok_or(self.refuses(WRONG_TYPE))
     }
 
-    /// Returns the strings in the array at this key. It is a fault if the key is absent, if the
+    /// Returns the strings in the array at this key. Returns a fault if the key is absent, if the
     /// array is longer than a body may be, or if a value has another type.
     #[tactic(auto, unfolding(crate::specs::Entry::texts_at))]
     pub fn texts(&self, alloc: Global, key: &str) -> Result<Vec<&'a str>, TextError>

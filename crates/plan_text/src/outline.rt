@@ -188,7 +188,7 @@ impl Outline {
     }
 
     /// Records the offset of a token that begins the value of the last key (`depth` 0) or an
-    /// element of that value (`depth` 1).
+    /// element of that value (`depth` 1). Does nothing for a greater depth.
     fn record_start(&mut self, depth: usize, start: usize) -> Result<(), AllocError> {
         let Some(table) = self.tables.last_mut() else {
             return Ok(());

@@ -36,8 +36,8 @@ pub fn read_plan(alloc: Global, bytes: &[u8]) -> Result<Plan, PlanFault>
     }
 }
 
-/// Parses the bytes of a plan. A plan that passes these checks is well-formed, so [`Plan::build`]
-/// need not check it again.
+/// Parses the bytes of a plan, and checks all rules of well-formed plans. It then creates the plan
+/// without [`Plan::build`], which would check them again.
 #[tactic(auto, unfolding(crate::specs::PlanOf::plan_of))]
 fn plan_of(alloc: Global, bytes: &[u8]) -> Result<Plan, TextError>
     ensures { Gives (λ plan. plan) result (spec.plan_of bytes.now) }
