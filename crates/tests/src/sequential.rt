@@ -22,9 +22,9 @@ use std::alloc::{AllocError, Global};
 ///   call in turn. It appends a note to the answer for each unexpected result.
 /// - `check and explain`: an input of both commands. The answer is the output of `check`, followed
 ///   by the output of `explain` if it differs.
-/// - `prefixes of a replay`, `prefixes of a check` and `prefixes of an explain`: an input. The test
-///   runs the command on each proper prefix of the input, from the shortest to the longest. Its
-///   answer is the output for the empty prefix, followed by each output that differs from the
+/// - `prefixes of a replay`, `prefixes of a check` and `prefixes of an explain`: an input. The
+///   test runs the command on each proper prefix of the input, from the shortest to the longest.
+///   The answer is the output for the empty prefix, followed by each output that differs from the
 ///   previous one, with the length of its prefix.
 /// - `words`: the arguments of a command line, each followed by a newline.
 pub struct SequentialCommands;

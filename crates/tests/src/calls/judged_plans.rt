@@ -171,8 +171,8 @@ fn the_first_condition_that_fails(rt: HostRuntime) -> Result<(), Fail> {
 }
 
 /// Returns whether the get at this position of the class's body is counted: whether it may block a
-/// thread that others need. Returns `None` if the ranks do not have the shape of the plan, or if
-/// the body has no such position.
+/// thread that other jobs need. Returns `None` if the ranks do not have the shape of the plan, or
+/// if the body has no such position.
 fn is_counted(plan: &Plan, ranks: &Ranks, class: usize, position: usize) -> Option<bool> {
     let found = plan.class_at(class)?;
     if position >= found.body.len() || !ranks.fits(plan) {

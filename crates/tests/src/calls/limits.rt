@@ -5,7 +5,8 @@ ghost use Rattle.std.specs.Prelude.{None, if◌then◌else◌};
 use sizing_cli::{IoFault, MemorySink, ReviewCommand, ServeFault, Source, Status, serve_alone};
 use std::test::Fail;
 
-/// A source that returns one byte in each call, and then fails in one call.
+/// A source of `left` bytes. Each call returns one byte. The call after the last byte fails, and
+/// later calls return no byte.
 #[derive(Drop)]
 struct Failing {
     left: usize,
@@ -31,8 +32,8 @@ impl Source for Failing {
     }
 }
 
-/// The program makes no call after it has read 2,097,156 bytes, so a source that would fail at the
-/// next call has no effect.
+/// The program makes no call after it has read 2,097,156 bytes. So it does not see a failure of the
+/// next call. It reports a failure one byte earlier.
 #[test]
 fn a_source_that_fails_at_the_limit(rt: HostRuntime) -> Result<(), Fail> {
     for (left, ended, written) in [

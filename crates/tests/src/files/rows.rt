@@ -17,7 +17,7 @@ pub struct Part<'a> {
 }
 
 impl<'a> Row<'a> {
-    /// Returns the text of the first part with this head.
+    /// Returns the text of the first part with this head, or `None` if the row has no such part.
     pub fn part(&self, head: &str) -> Option<&'a str> {
         for part in &self.parts {
             if part.head == head {

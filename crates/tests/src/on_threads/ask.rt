@@ -9,8 +9,8 @@ use std::alloc::{AllocError, Global};
 use std::sync::Wait;
 use std::thread::Threads;
 
-/// Returns the command `ask` for this input (a plan alone, or a plan with a certificate) and with
-/// these options.
+/// Returns the command `ask` with these options. `given` says whether the input is a plan alone or
+/// a plan with a certificate.
 fn question(given: AskInput, strict: bool, form: Form) -> Command
     ensures { IsInRange result }
 {

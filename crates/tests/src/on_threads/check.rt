@@ -16,8 +16,9 @@ impl PoolGate for Open {
     }
 }
 
-/// Checks a bundle without threads, and returns the result. Appends each result on threads that
-/// differs from it.
+/// Checks a bundle without threads, and then on threads. Returns the result without threads,
+/// followed by each result on threads that differs from it. Returns a note if the bundle has no
+/// line `%%`.
 pub fn checked<R: Threads + Sync>(
     rt: &R,
     alloc: Global,
