@@ -139,7 +139,8 @@ impl ActorTable {
         }
     }
 
-    /// Returns the path and its settled prefix, if the actor is in the table and has ended.
+    /// Returns the path and the length of its settled prefix, or `None` if the actor is not in the
+    /// table or has not ended.
     pub(crate) fn ended_path(&self, actor: RecordedActor) -> Option<&EndedPath>
         ensures { option_copied result
             ≡ option_and_then (λ kept. kept.ended_path) (in_table self.now actor) }

@@ -224,7 +224,7 @@ fn open_job(path: &[RecordedStep]) -> Option<usize>
 }
 
 /// Returns the job of the step at this index of the path, if the step is a submit and the path does
-/// not get the job.
+/// not get the job. Otherwise returns `None`.
 fn open_job_at(path: &[RecordedStep], place: usize, step: RecordedStep) -> Option<usize>
     ensures { option_to_list result ≡ spec.open_job_at path.now (place, step) }
 {

@@ -62,7 +62,8 @@ pub fn class_family(
         .collect(alloc)
 }
 
-/// Returns the first class that jobs of this label in this pool may belong to, without allocating.
+/// Returns the first class of the plan that jobs of this label in this pool may belong to, or
+/// `None` if there is none. Does not allocate.
 pub fn first_class(plan: &Plan, label: &str, pool: &str) -> Option<usize>
     ensures { result ≡ slice_get (spec.class_family plan.now label.now pool.now) 0 }
 {
@@ -80,7 +81,8 @@ pub(crate) fn is_class_in_family(plan: &Plan, label: &str, pool: &str, class: us
     is_of_family(label, plan.class_name(class)) && pool_of_class(plan, class) == pool
 }
 
-/// Returns the name of the pool that runs the jobs of the class.
+/// Returns the name of the pool that runs the jobs of the class. For a number without a class,
+/// returns the name of the first pool, or an empty name if the plan has no pool.
 fn pool_of_class(plan: &Plan, class: usize) -> &str
     ensures { result.now ≡ (pool_at plan.now (class_at plan.now class).pool).name }
 {
@@ -102,7 +104,8 @@ pub fn client_family(alloc: Global, plan: &Plan, label: &str) -> Result<Vec<usiz
         .collect(alloc)
 }
 
-/// Returns the first client kind that rounds of this label may belong to, without allocating.
+/// Returns the first client kind of the plan that rounds of this label may belong to, or `None` if
+/// there is none. Does not allocate.
 pub fn first_client(plan: &Plan, label: &str) -> Option<usize>
     ensures { result ≡ slice_get (spec.client_family plan.now label.now) 0 }
 {

@@ -112,7 +112,9 @@ impl Finding {
         }
     }
 
-    /// Returns the number that orders findings of the same line and type.
+    /// Returns the number that orders findings of the same line and type: the position of a
+    /// difference among the variants of [`Difference`], or the number of a pool, an actor or a
+    /// client kind. It is 0 for all other findings.
     fn number(&self) -> usize
         ensures { result ≡ spec.number_of self.now }
     {

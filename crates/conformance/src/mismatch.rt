@@ -22,7 +22,8 @@ pub struct PathMismatch {
     pub after: Option<NamedStep>,
 }
 
-/// The first deviating step of an actor.
+/// The first deviating step of an actor: the first one that no body of its label explains, or its
+/// end if that came too early.
 #[derive(Drop)]
 pub enum DeviatingStep {
     /// The actor submitted a job of this class to this pool. Its body has no such submit left.

@@ -91,7 +91,8 @@ fn picked_class(body: &[Action], from: &mut usize, classes: &[usize], pick: Pick
     }
 }
 
-/// Returns the first class in `classes` that the body submits.
+/// Returns the first class in `classes` that the body submits, or `None` if it submits none of
+/// them.
 fn first_class(body: &[Action], classes: &[usize]) -> Option<usize>
     ensures { IfSome result (λ class. Contains classes.now class) }
 {
@@ -103,7 +104,7 @@ fn first_class(body: &[Action], classes: &[usize]) -> Option<usize>
     None
 }
 
-/// Returns the last class in `classes` that the body submits.
+/// Returns the last class in `classes` that the body submits, or `None` if it submits none of them.
 fn last_class(body: &[Action], classes: &[usize]) -> Option<usize>
     ensures { IfSome result (λ class. Contains classes.now class) }
 {
@@ -117,7 +118,7 @@ fn last_class(body: &[Action], classes: &[usize]) -> Option<usize>
 }
 
 /// Finds the first submit of one of the classes at or after index `from` of the body. Returns its
-/// class, and moves `from` past the submit.
+/// class, and moves `from` past the submit. Returns `None` if there is no such submit.
 fn next_class(body: &[Action], from: &mut usize, classes: &[usize]) -> Option<usize>
     ensures { IfSome result (λ class. Contains classes.now class) }
 {

@@ -50,8 +50,8 @@ impl OtherKinds {
         Ok(())
     }
 
-    /// Returns the kind that a round counts as. This is the first kind of `label` if the map does
-    /// not have the round.
+    /// Returns the kind that a round counts as, or `None` if it counts as no kind of the plan. This
+    /// is the first kind of `label` if the map does not have the round.
     pub(crate) fn kind_of(&self, plan: &Plan, round: usize, label: &str) -> Option<usize>
         ensures { result ≡ spec.kind_by plan.now self.now round label.now }
     {

@@ -196,7 +196,7 @@ impl WalkState {
         }
     }
 
-    /// Returns true if the body can be at some index.
+    /// Returns true if a walk is left: the body can be at some index.
     fn is_begun(&self) -> bool
         ensures { result ≡ list_any (λ at. at) self.now.row.items }
     {
