@@ -33,7 +33,8 @@ pub(crate) struct Assignment {
 }
 
 impl Entries {
-    /// Returns the first entry of this label and pool whose body the path matches.
+    /// Returns the assignment of the path to the first entry of this label and pool whose body it
+    /// matches, or `None` if there is none.
     ///
     /// # Errors
     ///
