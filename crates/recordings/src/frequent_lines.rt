@@ -113,7 +113,8 @@ fn split_submit(actor: RecordedActor, words: &[u8]) -> Option<(Line<'_>, &[u8])>
     Some((line, after))
 }
 
-/// Parses a number before the byte `end`, and returns it with the text after that byte.
+/// Parses a number at the start of the text, up to the first byte `end`. Returns the number with
+/// the text after that byte.
 #[inline(always)]
 fn split_number(text: &[u8], end: u8) -> Option<(usize, &[u8])>
     ensures { IfSome result (λ read.
@@ -145,7 +146,8 @@ fn digit_of(byte: u8) -> usize
     usize::from(byte).wrapping_sub(usize::from(b'0'))
 }
 
-/// Parses a name before the byte `end`, and returns it with the text after that byte.
+/// Parses a name at the start of the text, up to the first byte `end`. Returns the name with the
+/// text after that byte.
 #[inline(always)]
 fn split_name(text: &[u8], end: u8) -> Option<(&str, &[u8])>
     ensures { IfSome result

@@ -63,8 +63,8 @@ impl Jobs {
         job < self.submitted && self.get(job).is_none_or(|state| state.cancelled)
     }
 
-    /// Returns the job that `job` submitted in its last line, if that line is a submit. `refused`
-    /// lines do not count.
+    /// Returns the job that `job` submitted in its last line, or `None` if that line is no submit.
+    /// `refused` lines do not count. Also returns `None` if `job` is done or has no line yet.
     pub(crate) fn last_submit(&self, job: usize) -> Option<usize>
         ensures { result ≡ last_submit_in (job_at self.now job) }
     {

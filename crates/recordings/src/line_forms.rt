@@ -1,4 +1,5 @@
-//! The parser for all forms of the lines of a recording.
+//! The parser for all forms of the lines of a recording. Each function returns `None` if the text
+//! has none of the forms that it parses.
 
 ghost use Rattle.std.specs.Prelude.{◌≡◌, option_map};
 ghost use Rattle.recordings.specs.RecordingLine.{line_view};

@@ -33,8 +33,8 @@ pub(crate) fn actor_of(line: &Line<'_>) -> Option<RecordedActor>
     }
 }
 
-/// Returns the job that the line names. The line's actor and a job that the line submits do not
-/// count.
+/// Returns the job that the line names, or `None` if it names none. The line's actor and a job that
+/// the line submits do not count.
 pub(crate) fn job_of(line: &Line<'_>) -> Option<usize>
     ensures { result ≡ spec.job_of (line_view line.now) }
 {
@@ -50,7 +50,8 @@ pub(crate) fn job_of(line: &Line<'_>) -> Option<usize>
     }
 }
 
-/// Returns the pool that the line names, unless the line is a `pool` line.
+/// Returns the pool that the line names. Returns `None` for a `pool` line and for a line that names
+/// no pool.
 pub(crate) fn pool_of<'a>(line: &Line<'a>) -> Option<&'a str>
     ensures { option_map (λ pool. pool.now) result ≡ spec.pool_of (line_view line.now) }
 {

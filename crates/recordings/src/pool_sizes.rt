@@ -1,4 +1,5 @@
-//! The settings of a pool in a `pool` line: its sizes, its queue and its handler.
+//! The settings of a pool in a `pool` line: its sizes, its queue and its handler. Each parser
+//! returns `None` if the text has another form.
 
 ghost use Rattle.std.specs.Prelude.{◌≡◌, option_map};
 ghost use Rattle.recordings.specs.PoolSizes as spec;
@@ -114,7 +115,7 @@ fn parse_timeout(text: &[u8]) -> Option<(bool, &[u8])>
     Some((yes_or_no(word)?, rest))
 }
 
-/// Parses `handler KIND`.
+/// Parses `handler KIND`, which must be the whole text, and returns the kind.
 #[tactic(auto, unfolding(crate::specs::PoolSizes::handler_of))]
 fn handler_of(text: &[u8]) -> Option<HandlerKind>
     ensures { result ≡ spec.handler_of text.now }
@@ -122,7 +123,8 @@ fn handler_of(text: &[u8]) -> Option<HandlerKind>
     handler_kind_of(strip_word("handler", text)?)
 }
 
-/// Parses `core C max C queue KIND C timeout WORD prestarted C handler KIND`.
+/// Parses the settings `core C max C queue KIND C timeout WORD prestarted C handler KIND`, which
+/// must be the whole text. Returns `None` if the text has another form.
 #[tactic(auto, unfolding(crate::specs::PoolSizes::pool_sizes_of))]
 pub(crate) fn pool_sizes_of(text: &[u8]) -> Option<PoolSizes>
     ensures { result ≡ spec.pool_sizes_of text.now }

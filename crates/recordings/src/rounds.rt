@@ -35,8 +35,8 @@ impl Rounds {
         self.open.contains(round)
     }
 
-    /// Returns the job that the round submitted in its last line, if that line is a submit.
-    /// `refused` lines do not count.
+    /// Returns the job that the round submitted in its last line, or `None` if that line is no
+    /// submit. `refused` lines do not count. Also returns `None` if the round is not open.
     pub(crate) fn last_submit(&self, round: usize) -> Option<usize>
         ensures { result ≡ last_submit_of_round (round_at self.now round) }
     {

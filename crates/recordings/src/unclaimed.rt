@@ -26,7 +26,8 @@ impl UnclaimedJobs {
         }
     }
 
-    /// Returns true if an actor other than this one submitted the job and has not got it.
+    /// Returns true if an actor other than this one submitted the job and has not got it. Returns
+    /// false if the job is not unclaimed.
     pub(crate) fn is_foreign(&self, job: usize, actor: RecordedActor) -> bool
         ensures { result ≡ spec.is_foreign (submitter_in self.now job) actor }
     {

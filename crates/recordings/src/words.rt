@@ -1,4 +1,5 @@
-//! Parsers for the first word of a text and the space after it.
+//! Parsers for the first word of a text and the space after it. Each returns `None` if the text
+//! does not begin as required.
 
 ghost use Rattle.std.specs.Prelude.{◌≡◌, option_map};
 ghost use Rattle.std.specs.Str.{bytes_eq};
