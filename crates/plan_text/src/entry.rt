@@ -33,7 +33,7 @@ fn count_of(number: i64) -> u64
 
 impl<'a> Entry<'a> {
     /// Checks that the value is a table that has only these keys, and returns it as the entry at
-    /// `index` in the list for `part`.
+    /// `index` in the list for `part`. Returns a fault of this entry if it is not.
     #[tactic(auto, unfolding(crate::specs::Entry::entry_of))]
     pub fn of(
         value: &'a Value,

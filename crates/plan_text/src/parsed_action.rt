@@ -74,7 +74,7 @@ fn name_of(text: &str) -> Option<&str>
 }
 
 /// Parses the number of units of an action `work`: digits without a leading zero, from 1 to
-/// [`MAX_WORK`].
+/// [`MAX_WORK`]. Returns `None` for any other text.
 #[tactic(auto, unfolding(crate::specs::ParsedActions::parse_units))]
 fn parse_units(text: &str) -> Option<u32>
     ensures { result ≡ spec.parse_units text.now }

@@ -63,7 +63,7 @@ impl<'a> Places<'a> {
     }
 
     /// Returns the position of the first table with this name. If there is none, returns the
-    /// position of the first key with this name before any table.
+    /// position of the first key with this name before any table, or `None`.
     pub fn top(&self, name: &str) -> Option<TextPlace> {
         for table in &self.tables {
             if self.is_named(table.name, name) {
