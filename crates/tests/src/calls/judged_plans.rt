@@ -21,8 +21,8 @@ fn read(alloc: Global, plan: &str, cert: &str) -> Result<(Plan, Cert), Fail> {
     Ok((plan, cert))
 }
 
-/// The results for the first pool: the total of the vector of its bound, and for each part of the
-/// certificate the first condition that fails.
+/// The results for the first pool of a plan and a certificate: the total of the vector in the
+/// pool's bound, and for each part of the certificate the first condition that fails.
 #[derive(Clone, Copy, Debug, PartialEq, Eq)]
 struct Findings {
     total: u64,

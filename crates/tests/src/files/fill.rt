@@ -9,7 +9,7 @@ use std::alloc::{AllocError, Global};
 // The names of the columns, one character each.
 const COLUMNS: &str = "123456789";
 
-/// Returns the text with the columns in place of `$1`, `$2` and so on.
+/// Returns the text with the first column in place of `$1`, the second in place of `$2`, and so on.
 pub fn with_columns(alloc: Global, text: &str, columns: &[&str]) -> Result<String, AllocError> {
     let mut filled = String::new(alloc);
     for (number, piece) in text.split('$').enumerate() {

@@ -28,7 +28,7 @@ impl<'a> Row<'a> {
     }
 }
 
-/// Parses the rows of the file.
+/// Parses the rows of the file. Ignores the text before the first row.
 pub fn read_rows(alloc: Global, file: &str) -> Result<Vec<Row<'_>>, AllocError> {
     let mut rows = Vec::new(alloc);
     for text in file.split("\n== ").skip(1) {

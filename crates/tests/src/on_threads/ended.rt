@@ -18,7 +18,7 @@ pub struct Ended {
 }
 
 impl Ended {
-    /// Runs the command on this input.
+    /// Runs the command on an input in memory, and returns its result.
     pub fn of_input<R: Threads + Wait + Sync>(
         rt: &R,
         alloc: Global,
@@ -31,7 +31,8 @@ impl Ended {
         Ended::of_source(rt, alloc, command, &mut MemorySource::new(input), sink)
     }
 
-    /// Runs the command on the input that the source provides, with this sink.
+    /// Runs the command on the input that the source provides, with a sink in memory. Returns its
+    /// result.
     pub fn of_source<R: Threads + Wait + Sync, S: Source>(
         rt: &R,
         alloc: Global,
