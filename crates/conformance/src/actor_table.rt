@@ -20,9 +20,9 @@ use support::IdMap;
 pub(crate) struct UnsettledActor {
     /// The class of a job, or the kind of a round.
     pub(crate) label: String,
-    /// The pool of a job.
+    /// The pool of a job. It is empty for a round.
     pub(crate) pool: String,
-    /// The submitter of a job, unless the job was refused.
+    /// The submitter of a job. It is `None` for a refused job and for a round.
     pub(crate) submitter: Option<RecordedActor>,
     /// The path and its settled prefix if the actor has ended, or `None` if it is open.
     pub(crate) ended_path: Option<EndedPath>,

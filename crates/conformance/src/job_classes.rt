@@ -50,8 +50,8 @@ impl ClassTable {
         self.jobs.insert(job, classes)
     }
 
-    /// Stores the classes of the actor, if it is a job in the path of its submitter. Refused jobs
-    /// and rounds are in no path.
+    /// Stores the classes of the actor, if it is a job in the path of its submitter. Does nothing
+    /// for a refused job and for a round, since they are in no path.
     ///
     /// # Errors
     ///

@@ -47,8 +47,8 @@ pub enum DeviatingStep {
         job: usize,
         label: ActorLabel,
     },
-    /// The actor ended before a get of its body. This job is the first of its jobs that it did not
-    /// get.
+    /// The actor ended before a get of its body. `job` is the first job that it submitted and did
+    /// not get, and `label` is the label of this job.
     EndsOpen {
         job: usize,
         label: ActorLabel,

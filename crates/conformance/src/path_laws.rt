@@ -1,5 +1,6 @@
-//! Laws about paths and the machine of a plan. Each law is the contract of a function with an empty
-//! body.
+//! Laws about paths and the machine of a plan. The machine has the states and the events of the
+//! plan's pools, jobs and clients. A plan is accepted if a certificate accepts it. Each law is the
+//! contract of a function with an empty body.
 
 ghost use Rattle.conformance.specs.FollowedActors.{PlannedActorsAreFollowed};
 ghost use Rattle.conformance.specs.LaggingRun.{PathsAreFollowed, RunsStayReachable};
