@@ -62,7 +62,7 @@ impl ActorClassifier {
         Ok(())
     }
 
-    /// Returns the path of an open actor.
+    /// Returns the path of an open actor so far, or an empty path if the actor is not open.
     ///
     /// # Errors
     ///
@@ -80,8 +80,8 @@ impl ActorClassifier {
         }
     }
 
-    /// Returns the path of the actor: the whole path if it has ended, and the path so far if it is
-    /// open.
+    /// Returns the path of the actor: the whole path, which is in `ended_path`, if the actor has
+    /// ended, and the path so far if it is open.
     ///
     /// # Errors
     ///
