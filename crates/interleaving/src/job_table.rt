@@ -113,7 +113,7 @@ impl JobTable {
         }
     }
 
-    /// Reserves memory for one more job.
+    /// Reserves memory for one more job, which [`push`](JobTable::push) then adds.
     pub(crate) fn reserve(&mut self) -> Result<(), AllocError>
         ensures items { self.new.items ≡ self.old.items }
         ensures places { self.new.places ≡ self.old.places }

@@ -51,7 +51,7 @@ impl MovedClients {
         }
     }
 
-    /// Reserves memory for one more client.
+    /// Reserves memory for the first move of one more client.
     pub(crate) fn reserve(&mut self) -> Result<(), AllocError>
         ensures stay { (q : ℕ) → moved_at self.new q ≡ moved_at self.old q }
         ensures room { OnOk result (0 < self.new.room) }
