@@ -39,7 +39,8 @@ pub(crate) fn witness_value(
     parts_value(alloc, plan, places, &world, &steps, witness)
 }
 
-/// Converts the parts of a witness. `world` is the world after the steps.
+/// Converts a witness to JSON. `steps` are what its events did, and `world` is the world after
+/// them.
 #[tactic(auto, unfolding(crate::specs::JsonWitness::witness_parts))]
 fn parts_value(
     alloc: Global,

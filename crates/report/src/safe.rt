@@ -13,7 +13,8 @@ use job_bodies::{Plan, Pool};
 use std::alloc::{AllocError, Global};
 use weights::{Bound, Vector};
 
-/// Appends two lines for each pool, and a last line that says what the certificate guarantees.
+/// Appends two lines for each pool that has a part of the certificate, and a last line that says
+/// what the certificate guarantees.
 pub(crate) fn push_safe(
     alloc: Global,
     text: &mut String,
@@ -69,8 +70,9 @@ fn push_lines(
     push_waits(alloc, text, plan, number, pool, &part.blocked)
 }
 
-/// Returns the number of queue places that each pool needs, in the order of the certificate. The
-/// number is `None` unless a standing vector that fits the plan bounds the pool's queue.
+/// Returns, for each pool of the certificate, the maximum number of jobs in its queue at once,
+/// which is the number of queue places that it needs. The number is `None` if the certificate does
+/// not bound it: the pool has a lifetime vector, or its vector does not fit the plan.
 ///
 /// # Errors
 ///
@@ -98,7 +100,7 @@ fn places_of(plan: &Plan, bound: &Bound) -> Option<u64>
     }
 }
 
-/// Returns the total of a vector, if it fits the plan.
+/// Returns the total of a vector, or `None` if the vector does not fit the plan.
 pub fn total_of(plan: &Plan, vector: &Vector) -> Option<u64>
     ensures { result ≡ places.total_of plan.now vector.now }
 {
@@ -109,7 +111,7 @@ pub fn total_of(plan: &Plan, vector: &Vector) -> Option<u64>
     }
 }
 
-/// Appends the line with the pool's threads and its queue.
+/// Appends the line with the number of the pool's threads and the bound of its queue.
 fn push_bound(
     alloc: Global,
     text: &mut String,
@@ -284,8 +286,8 @@ fn push_waits(
     text.push('\n')
 }
 
-/// Appends the maximum number of core threads that wait at counted gets at once, if the vector fits
-/// the plan.
+/// Appends the maximum number of core threads that wait at counted gets at once, which is the total
+/// of the vector `blocked`. Appends nothing if the total is 0 or this vector does not fit the plan.
 fn push_left(
     text: &mut String,
     plan: &Plan,

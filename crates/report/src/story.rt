@@ -16,9 +16,9 @@ use interleaving::{Event, World};
 use job_bodies::Plan;
 use std::alloc::{AllocError, Global};
 
-/// Appends the story of the events from the plan's initial state, up to the first event that is not
-/// possible. It shows the events, the state of the pools after them, and what each of the jobs
-/// `members` waits for.
+/// Appends the story of the events from the plan's initial state. It shows the events, the state of
+/// the pools after them, and what each of the jobs `members` waits for. It ends before the first
+/// event that is not possible.
 ///
 /// # Errors
 ///

@@ -108,7 +108,7 @@ fn after_step(
     }
 }
 
-/// Returns a new turn that begins with the step. The story has `all` steps, and `before` of them
+/// Returns a new turn that has only this step. The story has `all` steps, and `before` of them
 /// precede this one.
 fn new_turn(
     alloc: Global,

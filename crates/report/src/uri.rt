@@ -16,8 +16,9 @@ pub(crate) fn uri_of(alloc: Global, name: &str) -> Result<String, AllocError>
     Ok(uri)
 }
 
-/// Returns a prefix for the name, which keeps a reader of the URI from taking the start of the name
-/// for a scheme or a host. It is empty if the name needs none.
+/// Returns `/.` if the name starts with two slashes, `./` if it has a colon before its first slash,
+/// and otherwise an empty text. Without this prefix, a reader of the URI would take the start of
+/// the name for a host or a scheme.
 fn path_start(name: &[u8]) -> &'static str
     ensures { result.now ≡ spec.path_start name.now }
 {
@@ -36,7 +37,7 @@ fn has_two_slashes(name: &[u8]) -> bool
     name.starts_with(b"//")
 }
 
-/// Returns whether there is a colon before the first slash.
+/// Returns whether the name has a colon with no slash before it.
 fn has_early_colon(mut name: &[u8]) -> bool
     ensures { result ≡ spec.has_early_colon name.entry.now }
 {
