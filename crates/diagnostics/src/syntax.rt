@@ -181,8 +181,8 @@ fn entry_hint(line: &str) -> Option<&'static str> {
     value_hint(line)
 }
 
-/// Returns a hint if the line is the header of an entry. The parser rejects a header that has one
-/// pair of brackets, or whose list an earlier line defines in another way.
+/// Returns a hint if the line is the header of an entry. A header is a fault if it has one pair of
+/// brackets, or if an earlier line defines its list in another way.
 fn bracket_hint(line: &str) -> Option<&'static str> {
     match line.split('#').next().unwrap_or("").trim() {
         "[pool]" | "[class]" | "[client]" => {
