@@ -1,4 +1,5 @@
-//! The events of a witness: who acts in each of them, and what it does.
+//! The events of a witness: who acts in each of them, and what it does. A witness is a list of
+//! events after which a submit is refused or jobs wait only for each other.
 
 ghost use Rattle.std.specs.Prelude.{◌≡◌, IfOk};
 ghost use Rattle.job_bodies.specs.WellFormed.{IsWellFormed};
@@ -16,9 +17,9 @@ use std::alloc::{AllocError, Global};
 /// The actor of an event.
 #[derive(Clone, Copy)]
 pub(crate) enum Actor {
-    /// The client with the second number, which is of the client kind with the first number.
+    /// A client: the index of its client kind, and its own number.
     Client(usize, usize),
-    /// The job with the second number, which is of the class with the first number.
+    /// A job: the index of its class, and its own number.
     Job(usize, usize),
     /// An idle worker of the pool with this index.
     Pool(usize),
@@ -37,14 +38,15 @@ pub(crate) struct PoolCounts {
 #[derive(Clone, Copy)]
 pub(crate) struct EventStep {
     pub(crate) actor: Actor,
-    /// The index of the action in its body. It is `None` at the end of a body, and for an event of
-    /// a pool.
+    /// The index, in the actor's body, of the action that the actor performed. It is `None` at the
+    /// end of a body, and for an event of a pool.
     pub(crate) action: Option<usize>,
     pub(crate) outcome: Outcome,
     /// The pool that the event changed, or that refused a submit, with its numbers of threads after
     /// the event. It is `None` if the event neither changed a pool nor was refused.
     pub(crate) pool: Option<PoolCounts>,
-    /// The class of the job that a thread took from a queue, or `None` if no job was taken.
+    /// The index of the class of the job that a thread took from a queue, or `None` if no job was
+    /// taken.
     pub(crate) taken: Option<usize>,
 }
 

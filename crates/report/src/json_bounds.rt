@@ -91,7 +91,7 @@ fn threads_value(alloc: Global, plan: &Plan, shares: &[u64]) -> Result<Value, Al
     Ok(Value::from(values))
 }
 
-/// Appends one share, unless it is 0.
+/// Appends the JSON object of one share, unless the share is 0.
 #[tactic(auto, using(std::proofs::lemmas::List::map_push))]
 fn push_share(
     alloc: Global,

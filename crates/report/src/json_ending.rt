@@ -1,5 +1,6 @@
 //! The ending of a witness as JSON: the jobs that wait only for each other, and what each of them
-//! waits for.
+//! waits for. A witness is a list of events after which a submit is refused or jobs wait only for
+//! each other.
 
 ghost use Rattle.std.specs.Prelude.{◌≡◌, ◌++◌, ◌∷◌, [], map, flat_map, IfOk, OnOk, slice_get};
 ghost use Rattle.serde_json.specs.View.{view};

@@ -1,4 +1,5 @@
-//! A witness as JSON: how it ends, its events, and the event lines that `replay` reads.
+//! A witness as JSON: how it ends, its events, and the event lines that `replay` reads. A witness
+//! is a list of events after which a submit is refused or jobs wait only for each other.
 
 ghost use Rattle.std.specs.Prelude.{◌≡◌, [], map, flat_map, IfOk};
 ghost use Rattle.serde_json.specs.View.{view};

@@ -1,4 +1,7 @@
-//! The text for a plan that a certificate accepts.
+//! The text for a plan that a certificate accepts. It lists the bound of each queue and the shares
+//! in the bound. A share is the part of a bound that the clients of one kind, or the threads of one
+//! pool, account for. The text also counts the core threads that wait at counted gets, which are
+//! the gets that can block a thread that other jobs need.
 
 ghost use Rattle.std.specs.Prelude.{◌≡◌, ◌++◌, IfOk, IsTrue, OnOk, map, string_bytes};
 ghost use Rattle.support.specs.Pushed.{Pushes};
@@ -237,7 +240,8 @@ fn push_workers(
     Ok(())
 }
 
-/// Appends one share, unless it is 0.
+/// Appends the text of one share, such as `8 from threads of web`, unless the share is 0. `from` is
+/// the text between the number and the name.
 #[tactic(auto, using(std::proofs::lemmas::List::map_push))]
 fn push_share(
     alloc: Global,

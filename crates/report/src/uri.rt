@@ -74,7 +74,7 @@ fn push_path_byte(text: &mut String, byte: u8) -> Result<(), AllocError>
     }
 }
 
-/// Returns whether a path may have the byte.
+/// Returns whether a path may have the byte without an escape.
 fn is_path_byte(byte: u8) -> bool
     ensures is { result ≡ spec.is_path_byte byte }
     ensures ascii { IsTrue result → byte < 128 }
@@ -98,7 +98,7 @@ fn push_escape(text: &mut String, byte: u8) -> Result<(), AllocError>
     push_ascii(text, hex_digit(byte % 16))
 }
 
-/// Returns the hexadecimal digit of a number, in upper case.
+/// Returns the hexadecimal digit of a number from 0 to 15, in upper case.
 fn hex_digit(n: u8) -> u8
     requires { n < 16 }
     ensures is { result ≡ spec.hex_digit n }

@@ -1,4 +1,5 @@
-//! The edges of a picture.
+//! The edges of a picture: an arrow for submits, a dashed line for gets, and a bold dashed line for
+//! counted gets. A counted get can block a thread that other jobs need.
 
 ghost use Rattle.std.specs.Prelude.{◌≡◌, ◌++◌, IsTrue, codes, option_map};
 ghost use Rattle.std.specs.List.{enumerate_from, list_any};
