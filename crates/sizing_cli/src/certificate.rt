@@ -20,7 +20,7 @@ use std::alloc::{AllocError, Global};
 use std::sync::Wait;
 use std::thread::Threads;
 
-/// The number of threads that search and check, for commands without an option for it.
+/// The number of threads that search and check for a command that has no option for this number.
 pub(crate) const WORKERS: usize = DEFAULT_WORKERS as usize;
 
 /// The number of pools per search thread. A further thread for fewer pools would save too little

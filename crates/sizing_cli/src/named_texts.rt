@@ -81,7 +81,7 @@ fn read_both<'a, F: TextFiles, S: Source>(
     Ok(join_texts(plan, &behind)?)
 }
 
-/// Reads the two texts of the command.
+/// Reads the two texts of the command. It is an error if both are to come from standard input.
 fn read_pair<'a, F: TextFiles, S: Source>(
     alloc: Global,
     command: Command,

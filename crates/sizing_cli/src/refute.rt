@@ -152,7 +152,7 @@ fn bundle(
     })
 }
 
-/// Writes that a certificate accepts the plan.
+/// Writes that the plan is safe, because a certificate accepts it.
 fn safe(alloc: Global, refute_format: RefuteFormat) -> Result<Answer, AllocError>
     ensures { IfOk result (λ answer. answer ≡ spec.safe_answer refute_format) }
 {
