@@ -47,8 +47,8 @@ pub(crate) fn kind_hint(line: &str) -> Option<&'static str>
     None
 }
 
-/// Returns a hint for a value of this key that is a word without quotes, or `None` for an unknown
-/// key.
+/// Returns a hint for a value of this key that is a word without quotes. Returns `None` for `body`
+/// and for an unknown key.
 pub(crate) fn word_hint(key: &str) -> Option<&'static str>
     ensures { option_map (λ hint. hint.now) result ≡ spec.word_hint key.now }
 {

@@ -35,8 +35,8 @@ fn start_of(open: OpenList, error: usize, end: usize) -> Option<usize> {
     }
 }
 
-/// Returns whether the line is a header or a key, which no list of a plan has at the start of a
-/// line.
+/// Returns whether the line is a header, or a key with its value. No list of a plan has such a
+/// line, so a list that is open before this line has no `]`.
 fn begins_entry(line: &str) -> bool {
     let line = line.trim();
     if line.starts_with("[[") {
