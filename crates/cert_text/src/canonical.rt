@@ -1,5 +1,7 @@
 //! A fast parser of certificates in *canonical form*: exactly the form that
-//! [`write_cert`](crate::write_cert) writes. It builds no JSON tree.
+//! [`write_cert`](crate::write_cert) writes. It builds no JSON tree. The part of a certificate for
+//! a pool has two vectors of numbers: the blocked vector, which bounds the pool's jobs that wait
+//! for other jobs, and then the bound of the pool's queue.
 //!
 //! Nearly every text has this form. Any other text is an error here, and the caller then parses it
 //! as JSON.
@@ -25,8 +27,8 @@ use job_bodies::{MAX_CERT_BYTES, Plan};
 use std::alloc::Global;
 use weights::{Bound, Ranks};
 
-/// Parses the bound of a pool's queue, which follows the blocked vector in the text. Returns the
-/// bound and the rest of the text.
+/// Parses the bound of a pool's queue at the start of a text, which begins with the comma after the
+/// blocked vector. Returns the bound and the rest of the text.
 fn parse_bound<'a>(
     alloc: Global,
     plan: &Plan,
@@ -146,7 +148,9 @@ fn is_blank(text: &[u8]) -> bool
     text.iter().all(|byte| is_space(*byte))
 }
 
-/// Parses the text of a certificate that fits the plan. White space may follow the certificate.
+/// Parses the text of a certificate that fits the plan. White space may follow the certificate. It
+/// is an error if the text is too long, is not in canonical form, or has a certificate that does
+/// not fit.
 pub fn parse_canonical_cert(alloc: Global, text: &[u8], plan: &Plan) -> Result<Cert, CanonicalError>
     ensures { IfOk result (IsCanonical plan.now text.now) }
 {

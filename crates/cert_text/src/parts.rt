@@ -1,4 +1,6 @@
-//! Writers of the parts of a certificate. They append to a text and build no JSON tree.
+//! Writers of the parts of a certificate. They append to a text and build no JSON tree. The part
+//! for a pool has two vectors of numbers: the blocked vector, which bounds the pool's jobs that
+//! wait for other jobs, and then the bound of the pool's queue.
 
 ghost use Rattle.std.specs.Prelude.{◌≡◌, ◌++◌, map, codes};
 ghost use Rattle.serde_json.specs.Written.{comma_if, compact_text};
@@ -11,7 +13,7 @@ use std::alloc::AllocError;
 use support::push_number;
 use weights::{Bound, Ranks, Vector};
 
-/// Appends a comma, unless `later` is false because the next list element is the first.
+/// Appends a comma if `later` is true, which means that the next list element is not the first.
 #[inline(always)]
 fn push_comma(text: &mut String, later: bool) -> Result<(), AllocError>
     ensures { Pushes result text.old text.new (comma_if later) }

@@ -49,7 +49,8 @@ fn lifetime_or_standing(
     }
 }
 
-/// Reads the vector that bounds the queue of a pool.
+/// Reads the vector that bounds the queue of a pool. `version` determines which kinds of vectors
+/// the pool may have.
 fn bound_of(alloc: Global, version: Version, plan: &Plan, pool: &Value) -> Result<Bound, CertError>
     ensures { Gives (λ bound. bound) result (spec.bound_of version plan.now (view pool.now)) }
 {
@@ -124,7 +125,8 @@ fn ranks_of(alloc: Global, plan: &Plan, value: &Value) -> Result<Ranks, CertErro
     })
 }
 
-/// Reads a certificate from a JSON value. Does not check whether its numbers are within the limit.
+/// Reads a certificate for the plan from a JSON value. Does not check that its numbers are at most
+/// [`MAX_WEIGHT`](job_bodies::MAX_WEIGHT).
 #[tactic(auto, unfolding(crate::specs::Shape::shape_of))]
 pub fn shape_of(
     alloc: Global,

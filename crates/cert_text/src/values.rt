@@ -55,7 +55,7 @@ fn key_count(value: &Value) -> Option<usize>
     }
 }
 
-/// Checks that the value is an object with `count` keys.
+/// Returns a fault if the value is not an object with `count` keys.
 #[tactic(auto, unfolding(crate::specs::Values::check_keys))]
 pub fn check_keys(value: &Value, count: usize) -> Result<(), CertError>
     ensures { Gives (λ nothing. nothing) result (spec.check_keys count (view value.now)) }

@@ -29,7 +29,8 @@ pub enum Command {
 pub enum ReviewCommand {
     /// Replays events on a plan and reports the outcome of each.
     Replay,
-    /// Decides whether a certificate shows that no submit is refused and no jobs starve.
+    /// Decides whether a certificate shows that no submit is refused and that no jobs wait for each
+    /// other forever.
     Check,
     /// Lists the conditions of a certificate that fail.
     Explain,
@@ -92,7 +93,8 @@ pub struct Cli<'a> {
     /// The second file, which holds the text that follows the plan, or `None` if only one file is
     /// named. `-` means standard input.
     pub second: Option<&'a str>,
-    /// The file to which a certificate is written, if one is found.
+    /// The file to which a certificate is written if one is found, or `None` if no file is to be
+    /// written.
     pub certificate: Option<&'a str>,
 }
 

@@ -10,7 +10,7 @@ use clap::error::ErrorKind;
 use clap::{ArgMatches, Command, Error};
 use std::alloc::{AllocError, Global};
 
-/// Creates the error that says which of these arguments is wrong.
+/// Creates the error whose message says what is wrong with the arguments `matches`.
 pub(crate) fn refusal(
     alloc: Global,
     sizing: &mut Command<'_>,

@@ -101,8 +101,8 @@ fn is_length(text: &str) -> bool {
     }
 }
 
-/// Returns the valid range of the length of a `work`, if the text is a `work` with a length that is
-/// not valid.
+/// Returns the valid range of the length of a `work`, if the text is a `work` whose length is not
+/// valid. Otherwise returns `None`. The text must not be a valid action.
 pub(crate) fn range_of_work(text: &str) -> Option<NumberRange> {
     let words = words_of(text);
     if words.verb == "work"
@@ -151,8 +151,8 @@ fn is_spaced(text: &str) -> bool {
     !bytes.is_empty() && last == b' '
 }
 
-/// Returns whether the text looks like several actions: it has more than two words, and a separator
-/// or a second verb.
+/// Returns whether the text looks like several actions: it has more than two words, and a comma, a
+/// semicolon or a second verb.
 fn has_several_actions(words: Words<'_>, text: &str) -> bool {
     words.count > 2 && (has_separator(text) || has_two_verbs(words, text))
 }

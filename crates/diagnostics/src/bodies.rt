@@ -21,14 +21,14 @@ struct Slot<'a> {
     got: Option<usize>,
 }
 
-/// The result of recording that an action gets a job.
+/// The result of [`mark_as_got`], which records that an action gets a job.
 #[derive(Clone, Copy)]
 enum Marked {
-    /// No earlier action got the job.
+    /// The action gets the job, which no earlier action got.
     Now,
     /// The action with this index got the job before.
     Before(usize),
-    /// No job was submitted under the name.
+    /// No earlier action submitted a job under the name.
     Missing,
 }
 
@@ -161,7 +161,7 @@ fn known_classes(alloc: Global, classes: &[&str]) -> Result<String, AllocError> 
     format!(in alloc; "; the classes are {all}")
 }
 
-/// Checks a submit under this name. Reports the action if an earlier submit used the name and no
+/// Checks a submit under this name. Reports the submit if an earlier one used the name and no
 /// action got its job yet. Otherwise adds the name to `slots`.
 fn check_slot_is_free<'a>(
     collector: &mut FaultCollector,
@@ -218,8 +218,8 @@ fn check_get<'a>(
     }
 }
 
-/// Records that the action gets the job that was submitted under this name, if no earlier action got
-/// it.
+/// Records that the action with the index `action` gets the job that was submitted under this name,
+/// if no earlier action got it. Returns which of the cases occurred.
 fn mark_as_got(slots: &mut [Slot<'_>], name: &str, action: usize) -> Marked {
     let mut marked = Marked::Missing;
     for slot in slots.iter_mut() {

@@ -7,7 +7,8 @@ use std::alloc::{AllocError, Global};
 /// itself.
 #[derive(Drop)]
 struct CircleSearch {
-    /// For each class that was found, the class that submits it.
+    /// For each class that was found, the class that submits it, through which it was found. It is
+    /// `None` for every other class.
     submitters: Vec<Option<usize>>,
     /// The classes that were found, in the order in which they were found.
     found: Vec<usize>,
@@ -55,14 +56,15 @@ impl CircleSearch {
         Ok(())
     }
 
-    /// Returns the class that submits this one, or `None` if none was found.
+    /// Returns the class that submits this one, through which this one was found. Returns `None` if
+    /// this class was not found.
     fn submitter_of(&self, class: usize) -> Option<usize> {
         self.submitters.get(class).copied().flatten()
     }
 }
 
-/// Returns the other classes of a shortest circle of submits through the class, in order. The list
-/// is empty if the class submits itself directly, or not at all.
+/// Returns the other classes of a shortest circle of submits through the class, in the order of the
+/// submits. The list is empty if the class submits itself directly, or not at all.
 pub(crate) fn classes_between(
     alloc: Global,
     plan: &Plan,

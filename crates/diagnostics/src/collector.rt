@@ -35,7 +35,8 @@ impl FaultCollector {
         }
     }
 
-    /// Adds a fault, or counts it if there are 99 others.
+    /// Adds a fault. The first one that equals `wanted` becomes `first`. Any other fault is added
+    /// to `others`, or, if there are already 99 others, only counted.
     pub(crate) fn push(&mut self, found: Diagnostic) -> Result<(), AllocError> {
         if self.first.is_none() && found.fault == self.wanted {
             self.first = Some(found);

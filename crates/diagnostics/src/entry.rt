@@ -10,7 +10,8 @@ use toml::{Table, Value};
 /// The beginning of a text.
 pub(crate) const BEGINNING: TextPlace = TextPlace { line: 1, column: 1 };
 
-/// Returns the key of the list for entries of this kind. Messages use it as the name of the kind.
+/// Returns the key of the list for entries of this kind, such as `pool`, or `plan` for the whole
+/// text. Messages use it as the name of the kind.
 pub(crate) fn list_of(part: Part) -> &'static str {
     match part {
         Part::Text => "plan",
@@ -20,8 +21,8 @@ pub(crate) fn list_of(part: Part) -> &'static str {
     }
 }
 
-/// An entry of one of the plan's lists, with `places`, the index of the positions in the whole
-/// text.
+/// An entry of one of the plan's lists. `places` has the places of all entries, keys and values in
+/// the plan's text.
 #[derive(Clone, Copy)]
 pub(crate) struct PlacedEntry<'a> {
     pub(crate) part: Part,
@@ -91,7 +92,8 @@ impl<'a> PlacedEntry<'a> {
         }
     }
 
-    /// Reports a fault of the entry, with the message `pool db: WORDS`.
+    /// Reports a fault of the entry, with a message such as `pool db: WORDS`, where WORDS is
+    /// `words`.
     pub(crate) fn report(
         &self,
         collector: &mut FaultCollector,
@@ -123,8 +125,9 @@ impl<'a> PlacedEntry<'a> {
         })
     }
 
-    /// Reports a fault of an action, with the message `class page, action 1 "get row": WORDS`. If
-    /// the fault is a number that is out of range, `range` is the valid range.
+    /// Reports a fault of an action, with a message such as `class page, action 1 "get row":
+    /// WORDS`, where WORDS is `words`. If the fault is a number that is out of range, `range` is
+    /// the valid range.
     pub(crate) fn report_action(
         &self,
         collector: &mut FaultCollector,

@@ -33,7 +33,8 @@ fn names_no_limit(text: &str) -> bool
     matches!(text, "unbounded" | "unlimited" | "infinite" | "none")
 }
 
-/// Returns a hint if the first line of a text is that of a recording or of a certificate.
+/// Returns a hint if `line`, the first line of a text, is that of a recording or of a JSON text,
+/// such as a certificate.
 pub(crate) fn kind_hint(line: &str) -> Option<&'static str>
     ensures { option_map (λ hint. hint.now) result ≡ spec.kind_hint line.now }
 {
@@ -46,7 +47,8 @@ pub(crate) fn kind_hint(line: &str) -> Option<&'static str>
     None
 }
 
-/// Returns a hint for a value of this key that is a word without quotes.
+/// Returns a hint for a value of this key that is a word without quotes. Returns `None` for `body`
+/// and for an unknown key.
 pub(crate) fn word_hint(key: &str) -> Option<&'static str>
     ensures { option_map (λ hint. hint.now) result ≡ spec.word_hint key.now }
 {

@@ -26,8 +26,8 @@ pub enum Lint {
     /// The maximum of this pool is above its core size, but has no effect, because its queue never
     /// fills.
     UselessMax(usize),
-    /// The queue capacity of this pool is far above this number, which is the maximum number of
-    /// jobs in the queue at once.
+    /// The queue capacity of this pool is far above the second field, which is the maximum number
+    /// of jobs in the queue at once.
     QueueFarAbove(usize, u64),
     /// No client submits this class, directly or through other jobs.
     ClassWithoutJobs(usize),

@@ -14,22 +14,23 @@ const FAR_ABOVE: u64 = 10;
 /// A lint reports a `work` of at least this many units, if its length is also a size of the plan.
 const LIKE_A_SIZE: u32 = 50;
 
-/// Returns whether the class of this number is marked as submitted.
+/// Returns whether clients submit the class of this number, directly or through other jobs. `marks`
+/// has this fact for each class.
 pub(crate) fn is_submitted(marks: &[bool], class: usize) -> bool
     ensures { result ≡ slice_index_or marks.now class false }
 {
     class < marks.len() && marks[class]
 }
 
-/// Returns whether any class is marked as submitted.
+/// Returns whether clients submit any class. `marks` is as in [`is_submitted`].
 pub(crate) fn is_any_submitted(marks: &[bool]) -> bool
     ensures { result ≡ list_any (λ mark. mark) marks.now }
 {
     marks.iter().any(|mark| *mark)
 }
 
-/// Returns the maximum number of jobs in the queue of the pool of this number, or `None` if it is
-/// not known.
+/// Returns the maximum number of jobs that are in the queue of the pool of this number at once, or
+/// `None` if it is not known. `needed` has this number for each pool.
 pub(crate) fn most_at(needed: &[Option<u64>], pool: usize) -> Option<u64>
     ensures { result ≡ slice_index_or needed.now pool None }
 {
@@ -40,7 +41,8 @@ pub(crate) fn most_at(needed: &[Option<u64>], pool: usize) -> Option<u64>
     }
 }
 
-/// Returns whether some class that is marked as submitted runs in the pool of this number.
+/// Returns whether clients submit a class that runs in the pool of this number, directly or through
+/// other jobs. `marks` is as in [`is_submitted`].
 pub(crate) fn gets_a_job(plan: &Plan, marks: &[bool], pool: usize) -> bool
     ensures { result ≡ spec.gets_a_job plan.now marks.now pool }
 {
@@ -105,8 +107,8 @@ fn submits_to_small_alone(plan: &Plan, count: u64, body: &[Action]) -> bool
     body.iter().all(|action| is_for_small(plan, count, *action))
 }
 
-/// Returns whether the action is not a submit, or is a submit to a pool with one core thread and a
-/// queue capacity below `count`.
+/// Returns whether the action is not a submit, or submits a job to a pool with one core thread and
+/// a queue capacity below `count`.
 fn is_for_small(plan: &Plan, count: u64, action: Action) -> bool
     ensures { result ≡ spec.is_for_small plan.now count action }
 {

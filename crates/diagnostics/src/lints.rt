@@ -13,8 +13,8 @@ use size_search::{Cause, cause_of, submitted_by_clients};
 use std::alloc::{AllocError, Global};
 
 /// Returns the lints of the plan. `needed` has, for each pool, the maximum number of jobs in its
-/// queue at once, or `None` if no standing vector bounds this number. `is_safe_at_core` says that a
-/// certificate accepts the plan with each maximum lowered to the core size of its pool.
+/// queue at once, or `None` if this number is not known. `is_safe_at_core` says that a certificate
+/// accepts the plan with each maximum lowered to the core size of its pool.
 pub(crate) fn lints_of(
     alloc: Global,
     plan: &Plan,
@@ -86,7 +86,8 @@ fn lint_of_cause(cause: Cause) -> Lint
     }
 }
 
-/// Appends one lint of the whole plan if such a lint applies, and otherwise the lints of its parts.
+/// Appends only the lint of the whole plan if one applies, such as [`Lint::NoClients`]. Otherwise
+/// appends the lints of the pools, classes and client kinds.
 fn push_plan(
     found: &mut Vec<Lint>,
     plan: &Plan,
@@ -105,7 +106,7 @@ fn push_plan(
     }
 }
 
-/// Returns the lint of a plan without clients.
+/// Returns the lint of a plan without clients, which depends on whether the plan has pools.
 fn without_clients(plan: &Plan) -> Lint
     ensures { result ≡ spec.without_clients plan.now }
 {
@@ -294,7 +295,7 @@ fn push_action(
     }
 }
 
-/// Appends the lint if the condition holds.
+/// Appends the lint if `is_there` is true.
 fn push_if(found: &mut Vec<Lint>, is_there: bool, lint: Lint) -> Result<(), AllocError>
     ensures { OnOk result (found.new.items ≡ found.old.items ++ spec.only_if is_there lint) }
 {

@@ -33,8 +33,9 @@ pub(crate) fn missing_submit(
     format!(in alloc; "nothing was submitted as {name}{right}")
 }
 
-/// Returns the likely cause, as the end of the message: a submit of a class of this name without
-/// `as`, a similar name, or a submit of another class without `as`.
+/// Returns the end of the message, which states the likely cause. In order of preference, this is a
+/// submit of a class of this name without `as`, a similar name, a submit of another class without
+/// `as`, or that no earlier action submits a job under this name.
 fn likely_cause(
     alloc: Global,
     body: &[Value],
@@ -57,7 +58,8 @@ fn likely_cause(
     }
 }
 
-/// Returns the end of the message if each earlier submit of the body has an `as`.
+/// Returns the end of the message for a body in which each earlier submit has an `as`, and no name
+/// is similar.
 fn no_submit_before(
     alloc: Global,
     body: &[Value],
@@ -88,7 +90,8 @@ fn without_name(alloc: Global, submit: Submit<'_>, name: &str) -> Result<String,
     format!(in alloc; ": action {action} \"{text}\" has no as {name}")
 }
 
-/// Returns the first submit under this name after the action with the index `get`.
+/// Returns the first submit under this name after the action with the index `get`, or `None` if
+/// there is none.
 fn named_after<'a>(body: &'a [Value], get: usize, name: &str) -> Option<Submit<'a>> {
     for (action, value) in body.iter().enumerate() {
         if action > get
@@ -106,8 +109,9 @@ fn named_after<'a>(body: &'a [Value], get: usize, name: &str) -> Option<Submit<'
     None
 }
 
-/// Returns a submit without `as` before the action with the index `get`. Prefers the first submit
-/// of a class with this name, and otherwise takes the last submit.
+/// Returns a submit without `as` before the action with the index `get`: the first submit of a
+/// class with this name, or otherwise the last submit without `as`. Returns `None` if there is
+/// none.
 fn unnamed_before<'a>(body: &'a [Value], get: usize, name: &str) -> Option<Submit<'a>> {
     let mut last = None;
     for (action, value) in body.iter().enumerate() {
@@ -123,7 +127,8 @@ fn unnamed_before<'a>(body: &'a [Value], get: usize, name: &str) -> Option<Submi
     last
 }
 
-/// Returns the first submit without `as` after the action with the index `get`.
+/// Returns the first submit without `as` after the action with the index `get`, or `None` if there
+/// is none.
 fn unnamed_after(body: &[Value], get: usize) -> Option<Submit<'_>> {
     for (action, value) in body.iter().enumerate() {
         if action > get
@@ -135,7 +140,8 @@ fn unnamed_after(body: &[Value], get: usize) -> Option<Submit<'_>> {
     None
 }
 
-/// Returns the action if it is a submit without `as`.
+/// Returns the action `value`, whose index is `action`, if it is a submit without `as`. Otherwise
+/// returns `None`.
 fn unnamed(action: usize, value: &Value) -> Option<Submit<'_>> {
     let text = value.as_str()?;
     match parse_action(text) {

@@ -126,7 +126,8 @@ fn check_table(
     document(collector, table, &places)
 }
 
-/// Reports the error of the TOML parser. An error without a place means that memory ran out.
+/// Reports the error of the TOML parser. If the error has no place, it means that memory ran out,
+/// and [`AllocError`] is returned.
 fn check_error(
     collector: &mut FaultCollector,
     text: &str,

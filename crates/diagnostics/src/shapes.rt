@@ -77,7 +77,8 @@ fn key_rule(key: &'static str) -> Option<KeyRule> {
     Some(KeyRule { key, wanted, hint })
 }
 
-/// Returns the key of a plan that corresponds to a key of Java or of another configuration format.
+/// Returns the key of a plan that means the same as this key of Java or of another configuration
+/// format, or `None` if there is none.
 fn plan_key_for(key: &str) -> Option<&'static str> {
     match key {
         "corePoolSize" | "corepoolsize" | "core_pool_size" | "threads" | "size" => Some("core"),

@@ -1,4 +1,4 @@
-//! Reading of strings and columns in a plan's text.
+//! Functions that read strings and columns of a plan's text.
 
 use crate::syntax::line_of;
 use plan_text::TextPlace;

@@ -3,10 +3,11 @@
 use std::alloc::{AllocError, Global};
 use strsim::osa_distance;
 
-/// Returns the word that is most similar to `written`, if one is similar enough. A word is similar
-/// if it starts with `written` and `written` has at least 3 bytes, or if its edit distance from
-/// `written` is at most 1 or a third of the length of `written`. A word that equals `written` is
-/// skipped.
+/// Returns a word that is similar to `written`, or `None` if there is none. A word is similar if it
+/// starts with `written` and `written` has at least 3 bytes, or if its edit distance from `written`
+/// is at most 1 or a third of the length of `written`. Prefers the first word that starts with
+/// `written` or has the distance 1, and otherwise the word with the least distance. Skips a word
+/// that equals `written`.
 pub(crate) fn nearest<'w>(
     alloc: Global,
     written: &str,

@@ -48,8 +48,8 @@ pub(crate) fn not_toml(
     })
 }
 
-/// Returns the message for an error at this byte and place: the parser's message, preceded by a
-/// hint if the mistake is a common one.
+/// Returns the message for the error at byte `offset`, whose place is `place`: the parser's message
+/// `words`, preceded by a hint if the mistake is a common one.
 fn message_at(
     alloc: Global,
     text: &str,
@@ -74,8 +74,8 @@ fn with_hint(alloc: Global, hint: &str, words: &str) -> Result<String, AllocErro
     format!(in alloc; "{hint} ({words})")
 }
 
-/// Returns a hint for the line of this number if it is the first line of a text of another kind, or
-/// has characters of another format.
+/// Returns a hint if the line begins a text of another kind, which only line 1 can, or if
+/// [`character_hint`] has one. `number` is the number of the line.
 fn format_hint(line: &str, number: usize) -> Option<&'static str> {
     if number == 1
         && let Some(hint) = kind_hint(line)
@@ -85,7 +85,8 @@ fn format_hint(line: &str, number: usize) -> Option<&'static str> {
     character_hint(line)
 }
 
-/// Returns a hint for an error in an entry's header, in a value, or after a value.
+/// Returns a hint for an error in a list, in an entry's header, in a value, or after a value.
+/// Returns `None` if the mistake is not a known one.
 fn value_hint_at(text: &str, offset: usize, place: TextPlace, line: &str) -> Option<&'static str> {
     let rest = after_column(line, place.column);
     if is_in_list(text, offset, place) {
@@ -123,7 +124,8 @@ fn begins_with_action(rest: &str) -> bool {
     rest.starts_with("work ") || rest.starts_with("submit ") || rest.starts_with("get ")
 }
 
-/// Returns a hint if the rest of a line, which follows a value, is a semicolon.
+/// Returns a hint if the rest of a line, which follows a value, is a semicolon, perhaps with a
+/// comment.
 fn end_hint(rest: &str) -> Option<&'static str> {
     let after = rest.strip_prefix(';')?;
     if after.split('#').next().unwrap_or("").trim().is_empty() {
@@ -145,7 +147,8 @@ pub(crate) fn line_of(text: &str, place: TextPlace) -> &str {
     ""
 }
 
-/// Returns a hint for a line that has characters of another format, or a quote that is not closed.
+/// Returns a hint if the line begins with `//`, is the separator `%%`, has curly quotes, or has a
+/// quote that is not closed.
 fn character_hint(line: &str) -> Option<&'static str> {
     let line = line.trim();
     if line.starts_with("//") {
@@ -178,8 +181,8 @@ fn entry_hint(line: &str) -> Option<&'static str> {
     value_hint(line)
 }
 
-/// Returns a hint if the line is the header of an entry. Such a line is a fault if it has one pair of
-/// brackets, or if an earlier line defines the list in another way.
+/// Returns a hint if the line is the header of an entry. A header is a fault if it has one pair of
+/// brackets, or if an earlier line defines its list in another way.
 fn bracket_hint(line: &str) -> Option<&'static str> {
     match line.split('#').next().unwrap_or("").trim() {
         "[pool]" | "[class]" | "[client]" => {

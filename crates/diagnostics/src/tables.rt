@@ -1,4 +1,4 @@
-//! The checks of a plan's document: its keys, its lists, and their entries.
+//! The checks of a plan's document: its keys at the top level, its lists, and their entries.
 
 use crate::collector::FaultCollector;
 use crate::diagnostic::Diagnostic;
@@ -118,7 +118,7 @@ fn bodies_of(
     Ok(())
 }
 
-/// Reports the key at the top level if it is unknown.
+/// Reports the key at the top level if a plan has no such key.
 fn unknown_list(
     collector: &mut FaultCollector,
     key: &str,
@@ -259,7 +259,7 @@ fn no_table(
     })
 }
 
-/// Returns the names of the entries that have one.
+/// Returns the name of each entry that has one.
 fn names_of<'a>(alloc: Global, entries: &[PlacedEntry<'a>]) -> Result<Vec<&'a str>, AllocError> {
     let mut names = Vec::new(alloc);
     for entry in entries {

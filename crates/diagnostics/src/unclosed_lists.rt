@@ -25,8 +25,8 @@ pub(crate) fn unclosed_list(text: &str, error: usize) -> Option<usize> {
     start_of(open, error, number.saturating_add(1))
 }
 
-/// Returns the line at which the list begins, if the list is open and the line `error` is from its
-/// first line to the line `end`.
+/// Returns the line at which the list begins, if the list is open and the line `error` is one of
+/// the lines from there to the line `end`, which is included. Otherwise returns `None`.
 fn start_of(open: OpenList, error: usize, end: usize) -> Option<usize> {
     if open.depth > 0 && (open.start..=end).contains(&error) {
         Some(open.start)
@@ -35,8 +35,8 @@ fn start_of(open: OpenList, error: usize, end: usize) -> Option<usize> {
     }
 }
 
-/// Returns whether the line is a header or a key, which no list of a plan has at the start of a
-/// line.
+/// Returns whether the line is a header, or a key with its value. No list of a plan has such a
+/// line, so a list that is open before this line has no `]`.
 fn begins_entry(line: &str) -> bool {
     let line = line.trim();
     if line.starts_with("[[") {
@@ -73,8 +73,8 @@ fn after_line(open: OpenList, number: usize, line: &str) -> OpenList {
     }
 }
 
-/// Returns the number of open brackets after this part of a line. Brackets in strings and comments
-/// do not count.
+/// Returns the number of open brackets after this part of a line, if `before` brackets are open
+/// before it. Brackets in strings and comments do not count.
 fn depth_after(before: usize, part: &str) -> usize {
     let mut depth = before;
     let mut quote = None;

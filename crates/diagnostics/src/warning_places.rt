@@ -27,7 +27,8 @@ pub(crate) fn place_of(places: &Places<'_>, plan: &Plan, lint: Lint) -> TextPlac
     }
 }
 
-/// Returns the place of the first maximum that is above the core size of its pool.
+/// Returns the place of the first maximum that is above the core size of its pool, or the beginning
+/// of the text if there is none.
 fn first_max_place(places: &Places<'_>, plan: &Plan) -> TextPlace {
     match plan.pools().iter().position(|pool| may_grow(pool)) {
         Some(pool) => value_place(places, Part::Pool, pool, "max"),

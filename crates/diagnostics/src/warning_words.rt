@@ -114,7 +114,8 @@ fn words_of_submit(
     )
 }
 
-/// Returns the text of a submit, as it is written at this place of the plan's text.
+/// Returns the text of a submit, as it is written at this place of the plan's text. If no string is
+/// at this place, returns the text of a submit of the action's class without `as`.
 fn submit_text(
     alloc: Global,
     text: &[u8],

@@ -28,10 +28,10 @@ pub struct Warning {
 }
 
 /// Returns a warning for each lint of the plan, in order. `text` is the plan's text. `needed` has,
-/// for each pool, the maximum number of jobs in its queue at once, or `None` if no standing vector
-/// bounds this number. `is_safe_at_core` says that a certificate accepts the plan that [`at_core`]
-/// returns. Each message is a single line, and the plan has each circle of submits that a message
-/// lists. The contract promises nothing else about places and messages.
+/// for each pool, the maximum number of jobs in its queue at once, or `None` if this number is not
+/// known. `is_safe_at_core` says that a certificate accepts the plan that [`at_core`] returns. Each
+/// message is a single line, and the plan has each circle of submits that a message lists. The
+/// contract promises nothing else about places and messages.
 ///
 /// [`at_core`]: crate::at_core
 ///
@@ -55,7 +55,7 @@ pub fn warnings_of(
     warnings_about(alloc, text, &places, plan, &lints)
 }
 
-/// Returns a warning for each lint.
+/// Returns a warning for each of these lints, with its place and its message.
 fn warnings_about(
     alloc: Global,
     text: &[u8],

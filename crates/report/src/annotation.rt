@@ -8,14 +8,14 @@ use diagnostics::Lint;
 use plan_text::TextPlace;
 use std::alloc::{AllocError, Global};
 
-/// The rule to which an annotation belongs.
+/// The kind of an annotation, which SARIF calls a rule.
 #[derive(Clone, Copy)]
 pub(crate) enum Rule {
-    /// The fault with this number.
+    /// A fault with this number.
     Fault(u8),
     /// The faults that are left out, because at most 100 are reported.
     MoreFaults,
-    /// A warning about this lint.
+    /// A warning about a plan that has this lint.
     Warning(Lint),
     /// The answer SAFE.
     Safe,

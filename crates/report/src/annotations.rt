@@ -1,4 +1,5 @@
-//! The annotations of an answer: its faults, or its warnings and the finding.
+//! The annotations of an answer: its faults, or its warnings and the finding. An annotation is a
+//! remark about a place in the plan's file.
 
 ghost use Rattle.std.specs.Prelude.{◌≡◌, ◌∷◌, ◌++◌, [], IfOk, string_bytes};
 ghost use Rattle.report.specs.Annotations.{Adds, remarks_in};
@@ -254,8 +255,8 @@ fn first_line(text: &str) -> &str
     }
 }
 
-/// Returns the place of a pool's name, if the witness ends with a submit that the pool refuses.
-/// Returns `None` for any other ending, or if the place is not known.
+/// Returns the place of the name of the pool that refuses a submit, if the witness ends with a
+/// refused submit. Returns `None` for any other ending, or if the place is not known.
 fn ending_place(places: &PlanPlaces, ending: &Ending) -> Option<TextPlace>
     ensures { result ≡ spec.ending_place places.now ending.now }
 {

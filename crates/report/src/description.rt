@@ -1,4 +1,5 @@
-//! The description of a witness for a reader.
+//! The description of a witness as text. A witness is a list of events after which a submit is
+//! refused or jobs wait only for each other.
 
 ghost use Rattle.std.specs.Prelude.{◌++◌, IfOk, string_bytes};
 ghost use Rattle.support.specs.Pushed.{Pushes};
@@ -81,7 +82,8 @@ fn push_stuck(text: &mut String, how: &str, members: &[usize]) -> Result<(), All
     write!(text, "{how}{jobs} jobs wait only for each other")
 }
 
-/// Appends the last line: the reason why jobs wait permanently, or what may end the wait.
+/// Appends the last line: the reason why jobs wait permanently, or what may end the wait. Appends
+/// nothing if the witness ends with a refused submit.
 fn push_why(text: &mut String, ending: &Ending) -> Result<(), AllocError>
     ensures { Pushes result text.old text.new (spec.why_text ending.now) }
 {

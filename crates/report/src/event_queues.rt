@@ -12,8 +12,8 @@ use serde_json::Value;
 use std::alloc::{AllocError, Global};
 use std::collections::VecDeque;
 
-/// Converts the queue of a pool to JSON. The queue is as it is after these steps, which begin at
-/// the plan's initial state.
+/// Returns a JSON list of the numbers of the jobs that are in the pool's queue after these steps,
+/// in the order of the queue. The steps begin at the plan's initial state.
 pub(crate) fn queue_value(
     alloc: Global,
     steps: &[EventStep],
@@ -27,7 +27,8 @@ pub(crate) fn queue_value(
     Ok(Value::Array(values))
 }
 
-/// Appends the jobs of the queue.
+/// Appends the number of each job in the queue as a JSON value, from the head of the queue to its
+/// end.
 fn push_jobs(values: &mut Vec<Value>, mut queue: VecDeque<usize>) -> Result<(), AllocError>
     ensures { OnOk result (map view values.new.items ≡ map view values.old.items ++ map spec.number_data queue.items) }
 {
@@ -64,8 +65,9 @@ fn add_all(
     Ok(())
 }
 
-/// Updates the queue of a pool for one step: adds the job that the step queues in this pool, or
-/// removes the job that the step takes from it.
+/// Updates the queue of the pool for one step: appends the job if the step queues one in this pool,
+/// and removes the first job if a thread of this pool takes one. Any other step leaves the queue
+/// unchanged.
 fn add(queue: &mut VecDeque<usize>, step: EventStep, pool: usize) -> Result<(), AllocError>
     ensures { OnOk result (queue.new.items ≡ shown.queue_with pool queue.old.items step) }
 {

@@ -1,4 +1,5 @@
-//! The events of a witness: who acts in each of them, and what it does.
+//! The events of a witness: who acts in each of them, and what it does. A witness is a list of
+//! events after which a submit is refused or jobs wait only for each other.
 
 ghost use Rattle.std.specs.Prelude.{◌≡◌, IfOk};
 ghost use Rattle.job_bodies.specs.WellFormed.{IsWellFormed};
@@ -16,15 +17,15 @@ use std::alloc::{AllocError, Global};
 /// The actor of an event.
 #[derive(Clone, Copy)]
 pub(crate) enum Actor {
-    /// The client with the second number, which is of the client kind with the first number.
+    /// A client: the index of its client kind, and its own number.
     Client(usize, usize),
-    /// The job with the second number, which is of the class with the first number.
+    /// A job: the index of its class, and its own number.
     Job(usize, usize),
     /// An idle worker of the pool with this index.
     Pool(usize),
 }
 
-/// The numbers of all threads and of idle threads of a pool.
+/// The number of a pool's threads, and the number of those that are idle.
 #[derive(Clone, Copy)]
 pub(crate) struct PoolCounts {
     /// The index of the pool in the plan.
@@ -37,19 +38,20 @@ pub(crate) struct PoolCounts {
 #[derive(Clone, Copy)]
 pub(crate) struct EventStep {
     pub(crate) actor: Actor,
-    /// The index of the action in its body. It is `None` at the end of a body, and for an event of
-    /// a pool.
+    /// The index, in the actor's body, of the action that the actor performed. It is `None` at the
+    /// end of a body, and for an event of a pool.
     pub(crate) action: Option<usize>,
     pub(crate) outcome: Outcome,
     /// The pool that the event changed, or that refused a submit, with its numbers of threads after
-    /// the event.
+    /// the event. It is `None` if the event neither changed a pool nor was refused.
     pub(crate) pool: Option<PoolCounts>,
-    /// The class of the job that a thread took from a queue, or `None` if no job was taken.
+    /// The index of the class of the job that a thread took from a queue, or `None` if no job was
+    /// taken.
     pub(crate) taken: Option<usize>,
 }
 
-/// Performs the events in a new world of the plan, up to the first event that is not possible, and
-/// returns what each of them did.
+/// Performs the events in `world`, which must be a new world of the plan, and returns what each of
+/// them did. Stops before the first event that is not possible.
 ///
 /// # Errors
 ///
@@ -70,8 +72,8 @@ pub(crate) fn perform_all(
     Ok(steps)
 }
 
-/// Performs the events, up to the first event that is not possible, and appends what each of them
-/// did.
+/// Performs the events and appends what each of them did. Stops before the first event that is not
+/// possible.
 fn push_steps(
     steps: &mut Vec<EventStep>,
     plan: &Plan,
@@ -145,8 +147,8 @@ fn class_of(world: &World, number: usize) -> usize
     world.job(number).map_or(0, |job| job.class)
 }
 
-/// Returns the position of the event's actor in its body. Returns 0 if the actor is a pool, a job
-/// that is not live, or a client that does not exist.
+/// Returns the position of the event's actor in its body. Returns 0 for a pool, for a client that
+/// does not exist, and for a job that is queued, done or not live.
 fn position_of(world: &World, event: Event) -> usize
     ensures { result ≡ performed.position_seen world.now.view event }
 {
@@ -182,8 +184,9 @@ fn action_of(outcome: Outcome, position: usize) -> Option<usize>
     }
 }
 
-/// Returns the pool that an event with this outcome changed or that refused a submit. `world` is the
-/// world after the event.
+/// Returns the index of the pool that an event with this outcome changed, or that refused a submit.
+/// Returns `None` if the event neither changed a pool nor was refused. `world` is the world after
+/// the event.
 fn changed_pool(plan: &Plan, world: &World, actor: Actor, outcome: Outcome) -> Option<usize>
     ensures { result ≡ performed.changed_pool_seen plan.now world.now.view actor outcome }
 {
@@ -195,7 +198,8 @@ fn changed_pool(plan: &Plan, world: &World, actor: Actor, outcome: Outcome) -> O
     }
 }
 
-/// Returns the class of the job that a thread took. `world` is the world after the event.
+/// Returns the index of the class of the job that a thread took from a queue, or `None` if the
+/// outcome is another one. `world` is the world after the event.
 fn taken_class(world: &World, outcome: Outcome) -> Option<usize>
     ensures { result ≡ performed.taken_seen world.now.view outcome }
 {

@@ -20,7 +20,7 @@ use std::alloc::{AllocError, Global};
 /// The version of the JSON format, which each answer states as its member `format`.
 const FORMAT: u8 = 1;
 
-/// The members of an answer about a plan that depend on more than its name and its file.
+/// The members of an answer about a plan, without those that every answer has.
 #[derive(Drop)]
 pub(crate) struct AnswerParts {
     pub(crate) assumptions: Value,
@@ -107,7 +107,8 @@ fn word_of(finding: &PlanFinding) -> &'static str
     }
 }
 
-/// Creates the object of an answer about a plan, with this name.
+/// Creates the object of an answer about a plan. `word` is the name of the answer, such as `NOT
+/// SAFE`, and `file` is the name of the plan's file.
 #[tactic(auto, unfolding(crate::specs::Json::answer_data))]
 fn answer_value(
     alloc: Global,

@@ -66,8 +66,8 @@ fn action_value(
     }
 }
 
-/// Converts the slot of a submit to JSON: the submit's position in the body, or null if the body
-/// has no get of the submit.
+/// Returns a JSON value that identifies the job of a submit in its body: the submit's position, or
+/// null if the body has no get of this job.
 fn slot_value(body: &[Action], submit: usize) -> Value
     ensures { view result ≡ spec.slot_data body.now submit }
 {

@@ -13,9 +13,9 @@ use serde_json::{Value, json};
 use std::alloc::{AllocError, Global};
 use weights::{Bound, Vector};
 
-/// Converts a pool's bound to JSON: the maximum number of jobs in the queue at one time, or of jobs
-/// that are ever submitted to the pool, and the shares in this number. The value is null if the
-/// vector does not fit the plan.
+/// Converts a pool's bound to JSON: a maximum and the shares in it. The maximum is the number of
+/// jobs in the queue at one time, or of jobs that are ever submitted to the pool. The value is null
+/// if the vector of `bound` does not fit the plan.
 pub(crate) fn bound_value(alloc: Global, plan: &Plan, bound: &Bound) -> Result<Value, AllocError>
     ensures { IfOk result (λ value. view value ≡ spec.bound_data plan.now bound.now) }
 {
@@ -91,7 +91,7 @@ fn threads_value(alloc: Global, plan: &Plan, shares: &[u64]) -> Result<Value, Al
     Ok(Value::from(values))
 }
 
-/// Appends one share, unless it is 0.
+/// Appends the JSON object of one share, unless the share is 0.
 #[tactic(auto, using(std::proofs::lemmas::List::map_push))]
 fn push_share(
     alloc: Global,
@@ -118,7 +118,8 @@ fn share_value(alloc: Global, jobs: u64, name: &str) -> Result<Value, AllocError
 
 /// Creates a JSON object with two numbers: the maximum number of core threads that wait at counted
 /// gets at once, and the number of the other core threads. A counted get can block a thread that
-/// other jobs need. The value is null if the vector does not fit the plan.
+/// other jobs need. The maximum is the total of `blocked`; the value is null if this vector does
+/// not fit the plan.
 pub(crate) fn blocked_value(
     alloc: Global,
     plan: &Plan,

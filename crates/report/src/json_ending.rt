@@ -1,5 +1,6 @@
 //! The ending of a witness as JSON: the jobs that wait only for each other, and what each of them
-//! waits for.
+//! waits for. A witness is a list of events after which a submit is refused or jobs wait only for
+//! each other.
 
 ghost use Rattle.std.specs.Prelude.{◌≡◌, ◌++◌, ◌∷◌, [], map, flat_map, IfOk, OnOk, slice_get};
 ghost use Rattle.serde_json.specs.View.{view};
@@ -19,7 +20,7 @@ use job_bodies::{Action, Plan};
 use serde_json::{Value, json};
 use std::alloc::{AllocError, Global};
 
-/// Converts the ending of a witness. `world` is the world after its events.
+/// Converts the ending of a witness to JSON. `world` is the world after the events of the witness.
 #[tactic(auto, unfolding(crate::specs::JsonEnding::ending_parts))]
 pub(crate) fn ending_value(
     alloc: Global,
@@ -40,7 +41,8 @@ pub(crate) fn ending_value(
     })
 }
 
-/// Returns the numbers of the jobs that wait only for each other after the last event.
+/// Returns the numbers of the jobs that wait only for each other after the last event. The list is
+/// empty if the witness ends with a refused submit.
 pub(crate) fn members_of(ending: &Ending) -> &[usize]
     ensures { result.now ≡ stuck_members ending.now }
 {
@@ -70,7 +72,7 @@ fn refusing_pool(alloc: Global, plan: &Plan, ending: &Ending) -> Result<Value, A
     }
 }
 
-/// Returns what each member waits for.
+/// Returns a JSON value for each of the waiting jobs `members`, which says what the job waits for.
 fn wait_values(
     alloc: Global,
     plan: &Plan,
@@ -89,7 +91,7 @@ fn wait_values(
 }
 
 /// Appends the JSON value that says what the job with this number waits for. Appends nothing if the
-/// job does not wait.
+/// job is done or not live.
 fn push_wait(
     values: &mut Vec<Value>,
     alloc: Global,
@@ -131,7 +133,9 @@ fn push_wait(
     }
 }
 
-/// Appends that the job with this number waits for others.
+/// Appends the JSON value that says that the job `number` of the pool `pool` waits for the jobs
+/// `awaited`. `place` is `queue` if the job waits in the pool's queue, and `get` if it waits at a
+/// get.
 #[tactic(auto, using(std::proofs::lemmas::List::map_push))]
 fn push_wait_for(
     values: &mut Vec<Value>,
@@ -201,7 +205,8 @@ fn awaited(
     Ok(jobs)
 }
 
-/// Returns the latest live job that the job with this number created by the submit at this position.
+/// Returns the number of the latest live job that the job `number` created by the submit at the
+/// position `submit` of its body, or `None` if there is none.
 pub(crate) fn child_of(world: &World, number: usize, submit: usize) -> Option<usize>
     ensures { result ≡ live_child world.now.view.jobs (parent.Job number) submit }
 {
@@ -223,7 +228,7 @@ fn is_child_of(job: Option<JobView>, number: usize, submit: usize) -> bool
     }
 }
 
-/// Returns the jobs that run in the pool.
+/// Returns the numbers of the jobs that have a thread of the pool, in ascending order.
 fn running_in(
     alloc: Global,
     plan: &Plan,

@@ -13,7 +13,8 @@ use plan_text::TextPlace;
 use serde_json::{Value, json};
 use std::alloc::{AllocError, Global};
 
-/// Returns the place of the actor's action, or `None` if it is not known.
+/// Returns the place of the action with this index in the actor's body. Returns `None` if the place
+/// is not known, if the actor is a pool, or if `action` is `None`.
 pub(crate) fn actor_place(
     places: &PlanPlaces,
     actor: Actor,
@@ -61,7 +62,7 @@ fn pool_name_value(alloc: Global, name: &str) -> Result<Value, AllocError>
     json!(in alloc; {"pool": name})
 }
 
-/// Returns the word for an outcome.
+/// Returns the name of an outcome, such as `queued`.
 pub(crate) fn outcome_word(outcome: Outcome) -> &'static str
     ensures { result.now ≡ spec.outcome_word outcome }
 {
@@ -78,7 +79,8 @@ pub(crate) fn outcome_word(outcome: Outcome) -> &'static str
     }
 }
 
-/// Returns the job of the outcome: the job that was created, got or taken, or that ended.
+/// Returns the number of the job that was created, got or taken, or that ended. Returns `None` for
+/// an outcome without a job.
 pub(crate) fn job_of(outcome: Outcome) -> Option<usize>
     ensures { result ≡ spec.job_of outcome }
 {

@@ -1,5 +1,6 @@
-//! The events of a witness as JSON. Consecutive equal steps of clients of one kind form a run,
-//! which is one JSON object.
+//! The events of a witness as JSON, in runs. Consecutive equal steps of clients of one kind, whose
+//! numbers are consecutive, form a run; any other step is a run of its own. A run is one JSON
+//! object.
 
 ghost use Rattle.std.specs.Prelude.{◌≡◌, ◌+◌, ◌==◌, ◌++◌, ◌∷◌, [], map, IfOk, OnOk};
 ghost use Rattle.serde_json.specs.View.{view};
@@ -18,8 +19,7 @@ use job_bodies::Plan;
 use serde_json::{Value, json};
 use std::alloc::{AllocError, Global};
 
-/// A run of equal steps to which the next step may belong: its first step, the number of its steps,
-/// and its last step.
+/// A run that the next step may extend: its first step, the number of its steps, and its last step.
 #[derive(Clone, Copy)]
 struct OpenRun {
     first: EventStep,
@@ -84,7 +84,7 @@ fn push_runs(
     push_run(values, alloc, plan, places, run, steps)
 }
 
-/// Returns whether the step belongs to the open run.
+/// Returns whether the step extends the open run.
 fn follows(run: OpenRun, step: EventStep) -> bool
     ensures { result ≡ runs.follows run.first run.times step }
 {
@@ -132,7 +132,8 @@ fn is_sum(total: usize, number: usize, times: usize) -> bool
     number <= total && total - number == times
 }
 
-/// Appends the JSON object of a run. `steps` are all steps up to the last one of the run.
+/// Appends the JSON object of a run. `steps` has the witness's steps from the first one to the last
+/// one of the run.
 fn push_run(
     values: &mut Vec<Value>,
     alloc: Global,
@@ -173,8 +174,7 @@ fn run_value(
     })
 }
 
-/// Converts the pool `pool` to JSON, as it is after these steps. The value is null if there is no
-/// pool.
+/// Returns a JSON object with the state of the pool after these steps, or null if `pool` is `None`.
 fn pool_value(
     alloc: Global,
     plan: &Plan,
@@ -190,7 +190,8 @@ fn pool_value(
     }
 }
 
-/// Converts the pool with this name and these counts, which are those after the steps.
+/// Returns a JSON object with the name of a pool, the jobs in its queue after these steps, and its
+/// numbers of threads, which `counts` has.
 #[tactic(auto, unfolding(crate::specs::JsonEvents::pool_state_data))]
 fn pool_state_value(
     alloc: Global,

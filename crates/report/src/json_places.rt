@@ -29,7 +29,7 @@ pub(crate) fn column_value(place: Option<TextPlace>) -> Value
     }
 }
 
-/// Returns the places of the pool with this number.
+/// Returns the places of the pool with this number. No place is known if there is no such pool.
 pub(crate) fn pool_places_at(pools: &[PoolPlaces], pool: usize) -> PoolPlaces
     ensures { result ≡ spec.pool_places_at pools.now pool }
 {
@@ -44,7 +44,8 @@ pub(crate) fn pool_places_at(pools: &[PoolPlaces], pool: usize) -> PoolPlaces
     }
 }
 
-/// Returns the place of the name of the class or client kind at this index.
+/// Returns the place of the name of the class or client kind at this index, or `None` if the place
+/// is not known.
 pub(crate) fn name_place(bodies: &[BodyPlaces], index: usize) -> Option<TextPlace>
     ensures { result ≡ spec.name_place bodies.now index }
 {
@@ -54,7 +55,8 @@ pub(crate) fn name_place(bodies: &[BodyPlaces], index: usize) -> Option<TextPlac
     }
 }
 
-/// Returns the place of an action of the class or client kind at this index.
+/// Returns the place of the action with the index `action` in the body of the class or client kind
+/// at `index`, or `None` if the place is not known.
 pub(crate) fn action_place(bodies: &[BodyPlaces], index: usize, action: usize) -> Option<TextPlace>
     ensures { result ≡ spec.action_place bodies.now index action }
 {
@@ -73,7 +75,8 @@ fn place_at(actions: &[Option<TextPlace>], action: usize) -> Option<TextPlace>
     }
 }
 
-/// Returns the place of the class, the action or the pool that the reason `cause` names.
+/// Returns the place of the class, the action or the pool that the reason `cause` names, or `None`
+/// if the place is not known.
 pub(crate) fn cause_place(places: &PlanPlaces, cause: NoSizes) -> Option<TextPlace>
     ensures { result ≡ spec.cause_place places.now cause }
 {

@@ -12,7 +12,7 @@ use plan_text::TextPlace;
 use serde_json::{Value, json};
 use std::alloc::{AllocError, Global};
 
-/// Converts a plan that was read from this text.
+/// Converts a plan to JSON. `text` is the text from which it was read.
 #[tactic(auto, unfolding(crate::specs::JsonPlan::plan_object))]
 pub(crate) fn plan_value(
     alloc: Global,
@@ -30,7 +30,8 @@ pub(crate) fn plan_value(
     })
 }
 
-/// Converts a text that is not a plan: the lists of pools, classes and client kinds are empty.
+/// Converts a text with a fault to JSON, in the form of a plan whose lists of pools, classes and
+/// client kinds are empty.
 #[tactic(auto, unfolding(crate::specs::JsonPlan::plan_object))]
 pub(crate) fn text_only_value(alloc: Global, text: &[u8]) -> Result<Value, AllocError>
     ensures { IfOk result (λ value. view value ≡ spec.text_only_data text.now) }

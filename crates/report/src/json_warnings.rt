@@ -45,7 +45,7 @@ fn warning_object(
     })
 }
 
-/// Returns the name of a lint's kind.
+/// Returns the name of a lint's kind, such as `useless max`.
 fn kind_of(lint: Lint) -> &'static str
     ensures { result.now ≡ spec.kind_of lint }
 {

@@ -1,4 +1,5 @@
-//! A witness as JSON: how it ends, its events, and the event lines that `replay` reads.
+//! A witness as JSON: how it ends, its events, and the event lines that `replay` reads. A witness
+//! is a list of events after which a submit is refused or jobs wait only for each other.
 
 ghost use Rattle.std.specs.Prelude.{◌≡◌, [], map, flat_map, IfOk};
 ghost use Rattle.serde_json.specs.View.{view};
@@ -39,7 +40,8 @@ pub(crate) fn witness_value(
     parts_value(alloc, plan, places, &world, &steps, witness)
 }
 
-/// Converts the parts of a witness. `world` is the world after the steps.
+/// Converts a witness to JSON. `steps` are what its events did, and `world` is the world after
+/// them.
 #[tactic(auto, unfolding(crate::specs::JsonWitness::witness_parts))]
 fn parts_value(
     alloc: Global,

@@ -33,9 +33,8 @@ pub fn picture_of(alloc: Global, plan: &Plan, finding: &PlanFinding) -> Result<S
 }
 
 /// Returns the graph of a plan. `parts` has the certificate's part for each pool, and is empty if
-/// there is no certificate. `ranks` are the ranks of the certificate, which determine the counted
-/// gets: a get is counted if the reach of the job's class is at least the rank of the getting job's
-/// pool. Counted gets are bold.
+/// there is no certificate. `ranks` are the ranks of the certificate, or `None` without one. They
+/// determine which gets are counted. Counted gets are bold.
 fn graph_of(
     alloc: Global,
     plan: &Plan,

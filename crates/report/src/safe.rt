@@ -1,4 +1,7 @@
-//! The text for a plan that a certificate accepts.
+//! The text for a plan that a certificate accepts. It lists the bound of each queue and the shares
+//! in the bound. A share is the part of a bound that the clients of one kind, or the threads of one
+//! pool, account for. The text also counts the core threads that wait at counted gets, which are
+//! the gets that can block a thread that other jobs need.
 
 ghost use Rattle.std.specs.Prelude.{◌≡◌, ◌++◌, IfOk, IsTrue, OnOk, map, string_bytes};
 ghost use Rattle.support.specs.Pushed.{Pushes};
@@ -13,7 +16,8 @@ use job_bodies::{Plan, Pool};
 use std::alloc::{AllocError, Global};
 use weights::{Bound, Vector};
 
-/// Appends two lines for each pool, and a last line that says what the certificate guarantees.
+/// Appends two lines for each pool that has a part of the certificate, and a last line that says
+/// what the certificate guarantees.
 pub(crate) fn push_safe(
     alloc: Global,
     text: &mut String,
@@ -69,8 +73,9 @@ fn push_lines(
     push_waits(alloc, text, plan, number, pool, &part.blocked)
 }
 
-/// Returns the number of queue places that each pool needs, in the order of the certificate. The
-/// number is `None` unless a standing vector that fits the plan bounds the pool's queue.
+/// Returns, for each pool of the certificate, the maximum number of jobs in its queue at once,
+/// which is the number of queue places that it needs. The number is `None` if the certificate does
+/// not bound it: the pool has a lifetime vector, or its vector does not fit the plan.
 ///
 /// # Errors
 ///
@@ -98,7 +103,7 @@ fn places_of(plan: &Plan, bound: &Bound) -> Option<u64>
     }
 }
 
-/// Returns the total of a vector, if it fits the plan.
+/// Returns the total of a vector, or `None` if the vector does not fit the plan.
 pub fn total_of(plan: &Plan, vector: &Vector) -> Option<u64>
     ensures { result ≡ places.total_of plan.now vector.now }
 {
@@ -109,7 +114,7 @@ pub fn total_of(plan: &Plan, vector: &Vector) -> Option<u64>
     }
 }
 
-/// Appends the line with the pool's threads and its queue.
+/// Appends the line with the number of the pool's threads and the bound of its queue.
 fn push_bound(
     alloc: Global,
     text: &mut String,
@@ -235,7 +240,8 @@ fn push_workers(
     Ok(())
 }
 
-/// Appends one share, unless it is 0.
+/// Appends the text of one share, such as `8 from threads of web`, unless the share is 0. `from` is
+/// the text between the number and the name.
 #[tactic(auto, using(std::proofs::lemmas::List::map_push))]
 fn push_share(
     alloc: Global,
@@ -284,8 +290,8 @@ fn push_waits(
     text.push('\n')
 }
 
-/// Appends the maximum number of core threads that wait at counted gets at once, if the vector fits
-/// the plan.
+/// Appends the maximum number of core threads that wait at counted gets at once, which is the total
+/// of the vector `blocked`. Appends nothing if the total is 0 or this vector does not fit the plan.
 fn push_left(
     text: &mut String,
     plan: &Plan,

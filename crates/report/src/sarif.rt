@@ -154,7 +154,7 @@ fn location_value(alloc: Global, file: &str, place: Option<TextPlace>) -> Result
     json!(in alloc; {"physicalLocation": physical_value(alloc, file, place)?})
 }
 
-/// Creates the SARIF object of the file and, if it is known, of the place in the file.
+/// Creates the SARIF object of a location: the file and, if `place` is known, the place in it.
 fn physical_value(alloc: Global, file: &str, place: Option<TextPlace>) -> Result<Value, AllocError>
     ensures { IfOk result (λ value. view value ≡ spec.physical_data file.now place) }
 {

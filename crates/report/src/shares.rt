@@ -1,5 +1,6 @@
 //! The shares of clients and threads in a bound. A share is the part of the bound that the clients
-//! of one kind, or the threads of one pool, account for.
+//! of one kind, or the threads of one pool, account for. The bound is the total of a vector of
+//! weights of a certificate.
 
 ghost use Rattle.std.specs.Prelude.{◌≡◌, ◌+◌, IfOk, IsTrue, sum};
 ghost use Rattle.weights.specs.Vector.{total, vector_fits};

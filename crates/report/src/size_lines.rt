@@ -1,4 +1,5 @@
-//! The lines with the sizes of a fitted plan, next to the declared ones.
+//! The lines with the sizes of a fitted plan, next to the declared sizes. A fitted plan is the plan
+//! with the sizes that a search found.
 
 ghost use Rattle.std.specs.Prelude.{◌≡◌, IfOk};
 ghost use Rattle.support.specs.Pushed.{Pushes};

@@ -1,4 +1,5 @@
-//! The story of a witness: its events, the state after them, and what each waiting job waits for.
+//! The story of a witness: its events, the state after them, and what each waiting job waits for. A
+//! witness is a list of events after which a submit is refused or jobs wait only for each other.
 
 ghost use Rattle.std.specs.Prelude.{◌++◌, flat_map};
 ghost use Rattle.std.specs.List.{enumerate_from};
@@ -16,9 +17,9 @@ use interleaving::{Event, World};
 use job_bodies::Plan;
 use std::alloc::{AllocError, Global};
 
-/// Appends the story of the events from the plan's initial state, up to the first event that is not
-/// possible. It shows the events, the state of the pools after them, and what each of the jobs
-/// `members` waits for.
+/// Appends the story of the events from the plan's initial state. It shows the events, the state of
+/// the pools after them, and what each of the jobs `members` waits for. It ends before the first
+/// event that is not possible.
 ///
 /// # Errors
 ///

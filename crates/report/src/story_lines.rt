@@ -49,7 +49,8 @@ fn lines_of<'a>(alloc: Global, turns: &'a [Turn]) -> Result<Vec<Line<'a>>, Alloc
     Ok(lines)
 }
 
-/// Appends the lines of the turns. Each line has as many turns as possible.
+/// Appends the lines of the turns. Each line has as many consecutive turns with the same text as
+/// possible.
 fn push_folded<'a>(lines: &mut Vec<Line<'a>>, turns: &'a [Turn]) -> Result<(), AllocError>
     ensures { OnOk result (map line_seen lines.new.items
         ≡ map line_seen lines.old.items ++ spec.lines (map turn_seen turns.now)) }

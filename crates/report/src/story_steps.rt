@@ -22,7 +22,7 @@ pub(crate) fn push_actor(text: &mut String, plan: &Plan, actor: Actor) -> Result
     }
 }
 
-/// Appends the words, and then the name.
+/// Appends `words` and then `name`, with nothing between them.
 pub(crate) fn push_named(text: &mut String, words: &str, name: &str) -> Result<(), AllocError>
     ensures { Pushes result text.old text.new (words.now ++ name.now) }
 {
@@ -39,7 +39,8 @@ pub(crate) fn push_step(text: &mut String, plan: &Plan, step: EventStep) -> Resu
     push_act(text, plan, submitted, taken, step.outcome)
 }
 
-/// Returns the name of the class that the actor's action submits.
+/// Returns the name of the class that the actor's action submits. The name is used only if the
+/// action is a submit.
 fn submitted_name(plan: &Plan, actor: Actor, action: Option<usize>) -> &str
     ensures { result.now ≡ spec.submitted_name plan.now actor action }
 {
@@ -74,8 +75,8 @@ fn taken_name(plan: &Plan, taken: Option<usize>) -> &str
     }
 }
 
-/// Appends what an actor did. `submitted` is the class of the job that it submitted, and `taken` that
-/// of the job that it took.
+/// Appends what an actor did. `submitted` is the name of the class whose job it submitted, and
+/// `taken` that of the class whose job it took. A name that the outcome does not need is not used.
 fn push_act(
     text: &mut String,
     plan: &Plan,

@@ -58,8 +58,8 @@ fn push_turns(
     push_turns_from(turns, alloc, plan, turn, rest, steps.len())
 }
 
-/// Appends the turn `turn`, extended by the steps that continue it, and then the turns of the other
-/// steps. `all` is the number of all steps of the story.
+/// Extends the turn `turn` by the first of these steps that continue it, and appends it. Then
+/// appends the turns of the remaining steps. `all` is the number of all steps of the story.
 fn push_turns_from(
     turns: &mut Vec<Turn>,
     alloc: Global,
@@ -108,7 +108,7 @@ fn after_step(
     }
 }
 
-/// Returns a new turn that begins with the step. The story has `all` steps, and `before` of them
+/// Returns a new turn that has only this step. The story has `all` steps, and `before` of them
 /// precede this one.
 fn new_turn(
     alloc: Global,

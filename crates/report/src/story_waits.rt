@@ -99,7 +99,7 @@ fn push_in_queue(text: &mut String, pool: &str) -> Result<(), AllocError>
 }
 
 /// Appends a line that says for which job the job `number` waits at this action. Appends nothing if
-/// the action is not a get.
+/// the action is not a get, or if the awaited job is not live.
 fn push_get(
     text: &mut String,
     plan: &Plan,
@@ -138,7 +138,8 @@ fn push_awaited(
     text.push('\n')
 }
 
-/// Returns the class that the submit at this position of the class's body submits.
+/// Returns the index of the class that the body of the class `class` submits at the position
+/// `submit`, or 0 if there is no submit at that position.
 fn submitted_in(plan: &Plan, class: usize, submit: usize) -> usize
     ensures { result ≡ spec.submitted_in plan.now class submit }
 {

@@ -1,4 +1,4 @@
-//! The answer as text.
+//! The answer of `ask` as text.
 
 ghost use Rattle.std.specs.Prelude.{IfOk, string_bytes};
 ghost use Rattle.support.specs.Pushed.{Pushes};

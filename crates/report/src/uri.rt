@@ -16,8 +16,9 @@ pub(crate) fn uri_of(alloc: Global, name: &str) -> Result<String, AllocError>
     Ok(uri)
 }
 
-/// Returns a prefix for the name, which keeps a reader of the URI from taking the start of the name
-/// for a scheme or a host. It is empty if the name needs none.
+/// Returns `/.` if the name starts with two slashes, `./` if it has a colon before its first slash,
+/// and otherwise an empty text. Without this prefix, a reader of the URI would take the start of
+/// the name for a host or a scheme.
 fn path_start(name: &[u8]) -> &'static str
     ensures { result.now ≡ spec.path_start name.now }
 {
@@ -36,7 +37,7 @@ fn has_two_slashes(name: &[u8]) -> bool
     name.starts_with(b"//")
 }
 
-/// Returns whether there is a colon before the first slash.
+/// Returns whether the name has a colon with no slash before it.
 fn has_early_colon(mut name: &[u8]) -> bool
     ensures { result ≡ spec.has_early_colon name.entry.now }
 {
@@ -73,7 +74,7 @@ fn push_path_byte(text: &mut String, byte: u8) -> Result<(), AllocError>
     }
 }
 
-/// Returns whether a path may have the byte.
+/// Returns whether a path may have the byte without an escape.
 fn is_path_byte(byte: u8) -> bool
     ensures is { result ≡ spec.is_path_byte byte }
     ensures ascii { IsTrue result → byte < 128 }
@@ -97,7 +98,7 @@ fn push_escape(text: &mut String, byte: u8) -> Result<(), AllocError>
     push_ascii(text, hex_digit(byte % 16))
 }
 
-/// Returns the hexadecimal digit of a number, in upper case.
+/// Returns the hexadecimal digit of a number from 0 to 15, in upper case.
 fn hex_digit(n: u8) -> u8
     requires { n < 16 }
     ensures is { result ≡ spec.hex_digit n }

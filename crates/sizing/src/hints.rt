@@ -47,9 +47,9 @@ pub(crate) fn reason_of(rt: &impl Files, name: &str) -> &'static str {
     }
 }
 
-/// Returns why the file could not be written, or an empty text if that is not known. Opens the file
-/// again, but neither creates nor changes it. Does not open what is not a regular file: opening a
-/// pipe could block.
+/// Returns the reason why the file could not be written, or an empty text if the reason is not
+/// known. Opens the file again, but neither creates nor changes it. Opens only a regular file,
+/// because opening a pipe could block.
 pub(crate) fn reason_unwritten(rt: &impl Files, name: &str) -> &'static str {
     if is_special(rt, name) {
         return "";
@@ -66,7 +66,8 @@ pub(crate) fn reason_unwritten(rt: &impl Files, name: &str) -> &'static str {
     }
 }
 
-/// Returns whether the directory part of this file name exists.
+/// Returns whether the directory part of this file name exists. Returns `true` if the name has no
+/// directory part.
 fn has_directory(rt: &impl Files, name: &str) -> bool {
     match name.rsplit_once('/') {
         Some((directory, _)) if !directory.is_empty() => fs::metadata(rt, directory).is_ok(),
@@ -115,8 +116,8 @@ fn text_of(rt: &impl Files, alloc: Global, command: Command, name: &str) -> Opti
         .ok()
 }
 
-/// Returns a hint about the first file, whose content is `text`. `is_alone` says that the arguments
-/// name no second file.
+/// Returns a hint about the first file, whose content is `text`, or `None` if the file shows no
+/// known mistake. `is_alone` says that the arguments name no second file.
 fn hint_of_first(command: Command, text: &[u8], is_alone: bool) -> Option<Hint> {
     if let Command::OnRecording(RecordingCommand::Learn { .. }) = command {
         return hint_of_recording(text);
@@ -134,8 +135,8 @@ fn hint_of_first(command: Command, text: &[u8], is_alone: bool) -> Option<Hint> 
     hint_of_misplaced(text, PLAN)
 }
 
-/// Returns the hint that the text `second` is missing, or that a carriage return follows the
-/// separator `%%`.
+/// Returns the hint about a file that has only one text: the text `second` is missing, or a
+/// carriage return follows the separator `%%`.
 fn missing_text(text: &[u8], second: &'static str) -> Hint {
     if has_line(text, b"%%\r") {
         Hint::ReturnAfterSeparator
@@ -156,7 +157,8 @@ fn hint_of_recording(text: &[u8]) -> Option<Hint> {
     }
 }
 
-/// Returns a hint about the second file, whose content is `text`.
+/// Returns a hint about the second file, whose content is `text`, or `None` if the file shows no
+/// known mistake.
 fn hint_of_second(command: Command, text: &[u8]) -> Option<Hint> {
     match command {
         Command::OnRecording(RecordingCommand::Conform) => hint_of_recording(text),
@@ -179,7 +181,7 @@ fn hint_of_events(text: &[u8]) -> Option<Hint> {
     }
 }
 
-/// Returns a hint if the text looks like a text of another kind than `wanted`.
+/// Returns a hint if the text looks like a text of a known kind other than `wanted`.
 fn hint_of_misplaced(text: &[u8], wanted: &'static str) -> Option<Hint> {
     let found = kind_of(text)?;
     if found == wanted {

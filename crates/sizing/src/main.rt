@@ -118,8 +118,8 @@ fn unread_words(rt: &(impl Eprint + Files), kind: io::ErrorKind) -> ExitCode {
     ExitCode::from(USAGE)
 }
 
-/// Reports an error and returns its exit status. If standard error fails too, only the status
-/// reports it.
+/// Reports an error on standard error and returns its exit status. Ignores a failure of standard
+/// error.
 fn ended(rt: &(impl Eprint + Files), fault: &CliError<'_>) -> ExitCode {
     let _ = print_error(rt, fault);
     ExitCode::from(fault.code())

@@ -34,7 +34,7 @@ impl Model for Answer {
 }
 
 impl Answer {
-    /// Returns an empty answer.
+    /// Returns an answer without text, with the status [`Status::Done`].
     pub fn empty(alloc: Global) -> Answer
         ensures { result ≡ record { text = []; status = Status.Done } }
     {
@@ -44,7 +44,7 @@ impl Answer {
         }
     }
 
-    /// Returns an answer that is a no, with this line as its text.
+    /// Returns an answer with the text `line` and the status [`Status::Refused`].
     pub fn no(alloc: Global, line: &str) -> Result<Answer, AllocError>
         ensures { IfOk result
             (λ answer. answer ≡ record { text = line.now; status = Status.Refused }) }
@@ -55,7 +55,9 @@ impl Answer {
         })
     }
 
-    /// Appends the line that answers the event line `number`, counted from 1.
+    /// Appends the line with the reply to the event line `number`, counted from 1. Sets the status
+    /// to [`Status::Refused`] if the event was refused or was not possible, or if the jobs of a
+    /// question are stuck.
     pub fn push_reply(
         &mut self,
         plan: &Plan,

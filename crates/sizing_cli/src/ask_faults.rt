@@ -110,7 +110,7 @@ fn cert_fault_text(
     }
 }
 
-/// Returns a line with this message and the number of the fault.
+/// Returns a line with the message `words` and the number of the fault.
 fn numbered(alloc: Global, words: &str, number: u8) -> Result<String, AllocError>
     ensures { IfOk result (λ text. string_bytes text ≡ words.now ++ spec.fault_number number) }
 {

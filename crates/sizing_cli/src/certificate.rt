@@ -20,7 +20,7 @@ use std::alloc::{AllocError, Global};
 use std::sync::Wait;
 use std::thread::Threads;
 
-/// The number of threads that search and check, for commands without an option for it.
+/// The number of threads that search and check for a command that has no option for this number.
 pub(crate) const WORKERS: usize = DEFAULT_WORKERS as usize;
 
 /// The number of pools per search thread. A further thread for fewer pools would save too little
@@ -54,7 +54,8 @@ pub(crate) fn certificate_of<R: Threads + Wait + Sync>(
     }
 }
 
-/// Returns the number of search threads that suit the plan's pools, at most `most`.
+/// Returns the number of search threads for the plan: one for every 16 of its pools, but at least 1
+/// and at most `most`.
 fn workers_of(plan: &Plan, most: usize) -> usize
     requires { 1 ≤ most }
     ensures some { 1 ≤ result }
@@ -63,7 +64,8 @@ fn workers_of(plan: &Plan, most: usize) -> usize
     most.min(plan.pools().len() / POOLS_OF_A_WORKER).max(1)
 }
 
-/// Searches for sizes, and returns their certificate if it also accepts the declared sizes.
+/// Searches for sizes, and returns their certificate if it also accepts the declared sizes. Returns
+/// `None` if it does not, or if no sizes are found.
 fn certificate_of_sizes(alloc: Global, plan: &Plan) -> Result<Option<Cert>, AllocError>
     requires { accepted plan.now (steady_cert plan.now) ≡ false }
     ensures accepted { IfOk result
@@ -86,7 +88,8 @@ pub(crate) enum SizesComparison {
     Other(SizesFound),
 }
 
-/// Compares the sizes that a search found with those that the plan declares.
+/// Compares the sizes that a search found with those that the plan declares. The result is
+/// [`SizesComparison::Accepted`] if the certificate of the found sizes accepts the declared ones.
 pub(crate) fn as_declared(plan: &Plan, sizes: SizesFound) -> SizesComparison
     requires known { IsKnown plan.now sizes }
     requires not_steady { accepted plan.now (steady_cert plan.now) ≡ false }

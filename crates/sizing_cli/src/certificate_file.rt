@@ -18,9 +18,10 @@ use job_bodies::MAX_CERT_BYTES;
 use serde_json::Value;
 use std::alloc::{AllocError, Global};
 
-/// Returns an error if the certificate may not be written to the file of this name: the name is `-`
-/// or that of a directory, or the file holds a text that is not a certificate. So a misplaced
-/// argument overwrites no other text.
+/// Returns an error if the certificate may not be written to the file `name`: the name is `-` or
+/// that of a directory, or the file holds a text that is not a certificate or cannot be read. So a
+/// misplaced argument overwrites no other text. If `name` is `None`, no certificate is to be
+/// written, and there is no error.
 pub(crate) fn ensure_replaceable<'a, F: TextFiles>(
     alloc: Global,
     files: &F,
@@ -46,7 +47,8 @@ pub(crate) fn ensure_replaceable<'a, F: TextFiles>(
     ensure_certificate(alloc, files, name)
 }
 
-/// Returns an error if there is a file of this name with a text that a certificate may not replace.
+/// Returns an error if there is a file of this name that a certificate may not replace, or that
+/// cannot be read.
 fn ensure_certificate<'a, F: TextFiles>(
     alloc: Global,
     files: &F,
@@ -64,7 +66,7 @@ fn ensure_certificate<'a, F: TextFiles>(
     }
 }
 
-/// Returns an error if a certificate may not replace this text of the file.
+/// Returns an error if a certificate may not replace `text`, the content of the file `name`.
 fn ensure_replaceable_text<'a>(
     alloc: Global,
     name: &'a str,
@@ -155,7 +157,8 @@ fn member_count(value: &Value) -> Option<usize>
     }
 }
 
-/// Writes the certificate that was found to the file that the arguments name for it.
+/// Writes the certificate's text `found` to the file `name`. Does nothing if one of the two is
+/// `None`.
 #[tactic(auto, using(crate::proofs::SavedTexts::no_writes))]
 pub(crate) fn write_certificate<'a, F: TextFiles>(
     files: &mut F,

@@ -1,4 +1,4 @@
-//! Bundles that `check` accepts.
+//! Bundles that `check` accepts. A bundle is a plan's text, a line `%%`, and a certificate.
 
 ghost use Rattle.std.specs.Prelude.{◌≡◌, ◌≤◌, ◌++◌, ◌∷◌, codes, IfOk, IfErr, IfSome, IsTrue};
 ghost use Rattle.job_bodies.specs.declared.limits.TheConstants.{MAX_WORKERS};

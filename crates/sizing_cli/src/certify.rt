@@ -75,8 +75,9 @@ pub fn whole_lines(mut text: Vec<u8>) -> Result<Vec<u8>, AllocError>
     Ok(text)
 }
 
-/// Searches for a certificate of the plan in this text, and returns the text's first fault if it
-/// has one. Drops the plan, so that its memory is free when the bundle is checked.
+/// Parses the plan in `text`, and searches for a certificate that accepts it. If the text has a
+/// fault, returns its first fault. Drops the plan, so that its memory is free when the bundle is
+/// checked.
 fn search_text<R: Threads + Wait + Sync>(
     rt: &R,
     alloc: Global,

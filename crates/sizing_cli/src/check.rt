@@ -1,4 +1,5 @@
-//! The `check` command: decides whether a certificate accepts a plan.
+//! The `check` command: decides whether a certificate accepts a plan. A certificate has, for each
+//! pool, two vectors of numbers, which bound the pool's queue and its waiting jobs.
 
 ghost use Rattle.std.specs.Prelude.{◌≡◌, IfOk, IsTrue};
 ghost use Rattle.cert_text.specs.Cert.{cert_fits};

@@ -33,7 +33,7 @@ pub fn conform_report(alloc: Global, input: &[u8]) -> Result<Answer, AllocError>
     }
 }
 
-/// Compares a recording with the plan.
+/// Returns how the recording differs from the plan, or the answer to a malformed recording.
 fn compare(alloc: Global, plan: &Plan, recording: &[u8]) -> Result<Answer, AllocError>
     ensures { IfOk result (spec.AnswersRecording plan.now recording.now) }
 {

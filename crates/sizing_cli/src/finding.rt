@@ -25,9 +25,9 @@ use std::thread::Threads;
 /// The maximum number of states in which a witness is searched for.
 const STATES: usize = DEFAULT_STATES as usize;
 
-/// Finds out whether a plan is safe, and returns whether the given certificate is stale, which
-/// means that it does not accept the plan. Tries the given certificate first, then searches for
-/// one, then for a witness, and then for other sizes.
+/// Finds out whether a plan is safe. Returns the finding, and whether a given certificate is stale,
+/// which means that it does not accept the plan. Tries the given certificate first, if there is
+/// one. Then searches for a certificate, and if it finds none, for a witness and for other sizes.
 ///
 /// # Errors
 ///
@@ -83,7 +83,8 @@ fn search_finding<R: Threads + Wait + Sync>(
     }
 }
 
-/// Searches for a witness and for other sizes. The first search found no certificate of the plan.
+/// Searches for a witness and for other sizes, and returns the finding. The plan is one for which
+/// the search found no certificate.
 fn without_certificate(alloc: Global, plan: &Plan) -> Result<PlanFinding, AllocError>
     requires { accepted plan.now (steady_cert plan.now) ≡ false }
     ensures { IfOk result (IsFinding plan.now) }

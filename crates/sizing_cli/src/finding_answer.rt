@@ -78,7 +78,7 @@ fn warnings_for(
     Ok(all)
 }
 
-/// Returns the warnings about a plan.
+/// Returns the warnings about a plan. `lowered` is as in [`answer_of`].
 fn plan_warnings(
     alloc: Global,
     text: &[u8],
@@ -98,7 +98,8 @@ fn plan_warnings(
     }
 }
 
-/// Returns the warnings about a plan that is safe even if each maximum is lowered to the core size.
+/// Returns the warnings about a plan that a certificate accepts even with each maximum lowered to
+/// the core size. `lowered` is as in [`answer_of`].
 fn lowered_warnings(
     alloc: Global,
     text: &[u8],
@@ -131,9 +132,9 @@ fn declared_warnings(
     Ok(warnings)
 }
 
-/// Returns, for each pool, the maximum number of jobs in its queue at once. It follows from the
-/// certificate of the plan or, if the plan has none, of the sizes that were found. The list is
-/// empty if there is no certificate.
+/// Returns, for each pool, the maximum number of jobs in its queue at once, or `None` if the
+/// certificate does not bound it. The certificate is that of the plan or, if the plan has none,
+/// that of the sizes that were found. The list is empty if there is no certificate.
 fn needed_of(
     alloc: Global,
     plan: &Plan,
@@ -158,7 +159,7 @@ fn needed_by_sizes(alloc: Global, sizes: &SizesFound) -> Result<Vec<Option<u64>>
     }
 }
 
-/// Appends a warning about the given certificate if `is_stale`.
+/// Appends a warning that the given certificate does not accept the plan, if `is_stale`.
 fn with_stale(
     alloc: Global,
     mut warnings: Vec<Warning>,

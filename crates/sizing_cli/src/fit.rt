@@ -89,7 +89,8 @@ pub fn answer_of_sizes<R: Threads + Wait + Sync>(
     }
 }
 
-/// Searches for sizes. Returns the plan's own sizes if a certificate accepts them.
+/// Searches for sizes that a certificate accepts. If a search with the plan's own sizes finds a
+/// certificate, returns these sizes.
 fn sizes_of<R: Threads + Wait + Sync>(
     rt: &R,
     alloc: Global,
@@ -105,7 +106,7 @@ fn sizes_of<R: Threads + Wait + Sync>(
     Ok(search_sizes(alloc, plan, first)?)
 }
 
-/// Writes the sizes that were found as lines.
+/// Writes the sizes that were found as lines, or the reason why none were found.
 fn lines_of(alloc: Global, plan: &Plan, found: &SizesFound) -> Result<Answer, AllocError>
     ensures { IfOk result (λ answer. answer ≡ spec.lines_answer plan.now found.now) }
 {
@@ -115,7 +116,8 @@ fn lines_of(alloc: Global, plan: &Plan, found: &SizesFound) -> Result<Answer, Al
     }
 }
 
-/// Writes the sizes of the fitted plan. The answer is a no if they differ from the declared sizes.
+/// Writes the sizes of the plan `fit`, which are those that were found. The answer is a no if they
+/// differ from the declared sizes.
 fn sizes(alloc: Global, plan: &Plan, fit: &Plan) -> Result<Answer, AllocError>
     ensures { IfOk result (λ answer. answer ≡ spec.sizes_answer plan.now fit.now) }
 {
@@ -155,7 +157,8 @@ fn bundle<R: Threads + Wait + Sync>(
     }
 }
 
-/// Writes the bundle of the fitted plan and its certificate.
+/// Writes the bundle of the plan `fit`, which has the sizes that were found, and of its
+/// certificate.
 fn bundle_of_sizes<R: Threads + Wait + Sync>(
     rt: &R,
     alloc: Global,

@@ -1,4 +1,4 @@
-//! The reading of an input that is a bundle, up to its plan.
+//! The parsing of an input that is a bundle: a plan's text, a line `%%`, and a second part.
 
 ghost use Rattle.std.specs.Prelude.{◌≡◌, ℕ, IfOk, IfErr, List};
 ghost use Rattle.job_bodies.specs.Plan.{Plan as PlanValue};
@@ -20,8 +20,9 @@ pub struct Input<'a> {
     pub second: &'a [u8],
 }
 
-/// Splits a bundle and parses its plan. If either fails, the fault is the answer that each command
-/// gives to such an input.
+/// Splits a bundle and parses its plan. It is a fault if the input is too long, is not a bundle, or
+/// has a plan's text with a fault. The fault is the answer that each command gives to such an
+/// input.
 pub fn read_input(alloc: Global, input: &[u8]) -> Result<Input<'_>, ReadError<Answer>>
     ensures input { IfOk result (λ read.
         (answers : PlanValue → List ℕ → answer_spec.Answer)

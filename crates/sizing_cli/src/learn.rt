@@ -41,7 +41,8 @@ pub fn learn_report(alloc: Global, strict: bool, input: &[u8]) -> Result<Answer,
 }
 
 /// Derives the bodies from the start of the recording. Returns the answer with them if they explain
-/// the whole recording.
+/// the whole recording, and otherwise `None`. Returns the fault of a malformed recording as an
+/// answer.
 fn learn_from_start(
     alloc: Global,
     strict: bool,
@@ -56,7 +57,8 @@ fn learn_from_start(
     }
 }
 
-/// Derives the bodies from the whole recording, and returns the answer with them.
+/// Derives the bodies from the whole recording, and returns the answer: the plan with these bodies,
+/// or why there is none.
 fn learn_from_all(alloc: Global, strict: bool, recording: &[u8]) -> Result<Answer, AllocError>
     ensures { IfOk result (spec.AnswersLines strict recording.now) }
 {
@@ -119,8 +121,8 @@ fn commented_plan(
     }
 }
 
-/// Returns whether the text `text` parses as a plan that [`write_plan`] writes as `written`, and
-/// `written` is not too long for a plan.
+/// Returns whether `text` parses as a plan, [`write_plan`] writes this plan as `written`, and
+/// `written` is not too long for the text of a plan.
 fn reads_as(alloc: Global, text: &[u8], written: &[u8]) -> Result<bool, AllocError>
     ensures same { IfOk result (λ yes. IsTrue yes → plan_of text.now ≡ plan_of written.now) }
     ensures short { IfOk result (λ yes. IsTrue yes → length written.now ≤ MAX_PLAN_BYTES) }

@@ -1,7 +1,7 @@
 //! The commands of `sizing`, from the arguments and the input to the bytes of the answer.
 //!
-//! [`serve`] runs one command on one input. [`serve_words`] parses the command line, reads the files and standard input, and
-//! writes the answer.
+//! [`serve`] runs one command on one input. [`serve_words`] parses the command line, reads the
+//! files and standard input, and writes the answer.
 #![tactic(auto)]
 
 mod answer;

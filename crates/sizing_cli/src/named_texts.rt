@@ -81,7 +81,7 @@ fn read_both<'a, F: TextFiles, S: Source>(
     Ok(join_texts(plan, &behind)?)
 }
 
-/// Reads the two texts of the command.
+/// Reads the two texts of the command. It is an error if both are to come from standard input.
 fn read_pair<'a, F: TextFiles, S: Source>(
     alloc: Global,
     command: Command,
@@ -134,7 +134,7 @@ fn ensure_alone<'a>(name: Option<&'a str>, text: &[u8]) -> Result<(), CliError<'
     }
 }
 
-/// Reads standard input for the command.
+/// Reads standard input for the command: at most one byte more than the command's input may have.
 fn read_input<'a, S: Source>(
     alloc: Global,
     command: Command,
@@ -151,7 +151,7 @@ fn read_input<'a, S: Source>(
     }
 }
 
-/// Reads a file for the command.
+/// Reads a file for the command: at most one byte more than the command's input may have.
 fn read_file<'a, F: TextFiles>(
     alloc: Global,
     command: Command,
@@ -170,7 +170,8 @@ fn read_file<'a, F: TextFiles>(
     }
 }
 
-/// Returns the name of the file, or `None` if the name means standard input.
+/// Returns the name of the file. Returns `None` if there is no name or it is `-`, because both mean
+/// standard input.
 fn file_named(name: Option<&str>) -> Option<&str>
     ensures { option_map (λ name. name.now) result
         ≡ spec.file_named (option_map (λ name. name.now) name.entry) }
@@ -178,7 +179,8 @@ fn file_named(name: Option<&str>) -> Option<&str>
     name.filter(|name| *name != STANDARD_INPUT)
 }
 
-/// Returns the name of the plan in messages.
+/// Returns the name that messages use for the plan: the name of its file, or `<stdin>` if it is
+/// read from standard input.
 pub(crate) fn display_name<'a>(name: Option<&'a str>) -> &'a str
     ensures { result.now ≡ spec.name_or_none (spec.file_named (option_map (λ name. name.now) name.entry)) }
 {

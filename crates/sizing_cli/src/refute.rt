@@ -83,8 +83,8 @@ fn without_certificate(
     Ok(answer_of(alloc, refute_format, plan, search, text)?)
 }
 
-/// Writes the answer: the witness, if the search found one, and otherwise the number of states that
-/// were searched.
+/// Writes the answer for the result of the search: the witness, or, if there is none, the number of
+/// states that were searched.
 fn answer_of(
     alloc: Global,
     refute_format: RefuteFormat,
@@ -152,7 +152,7 @@ fn bundle(
     })
 }
 
-/// Writes that a certificate accepts the plan.
+/// Writes that the plan is safe, because a certificate accepts it.
 fn safe(alloc: Global, refute_format: RefuteFormat) -> Result<Answer, AllocError>
     ensures { IfOk result (λ answer. answer ≡ spec.safe_answer refute_format) }
 {
@@ -163,7 +163,8 @@ fn safe(alloc: Global, refute_format: RefuteFormat) -> Result<Answer, AllocError
     )
 }
 
-/// Writes that neither a certificate nor a witness was found in this many states.
+/// Writes that neither a certificate nor a witness was found, and the number of states that were
+/// searched.
 fn not_decided(
     alloc: Global,
     refute_format: RefuteFormat,

@@ -30,7 +30,7 @@ pub enum Status {
 }
 
 impl Status {
-    /// Returns the status of an answer that is yes or no.
+    /// Returns [`Status::Done`] for a yes, and [`Status::Refused`] for a no.
     pub(crate) fn of_question(yes: bool) -> Status
         ensures { result ≡ yes_or_no yes }
     {

@@ -17,8 +17,8 @@ use job_bodies::Plan;
 use std::alloc::{AllocError, Global};
 use support::Counter;
 
-/// Replays the lines from the plan's start state up to the first impossible event. The lines after
-/// it are only parsed.
+/// Replays the lines from the plan's start state. The first impossible event gets the last reply;
+/// the lines after it are only parsed.
 ///
 /// If a line is malformed, the answer reports only the first such line, without the replies to the
 /// lines before it. So the answer is known only when all lines have been read.
@@ -34,8 +34,8 @@ pub fn replay_lines(alloc: Global, plan: &Plan, lines: EventLines<'_>) -> Result
     }
 }
 
-/// Appends the replies to the event lines, up to the first impossible event. Returns the number of
-/// the first malformed line, counted from 1, if there is one.
+/// Appends the replies to the event lines, up to and including the first impossible event. Returns
+/// the number of the first malformed line, counted from 1, or `None` if no line is malformed.
 fn push_replies(
     alloc: Global,
     plan: &Plan,
@@ -65,7 +65,8 @@ fn push_replies(
     Ok(None)
 }
 
-/// Performs the event of the line, or answers its question.
+/// Performs the event of the line, or finds out whether the jobs that the line asks about are
+/// stuck.
 fn reply_to(
     alloc: Global,
     world: &mut World,

@@ -7,8 +7,8 @@ ghost use Rattle.support.specs.Each.{IsReadOfEach};
 use crate::ReadError;
 use std::alloc::Global;
 
-/// Calls `read` with each element and its index, in order. Returns the results of the calls, or the
-/// error of the first call that fails. No call follows an error.
+/// Calls `read` with the index of each element and the element, in order, and returns the results.
+/// Stops at the first call that fails, and returns its error. Also fails if memory runs out.
 pub fn read_each<'a, X, Y: Drop, F, R>(
     alloc: Global,
     elements: &'a [X],

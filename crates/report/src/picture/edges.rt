@@ -1,4 +1,5 @@
-//! The edges of a picture.
+//! The edges of a picture: an arrow for submits, a dashed line for gets, and a bold dashed line for
+//! counted gets. A counted get can block a thread that other jobs need.
 
 ghost use Rattle.std.specs.Prelude.{◌≡◌, ◌++◌, IsTrue, codes, option_map};
 ghost use Rattle.std.specs.List.{enumerate_from, list_any};
@@ -51,8 +52,8 @@ fn push_client_edges_to(
 
 // ---- from classes
 
-/// Appends the edges from each class to the classes that it submits and gets. The ranks determine
-/// which gets are counted.
+/// Appends the edges from each class to the classes that it submits and gets. `ranks` determine
+/// which gets are counted; if it is `None`, none are.
 pub(crate) fn push_class_edges(
     text: &mut String,
     plan: &Plan,
@@ -110,7 +111,7 @@ fn submits_class(class: usize, action: Option<Action>) -> bool
     }
 }
 
-/// Returns the number of submits of the class in the body.
+/// Returns the number of actions in the body that submit the class.
 fn submit_count(body: &[Action], class: usize) -> usize
     ensures { result ≡ spec.submit_count body.now class }
 {
@@ -119,7 +120,7 @@ fn submit_count(body: &[Action], class: usize) -> usize
         .count()
 }
 
-/// Returns whether the action of the body gets a job of the class.
+/// Returns whether this action of the body is a get of a job of the class.
 fn gets_class(body: &[Action], class: usize, action: Action) -> bool
     ensures { result ≡ spec.gets_class body.now class action }
 {
@@ -135,7 +136,7 @@ fn has_get(body: &[Action], class: usize) -> bool
     body.iter().any(|action| gets_class(body, class, *action))
 }
 
-/// Returns whether a get of a job of class `class` in the body of class `number` is counted.
+/// Returns whether the body of the class `number` has a counted get of a job of the class `class`.
 fn has_counted_get(
     plan: &Plan,
     ranks: Option<&Ranks>,
@@ -162,7 +163,8 @@ fn counts_any(plan: &Plan, ranks: &Ranks, number: usize, body: &[Action], class:
     })
 }
 
-/// Returns whether the action at the position of the class's body is a counted get.
+/// Returns whether the action at this position of the class's body is a counted get. Returns
+/// `false` if there is no such action.
 fn is_counted(plan: &Plan, ranks: &Ranks, class: usize, position: usize) -> bool
     requires { IsTrue (ranks_fit plan.now ranks.now) }
     ensures { result ≡ is_counted plan.now ranks.now class position }
@@ -206,8 +208,8 @@ fn push_times(text: &mut String, times: usize) -> Result<(), AllocError>
     write!(text, " [label=\"{times}\"]")
 }
 
-/// Appends one edge for the gets of a class, if `gets` says that there are any. The edge is bold if
-/// `counted` says that one of them is counted.
+/// Appends one edge for the gets of a class. Appends nothing if `gets` is false. The edge is bold
+/// if `counted` is true.
 fn push_get_edge(
     text: &mut String,
     kind: &str,
