@@ -70,8 +70,8 @@ fn sum(count: usize, more: usize) -> Result<usize, AllocError>
     count.checked_add(more).ok_or(AllocError)
 }
 
-/// Appends a line for each note. The lines of a section begin with the same head, which is
-/// formatted once for consecutive notes of the section.
+/// Appends a line for each note. All lines of a section begin with the same head. Consecutive notes
+/// of one section share one formatted head.
 fn push_lines(
     alloc: Global,
     text: &mut String,
