@@ -40,7 +40,7 @@ impl Ranks {
     }
 }
 
-/// A plan with ranks that fit it. The ranks decide which gets of the plan are counted.
+/// A plan with ranks that have its shape. The ranks decide which gets of the plan are counted.
 #[derive(Clone, Copy)]
 pub struct RanksOf<'a> {
     pub plan: &'a Plan,
@@ -49,7 +49,7 @@ pub struct RanksOf<'a> {
 }
 
 impl<'a> RanksOf<'a> {
-    /// Creates the pair of a plan and ranks that fit it.
+    /// Creates the pair of a plan and ranks that have its shape.
     pub fn new(plan: &'a Plan, ranks: &'a Ranks) -> RanksOf<'a>
         requires { IsTrue (spec.ranks_fit plan.now ranks.now) }
         ensures plan { result.plan.now ≡ plan.now }
