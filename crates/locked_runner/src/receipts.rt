@@ -97,7 +97,7 @@ fn is_same_event(a: Event, b: Event) -> bool
     }
 }
 
-/// Returns `true` if `found` is this owner.
+/// Returns `true` if `found` is `Some(owner)`.
 fn is_owned_by(found: Option<Owner>, owner: Owner) -> bool
     ensures { IsTrue result ↔ (found ≡ Some owner) }
 {
@@ -130,7 +130,7 @@ pub(crate) fn each_once(
     Ok(all_are_one(&marks))
 }
 
-/// Increases, for each receipt, the mark at the receipt's number. The marks saturate at 255.
+/// Adds 1, for each receipt, to the mark at the receipt's number. A mark of 255 does not change.
 fn mark_all(marks: &mut [u8], list: &[CompactReceipt])
     ensures len { length marks.new ≡ length marks.old }
     ensures marks { (k : ℕ)

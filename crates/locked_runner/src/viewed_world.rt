@@ -45,7 +45,7 @@ impl ViewedWorld {
         })
     }
 
-    /// Returns the world itself.
+    /// Returns the world, whose contracts also mention the places for live jobs.
     pub fn world(&self) -> &World
         ensures { result.now.view ≡ self.now }
     {

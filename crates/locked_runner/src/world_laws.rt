@@ -1,4 +1,5 @@
-//! Laws of the worlds of certified plans, for every history.
+//! Laws of the worlds of certified plans, for every history. The *live view* of a state is its live
+//! jobs, pools and clients, and its number of refused submits.
 
 ghost use Rattle.std.specs.Prelude.{◌≡◌, List};
 ghost use Rattle.written_machine.specs.declared.event.Event.{Event};
@@ -20,7 +21,7 @@ pub fn held_worlds_refuse_nothing(held: &Held<CertifiedWorld<'_>>)
     let _history = held.history();
 }
 
-/// Proves that a world has no refused submits if some history of the plan leads to it.
+/// Proves that no submit was refused in a world to which a history of the certified plan leads.
 pub fn reached_worlds_refuse_nothing(certified: &Certified, world: &ViewedWorld)
     ensures { (history : List Event)
         → IsReachedBy certified.now.plan history world.now
