@@ -31,7 +31,7 @@ pub enum NoSizes {
 pub(crate) enum Obstacle {
     /// The pool with this number, for which no vector or no size was found.
     Pool(usize),
-    /// Any other obstacle.
+    /// Any other point.
     Unknown,
 }
 

@@ -10,8 +10,8 @@ use cert_text::Cert;
 use job_bodies::Plan;
 use std::alloc::{AllocError, Global};
 
-/// Returns the plan with the least sizes that the certificate needs. Returns an obstacle if no
-/// sizes are enough.
+/// Returns the plan with its sizes raised to the least that the certificate needs. Returns an
+/// obstacle if no sizes are enough.
 pub(crate) fn least_sizes(
     alloc: Global,
     plan: &Plan,

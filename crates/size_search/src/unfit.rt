@@ -24,7 +24,7 @@ pub enum Unfit {
 }
 
 /// Returns the reason why a pool with raised sizes is invalid, or `None` if it is valid. If the
-/// maximum is above the limit, it was raised for the core, so the core is the reason.
+/// maximum is above 1,000,000, it was raised for the core, so the core is the reason.
 fn unfit_pool(number: usize, pool: &Pool) -> Option<Unfit>
     ensures { result ≡ spec.unfit_pool number pool.now }
 {

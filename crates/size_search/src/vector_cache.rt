@@ -10,8 +10,8 @@ use weights::submitted_class;
 /// plan needs a quarter of them.
 const MAX_VECTORS: usize = 32_768;
 
-/// The kind of a vector and, for a blocked vector, two further properties. Together with the other
-/// fields of [`CacheKey`], this determines a pool's lightest vector.
+/// The kind of a vector and, for a blocked vector, its counted gets and lenders. Together with the
+/// other fields of [`CacheKey`], this determines a pool's lightest vector.
 #[derive(PartialEq, Drop)]
 enum VectorKey {
     Standing,
@@ -131,9 +131,10 @@ impl<'a> VectorCache<'a> {
         })
     }
 
-    /// Returns the pool's lightest vector of this kind for these maximums. Returns an unknown
-    /// obstacle as the error if the vector is not in the cache and the limit of computed vectors
-    /// was reached.
+    /// Returns the cache hit of the pool's lightest vector of this kind for these maximums, and
+    /// computes the vector if the cache does not have it. The search for a vector stops when its
+    /// total is at most `enough`. Returns [`Obstacle::Unknown`] as the error if a vector must be
+    /// computed and [`MAX_VECTORS`] have been computed already.
     pub(crate) fn lightest(
         &mut self,
         alloc: Global,
@@ -222,7 +223,8 @@ impl PoolCache {
             .collect(alloc)
     }
 
-    /// Returns the index of the entry for this key.
+    /// Returns the index of the entry whose vector is the result for this key, or `None` if there
+    /// is none.
     fn index_of(&self, key: &CacheKey) -> Option<usize> {
         self.entries.iter().position(|entry| entry.matches_key(key))
     }
