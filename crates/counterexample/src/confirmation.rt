@@ -94,8 +94,8 @@ fn stuck(
     Some(Witness { events, ending })
 }
 
-/// Returns the reason why the members wait only for each other permanently. Returns `None` if
-/// neither reason is proved.
+/// Returns the [`Reason`] why no later event ends the members' wait for each other. Returns `None`
+/// if `world` and `standing` show neither of the two reasons.
 fn reason(plan: &Plan, world: &World, members: &[usize], standing: &[Vector]) -> Option<Reason>
     requires { IsReachableView plan.now world.now.view }
     ensures { (s : State)

@@ -9,8 +9,8 @@ use crate::vectors::Potential;
 use job_bodies::{Action, MAX_ACTIONS};
 use written_machine::Parent;
 
-/// The largest loss that [`Losses::of`] returns. Also the result if the loss of a choice cannot be
-/// computed.
+/// The largest loss that [`Losses::of`] returns. [`Losses::of`] also returns it if the loss of a
+/// choice cannot be computed.
 const MAX_LOST: u64 = 1_000_000;
 /// The maximum number of ancestors that are followed when a job ends. The end of the job can
 /// unblock its parent, the end of the parent can unblock the grandparent, and so on.
@@ -37,8 +37,8 @@ impl WeightedBody<'_> {
         self.row.get(position).copied().unwrap_or(0)
     }
 
-    /// Returns the weight of an actor after the work actions that begin at this position, and
-    /// whether the actor is then at the end of its body.
+    /// Returns the weight of an actor after it performed all consecutive work actions from this
+    /// position on, and whether the actor is then at the end of its body.
     fn settled(&self, position: usize) -> (u64, bool) {
         let mut position = position;
         for _ in 0..MAX_ACTIONS {
@@ -57,7 +57,8 @@ impl<'a> Losses<'a> {
         Losses { machine, potential }
     }
 
-    /// Returns the loss if this actor makes the choice, which must be possible.
+    /// Returns the loss of the choice if `actor` makes it. If a new client starts or a thread takes
+    /// a job, `actor` has no effect. The choice must be possible.
     pub(crate) fn of(&self, choice: Choice, actor: Option<Parent>) -> u64 {
         let lost = match choice {
             Choice::Begin(kind) => self.of_begin(kind),

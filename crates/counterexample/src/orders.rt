@@ -31,7 +31,7 @@ impl Rng {
     }
 }
 
-/// Returns the keys of the choices in the fixed order with this number.
+/// Returns the key of each choice in the fixed order `number`, from 0 to [`FIXED_ORDERS`] minus 1.
 pub(crate) fn fixed_order(
     alloc: Global,
     choices: &[Choice],
@@ -50,7 +50,7 @@ pub(crate) fn fixed_order(
         .collect(alloc)
 }
 
-/// Replaces the keys by pseudo-random numbers.
+/// Replaces each key by a pseudo-random number, for a random order.
 pub(crate) fn shuffle(keys: &mut [u64], rng: &mut Rng) {
     for key in keys.iter_mut() {
         *key = rng.next_number();

@@ -122,8 +122,8 @@ impl Search<'_> {
         self.reserved = 0;
     }
 
-    /// Performs the walks in fixed orders. The first walk may use all remaining states. All other
-    /// walks together may use half of the states that then remain.
+    /// Performs the walks in fixed orders. The first walk may visit all remaining states. All other
+    /// walks together may visit half of the states that then remain.
     fn in_fixed_orders(&mut self) -> Result<Option<CandidateWitness>, AllocError> {
         let first = self.fixed_rules(0)?;
         if let Some(found) = self.walk_once(first, None)? {
@@ -156,7 +156,7 @@ impl Search<'_> {
         Ok(None)
     }
 
-    /// Performs the walks in random orders. They may use half of the remaining states.
+    /// Performs the walks in random orders. Together they may visit half of the remaining states.
     fn random_walks(&mut self) -> Result<Option<CandidateWitness>, AllocError> {
         self.reserve_half();
         for number in 0..RANDOM_WALKS {
@@ -169,8 +169,8 @@ impl Search<'_> {
         Ok(None)
     }
 
-    /// Performs the best-first search with all remaining states, and returns a probable witness if
-    /// it finds a permanent violation.
+    /// Performs the best-first search, which may visit all remaining states, and returns a probable
+    /// witness if it finds a permanent violation.
     fn best_first(
         &mut self,
         potentials: &[Potential],
@@ -197,7 +197,7 @@ impl Search<'_> {
     }
 
     /// Performs a walk by these rules, and returns a probable witness if the walk finds a permanent
-    /// violation.
+    /// violation. Stores the events of the first violation that is not permanent in `stuck_now`.
     fn walk_once(
         &mut self,
         rules: Rules,
@@ -280,7 +280,8 @@ impl Search<'_> {
     }
 }
 
-/// Returns the maximum number of states that a walk visits.
+/// Returns the limit on the number of states that one walk visits: 12 times the sum of the maximums
+/// and queue capacities of all pools, plus 128.
 fn longest_walk(plan: &Plan) -> usize {
     let mut room = 0u64;
     for pool in plan.pools() {
@@ -289,8 +290,8 @@ fn longest_walk(plan: &Plan) -> usize {
     room.saturating_mul(12).saturating_add(128) as usize
 }
 
-/// Shortens the script, and returns the shorter one as a probable witness. `violation` is the
-/// violation in which the script ends.
+/// Shortens the script as far as possible, and returns it as a probable witness. The shorter script
+/// ends in the same `violation` or in a refused submit.
 fn answer_of(
     alloc: Global,
     plan: &Plan,

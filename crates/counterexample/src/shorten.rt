@@ -28,7 +28,7 @@ struct Shortener<'a> {
     left: u64,
 }
 
-/// Returns a script that ends in the same violation and is not longer.
+/// Returns a script that is not longer, and that ends in the same violation or in a refused submit.
 pub(crate) fn shorten_script(
     alloc: Global,
     plan: &Plan,

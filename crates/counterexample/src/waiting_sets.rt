@@ -94,8 +94,8 @@ impl JobSet {
     /// Repeatedly removes the members that wait for no job or for a job outside the set, until each
     /// member waits only for members.
     ///
-    /// Two rounds more than there are pools are enough: each round except the first and the last
-    /// finds fewer closed pools than the round before.
+    /// The number of rounds is at most the number of pools plus 2, because each round except the
+    /// first and the last finds fewer closed pools than the round before.
     fn shrink(
         &mut self,
         alloc: Global,

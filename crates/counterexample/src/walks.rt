@@ -69,7 +69,7 @@ pub(crate) struct Walk<'a> {
     pub(crate) script: Script,
     /// For each choice, the actors that are at its submit, in the order in which they arrived.
     pub(crate) ready: Vec<Vec<Parent>>,
-    /// For each client kind, the number of its clients that have moved.
+    /// For each client kind, the number of its clients that have started their bodies.
     pub(crate) begun: Vec<u64>,
     /// Whether, since this flag was last cleared, an actor has stopped at a get or at its end.
     pub(crate) has_blocked: bool,
@@ -151,7 +151,7 @@ impl<'a> Walk<'a> {
     }
 
     /// Returns the violation if some jobs wait only for each other, and `None` otherwise. If `now`
-    /// is `false`, returns only a permanent violation.
+    /// is `false`, returns `None` also for a violation that is not permanent.
     pub(crate) fn stuck(&self, alloc: Global, now: bool) -> Result<Option<Violation>, AllocError> {
         let members = JobSet::greatest(alloc, &self.machine, false)?;
         if members.is_empty() {
@@ -212,8 +212,8 @@ impl<'a> Walk<'a> {
         }
     }
 
-    /// Returns the index of the possible choice that loses the least weight under the vector. Among
-    /// equal losses, returns the choice with the least key.
+    /// Returns the index of the possible choice that loses the least weight under the vector, or
+    /// `None` if no choice is possible. Among equal losses, returns the choice with the least key.
     fn first_possible(&self, rules: &Rules, potential: Option<&Potential>) -> Option<usize> {
         let mut best = None;
         let mut least = u64::MAX;
