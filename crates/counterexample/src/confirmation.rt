@@ -67,8 +67,8 @@ fn refused(mut events: Vec<Event>, length: usize, pool: usize) -> Witness
     }
 }
 
-/// Returns the witness that consists of these events, if the members wait only for each other in
-/// `world`, which is the world after the events.
+/// Returns the witness that consists of these events, or `None` if the members are not in ascending
+/// order, or do not wait only for each other in `world`. `world` is the world after the events.
 fn stuck(
     plan: &Plan,
     world: &World,

@@ -143,7 +143,7 @@ impl<'a> Losses<'a> {
     }
 
     /// Returns the loss of the submit at position `at`, by an actor that is now at position `from`
-    /// and performs only work in between.
+    /// and performs only work in between. Returns `None` if there is no submit at `at`.
     fn of_submit(&self, weighted: &WeightedBody, from: usize, at: usize) -> Option<u64> {
         let Action::Submit(class) = *weighted.body.get(at)? else {
             return None;
@@ -165,9 +165,9 @@ impl<'a> Losses<'a> {
         }
     }
 
-    /// Returns the loss if a thread takes the first job of its pool's queue. The job belongs to
-    /// this class. If the job then ends without a submit or a get, the losses of the actors that
-    /// its end unblocks are included.
+    /// Returns the loss of the take of a job of this class, which must be the first job in its
+    /// pool's queue. If the job then ends without a submit or a get, the result includes the losses
+    /// of the actors that its end unblocks. Returns `None` if no thread of the pool can take a job.
     fn of_take(&self, class: usize) -> Option<u64> {
         let pool = self.machine.plan.class_at(class)?.pool;
         let mut job = self.machine.pools.get(pool)?.next_to_take()?;

@@ -93,7 +93,8 @@ struct Search<'a> {
 
 impl Search<'_> {
     /// Performs the stages of the search: walks in fixed orders, guided walks, walks in random
-    /// orders, and the best-first search.
+    /// orders, and the best-first search. Returns the first permanent violation or, if there is
+    /// none, the first other violation. Returns `None` if no violation was found.
     fn find(&mut self) -> Result<Option<CandidateWitness>, AllocError> {
         if let Some(found) = self.in_fixed_orders()? {
             return Ok(Some(found));
@@ -122,8 +123,9 @@ impl Search<'_> {
         self.reserved = 0;
     }
 
-    /// Performs the walks in fixed orders. The first walk may visit all remaining states. All other
-    /// walks together may visit half of the states that then remain.
+    /// Performs the walks in fixed orders, until one finds a permanent violation. The first walk
+    /// may visit all remaining states. All other walks together may visit half of the states that
+    /// then remain. No walk visits more than [`longest_walk`] states.
     fn in_fixed_orders(&mut self) -> Result<Option<CandidateWitness>, AllocError> {
         let first = self.fixed_rules(0)?;
         if let Some(found) = self.walk_once(first, None)? {
@@ -140,8 +142,9 @@ impl Search<'_> {
         Ok(None)
     }
 
-    /// Performs guided walks for each vector that exceeds its bound. Each step of a guided walk
-    /// makes a possible choice that loses the least weight under the vector.
+    /// Performs guided walks for each vector that exceeds its bound, until one finds a permanent
+    /// violation. Each step of a guided walk makes a possible choice that loses the least weight
+    /// under the vector.
     fn guided(&mut self, potentials: &[Potential]) -> Result<Option<CandidateWitness>, AllocError> {
         self.reserve_half();
         for potential in potentials {
@@ -156,7 +159,8 @@ impl Search<'_> {
         Ok(None)
     }
 
-    /// Performs the walks in random orders. Together they may visit half of the remaining states.
+    /// Performs the walks in random orders, until one finds a permanent violation. Together they
+    /// may visit half of the remaining states.
     fn random_walks(&mut self) -> Result<Option<CandidateWitness>, AllocError> {
         self.reserve_half();
         for number in 0..RANDOM_WALKS {
@@ -267,7 +271,8 @@ impl Search<'_> {
         Ok(rules)
     }
 
-    /// Returns the rules of the random walk with this number. Most random walks have few clients.
+    /// Returns the rules of the random walk with this number. Seven of eight random walks have few
+    /// clients: 1 to 7 at first, and one more after every 64 walks.
     fn random_rules(&mut self, number: usize) -> Result<Rules, AllocError> {
         let mut rules = self.fixed_rules(number)?;
         shuffle(&mut rules.keys, &mut self.rng);

@@ -201,7 +201,7 @@ impl<'a> Walk<'a> {
     }
 
     /// Removes and returns one of the actors that are ready for this choice. `newer` is the number
-    /// of actors that became ready after this actor.
+    /// of ready actors that became ready after it. Returns `None` if there is no such actor.
     fn take_ready(&mut self, place: usize, newer: usize) -> Option<Parent> {
         let ready = self.ready.get_mut(place)?;
         let at = ready.len().checked_sub(1)?.checked_sub(newer)?;
