@@ -82,7 +82,8 @@ fn least_steady_sizes(alloc: Global, plan: &Plan, cert: &Cert) -> Result<Option<
 }
 
 /// Returns the plan with the least sizes for its steady certificate, given the plan `wide`, whose
-/// maximums were raised to what that certificate needs.
+/// maximums were raised to what that certificate needs. Returns `None` if these sizes are too
+/// large.
 fn least_wide(
     alloc: Global,
     plan: &Plan,

@@ -224,8 +224,9 @@ fn outcome(
     }
 }
 
-/// Returns the pools whose core and maximum have grown most. These are all pools that have grown if
-/// the plan has at most [`FEW_POOLS`] pools, and otherwise at most [`FURTHER_ATTEMPTS`] of them.
+/// Returns the pools whose core plus maximum increased most from the declared sizes to those of
+/// `best`. These are all pools with an increase if the plan has at most [`FEW_POOLS`] pools, and
+/// otherwise at most [`FURTHER_ATTEMPTS`] of them.
 fn most_raised_pools(
     alloc: Global,
     best: &Attempt,

@@ -6,8 +6,8 @@ use least_vectors::{Kind, Levels, ResizedPlan, VectorSummary};
 use std::alloc::{AllocError, Global};
 use weights::submitted_class;
 
-/// The maximum number of vectors that are computed, which bounds the time of a search. No known
-/// plan needs a quarter of them.
+/// The maximum number of vectors that one search computes. It bounds the time of the search. All
+/// known plans need less than a quarter of it.
 const MAX_VECTORS: usize = 32_768;
 
 /// The kind of a vector and, for a blocked vector, its counted gets and lenders. Together with the
