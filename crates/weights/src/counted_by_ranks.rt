@@ -27,9 +27,9 @@ fn is_counted_in(plan: &Plan, ranks: &Ranks, number: usize, class: &Class, posit
 }
 
 impl Ranks {
-    /// Returns whether the action at `position` of the class is a counted get. A get is not counted
-    /// if the reach of the class of its job is below the rank of this class's pool. Every other get
-    /// is counted.
+    /// Returns whether the action at `position` of the class's body is a counted get. A get is
+    /// counted exactly when the reach of the class whose job it gets is at least the rank of the
+    /// pool of `class`.
     pub fn is_counted(&self, plan: &Plan, class: usize, position: usize) -> bool
         requires fits { IsTrue (spec.ranks_fit plan.now self.now) }
         requires class { class < length plan.now.classes }
