@@ -52,7 +52,8 @@ impl ViewedWorld {
         &self.world
     }
 
-    /// Performs the event, like [`World::step`].
+    /// Performs the event and returns its outcome, or `None` if the event is not possible, like
+    /// [`World::step`].
     ///
     /// # Errors
     ///
