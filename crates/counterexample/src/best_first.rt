@@ -46,7 +46,8 @@ pub(crate) struct BestFirstResult {
     pub(crate) left: usize,
 }
 
-/// Searches from the plan's initial state. Stops at the first permanent violation, after `states`
+/// Searches from the plan's initial state. The weight lost under each of the first [`MAX_VECTORS`]
+/// vectors in `potentials` is a measure. Stops at the first permanent violation, after `states`
 /// visited states, or if no open state is left.
 pub(crate) fn best_first(
     alloc: Global,

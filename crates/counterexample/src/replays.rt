@@ -50,7 +50,7 @@ impl<'a> Replay<'a> {
         Ok(replay)
     }
 
-    /// Returns `true` if the replay ended in this violation or in a refused submit.
+    /// Returns `true` if the replay ended in the violation `wanted` or in a refused submit.
     pub(crate) fn has_violation(
         &self,
         alloc: Global,

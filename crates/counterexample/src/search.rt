@@ -200,8 +200,9 @@ impl Search<'_> {
         }
     }
 
-    /// Performs a walk by these rules, and returns a probable witness if the walk finds a permanent
-    /// violation. Stores the events of the first violation that is not permanent in `stuck_now`.
+    /// Performs a walk by these rules, guided by `potential` if there is one, and returns a
+    /// probable witness if the walk finds a permanent violation. Stores the events of the first
+    /// violation that is not permanent in `stuck_now`.
     fn walk_once(
         &mut self,
         rules: Rules,

@@ -76,9 +76,9 @@ pub(crate) struct Walk<'a> {
 }
 
 /// Performs a walk by these rules, until a submit is refused, a permanent violation is found, no
-/// choice is possible, or the limit of states is reached. Each step makes a choice, and then
-/// performs the steps that are possible without another choice: work, gets of done jobs, and ends
-/// and restarts of bodies.
+/// choice is possible, or the limit of states is reached. `potential` is the vector of a guided
+/// walk. Each step makes a choice, and then performs the steps that are possible without another
+/// choice: work, gets of done jobs, and ends and restarts of bodies.
 pub(crate) fn perform_walk<'a>(
     alloc: Global,
     plan: &'a Plan,
@@ -164,9 +164,9 @@ impl<'a> Walk<'a> {
         Ok(if now { Some(Violation::StuckNow) } else { None })
     }
 
-    /// Makes the possible choice that loses the least weight under the vector, or does nothing if
-    /// no choice is possible. Among equal losses, makes the choice with the least key. Without a
-    /// vector, every loss counts as 0.
+    /// Makes the possible choice that loses the least weight under the vector `potential`, or does
+    /// nothing if no choice is possible. Among equal losses, makes the choice with the least key.
+    /// Without a vector, every loss counts as 0.
     fn step(
         &mut self,
         rules: &Rules,
@@ -212,8 +212,9 @@ impl<'a> Walk<'a> {
         }
     }
 
-    /// Returns the index of the possible choice that loses the least weight under the vector, or
-    /// `None` if no choice is possible. Among equal losses, returns the choice with the least key.
+    /// Returns the index of the possible choice that loses the least weight under the vector
+    /// `potential`, or `None` if no choice is possible. Among equal losses, returns the choice with
+    /// the least key.
     fn first_possible(&self, rules: &Rules, potential: Option<&Potential>) -> Option<usize> {
         let mut best = None;
         let mut least = u64::MAX;
