@@ -114,7 +114,7 @@ fn before(
 }
 
 /// Returns the weight of the actor at each position of its body, computed backwards from its weight
-/// `last` at the end.
+/// `last` at the end. At a get, the weight is at least `least`.
 fn weights(
     alloc: Global,
     plan: &Plan,

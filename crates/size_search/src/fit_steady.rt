@@ -36,7 +36,7 @@ pub(crate) fn fit_steady(
 }
 
 /// Returns the plan with the least sizes for `cert`, its steady certificate, or
-/// [`NoSizes::TooLarge`].
+/// [`NoSizes::TooLarge`] with the pool of `obstacle` if they are too large.
 fn fit_steady_cert(
     alloc: Global,
     plan: &Plan,

@@ -44,7 +44,7 @@ impl RankAssignment {
     }
 
     /// Returns, for each pool without a rank, the lightest blocked vector that it has if all pools
-    /// without a rank get `rank`.
+    /// without a rank get `rank`. If `lending` is `false`, no workers have weight.
     fn lightest_vectors(
         &self,
         alloc: Global,
@@ -167,11 +167,12 @@ fn within_limit(alloc: Global, hits: &[CacheHit]) -> Result<Vec<CacheHit>, Alloc
         .collect(alloc)
 }
 
-/// Gives each pool a rank and a blocked vector, starting with these cores and maximums. In each
-/// round, all pools whose core is large enough get the rank. If there are none, raises the core of
-/// the pool with the smallest shortfall (the increase of its core plus the increase of its
-/// maximum), and gives the rank to this pool. The first time that this happens, skips the
-/// `passed_over` pools with the smallest shortfalls, and raises the core of the next pool.
+/// Gives each pool a rank and a blocked vector, starting with these cores and maximums. If
+/// `lending` is `false`, no workers have weight in the vectors. In each round, all pools whose core
+/// is large enough get the rank. If there are none, raises the core of the pool with the smallest
+/// shortfall (the increase of its core plus the increase of its maximum), and gives the rank to
+/// this pool. The first time that this happens, skips the `passed_over` pools with the smallest
+/// shortfalls, and raises the core of the next pool.
 pub(crate) fn assign_ranks(
     alloc: Global,
     cache: &mut VectorCache,

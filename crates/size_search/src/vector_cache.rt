@@ -214,7 +214,7 @@ impl PoolCache {
     }
 
     /// Returns, for each class, whether a get of a job of that class is counted if a job of this
-    /// pool performs it. `rank` is the rank of this pool.
+    /// pool performs it. `rank` is the rank of this pool, and `reach` has the reach of each class.
     fn counted(&self, alloc: Global, reach: &[u64], rank: u64) -> Result<Vec<bool>, AllocError> {
         self.gets
             .iter()
