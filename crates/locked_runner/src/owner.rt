@@ -83,7 +83,7 @@ pub fn kinds_of(alloc: Global, plan: &Plan) -> Result<Vec<usize>, AllocError>
 }
 
 /// Returns the owner of each list of receipts. There is one list for each client, and then there
-/// are `max` lists for each pool.
+/// are `max` lists for each pool, one for each of its threads.
 ///
 /// # Errors
 ///

@@ -14,8 +14,9 @@ use job_bodies::Plan;
 use std::alloc::{AllocError, Global};
 
 /// Returns `true` if the receipts of each list are in ascending order and belong to the list's
-/// owner. A receipt belongs to an owner if its event is the history's event at its number, and this
-/// event belongs to the owner.
+/// owner. `pools` has, for each event of the history, the pool of the job that performed it. A
+/// receipt belongs to an owner if its event is the history's event at its number, and this event
+/// belongs to the owner.
 pub(crate) fn lists_fit(
     plan: &Plan,
     history: &[Event],

@@ -9,9 +9,9 @@ use crate::{CertifiedWorld, ViewedWorld};
 use cert_check::Certified;
 use held_machines::Held;
 
-/// Proves that the world is the live view of the state to which the history leads. Also proves that
-/// no submit of the history was refused, and that no event that is possible next is a refused
-/// submit.
+/// Proves that the world in `held` is the live view of the state to which its history leads. Also
+/// proves that no submit of the history was refused, and that no event that is possible next is a
+/// refused submit.
 pub fn held_worlds_refuse_nothing(held: &Held<CertifiedWorld<'_>>)
     ensures reached { IsReachedBy held.now.machine.certified.now.plan held.now.history
         held.now.state.world }
