@@ -27,7 +27,7 @@ pub(crate) struct SketchCache<'a> {
 }
 
 impl<'a> SketchCache<'a> {
-    /// Creates an empty cache.
+    /// Creates an empty cache for the sketches of the target.
     pub(crate) fn new(
         alloc: Global,
         plan: &'a Plan,
