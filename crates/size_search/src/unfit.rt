@@ -11,8 +11,8 @@ use soundness::Note;
 /// The reason why no choice of cores and queues makes the certificate accept the plan.
 #[derive(Clone, Copy, Debug, PartialEq, Eq)]
 pub enum Unfit {
-    /// The certificate does not have the shape of the plan, or one of its numbers is above the
-    /// limit.
+    /// The certificate does not have the shape of the plan, or one of its numbers is above
+    /// [`MAX_WEIGHT`](job_bodies::MAX_WEIGHT).
     Shape,
     /// The first condition that fails and that does not depend on cores and queues.
     Condition(Note),
