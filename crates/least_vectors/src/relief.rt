@@ -66,8 +66,10 @@ pub(crate) fn relieving_loan(
 }
 
 /// Returns the least weight of a worker of the pool with which at most `overweight_unsubmitted`
-/// classes are overweight: never submitted, and with a weight above `MAX_WEIGHT`. Uses bisection,
-/// which is correct because heavier workers never leave more classes overweight.
+/// classes are overweight: never submitted, and with a weight above `MAX_WEIGHT`. Returns
+/// `MAX_SIZE` if no smaller weight is enough. Uses bisection, which is correct because heavier
+/// workers never leave more classes overweight. Changes the weight of the pool's workers in
+/// `workers`.
 fn least_weight(
     sketch_cache: &SketchCache,
     workers: &mut [u64],

@@ -5,7 +5,7 @@ ghost use Rattle.std.specs.Prelude.{◌≡◌, ◌≤◌};
 /// The least weight of an actor at a position of its body.
 #[derive(Clone, Copy, PartialEq, Eq)]
 pub(crate) struct Weight {
-    /// The least weight at this position, if the actor has the weight at the end of the body that
+    /// The least weight at this position. It depends on the weight at the end of the body, which
     /// was passed to [`Weight::at_end`].
     pub(crate) number: u64,
     /// The greatest increase of the weight at the end of the body that does not increase the weight
