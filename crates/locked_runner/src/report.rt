@@ -66,7 +66,7 @@ impl RunFault {
 pub enum ThreadFault {
     /// Memory ran out, or a thread could not be started.
     Memory,
-    /// The gate failed.
+    /// A call of the gate returned an error.
     Gate,
 }
 
