@@ -26,11 +26,11 @@ use weights::Vector;
 /// vector that satisfies all conditions of a standing vector proves that its pool never has more
 /// than `core` threads. Any other vector proves nothing.
 ///
-/// The arguments are not trusted. The events are replayed up to the first one that is a refused
-/// submit or is not possible. If that event is a refused submit, the witness ends with it, and
-/// later events are removed. If that event is not possible, returns `None`. If all events are
-/// possible and none is a refused submit, returns `None` unless the members are in ascending order
-/// and wait only for each other after the last event.
+/// The arguments are not trusted. The events are replayed in order. The replay stops at the first
+/// event that is a refused submit or that is not possible. If that event is a refused submit, the
+/// witness ends with it, and later events are removed. If that event is not possible, returns
+/// `None`. If all events are possible and none is a refused submit, returns `None` unless the
+/// members are in ascending order and wait only for each other after the last event.
 ///
 /// # Errors
 ///

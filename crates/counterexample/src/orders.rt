@@ -58,8 +58,9 @@ pub(crate) fn shuffle(keys: &mut [u64], rng: &mut Rng) {
 }
 
 /// The parameters of a fixed order. They determine the order of the three groups of choices: first
-/// submits, other submits, and takes. They also determine whether clients that have moved come
-/// before new ones, later choices before earlier ones, and later client kinds before earlier ones.
+/// submits, other submits, and takes of queued jobs. They also determine whether clients that have
+/// moved come before new ones, later choices before earlier ones, and later client kinds before
+/// earlier ones.
 #[derive(Clone, Copy)]
 struct OrderParams {
     groups: usize,

@@ -38,8 +38,8 @@ pub struct CandidateWitness {
 pub struct SearchResult {
     /// A probable witness, if one was found.
     pub found: Option<CandidateWitness>,
-    /// The number of visited states: the initial state once for each walk and once for the
-    /// best-first search, and the state after each choice. A state counts each time it is visited.
+    /// The number of visited states. A state counts each time that it is visited: the initial state
+    /// at the start of each walk and of the best-first search, and each state after a choice.
     pub states: usize,
 }
 
