@@ -16,8 +16,9 @@ pub fn fewer_than_core_may_block()
 
 /// Proves that jobs never wait only for each other, if the rows of the ranks and of a blocked
 /// vector for each pool hold. No reachable state has a set of unfinished jobs that wait only for
-/// members of the set, now or at later gets. In a set of this kind, each running member has created
-/// an unfinished member of some class, and its body still has a get of a job of this class.
+/// members of the set, now or at later gets. A running member of the set need not be at a get yet:
+/// it has created another unfinished member, and its own body still has a get of a job of that
+/// member's class.
 pub fn no_loose_waiting_sets()
     ensures { NoLooseWaitingSets }
 {}
