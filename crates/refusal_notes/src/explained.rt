@@ -14,9 +14,9 @@ use cert_text::Cert;
 use job_bodies::Plan;
 use std::alloc::{AllocError, Global};
 
-/// Appends a line for each failing condition, and then the number of these lines, such as `failing
-/// 1`. Returns that number. Stores the failing conditions of only one pool at a time, to save
-/// memory.
+/// Appends a line for each failing condition, and then a line with the number of these conditions,
+/// such as `failing 1`. Returns that number. Stores the failing conditions of only one pool at a
+/// time, to save memory.
 ///
 /// # Errors
 ///
