@@ -12,7 +12,7 @@ pub fn no_sizes_help()
 {}
 
 /// States when a plan has sizes with which some certificate accepts it. Assume that each weight of
-/// its steady certificate is at most `MAX_WEIGHT`, and that the total of these weights is below
+/// its steady certificate is at most `MAX_WEIGHT`, and that the total of its vector is below
 /// `MAX_SIZE`. Then the plan has these sizes exactly when no class submits itself, directly or
 /// through other classes, and no repeating client causes a submit that is never got.
 pub fn sizes_exist()
