@@ -61,7 +61,7 @@ fn have_same_maxes(plan: &Plan, other: &Plan) -> bool {
         .all(|(pool, other)| pool.max == other.max)
 }
 
-/// Returns the obstacle that corresponds to the reason why the maximums could not be raised.
+/// Returns the obstacle for the reason why the maximums could not be raised.
 fn obstacle_of_wide(unfit: Unfit) -> Obstacle {
     match unfit {
         Unfit::Core(pool) => Obstacle::Pool(pool),
