@@ -1,4 +1,5 @@
-//! The test whether a certificate accepts a plan.
+//! The test whether a certificate accepts a plan. A certificate has ranks and, for each pool, a
+//! bound of the queue (a standing or a lifetime vector) and a blocked vector.
 
 ghost use Rattle.std.specs.Prelude.{◌≡◌, ◌<◌, ◌&&◌, IsTrue, length};
 ghost use Rattle.std.specs.List.{list_all, enumerate_from};
@@ -15,7 +16,8 @@ use cert_text::Cert;
 use job_bodies::Plan;
 use weights::{Bound, RanksOf, blocked_fault};
 
-/// Returns whether the certificate fits the plan and all its conditions hold. Allocates no memory.
+/// Returns whether the certificate has the shape of the plan, and all its conditions hold.
+/// Allocates no memory.
 pub fn accepts(plan: &Plan, cert: &Cert) -> bool
     ensures exact { result ≡ accepted plan.now cert.now }
     ensures promises { IsTrue result → Promises plan.now cert.now }
@@ -52,8 +54,8 @@ pub(crate) fn pool_holds(plan: &Plan, cert: &Cert, pool: usize) -> bool
         && blocked_fault(plan, pool, &counted, &of_pool.blocked).is_none()
 }
 
-/// Returns whether the certificate fits the plan and gives each pool a standing vector whose
-/// conditions all hold. Ignores the blocked vectors and the ranks.
+/// Returns whether the certificate has the shape of the plan, and has for each pool a standing
+/// vector whose conditions all hold. Ignores the blocked vectors and the ranks.
 ///
 /// If the result is `true`, no submit is ever refused, even if each submit takes the separate steps
 /// of Java's `execute`. Allocates no memory.

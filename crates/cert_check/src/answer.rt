@@ -4,7 +4,8 @@ ghost use Rattle.cert_check.specs.Verdict as spec;
 
 use std::marker::Model;
 
-/// The totals of a pool's bound and of its blocked vector, each with its limit.
+/// The totals of the two vectors of a pool, each with its limit. One vector bounds the pool's
+/// queue, and the other is the blocked vector.
 #[derive(Clone, Copy, Debug, PartialEq, Eq)]
 pub struct PoolLine {
     /// Whether the vector that bounds the queue is a lifetime vector.
@@ -14,8 +15,8 @@ pub struct PoolLine {
     /// The limit of `standing`: the queue's capacity or, for a lifetime vector, the number of jobs
     /// that the pool accepts before it can refuse one.
     pub queue: u64,
-    /// The total of the blocked vector. It bounds the number of the pool's jobs that are at counted
-    /// gets.
+    /// The total of the blocked vector. It bounds the number of the pool's jobs that wait at
+    /// [counted](weights::Counted) gets.
     pub blocked: u64,
     /// The limit of `blocked`: one less than the core size.
     pub limit: u64,

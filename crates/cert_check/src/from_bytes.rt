@@ -19,7 +19,8 @@ pub enum CheckFault {
     Cert(CertFault),
     /// Memory ran out. This fault says nothing about the texts.
     Memory,
-    /// The gate returned `false` for a pool. Only a check on threads calls a gate.
+    /// The gate (see [`PoolGate`](crate::PoolGate)) returned `false` for a pool. Only a check on
+    /// threads calls a gate.
     Gate,
 }
 

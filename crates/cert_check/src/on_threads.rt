@@ -1,4 +1,5 @@
-//! The check on several threads, each of which checks some of the pools.
+//! The check on several threads, each of which checks some of the pools. The *gate* is a hook that
+//! a thread calls before it checks a pool.
 
 ghost use Rattle.std.specs.Prelude.{◌≡◌, ◌≢◌, ◌≤◌, ◌<◌, ℕ, slice_index_or, IfOk, IfErr, IfSome, IsTrue, Ok, Err, length, vec_len};
 ghost use Rattle.job_bodies.specs.declared.limits.TheConstants.{MAX_WORKERS};
@@ -104,7 +105,7 @@ fn check_pools<R: Threads + Sync, G: PoolGate>(
     Ok(found)
 }
 
-/// Checks each pool, and writes the result to the element at the pool's index.
+/// Checks each pool, and writes its result to the element of the list at the pool's index.
 fn check_pools_into<R: Threads + Sync, G: PoolGate>(
     rt: &R,
     workers: usize,
@@ -158,8 +159,8 @@ fn check_pool<G: PoolGate>(plan: &Plan, cert: &Cert, gate: &G, pool: usize) -> O
     })
 }
 
-/// Builds the verdict from the ranks and from the results of the pools, in plan order. Returns
-/// `None` if a pool has no result.
+/// Builds the verdict from the results of the pools, in plan order. Checks the conditions of the
+/// ranks itself. Returns `None` if a pool has no result.
 fn verdict_of(
     alloc: Global,
     plan: &Plan,

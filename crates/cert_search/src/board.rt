@@ -1,5 +1,5 @@
 //! The board of one round: the state of each pool, and the operations by which workers claim pools
-//! and give them back.
+//! and give them back. A pool has a rank if an earlier round found its blocked vector.
 
 ghost use Rattle.std.specs.Prelude.{◌≡◌, ◌++◌, ◌∷◌, [], List, true, false, Some, None, IfOk, IfSome, OnErr, IsTrue, is_some, position, slice_get};
 ghost use Rattle.std.specs.List.{list_all};
@@ -19,16 +19,16 @@ pub(crate) enum PoolStatus {
     Free,
     /// A pool that a worker has claimed and not given back.
     Claimed,
-    /// A pool that was searched, in this round or an earlier one.
+    /// A pool that was searched in this round, or that has a rank from an earlier round.
     Done,
 }
 
 /// An action of a worker on the board of a round.
 #[derive(Clone, Copy, PartialEq, Eq)]
 pub(crate) enum BoardEvent {
-    /// Claims a free pool.
+    /// Claims the free pool with this number.
     Claim(usize),
-    /// Gives back a pool that was claimed.
+    /// Gives back the claimed pool with this number.
     Return(usize),
 }
 
@@ -80,7 +80,7 @@ impl Model for PoolStatuses {
 }
 
 impl PoolStatuses {
-    /// Returns the number of the first free pool.
+    /// Returns the number of the first free pool, or `None` if no pool is free.
     fn first_free(&self) -> Option<usize>
         ensures { result ≡ position spec.is_free self.now }
     {
@@ -169,7 +169,7 @@ impl Machine for Board {
     }
 }
 
-/// Claims the first free pool. Returns `None` if there is none.
+/// Claims the first free pool and returns its number. Returns `None` if no pool is free.
 ///
 /// # Errors
 ///

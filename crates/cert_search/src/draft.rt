@@ -1,4 +1,5 @@
-//! A draft: a certificate whose parts become known round by round.
+//! A draft: a certificate whose parts become known round by round. A round gives a rank to each
+//! pool whose blocked vector it finds.
 
 use crate::round::PoolVectors;
 use cert_text::{Cert, PoolCert};
@@ -56,7 +57,7 @@ impl Draft {
             .collect(alloc)
     }
 
-    /// Records the results of a round, and gives this rank to each pool whose blocked vector was
+    /// Records the results of a round, and gives `rank` to each pool whose blocked vector was
     /// found. Returns `false` if no pool got the rank. Also returns `false` if this was the first
     /// round and it found no bound for some pool.
     pub(crate) fn note(&mut self, found: Vec<PoolVectors>, rank: u64) -> bool {
@@ -83,7 +84,8 @@ impl Draft {
         moved && bounded
     }
 
-    /// Returns the certificate, or `None` if a vector of a pool is not known.
+    /// Returns the certificate, or `None` if the bound or the blocked vector of a pool is not
+    /// known. A pool without a rank gets rank 0.
     pub(crate) fn into_cert(
         self,
         alloc: Global,

@@ -1,5 +1,5 @@
-//! The steady certificate, which is the result of the search if the rounds find no certificate. In
-//! this certificate, one vector is both the bound and the blocked vector of every pool.
+//! The steady certificate. The search tries it if the rounds find no certificate. In this
+//! certificate, one vector is both the bound and the blocked vector of every pool.
 
 ghost use Rattle.std.specs.Prelude.{◌≡◌, false, IfOk, IfSome, IfNone, IsTrue};
 ghost use Rattle.job_bodies.specs.WellFormed.{IsWellFormed};
@@ -13,9 +13,9 @@ use job_bodies::Plan;
 use size_search::{cause_of, steady};
 use std::alloc::{AllocError, Global};
 
-/// Returns the plan's steady certificate if it accepts the plan with its declared sizes. Returns
-/// `None` if the plan has a cause for which no sizes are enough, because then no certificate
-/// accepts the plan.
+/// Returns the plan's steady certificate, or `None` if this certificate does not accept the plan
+/// with its declared sizes. Also returns `None` if the plan has a cause (a reason why no sizes are
+/// enough), because then no certificate accepts the plan.
 pub(crate) fn steady_if_accepted(alloc: Global, plan: &Plan) -> Result<Option<Cert>, AllocError>
     ensures accepted { IfOk result
         (λ found. IfSome found (λ cert. IsTrue (accepted plan.now cert))) }
@@ -28,8 +28,8 @@ pub(crate) fn steady_if_accepted(alloc: Global, plan: &Plan) -> Result<Option<Ce
     }
 }
 
-/// Returns the plan's steady certificate if it accepts the plan. No class of the plan may submit
-/// itself.
+/// Returns the plan's steady certificate, or `None` if it does not accept the plan. No class of the
+/// plan may submit itself, directly or through other classes.
 fn without_circle(alloc: Global, plan: &Plan) -> Result<Option<Cert>, AllocError>
     requires free { NoCircle plan.now }
     requires well_formed { IsWellFormed plan.now }
@@ -44,7 +44,7 @@ fn without_circle(alloc: Global, plan: &Plan) -> Result<Option<Cert>, AllocError
     }
 }
 
-/// Returns the certificate, if it accepts the plan.
+/// Returns the certificate, or `None` if it does not accept the plan.
 pub(crate) fn if_accepted(plan: &Plan, cert: Cert) -> Option<Cert>
     ensures accepted { IfSome result (λ cert. IsTrue (accepted plan.now cert)) }
     ensures none { IfNone result (accepted plan.now cert ≡ false) }

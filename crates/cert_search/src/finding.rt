@@ -28,7 +28,7 @@ pub enum SearchFault {
     /// wrong number of results. A pool without a rank must have one result, and any other pool must
     /// have none. No proof covers what threads do under a lock, so this is checked at run time.
     Mixed,
-    /// The gate returned `false` for a pool.
+    /// The gate (see [`PoolGate`](cert_check::PoolGate)) returned `false` for a pool.
     Gate,
 }
 
@@ -40,14 +40,14 @@ impl From<AllocError> for SearchFault {
     }
 }
 
-/// Searches for a certificate of the plan in rounds, whose work `workers` workers share. `workers`
-/// is from 1 to 64. If the rounds find no certificate that accepts the plan, tries the plan's
-/// steady certificate, which depends only on the bodies. So `None` means that the steady
-/// certificate does not accept the plan with its own sizes. The plan can still be safe.
+/// Searches for a certificate of the plan in rounds. Each round has up to `workers` workers, and
+/// `workers` is from 1 to 64. If the rounds find no certificate that accepts the plan, tries the
+/// plan's steady certificate, which depends only on the bodies. Returns `None` if that certificate
+/// does not accept the plan with its declared sizes either. The plan can still be safe.
 ///
 /// If the sizes of a plan are large enough for its steady certificate, the result is a certificate
-/// exactly when [`cause_of`](size_search::cause_of) finds no cause. The number of workers does not
-/// change the certificate. This is tested, and not proved.
+/// exactly when [`cause_of`](size_search::cause_of) finds no cause. The result does not depend on
+/// the number of workers, which is tested, and not proved.
 ///
 /// In each round the workers search for the vectors of the pools without a rank. A pool whose
 /// blocked vector is found gets the round's number as its rank. In the next round, a get is not
@@ -84,7 +84,8 @@ pub fn search<R: Threads + Wait + Sync, G: PoolGate>(
     Ok(steady_if_accepted(alloc, plan)?)
 }
 
-/// Returns the certificate that the rounds find. The certificate was not checked.
+/// Returns the certificate that the rounds find, or `None` if they find none. The certificate was
+/// not checked.
 fn search_rounds<R: Threads + Wait + Sync, G: PoolGate>(
     rt: &R,
     alloc: Global,

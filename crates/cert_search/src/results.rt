@@ -36,7 +36,7 @@ fn are_complete(has_rank: &[bool], found: &[PoolVectors]) -> bool
     have_right_counts(has_rank, found) && all_exist(has_rank.len(), found)
 }
 
-/// Returns whether each pool has the right number of results.
+/// Returns whether each pool has the right number of results: none if it has a rank, otherwise one.
 fn have_right_counts(has_rank: &[bool], found: &[PoolVectors]) -> bool
     ensures { result ≡ spec.have_right_counts has_rank.now found.now }
 {

@@ -1,4 +1,6 @@
-//! One round of the search, in which the workers search for the vectors of one pool after another.
+//! One round of the search, in which the workers search for the vectors of the pools. In a round, a
+//! get by a job of a pool without a rank is *counted* if the reach of the class of its job is at
+//! least the rank of this round.
 
 ghost use Rattle.std.specs.Prelude.{◌≡◌, ◌≢◌, ◌<◌, ◌≤◌, IfErr, IfOk, length};
 ghost use Rattle.cert_search.specs.declared.finding.SearchFault.TheVariants.{Memory, Mixed};
@@ -99,8 +101,8 @@ impl Round<'_> {
         true
     }
 
-    /// Claims pools and searches for their vectors, until no pool is free or the round must stop.
-    /// Calls the gate before each search. The board is locked neither during a call of the gate nor
+    /// Claims pools and searches for their vectors, until no pool is free or `stop` is set. Calls
+    /// the gate before each search. The board is locked neither during a call of the gate nor
     /// during a search.
     fn search_free_pools<R: Wait, G: PoolGate>(
         &self,
@@ -132,7 +134,8 @@ impl Round<'_> {
         Ok(found)
     }
 
-    /// Runs one worker in the round. If the worker fails, stops the other workers.
+    /// Runs one worker in the round and returns the vectors that it found. If the worker fails,
+    /// sets `stop`, so that the other workers stop.
     pub(crate) fn work<R: Wait, G: PoolGate>(
         &self,
         rt: &R,

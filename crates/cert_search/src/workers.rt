@@ -87,7 +87,8 @@ fn join_all<R: Threads>(
     all
 }
 
-/// Returns the results of both workers together. If a worker failed, returns its fault.
+/// Returns the results of both workers together. If a worker failed, returns its fault, or the
+/// fault of `first` if both failed.
 fn both(
     first: Result<Vec<PoolVectors>, SearchFault>,
     second: Result<Vec<PoolVectors>, SearchFault>,

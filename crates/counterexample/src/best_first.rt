@@ -1,6 +1,6 @@
-//! A best-first search for a violation. Several measures take turns in selecting the next state to
-//! expand. They are the weight lost under a vector, the number of threads that do not wait, and the
-//! room of the pool with the least room.
+//! A best-first search for a violation. To expand a state is to visit its successors. Several
+//! measures take turns in selecting the next state to expand: the weight that was lost under a
+//! vector, the number of threads that do not wait, and the room of the pool with the least room.
 
 use crate::branches::Branch;
 use crate::choices::Choices;
@@ -34,20 +34,21 @@ struct ReplayedState<'a> {
     lost: Vec<u64>,
 }
 
-/// The violation that a best-first search found, if any, and the number of states that the search
-/// may still visit.
+/// The result of a best-first search.
 #[derive(Drop)]
 pub(crate) struct BestFirstResult {
     /// A permanent violation, if one was found.
     pub(crate) found: Option<(Script, Violation)>,
-    /// Events after which some jobs wait only for each other. A later event may end the wait.
+    /// Events after which some jobs wait only for each other, if such a state was visited. A later
+    /// event may end the wait.
     pub(crate) stuck_now: Option<Script>,
-    /// The number of states that the search may still visit.
+    /// The number of further states that the search could have visited within its limit.
     pub(crate) left: usize,
 }
 
-/// Searches from the plan's initial state until it finds a permanent violation, has visited
-/// `states` states (including the violating state), or no open state is left.
+/// Searches from the plan's initial state. The weight lost under each of the first [`MAX_VECTORS`]
+/// vectors in `potentials` is a measure. Stops at the first permanent violation, after `states`
+/// visited states, or if no open state is left.
 pub(crate) fn best_first(
     alloc: Global,
     plan: &Plan,
@@ -82,8 +83,8 @@ struct BestFirst<'a> {
 }
 
 impl<'a> BestFirst<'a> {
-    /// Creates a search that starts from the plan's initial state and may visit `states` states,
-    /// including that state.
+    /// Creates a search that starts from the plan's initial state and may visit `states` states.
+    /// The initial state counts as visited.
     fn start(
         alloc: Global,
         plan: &'a Plan,
@@ -148,9 +149,9 @@ impl<'a> BestFirst<'a> {
         Ok(number)
     }
 
-    /// Closes an open state, and returns its number. The measures take turns in selecting their
-    /// most promising state. In the last turn of each cycle, the oldest open state is selected
-    /// instead.
+    /// Selects an open state, closes it, and returns its number. Returns `None` if no state is
+    /// open. Turn by turn, each measure selects its most promising state, and then the oldest open
+    /// state is selected. `turn` is the number of the turn.
     fn next_open(&mut self, turn: usize) -> Option<usize> {
         let measures = self.opens.len().saturating_add(1);
         let measure = turn.checked_rem(measures)?;
@@ -186,7 +187,8 @@ impl<'a> BestFirst<'a> {
     }
 
     /// Visits the successors of the state with this number, and returns the first permanent
-    /// violation, if any.
+    /// violation, if any. Stores the events of the first violation that is not permanent in
+    /// `stuck_now`.
     fn expand(&mut self, number: usize) -> Result<Option<(Script, Violation)>, AllocError> {
         let replayed = self.replayed(number)?;
         for branch in &replayed.walk.branches(self.alloc)? {
@@ -205,8 +207,9 @@ impl<'a> BestFirst<'a> {
         Ok(None)
     }
 
-    /// Visits the state to which the branch leads, and returns its violation, if any. Returns
-    /// `None` if the state was reached before.
+    /// Visits the state to which the branch leads from state `number`, and returns its violation,
+    /// if any. Returns `None` if the branch is not possible, or if the state was reached before.
+    /// Adds any other state without a refused submit to the open states.
     fn visit(
         &mut self,
         replayed: &ReplayedState<'a>,
@@ -251,7 +254,7 @@ impl<'a> BestFirst<'a> {
         Ok(())
     }
 
-    /// Returns the branches from the start to the state with this number.
+    /// Returns the branches that lead from the initial state to the state with this number.
     fn path_to(&self, number: usize) -> Result<Vec<Branch>, AllocError> {
         let mut path = Vec::new(self.alloc);
         let mut number = number;

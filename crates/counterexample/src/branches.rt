@@ -13,8 +13,9 @@ use written_machine::Parent;
 /// The maximum number of actors that are tried for one choice.
 const MAX_ACTORS: usize = 8;
 
-/// A choice and the actor that makes it. `place` is the index of the choice, and `newer` is the
-/// number of actors that became ready for this choice after that actor.
+/// A choice and the actor that makes it. `place` is the index of the choice. `newer` is the number
+/// of ready actors that became ready for this choice after this actor. It has no effect if a new
+/// client starts or a thread takes a job.
 #[derive(Clone, Copy, PartialEq, Eq)]
 pub(crate) struct Branch {
     pub(crate) place: usize,
@@ -63,7 +64,7 @@ impl<'a> Walk<'a> {
             && !ready.is_empty())
     }
 
-    /// Returns the weight that the state loses under this vector if the branch is taken.
+    /// Returns the weight that the state loses under the vector `potential` if the branch is taken.
     pub(crate) fn loss(&self, branch: Branch, potential: &Potential) -> u64 {
         let Some(choice) = self.choices.all.get(branch.place).copied() else {
             return 0;
@@ -95,7 +96,8 @@ impl<'a> Walk<'a> {
         threads.saturating_sub(waiting)
     }
 
-    /// Returns the number of further jobs that the pool with the least room still accepts.
+    /// Returns the least room of a pool. The room is the number of further jobs that the pool
+    /// accepts if no thread takes a job from its queue before that.
     pub(crate) fn least_room(&self) -> u64 {
         let mut least = u64::MAX;
         for pool in &self.machine.pools {

@@ -5,7 +5,7 @@ use job_bodies::{Action, Plan};
 use std::alloc::{AllocError, Global};
 use written_machine::Parent;
 
-/// The value that positions without a submit have instead of the index of a choice.
+/// The value in place of the index of a choice at positions without a submit.
 const NO_CHOICE: usize = usize::MAX;
 
 /// A choice of what happens next in a walk.

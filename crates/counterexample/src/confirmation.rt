@@ -26,11 +26,11 @@ use weights::Vector;
 /// vector that satisfies all conditions of a standing vector proves that its pool never has more
 /// than `core` threads. Any other vector proves nothing.
 ///
-/// The arguments are not trusted. The events are replayed up to the first one that is a refused
-/// submit or is not possible. If that event is a refused submit, the witness ends with it, and
-/// later events are removed. If that event is not possible, returns `None`. If all events are
-/// possible and none is a refused submit, returns `None` unless the members are in ascending order
-/// and wait only for each other after the last event.
+/// The arguments are not trusted. The events are replayed in order. The replay stops at the first
+/// event that is a refused submit or that is not possible. If that event is a refused submit, the
+/// witness ends with it, and later events are removed. If that event is not possible, returns
+/// `None`. If all events are possible and none is a refused submit, returns `None` unless the
+/// members are in ascending order and wait only for each other after the last event.
 ///
 /// # Errors
 ///
@@ -67,8 +67,8 @@ fn refused(mut events: Vec<Event>, length: usize, pool: usize) -> Witness
     }
 }
 
-/// Returns the witness that consists of these events, if the members wait only for each other in
-/// `world`, which is the world after the events.
+/// Returns the witness that consists of these events, or `None` if the members are not in ascending
+/// order, or do not wait only for each other in `world`. `world` is the world after the events.
 fn stuck(
     plan: &Plan,
     world: &World,
@@ -94,8 +94,8 @@ fn stuck(
     Some(Witness { events, ending })
 }
 
-/// Returns the reason why the members wait only for each other permanently. Returns `None` if
-/// neither reason is proved.
+/// Returns the [`Reason`] why no later event ends the members' wait for each other. Returns `None`
+/// if `world` and `standing` show neither of the two reasons.
 fn reason(plan: &Plan, world: &World, members: &[usize], standing: &[Vector]) -> Option<Reason>
     requires { IsReachableView plan.now world.now.view }
     ensures { (s : State)

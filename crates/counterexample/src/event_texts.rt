@@ -24,7 +24,8 @@ pub fn push_event_lines(text: &mut String, plan: &Plan, witness: &Witness) -> Re
     push_lines(text, plan, &witness.events, stuck_members(&witness.ending))
 }
 
-/// Returns the numbers of the jobs that wait only for each other after the last event.
+/// Returns the numbers of the jobs that wait only for each other after the last event. The list is
+/// empty if the last event is a refused submit.
 pub(crate) fn stuck_members(ending: &Ending) -> &[usize]
     ensures { result.now ≡ spec.stuck_members ending.now }
 {

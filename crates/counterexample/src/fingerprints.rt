@@ -61,9 +61,9 @@ fn mixed(first: u64, second: u64) -> u64 {
 #[derive(Drop)]
 struct Prints<'a> {
     machine: &'a Machine<'a>,
-    /// For each job, the sum of the fingerprints of the jobs that it will get.
+    /// For each job, the sum of the fingerprints of the jobs that it created and will get.
     of_jobs: Vec<u64>,
-    /// For each client, the sum of the fingerprints of the jobs that it will get.
+    /// For each client, the sum of the fingerprints of the jobs that it created and will get.
     of_active_clients: Vec<u64>,
     /// For each job, its place in its pool's queue, counted from 1, or 0 if the job is not queued.
     places: Vec<u64>,

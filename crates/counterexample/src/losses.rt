@@ -9,8 +9,8 @@ use crate::vectors::Potential;
 use job_bodies::{Action, MAX_ACTIONS};
 use written_machine::Parent;
 
-/// The largest loss that [`Losses::of`] returns. Also the result if the loss of a choice cannot be
-/// computed.
+/// The largest loss that [`Losses::of`] returns. [`Losses::of`] also returns it if the loss of a
+/// choice cannot be computed.
 const MAX_LOST: u64 = 1_000_000;
 /// The maximum number of ancestors that are followed when a job ends. The end of the job can
 /// unblock its parent, the end of the parent can unblock the grandparent, and so on.
@@ -37,8 +37,8 @@ impl WeightedBody<'_> {
         self.row.get(position).copied().unwrap_or(0)
     }
 
-    /// Returns the weight of an actor after the work actions that begin at this position, and
-    /// whether the actor is then at the end of its body.
+    /// Returns the weight of an actor after it performed all consecutive work actions from this
+    /// position on, and whether the actor is then at the end of its body.
     fn settled(&self, position: usize) -> (u64, bool) {
         let mut position = position;
         for _ in 0..MAX_ACTIONS {
@@ -57,7 +57,8 @@ impl<'a> Losses<'a> {
         Losses { machine, potential }
     }
 
-    /// Returns the loss if this actor makes the choice, which must be possible.
+    /// Returns the loss of the choice if `actor` makes it. If a new client starts or a thread takes
+    /// a job, `actor` has no effect. The choice must be possible.
     pub(crate) fn of(&self, choice: Choice, actor: Option<Parent>) -> u64 {
         let lost = match choice {
             Choice::Begin(kind) => self.of_begin(kind),
@@ -142,7 +143,7 @@ impl<'a> Losses<'a> {
     }
 
     /// Returns the loss of the submit at position `at`, by an actor that is now at position `from`
-    /// and performs only work in between.
+    /// and performs only work in between. Returns `None` if there is no submit at `at`.
     fn of_submit(&self, weighted: &WeightedBody, from: usize, at: usize) -> Option<u64> {
         let Action::Submit(class) = *weighted.body.get(at)? else {
             return None;
@@ -164,9 +165,9 @@ impl<'a> Losses<'a> {
         }
     }
 
-    /// Returns the loss if a thread takes the first job of its pool's queue. The job belongs to
-    /// this class. If the job then ends without a submit or a get, the losses of the actors that
-    /// its end unblocks are included.
+    /// Returns the loss of the take of a job of this class, which must be the first job in its
+    /// pool's queue. If the job then ends without a submit or a get, the result includes the losses
+    /// of the actors that its end unblocks. Returns `None` if no thread of the pool can take a job.
     fn of_take(&self, class: usize) -> Option<u64> {
         let pool = self.machine.plan.class_at(class)?.pool;
         let mut job = self.machine.pools.get(pool)?.next_to_take()?;

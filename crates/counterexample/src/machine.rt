@@ -23,9 +23,9 @@ pub(crate) struct Job {
     pub(crate) phase: Phase,
     /// The position in the parent's body of the submit that created this job.
     pub(crate) submit: usize,
-    /// The latest job that this job created.
+    /// The latest job that this job created, or `None` if it has created none.
     newest: Option<usize>,
-    /// The job that the same parent created before this one.
+    /// The job that the same parent created immediately before this one, if any.
     before: Option<usize>,
 }
 
@@ -109,8 +109,8 @@ impl<'a> Machine<'a> {
         Ok(Parent::Client(number))
     }
 
-    /// Returns the index of the actor's client kind if it is a client, or of its class if it is a
-    /// job. Returns `None` for a client that has not moved and for a job that was not created.
+    /// Returns the index of the client's kind if the actor is a client, or of the job's class if it
+    /// is a job. Returns `None` for a client that has not moved and for a job that was not created.
     pub(crate) fn kind_of(&self, actor: Parent) -> Option<usize> {
         match actor {
             Parent::Client(number) => self.active_clients.get(number).map(|client| client.kind),
@@ -155,7 +155,8 @@ impl<'a> Machine<'a> {
         None
     }
 
-    /// Returns the job that the actor waits for, if the actor is at a get.
+    /// Returns the job that the actor's current get names, even if that job is done. Returns `None`
+    /// if the actor is not at a get.
     pub(crate) fn waits_for(&self, actor: Parent) -> Option<usize> {
         match self.point(actor)? {
             (_, Some(Action::Get(submit))) => self.child(actor, submit),

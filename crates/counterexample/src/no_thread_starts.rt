@@ -10,8 +10,8 @@ use interleaving::{Phase, World};
 use job_bodies::Plan;
 use weights::Vector;
 
-/// Returns `true` if no queued member is in the queue of a pool that can start a thread. A pool
-/// starts no thread if it has `max` threads, or if its vector in `standing` proves that it never
+/// Returns `true` if no pool that has a member in its queue can start a thread. A pool counts as
+/// unable to start one if it has `max` threads, or if its vector in `standing` proves that it never
 /// has more than `core` threads. Allocates no memory.
 pub(crate) fn all_start_no_thread(
     plan: &Plan,

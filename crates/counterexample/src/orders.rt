@@ -31,7 +31,7 @@ impl Rng {
     }
 }
 
-/// Returns the keys of the choices in the fixed order with this number.
+/// Returns the key of each choice in the fixed order `number`, from 0 to [`FIXED_ORDERS`] minus 1.
 pub(crate) fn fixed_order(
     alloc: Global,
     choices: &[Choice],
@@ -50,7 +50,7 @@ pub(crate) fn fixed_order(
         .collect(alloc)
 }
 
-/// Replaces the keys by pseudo-random numbers.
+/// Replaces each key by a pseudo-random number, for a random order.
 pub(crate) fn shuffle(keys: &mut [u64], rng: &mut Rng) {
     for key in keys.iter_mut() {
         *key = rng.next_number();
@@ -58,8 +58,9 @@ pub(crate) fn shuffle(keys: &mut [u64], rng: &mut Rng) {
 }
 
 /// The parameters of a fixed order. They determine the order of the three groups of choices: first
-/// submits, other submits, and takes. They also determine whether clients that have moved come
-/// before new ones, later choices before earlier ones, and later client kinds before earlier ones.
+/// submits, other submits, and takes of queued jobs. They also determine whether clients that have
+/// moved come before new ones, later choices before earlier ones, and later client kinds before
+/// earlier ones.
 #[derive(Clone, Copy)]
 struct OrderParams {
     groups: usize,

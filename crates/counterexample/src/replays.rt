@@ -24,8 +24,8 @@ pub(crate) struct Replay<'a> {
 }
 
 impl<'a> Replay<'a> {
-    /// Replays each event of the script for which `kept` has `true`, up to the first refused
-    /// submit.
+    /// Replays each event of the script for which `kept` has `true`. Skips an event that is not
+    /// possible, and stops after the first refused submit.
     pub(crate) fn of(
         alloc: Global,
         plan: &'a Plan,
@@ -50,7 +50,7 @@ impl<'a> Replay<'a> {
         Ok(replay)
     }
 
-    /// Returns `true` if the replay ended in this violation or in a refused submit.
+    /// Returns `true` if the replay ended in the violation `wanted` or in a refused submit.
     pub(crate) fn has_violation(
         &self,
         alloc: Global,
@@ -91,7 +91,8 @@ impl<'a> Replay<'a> {
     }
 
     /// Returns the client of the replay that corresponds to this client of the script. Adds the
-    /// client to the replay if it has not moved yet.
+    /// client to the replay if it has not moved yet. Returns `None` if the script has no such
+    /// client.
     fn client(&mut self, script: &Script, client: usize) -> Result<Option<Parent>, AllocError> {
         if let Some(actor) = self.clients.get(client).copied().unwrap_or(None) {
             return Ok(Some(actor));

@@ -5,8 +5,8 @@ use job_bodies::Plan;
 use std::alloc::{AllocError, Global};
 use written_machine::{Event, Parent};
 
-/// An event of a script, and the number of the job that the event created. Clients are numbered as
-/// in [`Machine`]: in the order of their first steps.
+/// An event of a script, and the number of the job that the event created, if any. Clients are
+/// numbered as in [`Machine`]: in the order of their first steps.
 #[derive(Clone, Copy, PartialEq, Eq)]
 pub(crate) struct ScriptStep {
     pub(crate) event: Event,

@@ -38,8 +38,8 @@ pub struct CandidateWitness {
 pub struct SearchResult {
     /// A probable witness, if one was found.
     pub found: Option<CandidateWitness>,
-    /// The number of visited states: the initial state once for each walk and once for the
-    /// best-first search, and the state after each choice. A state counts each time it is visited.
+    /// The number of visited states. A state counts each time that it is visited: the initial state
+    /// at the start of each walk and of the best-first search, and each state after a choice.
     pub states: usize,
 }
 
@@ -93,7 +93,8 @@ struct Search<'a> {
 
 impl Search<'_> {
     /// Performs the stages of the search: walks in fixed orders, guided walks, walks in random
-    /// orders, and the best-first search.
+    /// orders, and the best-first search. Returns the first permanent violation or, if there is
+    /// none, the first other violation. Returns `None` if no violation was found.
     fn find(&mut self) -> Result<Option<CandidateWitness>, AllocError> {
         if let Some(found) = self.in_fixed_orders()? {
             return Ok(Some(found));
@@ -122,8 +123,9 @@ impl Search<'_> {
         self.reserved = 0;
     }
 
-    /// Performs the walks in fixed orders. The first walk may use all remaining states. All other
-    /// walks together may use half of the states that then remain.
+    /// Performs the walks in fixed orders, until one finds a permanent violation. The first walk
+    /// may visit all remaining states. All other walks together may visit half of the states that
+    /// then remain. No walk visits more than [`longest_walk`] states.
     fn in_fixed_orders(&mut self) -> Result<Option<CandidateWitness>, AllocError> {
         let first = self.fixed_rules(0)?;
         if let Some(found) = self.walk_once(first, None)? {
@@ -140,8 +142,9 @@ impl Search<'_> {
         Ok(None)
     }
 
-    /// Performs guided walks for each vector that exceeds its bound. Each step of a guided walk
-    /// makes a possible choice that loses the least weight under the vector.
+    /// Performs guided walks for each vector that exceeds its bound, until one finds a permanent
+    /// violation. Each step of a guided walk makes a possible choice that loses the least weight
+    /// under the vector.
     fn guided(&mut self, potentials: &[Potential]) -> Result<Option<CandidateWitness>, AllocError> {
         self.reserve_half();
         for potential in potentials {
@@ -156,7 +159,8 @@ impl Search<'_> {
         Ok(None)
     }
 
-    /// Performs the walks in random orders. They may use half of the remaining states.
+    /// Performs the walks in random orders, until one finds a permanent violation. Together they
+    /// may visit half of the remaining states.
     fn random_walks(&mut self) -> Result<Option<CandidateWitness>, AllocError> {
         self.reserve_half();
         for number in 0..RANDOM_WALKS {
@@ -169,8 +173,8 @@ impl Search<'_> {
         Ok(None)
     }
 
-    /// Performs the best-first search with all remaining states, and returns a probable witness if
-    /// it finds a permanent violation.
+    /// Performs the best-first search, which may visit all remaining states, and returns a probable
+    /// witness if it finds a permanent violation.
     fn best_first(
         &mut self,
         potentials: &[Potential],
@@ -196,8 +200,9 @@ impl Search<'_> {
         }
     }
 
-    /// Performs a walk by these rules, and returns a probable witness if the walk finds a permanent
-    /// violation.
+    /// Performs a walk by these rules, guided by `potential` if there is one, and returns a
+    /// probable witness if the walk finds a permanent violation. Stores the events of the first
+    /// violation that is not permanent in `stuck_now`.
     fn walk_once(
         &mut self,
         rules: Rules,
@@ -267,7 +272,8 @@ impl Search<'_> {
         Ok(rules)
     }
 
-    /// Returns the rules of the random walk with this number. Most random walks have few clients.
+    /// Returns the rules of the random walk with this number. Seven of eight random walks have few
+    /// clients: 1 to 7 at first, and one more after every 64 walks.
     fn random_rules(&mut self, number: usize) -> Result<Rules, AllocError> {
         let mut rules = self.fixed_rules(number)?;
         shuffle(&mut rules.keys, &mut self.rng);
@@ -280,7 +286,8 @@ impl Search<'_> {
     }
 }
 
-/// Returns the maximum number of states that a walk visits.
+/// Returns the limit on the number of states that one walk visits: 12 times the sum of the maximums
+/// and queue capacities of all pools, plus 128.
 fn longest_walk(plan: &Plan) -> usize {
     let mut room = 0u64;
     for pool in plan.pools() {
@@ -289,8 +296,8 @@ fn longest_walk(plan: &Plan) -> usize {
     room.saturating_mul(12).saturating_add(128) as usize
 }
 
-/// Shortens the script, and returns the shorter one as a probable witness. `violation` is the
-/// violation in which the script ends.
+/// Shortens the script as far as possible, and returns it as a probable witness. The shorter script
+/// ends in the same `violation` or in a refused submit.
 fn answer_of(
     alloc: Global,
     plan: &Plan,

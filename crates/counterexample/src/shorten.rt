@@ -15,7 +15,7 @@ const MAX_REPLAYED: u64 = 6_000_000;
 const WHOLE_REPLAYS: u64 = 24;
 /// The maximum number of rounds, each of which tries every kind of removal.
 const MAX_ROUNDS: usize = 8;
-/// An upper bound on the number of times that a length can be halved.
+/// An upper bound on the number of times that the length of a script can be halved.
 const MAX_HALVES: usize = 40;
 
 /// The state of a reduction: the script, and the number of events that may still be replayed.
@@ -28,7 +28,7 @@ struct Shortener<'a> {
     left: u64,
 }
 
-/// Returns a script that ends in the same violation and is not longer.
+/// Returns a script that is not longer, and that ends in the same violation or in a refused submit.
 pub(crate) fn shorten_script(
     alloc: Global,
     plan: &Plan,

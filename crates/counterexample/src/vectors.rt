@@ -5,7 +5,8 @@ use least_vectors::{Kind, Levels, ResizedPlan, reach};
 use std::alloc::{AllocError, Global};
 use weights::Vector;
 
-/// The weights of a vector, by which walks measure their losses.
+/// The weights of a vector that exceeds its bound. Walks measure by it how much weight a choice
+/// loses.
 #[derive(Drop)]
 pub(crate) struct Potential {
     pub(crate) workers: Vec<u64>,
@@ -79,9 +80,9 @@ impl MissedVectors {
         Ok(false)
     }
 
-    /// Gives this rank to each pool that has no rank yet and whose blocked vector for this rank is
-    /// within its bound. Returns whether a pool got the rank. If none did, the blocked vectors that
-    /// exceed their bounds remain recorded.
+    /// Gives this rank to each pool that has no rank yet, and whose blocked vector for this rank
+    /// has a total below the pool's core. Returns whether a pool got the rank. If none did, the
+    /// blocked vectors with larger totals remain recorded.
     fn rank_pools(
         &mut self,
         growing: &ResizedPlan,

@@ -35,7 +35,8 @@ impl JobSet {
     }
 
     /// Returns a subset whose members still wait only for each other, and from which no member can
-    /// be removed. If [`MAX_LOOKS`] is reached first, the subset may have removable members.
+    /// be removed. If `permanent` is `true`, each pool that has a member in its queue must have
+    /// `max` threads. If [`MAX_LOOKS`] is reached first, the subset may have removable members.
     pub(crate) fn made_least(
         self,
         alloc: Global,
@@ -92,10 +93,11 @@ impl JobSet {
     }
 
     /// Repeatedly removes the members that wait for no job or for a job outside the set, until each
-    /// member waits only for members.
+    /// member waits only for members. If `permanent` is `true`, a queued job whose pool has fewer
+    /// than `max` threads is removed too.
     ///
-    /// Two rounds more than there are pools are enough: each round except the first and the last
-    /// finds fewer closed pools than the round before.
+    /// The number of rounds is at most the number of pools plus 2, because each round except the
+    /// first and the last finds fewer closed pools than the round before.
     fn shrink(
         &mut self,
         alloc: Global,
@@ -155,7 +157,8 @@ impl JobSet {
         changed
     }
 
-    /// Returns `true` if the job with this number waits only for members.
+    /// Returns `true` if the job with this number waits only for members. A queued job does if its
+    /// pool is closed. A running job does if it is at a get of a job that is a member.
     fn waits(&self, machine: &Machine, closed: &[bool], number: usize, job: &Job) -> bool {
         match job.phase {
             Phase::Queued => closed.get(job.pool).copied().unwrap_or(false),

@@ -69,16 +69,16 @@ pub(crate) struct Walk<'a> {
     pub(crate) script: Script,
     /// For each choice, the actors that are at its submit, in the order in which they arrived.
     pub(crate) ready: Vec<Vec<Parent>>,
-    /// For each client kind, the number of its clients that have moved.
+    /// For each client kind, the number of its clients that have started their bodies.
     pub(crate) begun: Vec<u64>,
     /// Whether, since this flag was last cleared, an actor has stopped at a get or at its end.
     pub(crate) has_blocked: bool,
 }
 
 /// Performs a walk by these rules, until a submit is refused, a permanent violation is found, no
-/// choice is possible, or the limit of states is reached. Each step makes a choice, and then
-/// performs the steps that are possible without another choice: work, gets of done jobs, and ends
-/// and restarts of bodies.
+/// choice is possible, or the limit of states is reached. `potential` is the vector of a guided
+/// walk. Each step makes a choice, and then performs the steps that are possible without another
+/// choice: work, gets of done jobs, and ends and restarts of bodies.
 pub(crate) fn perform_walk<'a>(
     alloc: Global,
     plan: &'a Plan,
@@ -151,7 +151,7 @@ impl<'a> Walk<'a> {
     }
 
     /// Returns the violation if some jobs wait only for each other, and `None` otherwise. If `now`
-    /// is `false`, returns only a permanent violation.
+    /// is `false`, returns `None` also for a violation that is not permanent.
     pub(crate) fn stuck(&self, alloc: Global, now: bool) -> Result<Option<Violation>, AllocError> {
         let members = JobSet::greatest(alloc, &self.machine, false)?;
         if members.is_empty() {
@@ -164,9 +164,9 @@ impl<'a> Walk<'a> {
         Ok(if now { Some(Violation::StuckNow) } else { None })
     }
 
-    /// Makes the possible choice that loses the least weight under the vector, or does nothing if
-    /// no choice is possible. Among equal losses, makes the choice with the least key. Without a
-    /// vector, every loss counts as 0.
+    /// Makes the possible choice that loses the least weight under the vector `potential`, or does
+    /// nothing if no choice is possible. Among equal losses, makes the choice with the least key.
+    /// Without a vector, every loss counts as 0.
     fn step(
         &mut self,
         rules: &Rules,
@@ -201,7 +201,7 @@ impl<'a> Walk<'a> {
     }
 
     /// Removes and returns one of the actors that are ready for this choice. `newer` is the number
-    /// of actors that became ready after this actor.
+    /// of ready actors that became ready after it. Returns `None` if there is no such actor.
     fn take_ready(&mut self, place: usize, newer: usize) -> Option<Parent> {
         let ready = self.ready.get_mut(place)?;
         let at = ready.len().checked_sub(1)?.checked_sub(newer)?;
@@ -212,8 +212,9 @@ impl<'a> Walk<'a> {
         }
     }
 
-    /// Returns the index of the possible choice that loses the least weight under the vector. Among
-    /// equal losses, returns the choice with the least key.
+    /// Returns the index of the possible choice that loses the least weight under the vector
+    /// `potential`, or `None` if no choice is possible. Among equal losses, returns the choice with
+    /// the least key.
     fn first_possible(&self, rules: &Rules, potential: Option<&Potential>) -> Option<usize> {
         let mut best = None;
         let mut least = u64::MAX;

@@ -15,8 +15,7 @@ use written_machine::Event;
 pub enum EventLine<'a> {
     /// The event to perform.
     Perform(Event),
-    /// The question whether these jobs are a waiting set: a set of jobs that wait only for each
-    /// other.
+    /// The question whether these jobs wait only for each other.
     Stuck(NamedJobs<'a>),
 }
 

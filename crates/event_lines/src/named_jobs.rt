@@ -26,8 +26,8 @@ impl<'a> Model for NamedJobs<'a> {
 }
 
 impl<'a> NamedJobs<'a> {
-    /// Parses a text of job numbers that are separated by single spaces. Returns `None` if a word
-    /// is not a number.
+    /// Parses a text of one or more job numbers that are separated by single spaces. Returns `None`
+    /// if the text is empty or a word is not a number.
     pub(crate) fn read(words: &'a [u8]) -> Option<NamedJobs<'a>>
         ensures { result ≡ members_in words.now }
     {

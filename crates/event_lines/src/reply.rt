@@ -20,8 +20,9 @@ pub enum Reply {
     Stuck(bool),
 }
 
-/// Appends the reply to the input line with this number, which is counted from 1, such as `7:
-/// queued job 2`, `7: not possible` or `7: stuck yes`. The plan gives the names of the pools.
+/// Appends the output line that replies to an input line, such as `7: queued job 2`,
+/// `7: not possible` or `7: stuck yes`. The output line begins with the number of the input line,
+/// counted from 1. The plan gives the names of the pools.
 ///
 /// # Errors
 ///
@@ -39,8 +40,8 @@ pub fn push_reply(
     text.push('\n')
 }
 
-/// Appends the part of a reply after the line number. This part begins with a colon. To keep the
-/// number of calls low, appends all words before a number or a name in one piece.
+/// Appends the part of an output line after its line number. This part begins with a colon. Most
+/// calls append several words at once, to keep the number of calls low.
 fn push_reply_text(text: &mut String, plan: &Plan, reply: Reply) -> Result<(), AllocError>
     ensures { Pushes result text.old text.new (codes ": " ++ reply_text plan.now reply) }
 {

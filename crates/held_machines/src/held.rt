@@ -59,7 +59,7 @@ impl<M: Machine + Drop> Held<M> {
         })
     }
 
-    /// Returns the stored state of the machine.
+    /// Returns the current state of the machine.
     pub fn state(&self) -> &M::State
         ensures value { result.now ≡ self.now.state }
         ensures replayed { IsReplayOf (M.next self.now.machine) (M.first self.now.machine)
@@ -68,7 +68,7 @@ impl<M: Machine + Drop> Held<M> {
         &self.state
     }
 
-    /// Returns the performed events in order.
+    /// Returns the history: the performed events in order.
     pub fn history(&self) -> &[M::Event]
         ensures value { result.now ≡ self.now.history }
         ensures replayed { IsReplayOf (M.next self.now.machine) (M.first self.now.machine)
@@ -77,7 +77,8 @@ impl<M: Machine + Drop> Held<M> {
         self.history.as_slice()
     }
 
-    /// Returns the performed events in order. Allocates no memory.
+    /// Consumes the machine and returns its history: the performed events in order. Allocates no
+    /// memory.
     pub fn into_history(self) -> Vec<M::Event>
         ensures value { result.items ≡ self.history }
         ensures replayed { IsReplayOf (M.next self.machine) (M.first self.machine)

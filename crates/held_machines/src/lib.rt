@@ -1,9 +1,10 @@
-//! A machine whose state is stored with the history that led to it, with or without a lock.
+//! Machines whose states are stored together with the events that led to them, with or without a
+//! lock.
 //!
-//! A [`Machine`] is specified by an initial state and a next state for each event. [`Held`] runs
-//! such a machine and records each event that it performed, so the state is always the replay of
-//! the history. [`Locked`] protects a `Held` by a lock, for threads that perform events of the same
-//! machine.
+//! A [`Machine`] is specified by an initial state and a next state for each event. [`Held`] stores
+//! the state of a machine and its history: the list of the events that it performed. A replay of
+//! the history from the initial state always leads to the stored state. [`Locked`] protects a
+//! `Held` by a lock, for threads that perform events of the same machine.
 #![tactic(auto)]
 
 mod held;

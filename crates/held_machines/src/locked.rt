@@ -12,7 +12,7 @@ pub struct Locked<M: Machine + Drop> {
 }
 
 impl<M: Machine + Drop> Locked<M> {
-    /// Creates the lock of a machine. No thread holds it yet.
+    /// Puts the machine under a new lock, which no thread holds yet.
     pub fn new(held: Held<M>) -> Locked<M> {
         Locked {
             held: Mutex::new(held),

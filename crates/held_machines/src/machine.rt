@@ -5,13 +5,14 @@ ghost use Rattle.held_machines.specs.StoredState.{IsReached, Steps};
 
 use std::alloc::{AllocError, Global};
 
-/// A machine that performs one event at a time. A value of this type is constant. The state of the
-/// machine is stored separately.
+/// A machine that performs one event at a time. A value of the machine's own type never changes:
+/// its current state is a separate value of type [`State`](Machine::State).
 ///
-/// The specification has an initial state (`first`), and for each event that is possible in a
-/// state, the next state (`next`). `stored_state` maps each of these states to the stored state.
+/// In the specification, the states are mathematical values. `first` is the initial state, and
+/// `next` is the state after an event, if the event is possible. `stored_state` maps each of these
+/// states to the value of type `State` that a running program stores.
 pub trait Machine {
-    /// The type of the stored states.
+    /// The type of the states that a running program stores.
     type State: Drop;
 
     /// The type of the events.
@@ -28,7 +29,7 @@ pub trait Machine {
     // The stored state for a specification state.
     ghost stored_state: { Self → SpecState → Self.State };
 
-    /// Creates the stored state of the machine before its first event.
+    /// Creates the initial state of the machine, in which no event has been performed.
     ///
     /// # Errors
     ///

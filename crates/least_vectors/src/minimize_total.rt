@@ -1,6 +1,7 @@
-//! The search for a vector with a small total. A *loan* gives each worker of one pool a weight, so
-//! that the queued jobs of this pool, the *lender*, can weigh less. A [`Sketch`] has the parts of a
-//! vector that determine its total.
+//! The search for a vector with a small total. The [`Target`] determines the pool, the kind of the
+//! vector and the limit of its total. A *loan* gives each worker of one pool a weight, so that the
+//! queued jobs of this pool, the *lender*, can weigh less. A [`Sketch`] has the parts of a vector
+//! that determine its total.
 
 ghost use Rattle.std.specs.Prelude.{◌≡◌, ◌<◌, ◌≤◌, length, IfOk, IfSome, IsTrue, vec_len};
 ghost use Rattle.weights.specs.Vector.{vector_fits};
@@ -39,17 +40,17 @@ pub(crate) struct Loans {
     pub(crate) sketch: Sketch,
 }
 
-/// Makes loans until the total is within the limit of the target, or no further loan makes the
-/// total smaller. Returns the resulting worker weights and their sketch.
+/// Makes loans until the total is at most the limit of the target, or no further loan helps.
+/// Returns the resulting worker weights and their sketch.
 ///
-/// While the total is above the limit, one more loan is made. It gives each worker of one pool the
-/// largest weight that a job of the pool has in its body, so that the queued jobs of the pool weigh
-/// less. The loan goes to the pool for which the total becomes smallest.
+/// Each loan gives each worker of one pool the largest weight that a job of the pool has in its
+/// body, so that the queued jobs of the pool weigh less. It chooses the pool for which the total
+/// becomes smallest.
 ///
 /// Classes that are never submitted are ignored, because a loan for their jobs does not change the
-/// total. But there is no vector if one of these classes has a weight above the limit. In this case
-/// a loan gives the workers of one pool the least weight with which fewer of these classes are
-/// above the limit.
+/// total. But there is no vector if one of these classes has a weight above `MAX_WEIGHT`. In this
+/// case a loan gives the workers of one pool the least weight with which fewer of these classes
+/// have weights above `MAX_WEIGHT`.
 ///
 /// A cache has the sketches of all combinations of worker weights that were tried, so none is
 /// computed twice. The largest weight of a lender's jobs comes from the sketch in which the
@@ -87,8 +88,8 @@ pub(crate) fn minimize_total(
     })
 }
 
-/// Returns a vector for the target whose total is within the limit, or `None` if the search finds
-/// none.
+/// Returns a vector of the target's pool and kind with a total of at most the target's limit, or
+/// `None` if the search finds none.
 pub(crate) fn least_vector(
     alloc: Global,
     plan: &Plan,

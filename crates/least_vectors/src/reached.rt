@@ -33,7 +33,7 @@ pub fn reach(
     Ok(reach)
 }
 
-/// Returns the reach of the class, given the reaches of all classes of lower levels.
+/// Returns the reach of the class. `reach` must have the reaches of all classes of lower levels.
 fn reach_of(reach: &[u64], ranks: &[u64], class: &Class) -> u64 {
     let mut reached = number_at(ranks, class.pool);
     for action in &class.body {

@@ -1,4 +1,4 @@
-//! Loans that bring the weights of classes that are never submitted within the limit. A loan gives
+//! Loans that reduce weights above `MAX_WEIGHT` of classes that are never submitted. A loan gives
 //! the workers of a pool weight, so that the queued jobs of the pool can weigh less. Jobs of a
 //! class that is never submitted do not count towards the total, but the vector must have weights
 //! for them.
@@ -15,7 +15,7 @@ use std::alloc::AllocError;
 const HALVINGS: usize = 20;
 
 /// Returns the loan that leaves the fewest overweight classes. A class is *overweight* if it is
-/// never submitted and has a weight above the limit. If several loans leave the same number,
+/// never submitted and has a weight above `MAX_WEIGHT`. If several loans leave the same number,
 /// returns the loan with the least total weight of all workers. Returns `None` if no loan makes the
 /// number of overweight classes smaller. `place` is the index of the sketch for `workers`.
 /// `workers` is modified during the call and restored before it returns.
@@ -66,8 +66,10 @@ pub(crate) fn relieving_loan(
 }
 
 /// Returns the least weight of a worker of the pool with which at most `overweight_unsubmitted`
-/// classes are overweight: never submitted, and with a weight above the limit. Uses bisection,
-/// which is correct because heavier workers never leave more classes overweight.
+/// classes are overweight: never submitted, and with a weight above `MAX_WEIGHT`. Returns
+/// `MAX_SIZE` if no smaller weight is enough. Uses bisection, which is correct because heavier
+/// workers never leave more classes overweight. Changes the weight of the pool's workers in
+/// `workers`.
 fn least_weight(
     sketch_cache: &SketchCache,
     workers: &mut [u64],

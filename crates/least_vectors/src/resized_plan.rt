@@ -16,9 +16,9 @@ use weights::Vector;
 /// clients.
 #[derive(Drop)]
 pub struct VectorSummary {
-    /// The weight of a worker of each pool.
+    /// For each pool, the weight of one of its workers.
     pub workers: Vec<u64>,
-    /// The pools whose workers had weight at some time in the search. For other maximums, the
+    /// The pools whose workers had weight at some point in the search. For other maximums, the
     /// search gives the same result if the maximums of these pools are the same and no other pool
     /// has a smaller maximum.
     pub lenders: Vec<usize>,
@@ -33,11 +33,12 @@ pub enum Kind<'a> {
     Standing,
     /// A lifetime vector. No workers have weight.
     Lifetime,
-    /// A blocked vector for this rank of the pool. The workers of the pool itself never have
+    /// A blocked vector, if the pool has the rank `rank`. The workers of the pool itself never have
     /// weight, because all of them together would weigh at least core, but the total must be below
     /// core.
     Blocked {
-        /// The reach of each class.
+        /// The reach of each class: the maximum of the rank of its pool and of the reaches of the
+        /// classes whose jobs it gets.
         reach: &'a [u64],
         rank: u64,
         /// Whether the workers of other pools may have weight.
@@ -50,14 +51,15 @@ pub enum Kind<'a> {
 pub struct ResizedPlan<'a> {
     pub plan: &'a Plan,
     pub levels: &'a Levels,
-    /// The maximum of each pool.
+    /// The maximum of each pool, in place of the one in `plan`.
     pub maxes: &'a [u64],
 }
 
 impl ResizedPlan<'_> {
     /// Searches for worker weights with which the total of the pool's vector is at most `enough`.
     /// If there are none, uses the worker weights with the smallest total that the search found.
-    /// Returns the summary of the vector, or `None` if there is no vector.
+    /// Returns the summary of the vector with these worker weights, or `None` if one of its numbers
+    /// would be above `MAX_WEIGHT` or a repeating client would need ever more weight.
     ///
     /// # Errors
     ///
@@ -89,7 +91,7 @@ impl ResizedPlan<'_> {
     }
 
     /// Returns the pool's vector with these worker weights, or `None` if one of its numbers is
-    /// above the limit.
+    /// above `MAX_WEIGHT`.
     ///
     /// # Errors
     ///

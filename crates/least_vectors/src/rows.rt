@@ -13,7 +13,7 @@ use std::alloc::{AllocError, Global};
 use weights::Vector;
 
 /// Builds the complete vector of a sketch with these worker weights. Returns `None` if one of its
-/// numbers is above the limit.
+/// numbers is above `MAX_WEIGHT`.
 pub(crate) fn vector_of(
     alloc: Global,
     plan: &Plan,

@@ -9,8 +9,8 @@ use job_bodies::{Action, Class, Client, MAX_WEIGHT, Plan};
 use std::alloc::{AllocError, Global};
 use weights::submitted_class;
 
-/// The total of a sketch for which no vector exists. Either a weight is above the limit, or a
-/// client that repeats would need ever more weight. A total that overflows is also this number.
+/// The total of a sketch for which no vector exists: a weight is above `MAX_WEIGHT`, or a client
+/// that repeats would need ever more weight. A total that overflows also has this value.
 pub(crate) const TOO_HEAVY: u64 = u64::MAX;
 
 /// The parts of a vector that determine its total, without the weights at the positions of bodies.
@@ -25,9 +25,9 @@ pub(crate) struct Sketch {
     /// For each pool, the largest weight at any position of the bodies of its classes, computed for
     /// the least possible weight of a done job. Classes that are never submitted are ignored.
     pub(crate) peaks: Vec<u64>,
-    /// The total weight of all workers.
+    /// The total weight of all workers, if each pool has its maximum of them.
     pub(crate) on_loan: u64,
-    /// The number of classes that are never submitted and have a weight above the limit.
+    /// The number of classes that are never submitted and have a weight above `MAX_WEIGHT`.
     pub(crate) overweight_unsubmitted: usize,
     /// The total of the vector, or [`TOO_HEAVY`].
     pub(crate) total: u64,

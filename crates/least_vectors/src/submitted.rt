@@ -24,7 +24,7 @@ pub(crate) fn submitted_classes(
     Ok(submitted)
 }
 
-/// Marks the classes that the body submits.
+/// Marks in `submitted` the classes that the body submits.
 fn add_submits(submitted: &mut [bool], body: &[Action]) {
     for action in body {
         if let Action::Submit(class) = action {

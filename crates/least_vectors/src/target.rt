@@ -4,14 +4,17 @@ use crate::numbers::number_at;
 use job_bodies::{Action, Class, Plan, Pool};
 use weights::submitted_class;
 
-/// The points at which each job of the pool must weigh at least 1.
+/// The requirement of a vector: the points at which each job of the target's pool must weigh at
+/// least 1.
 #[derive(Clone, Copy)]
 pub(crate) enum WeightRequirement<'a> {
     /// While the job is queued, as in a standing vector.
     WhileQueued,
-    /// At each get of a job of a class whose reach is at least `rank`, as in a blocked vector.
+    /// At each get of a job of a class whose reach is at least `rank` (the rank of the pool), as in
+    /// a blocked vector.
     AtGets {
-        /// The reach of each class.
+        /// The reach of each class: the maximum of the rank of its pool and of the reaches of the
+        /// classes whose jobs it gets.
         reach: &'a [u64],
         rank: u64,
     },
@@ -20,7 +23,8 @@ pub(crate) enum WeightRequirement<'a> {
     Everywhere,
 }
 
-/// The pools whose workers may have weight, so that queued jobs of these pools can weigh less.
+/// The lenders: the pools whose workers may have weight, so that queued jobs of these pools can
+/// weigh less.
 #[derive(Clone, Copy, PartialEq, Eq)]
 pub(crate) enum Lenders {
     /// All pools.
@@ -34,7 +38,7 @@ pub(crate) enum Lenders {
 /// The target of a search: a vector of one pool, with a limit on its total.
 #[derive(Clone, Copy)]
 pub(crate) struct Target<'a> {
-    /// The index of the pool.
+    /// The index of the pool to which the vector belongs.
     pub(crate) pool: usize,
     /// The points at which each job of the pool must weigh at least 1.
     pub(crate) requirement: WeightRequirement<'a>,
@@ -103,7 +107,8 @@ impl<'a> Target<'a> {
         }
     }
 
-    /// Returns the maximum number of workers of `pool`, whose index is `number`.
+    /// Returns the maximum of `pool`, whose index is `number`: the one in `maxes` or, if `maxes` is
+    /// `None`, the one that `pool` declares.
     pub(crate) fn max_of(&self, number: usize, pool: &Pool) -> u64 {
         match self.maxes {
             Some(maxes) => number_at(maxes, number),

@@ -1,5 +1,6 @@
 //! The two vectors that a certificate has for each pool: the bound of the queue, and the blocked
-//! vector.
+//! vector. The *reach* of a class is the maximum of the rank of its pool and of the reaches of the
+//! classes whose jobs it gets.
 
 ghost use Rattle.std.specs.Prelude.{◌<◌, IfOk, IfSome, IsTrue, length};
 ghost use Rattle.weights.specs.Vector.{vector_fits};

@@ -5,8 +5,8 @@ ghost use Rattle.std.specs.Prelude.{◌≡◌, ◌≤◌};
 /// The least weight of an actor at a position of its body.
 #[derive(Clone, Copy, PartialEq, Eq)]
 pub(crate) struct Weight {
-    /// The least weight at this position, for the weight at the end of the body that
-    /// [`Weight::at_end`] was given.
+    /// The least weight at this position. It depends on the weight at the end of the body, which
+    /// was passed to [`Weight::at_end`].
     pub(crate) number: u64,
     /// The greatest increase of the weight at the end of the body that does not increase the weight
     /// at this position.
@@ -44,7 +44,7 @@ impl Weight {
     }
 
     /// Returns the weight before a get that gives the actor the weight `back`, given this weight
-    /// after the get. The result is at least 0.
+    /// after the get. The result is 0 if `back` is larger than this weight.
     pub(crate) fn less(self, back: u64) -> Weight
         ensures { result.number ≤ self.number }
     {

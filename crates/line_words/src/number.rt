@@ -5,8 +5,8 @@ ghost use Rattle.line_words.specs.Number as spec;
 
 use job_bodies::MAX_LINE_NUMBER;
 
-/// Parses a number of at most [`MAX_LINE_NUMBER`]: decimal digits without a leading zero, except
-/// `0` itself. Returns `None` for any other text.
+/// Parses a text that consists of the decimal digits of a number. Returns `None` for any other
+/// text, for a leading zero (except in `0` itself), and for a number above [`MAX_LINE_NUMBER`].
 pub fn number_of(text: &[u8]) -> Option<usize>
     ensures { result ≡ spec.number_of text.now }
 {
@@ -18,8 +18,9 @@ pub fn number_of(text: &[u8]) -> Option<usize>
     }
 }
 
-/// Parses the digits at the start of a text. Returns the parsed number and the text after the
-/// digits. Returns `None` if the digits are not a number as in [`number_of`].
+/// Parses the decimal digits at the start of a text. Returns their number and the text after them.
+/// Returns `None` if there is no digit, if the first of several digits is `0`, or if the number is
+/// above [`MAX_LINE_NUMBER`].
 pub fn leading_number(text: &[u8]) -> Option<(usize, &[u8])>
     ensures { option_map (λ found. (found.0, found.1.now)) result ≡ spec.leading_number text.now }
 {

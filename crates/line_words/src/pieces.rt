@@ -3,7 +3,8 @@
 ghost use Rattle.std.specs.Prelude.{◌≡◌, option_map};
 ghost use Rattle.line_words.specs.Pieces as spec;
 
-/// Returns the first line of a text, without its newline, and the text after that line.
+/// Returns the first line of a text, without its newline, and the text after the newline. Without a
+/// newline, the whole text is the first line, and the text after it is empty.
 pub fn split_line(text: &[u8]) -> (&[u8], &[u8])
     ensures line { result.0.now ≡ spec.first_line text.now }
     ensures rest_after { result.1.now ≡ spec.after_line text.now }

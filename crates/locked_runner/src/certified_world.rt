@@ -30,8 +30,8 @@ impl<'a> CertifiedWorld<'a> {
     }
 }
 
-/// A world with the outcome of its last event. The outcome shows which job the event started,
-/// queued or took.
+/// A world with the outcome of its last event. The outcome shows which job, if any, the event
+/// started, queued or took.
 #[derive(Drop)]
 pub struct TracedWorld {
     pub world: ViewedWorld,

@@ -13,7 +13,7 @@ use std::marker::Model;
 pub struct CompactReceipt {
     number: u32,
     kind: Kind,
-    /// The number of the event's client, job or pool.
+    /// The number of the event's client, job or pool, depending on the kind of the event.
     of: u32,
 }
 

@@ -14,8 +14,8 @@ use interleaving::{Event, World};
 use job_bodies::{Client, Plan};
 use std::alloc::{AllocError, Global};
 
-/// Returns `true` if no job is unfinished and each client has performed all events of its rounds
-/// and is at the end of its body.
+/// Returns `true` if no job is unfinished, and each client has performed all events of its rounds
+/// and is at the end of its body. `world` is the world after the history.
 ///
 /// # Errors
 ///
@@ -105,8 +105,8 @@ fn events_made(alloc: Global, clients: usize, history: &[Event]) -> Result<Vec<u
     Ok(made)
 }
 
-/// Adds 1 to the count of the client that performed the event, if a client performed it. The counts
-/// saturate at `u64::MAX`.
+/// Adds 1 to the count of the client that performed the event. Does nothing if no client performed
+/// it. The counts saturate at `u64::MAX`.
 fn count_event(made: &mut [u64], event: Event)
     ensures as_many { length made.new ≡ length made.old }
     ensures made { (c : ℕ)

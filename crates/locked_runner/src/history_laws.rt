@@ -1,5 +1,5 @@
-//! Laws of the numbers of jobs, units of work and events of a run. Each law is the contract of a
-//! function with an empty body.
+//! Laws of the numbers of jobs, units of work and events of a run. Each of these three numbers is a
+//! *quantity*. Each law is the contract of a function with an empty body.
 
 ghost use Rattle.locked_runner.specs.RunNumbers.{TotalsAddUp, NumbersAreOfThePlan};
 

@@ -17,9 +17,9 @@ pub enum RunLimit {
     Events,
 }
 
-/// Returns the limit to report for a run of the plan that is too large. This is the limit of
-/// clients if the plan exceeds it, otherwise the limit of threads if the plan exceeds that, and
-/// otherwise the limit of events.
+/// Returns the limit to report for a plan whose run exceeds a limit. This is the limit of clients
+/// if the plan exceeds it, otherwise the limit of threads if the plan exceeds that, and otherwise
+/// the limit of events.
 pub fn limit_of(plan: &Plan) -> RunLimit
     ensures { result ≡ spec.limit_of plan.now }
 {

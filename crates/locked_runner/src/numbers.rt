@@ -52,7 +52,7 @@ pub fn run_numbers(
     })
 }
 
-/// A quantity that is summed over the jobs of a run: jobs, units of work or events.
+/// The quantity to sum over the jobs of a run: the number of jobs, of units of work or of events.
 #[derive(Clone, Copy)]
 enum Measure {
     Jobs,
@@ -60,8 +60,8 @@ enum Measure {
     Events,
 }
 
-/// Returns the quantity of one job of the class, without the jobs that it causes. The events of a
-/// job are its actions, a take event and its end.
+/// Returns the quantity (jobs, units or events) of one job of the class, without the jobs that it
+/// causes. The events of a job are its actions, a take event and its end.
 fn own_quantity(measure: Measure, class: &Class) -> u64
     ensures { result ≡ capped (spec.own_quantity measure class.now) }
 {
@@ -72,8 +72,8 @@ fn own_quantity(measure: Measure, class: &Class) -> u64
     }
 }
 
-/// Returns the quantity of all jobs of a run: the jobs that the clients submit in all their rounds,
-/// and all jobs that these jobs cause.
+/// Returns the quantity that `measure` selects, summed over all jobs of a run: the jobs that the
+/// clients submit in all their rounds, and all jobs that these jobs cause.
 fn by_jobs(
     alloc: Global,
     plan: &Plan,
@@ -138,8 +138,8 @@ fn events_of_all(plan: &Plan, rounds: u64) -> u64
     total
 }
 
-/// Returns the quantity of all clients of a kind in all their rounds. `in_one` is the quantity of
-/// one client in one round.
+/// Returns a quantity summed over all clients of this kind in all their rounds. `in_one` is the
+/// quantity of one client in one round.
 fn in_all_rounds(client: &Client, rounds: u64, in_one: u64) -> u64
     ensures { (n : ℕ)
         → in_one ≡ capped n
@@ -184,8 +184,8 @@ fn submitted(body: &[Action], numbers: &[u64]) -> u64
     total
 }
 
-/// Returns, for each class, the quantity of one job and of all jobs that it causes, directly or
-/// through other jobs.
+/// Returns, for each class, the quantity that `measure` selects, summed over one job of the class
+/// and all jobs that it causes, directly or through other jobs.
 fn total_quantity(
     alloc: Global,
     plan: &Plan,
@@ -218,8 +218,9 @@ fn greatest(levels: &[u64]) -> u64
     greatest
 }
 
-/// Returns, for each class, the quantity of one job and of the jobs that it causes. The result
-/// includes one more generation of submitted jobs than `numbers` does.
+/// Returns, for each class, the quantity that `measure` selects, summed over one job and the jobs
+/// that it causes. `numbers` has these sums for a number of generations of jobs, and the result
+/// includes one generation more.
 fn add_generation(
     alloc: Global,
     plan: &Plan,

@@ -52,9 +52,9 @@ fn pool_of_class(plan: &Plan, class: usize) -> u8
     }
 }
 
-/// Returns the owner of the event. Returns `None` for a retirement, since no thread of a run
-/// performs one. `pool` is the pool of the job that performs the event. This argument is not used
-/// if no job performs the event.
+/// Returns the owner of the event. Returns `None` for the retirement of a worker, since no thread
+/// of a run performs one. If a job performs the event, `pool` is the job's pool. Otherwise `pool`
+/// has no effect.
 pub(crate) fn owner_by(event: Event, pool: u8) -> Option<Owner>
     ensures { result ≡ spec.owner_by event pool }
 {
@@ -83,7 +83,7 @@ pub fn kinds_of(alloc: Global, plan: &Plan) -> Result<Vec<usize>, AllocError>
 }
 
 /// Returns the owner of each list of receipts. There is one list for each client, and then there
-/// are `max` lists for each pool.
+/// are `max` lists for each pool, one for each of its threads.
 ///
 /// # Errors
 ///

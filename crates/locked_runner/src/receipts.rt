@@ -14,8 +14,9 @@ use job_bodies::Plan;
 use std::alloc::{AllocError, Global};
 
 /// Returns `true` if the receipts of each list are in ascending order and belong to the list's
-/// owner. A receipt belongs to an owner if its event is the history's event at its number, and this
-/// event belongs to the owner.
+/// owner. `pools` has, for each event of the history, the pool of the job that performed it. A
+/// receipt belongs to an owner if its event is the history's event at its number, and this event
+/// belongs to the owner.
 pub(crate) fn lists_fit(
     plan: &Plan,
     history: &[Event],
@@ -97,7 +98,7 @@ fn is_same_event(a: Event, b: Event) -> bool
     }
 }
 
-/// Returns `true` if `found` is this owner.
+/// Returns `true` if `found` is `Some(owner)`.
 fn is_owned_by(found: Option<Owner>, owner: Owner) -> bool
     ensures { IsTrue result ↔ (found ≡ Some owner) }
 {
@@ -130,7 +131,7 @@ pub(crate) fn each_once(
     Ok(all_are_one(&marks))
 }
 
-/// Increases, for each receipt, the mark at the receipt's number. The marks saturate at 255.
+/// Adds 1, for each receipt, to the mark at the receipt's number. A mark of 255 does not change.
 fn mark_all(marks: &mut [u8], list: &[CompactReceipt])
     ensures len { length marks.new ≡ length marks.old }
     ensures marks { (k : ℕ)

@@ -26,8 +26,8 @@ pub(crate) struct Replay {
     pub(crate) ended_for_memory: bool,
 }
 
-/// Replays the history in a new world of the plan, up to its first event that is not possible or
-/// for which there is not enough memory.
+/// Replays the history in a new world of the plan. Stops before the first event that is not
+/// possible, or for which there is not enough memory.
 ///
 /// # Errors
 ///
@@ -62,12 +62,12 @@ impl Replay {
         self.pools.len()
     }
 
-    /// Replays the events, up to the first that is not possible.
+    /// Replays the events, and stops before the first one that is not possible.
     ///
     /// # Errors
     ///
-    /// Returns `AllocError` if there is not enough memory for an event. The events before it are
-    /// replayed.
+    /// Returns `AllocError` if there is not enough memory for an event. The events before it have
+    /// then been replayed.
     fn replay_all(&mut self, plan: &Plan, history: &[Event]) -> Result<(), AllocError>
         requires at_start { IsReplayedAs plan.now [] self.old.world self.old.pools.items
             self.old.units }
@@ -114,8 +114,8 @@ impl Replay {
     }
 }
 
-/// Returns the sum of these units and the units of the outcome, or `None` if the sum exceeds
-/// `u64::MAX`.
+/// Returns `units` plus the units of work of the outcome. `None` means a number above `u64::MAX`,
+/// both as an argument and as the result.
 fn with_work(units: Option<u64>, outcome: Outcome) -> Option<u64>
     ensures { (n : ℕ) → IsCounted n units → IsCounted (n + worked (Some outcome)) result }
 {
@@ -125,7 +125,7 @@ fn with_work(units: Option<u64>, outcome: Outcome) -> Option<u64>
     }
 }
 
-/// Returns `true` if the units are equal to `wanted`.
+/// Returns `true` if `units` is `Some(wanted)`.
 pub(crate) fn are_as_many(units: Option<u64>, wanted: u64) -> bool
     ensures { (n : ℕ) → IsCounted n units → (IsTrue result ↔ (n ≡ wanted)) }
 {

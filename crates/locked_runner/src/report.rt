@@ -51,7 +51,7 @@ pub struct RunFault {
 }
 
 impl RunFault {
-    /// Creates the fault of a run that ended before its first event.
+    /// Creates the fault with this number, for a run that ended before its first event.
     #[tactic(auto, using(crate::proofs::Histories::nothing_is_legal))]
     pub fn at_start(number: u8) -> RunFault
         ensures value { result ≡ record { number = number; events = 0 } }
@@ -66,7 +66,7 @@ impl RunFault {
 pub enum ThreadFault {
     /// Memory ran out, or a thread could not be started.
     Memory,
-    /// The gate failed.
+    /// A call of the gate returned an error.
     Gate,
 }
 

@@ -6,8 +6,8 @@ ghost use Rattle.locked_runner.specs.Complete as spec;
 
 use job_bodies::Client;
 
-/// Returns how many times a client of this kind performs its body in a run with this number of
-/// rounds.
+/// Returns the number of times that a client of this kind performs its body: `rounds` if the kind
+/// repeats, and otherwise 1.
 pub fn rounds_of_client(client: &Client, rounds: u64) -> u64
     ensures { result ≡ spec.rounds_of rounds client.now }
 {

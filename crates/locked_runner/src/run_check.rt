@@ -70,7 +70,7 @@ pub fn check_run(
     }
 }
 
-/// Returns the report of a run whose history leads to the world.
+/// Returns the report of a run. `world` must be the world to which the history in `results` leads.
 fn report(
     certified: &Certified,
     numbers: RunNumbers,
@@ -99,7 +99,7 @@ fn report(
 }
 
 /// Returns the fault of a run, or `None` if the run is complete. `replay` is the replay of the
-/// legal part of the history.
+/// events before the first impossible one.
 ///
 /// # Errors
 ///

@@ -120,9 +120,9 @@ impl<'a> Shared<'a> {
         None
     }
 
-    /// Waits for the next job of the pool, and returns it. First come the jobs that a submit has
-    /// started, and then the job at the head of the queue. Returns `None` if the run is to stop or
-    /// is complete.
+    /// Waits for the next job of the pool, and returns it. Jobs that a submit has started come
+    /// before the job at the head of the queue. Returns `None` if the run is to stop or is
+    /// complete.
     pub(crate) fn next_job<R: Wait>(&self, rt: &R, pool: usize) -> Option<Work> {
         let Some(handoff) = self.handoffs.get(pool) else {
             self.end(rt);
@@ -154,8 +154,8 @@ impl<'a> Shared<'a> {
         None
     }
 
-    /// Releases the lock and returns the work. Stops the run if there is no work, because the job
-    /// was not found.
+    /// Releases the lock and returns the work. If `work` is `None`, the job was not found, and the
+    /// run is stopped.
     fn check_work<R: Wait>(
         &self,
         rt: &R,
@@ -169,7 +169,8 @@ impl<'a> Shared<'a> {
         work
     }
 
-    /// Records that a client has no event left.
+    /// Records that a client has no event left. If the run is then complete, wakes all threads, so
+    /// that they end.
     pub(crate) fn leave<R: Wait>(&self, rt: &R) {
         let guard = self.machine.lock(rt);
         self.progress.lock(rt).client_done();
@@ -244,8 +245,8 @@ impl<'a> Shared<'a> {
         Wakeup::Worker(pool)
     }
 
-    /// Stops the run because no worker thread was found for the job, and returns the threads to
-    /// wake.
+    /// Stops the run because the pool of a started or queued job was not found. Returns the threads
+    /// to wake, which are all of them.
     fn end_without_worker<R: Wait>(&self, rt: &R) -> Wakeup {
         self.progress.lock(rt).end();
         Wakeup::All
@@ -277,7 +278,8 @@ impl<'a> Shared<'a> {
     }
 }
 
-/// Returns the job that the last event took from a queue, with the receipt of that event.
+/// Returns the job that the last event took from a queue, with the receipt of that event. Returns
+/// `None` if the last event took no job, or if the job is not found.
 fn work_taken(guard: &MachineGuard<'_, '_>, receipt: Receipt<Event>) -> Option<Work> {
     match guard.state().outcome {
         Some(Outcome::Took(job)) => work_on(guard, job, Some(receipt)),

@@ -71,7 +71,8 @@ pub(crate) fn run_threads<R: Threads + Wait + Sync, G: Gate>(
     })
 }
 
-/// Runs one thread, of a client or of a pool, and returns its receipts.
+/// Runs one thread of `owner`, which is a client or a pool, and returns the thread's receipts.
+/// Stops the run if there is not enough memory for the thread.
 fn run_one<R: Wait, G: Gate>(
     rt: &R,
     alloc: Global,
@@ -97,7 +98,8 @@ fn run_one<R: Wait, G: Gate>(
     }
 }
 
-/// Returns the client kind of the client with this number.
+/// Returns the client kind of the client with this number, or `None` if there is no such client.
+/// `kinds` has the index of the client kind of each client.
 fn client_of<'p>(plan: &'p Plan, kinds: &[usize], number: usize) -> Option<&'p Client> {
     plan.client_at(*kinds.get(number)?)
 }

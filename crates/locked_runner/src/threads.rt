@@ -42,7 +42,8 @@ impl<'a, 'b, R: Wait, G: Gate> Runner<'a, 'b, R, G> {
         })
     }
 
-    /// Runs the thread of a client: performs the client's body `rounds` times, and leaves the run.
+    /// Runs the thread of a client: performs the client's body `rounds` times, unless the run
+    /// stops. Returns the receipts of the thread.
     pub(crate) fn run_client(
         mut self,
         client: &Client,
@@ -62,7 +63,7 @@ impl<'a, 'b, R: Wait, G: Gate> Runner<'a, 'b, R, G> {
     }
 
     /// Runs a worker thread of a pool: performs jobs of the pool in sequence, until the run is
-    /// complete or stops.
+    /// complete or stops. Returns the receipts of the thread.
     pub(crate) fn run_worker(mut self, pool: usize) -> Vec<CompactReceipt> {
         for _ in self.rt.forever() {
             let Some(work) = self.shared.next_job(self.rt, pool) else {
@@ -80,7 +81,8 @@ impl<'a, 'b, R: Wait, G: Gate> Runner<'a, 'b, R, G> {
         self.receipts
     }
 
-    /// Performs a job to its end. Returns `false` if the run is to stop.
+    /// Performs all events of a job of this class, from its first action to its end. Returns
+    /// `false` if the run is to stop.
     fn run_job(&mut self, job: usize, class: usize) -> bool {
         let Some(class) = self.shared.plan.class_at(class) else {
             self.shared.end(self.rt);
@@ -114,7 +116,8 @@ impl<'a, 'b, R: Wait, G: Gate> Runner<'a, 'b, R, G> {
         }
     }
 
-    /// Records the receipt. Returns `false` if the run is to stop.
+    /// Records the receipt. Stops the run and returns `false` if there is not enough memory, or if
+    /// a number of the receipt has more than 32 bits.
     fn note(&mut self, receipt: Receipt<Event>) -> bool {
         let Some(kept) = CompactReceipt::new(receipt) else {
             self.shared.end(self.rt);

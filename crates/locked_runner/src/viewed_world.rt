@@ -45,14 +45,15 @@ impl ViewedWorld {
         })
     }
 
-    /// Returns the world itself.
+    /// Returns the world, whose contracts also mention the places for live jobs.
     pub fn world(&self) -> &World
         ensures { result.now.view ≡ self.now }
     {
         &self.world
     }
 
-    /// Performs the event, like [`World::step`].
+    /// Performs the event and returns its outcome, or `None` if the event is not possible, like
+    /// [`World::step`].
     ///
     /// # Errors
     ///

@@ -1,4 +1,5 @@
-//! Laws of the worlds of certified plans, for every history.
+//! Laws of the worlds of certified plans, for every history. The *live view* of a state is its live
+//! jobs, pools and clients, and its number of refused submits.
 
 ghost use Rattle.std.specs.Prelude.{◌≡◌, List};
 ghost use Rattle.written_machine.specs.declared.event.Event.{Event};
@@ -8,9 +9,9 @@ use crate::{CertifiedWorld, ViewedWorld};
 use cert_check::Certified;
 use held_machines::Held;
 
-/// Proves that the world is the live view of the state to which the history leads. Also proves that
-/// no submit of the history was refused, and that no event that is possible next is a refused
-/// submit.
+/// Proves that the world in `held` is the live view of the state to which its history leads. Also
+/// proves that no submit of the history was refused, and that no event that is possible next is a
+/// refused submit.
 pub fn held_worlds_refuse_nothing(held: &Held<CertifiedWorld<'_>>)
     ensures reached { IsReachedBy held.now.machine.certified.now.plan held.now.history
         held.now.state.world }
@@ -20,7 +21,7 @@ pub fn held_worlds_refuse_nothing(held: &Held<CertifiedWorld<'_>>)
     let _history = held.history();
 }
 
-/// Proves that a world has no refused submits if some history of the plan leads to it.
+/// Proves that no submit was refused in a world to which a history of the certified plan leads.
 pub fn reached_worlds_refuse_nothing(certified: &Certified, world: &ViewedWorld)
     ensures { (history : List Event)
         → IsReachedBy certified.now.plan history world.now

@@ -34,8 +34,9 @@ pub fn load_is_offered()
 {}
 
 /// Proves when an operation of a pool fails. The pool refuses a job exactly when its queue is full
-/// and it has its maximum of threads. A take fails exactly when no worker is idle or the queue is
-/// empty. A retirement fails exactly when no worker is idle or the pool has at most core threads.
+/// and it has its maximum of threads. [`PoolState::take`](crate::PoolState::take) fails exactly
+/// when no worker is idle or the queue is empty. [`PoolState::retire`](crate::PoolState::retire)
+/// fails exactly when no worker is idle or the pool has at most core threads.
 pub fn failure_conditions()
     ensures { (pool : PoolView) → IsSound pool → FailureConditions pool }
 {}

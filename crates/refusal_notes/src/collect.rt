@@ -1,5 +1,6 @@
 //! The failing conditions of a certificate, as notes. Each note belongs to a section: the ranks, or
-//! one vector of a pool.
+//! one vector of a pool. The *bound* of a pool is the standing or lifetime vector that bounds its
+//! queue.
 
 ghost use Rattle.std.specs.Prelude.{◌≡◌, ◌<◌, ◌++◌, IsTrue, IfOk, OnOk, filter, length};
 ghost use Rattle.weights.specs.Bound.{bound_vector, bound_rows};
@@ -34,7 +35,7 @@ pub(crate) fn push_rank_notes(
     found.push_notes(notes, Section::Ranks)
 }
 
-/// Returns the section of the notes about the pool's bound.
+/// Returns the section of the conditions of the pool's bound: standing or lifetime.
 fn section_of(pool: usize, bound: &Bound) -> Section
     ensures { result ≡ bound_section pool bound.now }
 {

@@ -14,9 +14,9 @@ use cert_text::Cert;
 use job_bodies::Plan;
 use std::alloc::{AllocError, Global};
 
-/// Appends a line for each failing condition, and then the number of these lines, such as `failing
-/// 1`. Returns that number. Stores the failing conditions of only one pool at a time, to save
-/// memory.
+/// Appends a line for each failing condition, and then a line with the number of these conditions,
+/// such as `failing 1`. Returns that number. Stores the failing conditions of only one pool at a
+/// time, to save memory.
 ///
 /// # Errors
 ///
@@ -70,8 +70,8 @@ fn sum(count: usize, more: usize) -> Result<usize, AllocError>
     count.checked_add(more).ok_or(AllocError)
 }
 
-/// Appends a line for each note. The lines of a section begin with the same head, which is
-/// formatted once for consecutive notes of the section.
+/// Appends a line for each note. All lines of a section begin with the same head. Consecutive notes
+/// of one section share one formatted head.
 fn push_lines(
     alloc: Global,
     text: &mut String,

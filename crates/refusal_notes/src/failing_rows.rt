@@ -1,4 +1,4 @@
-//! The failing rows of one part of a certificate.
+//! The failing rows of one part of a certificate. A row is one condition at one place of the plan.
 
 ghost use Rattle.std.specs.Prelude.{◌≡◌, ◌++◌, List, [], OnOk, IsOk, filter};
 ghost use Rattle.weights.specs.declared.row.Row.{Row as Seen};
@@ -10,8 +10,8 @@ use crate::{Note, Section};
 use std::alloc::{AllocError, Global};
 use weights::{Row, RowVisitor};
 
-/// A visitor that collects the failing rows. A visitor cannot return an error, so this visitor
-/// stores the error.
+/// A visitor that collects the failing rows. The `visit` method cannot return an error, so the
+/// visitor stores the error.
 #[derive(Drop)]
 pub struct FailingRows {
     /// The failing rows, in order.
@@ -33,7 +33,7 @@ impl FailingRows {
     }
 
     /// Appends the failing rows to the notes, as notes of this section. Returns `AllocError` if
-    /// memory runs out, or if it ran out during a visit.
+    /// memory runs out here, or ran out while the visitor collected the rows.
     pub fn push_notes(self, notes: &mut Vec<Note>, section: Section) -> Result<(), AllocError>
         ensures { (seen : List Seen)
             → Keeps self seen

@@ -12,7 +12,7 @@ use std::alloc::{AllocError, Global};
 use support::push_number;
 use weights::{Place, Rule};
 
-/// Returns the name of the rule.
+/// Returns the name of the rule, such as `B2`.
 fn rule_name(rule: Rule) -> &'static str
     ensures { result.now ≡ spec.rule_text rule }
 {
@@ -55,7 +55,8 @@ fn push_section(text: &mut String, plan: &Plan, section: Section) -> Result<(), 
     }
 }
 
-/// Appends the text of the section of a pool's vector, such as `pool p standing`.
+/// Appends the text of the section of a pool's vector, such as `pool p standing`. `vector` is a
+/// space and the name of the vector.
 fn push_vector(text: &mut String, plan: &Plan, pool: usize, vector: &str) -> Result<(), AllocError>
     ensures { Pushes result text.old text.new
         (codes "pool " ++ (pool_at plan.now pool).name ++ vector.now) }
@@ -139,8 +140,8 @@ fn push_note(text: &mut String, plan: &Plan, note: &Note) -> Result<(), AllocErr
     push_condition(text, plan, note)
 }
 
-/// Appends the line of the note, such as `pool p blocked, total: B2 1 above 0`. A pool, class or
-/// client kind that the plan does not have is printed as an empty name.
+/// Appends the line of the note, such as `pool p blocked, total: B2 1 above 0`, and a newline. A
+/// pool, class or client kind that the plan does not have is printed as an empty name.
 ///
 /// # Errors
 ///

@@ -17,11 +17,12 @@ pub(crate) struct Attempt {
     pub(crate) cert: Cert,
     /// The core and maximum that each pool needs.
     pub(crate) threads: Vec<PoolThreads>,
-    /// The sum of the increases of all cores, maximums and queues, compared with the plan.
+    /// The sum of the increases of all cores, maximums and queues, compared with the sizes that the
+    /// plan declares.
     pub(crate) cost: u64,
-    /// The largest number of pools from which a round had to choose one pool to raise. It is 0 if
-    /// each round had a pool with a large enough core. Rounds that were repeated because a maximum
-    /// grew do not count.
+    /// The largest number of pools from which a round had to choose the pool whose core it raises.
+    /// It is 0 if each round had a pool with a large enough core. Only the first execution of the
+    /// rounds counts, and not their repetitions because a maximum grew.
     pub(crate) choices: usize,
 }
 

@@ -15,7 +15,7 @@ use job_bodies::{Action, Client, Plan, has_get_of};
 use std::alloc::{AllocError, Global};
 use weights::{Vector, submitted_class};
 
-/// Returns the number at this index of the class's row of weights, or 0 if there is none.
+/// Returns the number at index `place` of the class's row of weights, or 0 if there is none.
 fn number_of(vector: &Vector, class: usize, place: usize) -> u64
     ensures { result ≡ slice_index (vector_spec.class_weights vector.now class) place }
 {
@@ -88,9 +88,9 @@ fn most(plan: &Plan, vector: &Vector, body: &[Action]) -> u64
     most
 }
 
-/// Returns the weight of the actor before the action, given the weight `behind` after it. A submit
-/// adds the weight of the queued job. A get subtracts the weight that it returns, but the result is
-/// at least `least`.
+/// Returns the weight of the actor before the action, given its weight `behind` after the action. A
+/// submit adds the weight of the queued job. A get subtracts the weight that it returns, but the
+/// result is at least `least`.
 fn before(
     plan: &Plan,
     vector: &Vector,
@@ -114,7 +114,7 @@ fn before(
 }
 
 /// Returns the weight of the actor at each position of its body, computed backwards from its weight
-/// `last` at the end.
+/// `last` at the end. At a get, the weight is at least `least`.
 fn weights(
     alloc: Global,
     plan: &Plan,

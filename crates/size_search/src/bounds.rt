@@ -10,7 +10,7 @@ use weights::Bound;
 
 /// Returns the vector that bounds the pool's queue. This is the standing vector, or the lifetime
 /// vector if the lifetime vector requires a smaller increase of the queue. `pool_threads` has the
-/// core and maximum of this pool, and `maxes` has the maximums of all pools.
+/// current core and maximum of this pool, and `maxes` has the current maximums of all pools.
 pub(crate) fn bound_of(
     alloc: Global,
     cache: &mut VectorCache,

@@ -35,6 +35,7 @@ pub fn cause_of(alloc: Global, plan: &Plan) -> Result<Option<Cause>, AllocError>
 }
 
 /// Returns, as a cause, the first class that submits itself, directly or through other classes.
+/// Returns `None` if there is none.
 fn circle(alloc: Global, plan: &Plan) -> Result<Option<Cause>, AllocError>
     ensures cause { IfOk result (λ found. IfSome found (IsCause plan.now)) }
     ensures none { IfOk result (λ found. IfNone found (NoCircle plan.now)) }
@@ -62,6 +63,7 @@ fn submits_itself(alloc: Global, plan: &Plan, number: usize) -> Result<bool, All
 }
 
 /// Returns, as a cause, the first submit without a get in the body of a client kind that repeats.
+/// Returns `None` if there is none.
 fn never_got_by_clients(plan: &Plan) -> Option<Cause>
     ensures cause { IfSome result (IsCause plan.now) }
     ensures none { IfNone result ((c i : ℕ) → ¬ NeverGotByClients plan.now c i) }
@@ -77,7 +79,8 @@ fn never_got_by_clients(plan: &Plan) -> Option<Cause>
     None
 }
 
-/// Returns, as a cause, the first submit without a get in the body of one of these classes.
+/// Returns, as a cause, the first submit without a get in the body of one of these classes. Returns
+/// `None` if there is none.
 fn never_got_by_jobs(plan: &Plan, submitted_classes: &SubmittedClasses) -> Option<Cause>
     requires { (k : ℕ) → Has submitted_classes.now k ↔ IsSubmitted plan.now (repeated_bodies plan.now) k }
     ensures cause { IfSome result (IsCause plan.now) }
@@ -94,7 +97,8 @@ fn never_got_by_jobs(plan: &Plan, submitted_classes: &SubmittedClasses) -> Optio
     None
 }
 
-/// Returns the position of the first submit that has no get in the body.
+/// Returns the position of the first submit of the body that has no get, or `None` if each submit
+/// has one.
 fn submit_without_get(body: &[Action]) -> Option<usize>
     ensures found { IfSome result (IsNeverGot body.now) }
     ensures none { IfNone result ((i : ℕ) → ¬ IsNeverGot body.now i) }

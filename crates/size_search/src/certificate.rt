@@ -88,7 +88,8 @@ fn pools_of(alloc: Global, plan: &Plan, vector: &Vector) -> Result<Vec<PoolCert>
 }
 
 /// Returns the steady certificate of the plan, or `None` if a weight of its vector is above
-/// [`MAX_WEIGHT`](job_bodies::MAX_WEIGHT).
+/// [`MAX_WEIGHT`](job_bodies::MAX_WEIGHT). No class of the plan may submit itself, directly or
+/// through other classes.
 ///
 /// With large enough sizes, this certificate accepts the plan if no repeating client causes a
 /// submit that is never got.

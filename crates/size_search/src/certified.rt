@@ -10,9 +10,9 @@ use least_vectors::{Kind, reach};
 use std::alloc::{AllocError, Global};
 use weights::{Ranks, Vector};
 
-/// Returns the certificate of an assignment in which every pool has a rank. The caller then
-/// computes the sizes that this certificate needs, starting from the plan's sizes. These sizes can
-/// be smaller than the sizes of the assignment.
+/// Returns the certificate that results from a [`RankAssignment`] in which every pool has a rank.
+/// The sizes that this certificate needs can be smaller than the sizes of the assignment, so the
+/// caller computes them anew from the plan's sizes.
 pub(crate) fn cert_of(
     alloc: Global,
     cache: &mut VectorCache,

@@ -11,9 +11,10 @@ pub fn no_sizes_help()
     ensures { NoSizesHelp }
 {}
 
-/// States when a plan has sizes with which some certificate accepts it, if its steady certificate
-/// is within the limits. This is the case exactly when no class submits itself, directly or through
-/// other classes, and no repeating client causes a submit that is never got.
+/// States when a plan has sizes with which some certificate accepts it. Assume that each weight of
+/// its steady certificate is at most `MAX_WEIGHT`, and that the total of its vector is below
+/// `MAX_SIZE`. Then the plan has these sizes exactly when no class submits itself, directly or
+/// through other classes, and no repeating client causes a submit that is never got.
 pub fn sizes_exist()
     ensures { SizesExist }
 {}

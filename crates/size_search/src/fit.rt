@@ -84,7 +84,8 @@ fn is_total(place: Place) -> bool
     matches!(place, Place::Total)
 }
 
-/// Returns the first of these failing conditions that does not limit a total.
+/// Returns the first of these failing conditions that does not limit a total, or `None` if all of
+/// them do.
 fn first_elsewhere(notes: &[Note]) -> Option<Note>
     ensures { result ≡ find (λ note. not (spec.is_total note.place)) notes.now }
 {
@@ -96,7 +97,8 @@ fn first_elsewhere(notes: &[Note]) -> Option<Note>
     None
 }
 
-/// Returns the first failing condition that does not depend on cores and queues.
+/// Returns the first condition of the certificate that fails and that does not depend on cores and
+/// queues, or `None` if there is none.
 fn failing_elsewhere(alloc: Global, plan: &Plan, cert: &Cert) -> Result<Option<Note>, AllocError>
     requires { IsTrue (cert_fits plan.now cert.now) }
     ensures { IfOk result (λ found. found ≡ failing_elsewhere plan.now cert.now) }
@@ -105,8 +107,8 @@ fn failing_elsewhere(alloc: Global, plan: &Plan, cert: &Cert) -> Result<Option<N
     Ok(first_elsewhere(&failing))
 }
 
-/// Returns the reason why the plan cannot be fitted, or `None` if there is none. `raised` has the
-/// plan's pools with raised sizes.
+/// Returns the reason why no cores and queues make the certificate accept the plan, or `None` if
+/// there is none. `raised` has the plan's pools with the sizes that the certificate needs.
 fn unfit(
     alloc: Global,
     plan: &Plan,

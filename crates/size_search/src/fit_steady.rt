@@ -18,8 +18,8 @@ use job_bodies::Plan;
 use std::alloc::{AllocError, Global};
 
 /// Returns the plan with the least sizes that its steady certificate needs, or
-/// [`NoSizes::TooLarge`] if they are too large. `obstacle` determines the pool that `TooLarge`
-/// names.
+/// [`NoSizes::TooLarge`] if they are too large. `TooLarge` names the pool of `obstacle`, at which
+/// the attempt to find sizes by rounds failed.
 pub(crate) fn fit_steady(
     alloc: Global,
     plan: &Plan,
@@ -36,7 +36,7 @@ pub(crate) fn fit_steady(
 }
 
 /// Returns the plan with the least sizes for `cert`, its steady certificate, or
-/// [`NoSizes::TooLarge`].
+/// [`NoSizes::TooLarge`] with the pool of `obstacle` if they are too large.
 fn fit_steady_cert(
     alloc: Global,
     plan: &Plan,
@@ -64,7 +64,7 @@ fn too_large(plan: &Plan, obstacle: Obstacle) -> SizesFound
 }
 
 /// Returns the plan with the least sizes for its steady certificate, or `None` if the certificate's
-/// total is at least the limit of sizes.
+/// total is at least `MAX_SIZE`.
 fn least_steady_sizes(alloc: Global, plan: &Plan, cert: &Cert) -> Result<Option<Plan>, AllocError>
     requires free { IsWithoutCause plan.now }
     requires well_formed { IsWellFormed plan.now }
@@ -81,8 +81,9 @@ fn least_steady_sizes(alloc: Global, plan: &Plan, cert: &Cert) -> Result<Option<
     }
 }
 
-/// Returns the plan with the least sizes for its steady certificate, given the plan `wide` with
-/// raised maximums.
+/// Returns the plan with the least sizes for its steady certificate, given the plan `wide`, whose
+/// maximums were raised to what that certificate needs. Returns `None` if these sizes are too
+/// large.
 fn least_wide(
     alloc: Global,
     plan: &Plan,

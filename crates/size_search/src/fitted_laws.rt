@@ -18,8 +18,8 @@ pub fn accepted_plans_fit()
     ensures { AcceptedPlansFit }
 {}
 
-/// States that a certificate that accepts a plan still accepts it with other cores and queues, if
-/// no core is smaller and the total of no bound has a smaller limit.
+/// States that a certificate that accepts a plan also accepts it with other cores and queues. The
+/// assumption is that no core is smaller, and that no limit of the total of a bound is smaller.
 pub fn larger_sizes_are_accepted()
     ensures { LargerSizesAreAccepted }
 {}
@@ -38,9 +38,9 @@ pub fn widened_maxes_are_least()
     ensures { WidenedMaxesAreLeast }
 {}
 
-/// States that a pool needs a larger maximum if its core is the reason why the plan is not fitted.
-/// If the certificate accepts the plan with other sizes, and no maximum is smaller than before, the
-/// maximum of this pool is larger than before.
+/// States that, if a plan cannot be fitted because of the core of a pool, this pool needs a larger
+/// maximum. If the certificate accepts the plan with other sizes, and none of their maximums is
+/// smaller than the plan's, the maximum of this pool is larger than the plan's.
 pub fn reported_cores_need_larger_maxes()
     ensures { ReportedCoresNeedLargerMaxes }
 {}

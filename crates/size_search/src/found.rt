@@ -21,8 +21,9 @@ pub enum SizesFound {
 pub enum NoSizes {
     /// No certificate accepts the plan with any sizes, for this reason. The plan can still be safe.
     Cause(Cause),
-    /// The plan's steady certificate needs sizes above 1,000,000 or has a weight above its limit,
-    /// and the first attempt failed at the pool with this number. Other sizes can exist.
+    /// The plan's steady certificate needs sizes above 1,000,000 or has a weight above
+    /// [`MAX_WEIGHT`](job_bodies::MAX_WEIGHT), and the first attempt failed at the pool with this
+    /// number. Other sizes can exist.
     TooLarge(usize),
 }
 
@@ -31,7 +32,7 @@ pub enum NoSizes {
 pub(crate) enum Obstacle {
     /// The pool with this number, for which no vector or no size was found.
     Pool(usize),
-    /// Any other obstacle.
+    /// Any other point.
     Unknown,
 }
 

@@ -10,8 +10,8 @@ use cert_text::Cert;
 use job_bodies::Plan;
 use std::alloc::{AllocError, Global};
 
-/// Returns the plan with the least sizes that the certificate needs. Returns an obstacle if no
-/// sizes are enough.
+/// Returns the plan with its sizes raised to the least that the certificate needs. Returns an
+/// obstacle if no sizes are enough.
 pub(crate) fn least_sizes(
     alloc: Global,
     plan: &Plan,
@@ -61,7 +61,7 @@ fn have_same_maxes(plan: &Plan, other: &Plan) -> bool {
         .all(|(pool, other)| pool.max == other.max)
 }
 
-/// Returns the obstacle that corresponds to the reason why the maximums could not be raised.
+/// Returns the obstacle for the reason why the maximums could not be raised.
 fn obstacle_of_wide(unfit: Unfit) -> Obstacle {
     match unfit {
         Unfit::Core(pool) => Obstacle::Pool(pool),
@@ -71,7 +71,7 @@ fn obstacle_of_wide(unfit: Unfit) -> Obstacle {
 
 /// Returns the obstacle that corresponds to the reason why the plan with raised maximums could not
 /// be fitted. A core above its pool's maximum becomes an unknown obstacle, since it need not exceed
-/// the limit of sizes.
+/// `MAX_SIZE`.
 fn obstacle_of_fit(unfit: Unfit) -> Obstacle {
     match unfit {
         Unfit::Queue(pool) => Obstacle::Pool(pool),

@@ -9,7 +9,7 @@ ghost use Rattle.size_search.specs.Steady as spec;
 use job_bodies::{Action, Plan};
 use std::alloc::{AllocError, Global};
 
-/// Returns the number at this index of a list, or 0 after its end.
+/// Returns the number at index `place`, or 0 if the list has no such index.
 pub(crate) fn number_at(numbers: &[u64], place: usize) -> u64
     ensures { result ≡ slice_index numbers.now place }
 {
@@ -50,7 +50,9 @@ fn next_levels(alloc: Global, plan: &Plan, levels: &[u64]) -> Result<Vec<u64>, A
     Ok(next)
 }
 
-/// Returns the level of each class in the steady certificate.
+/// Returns the level of each class in the steady certificate: 0 if the class submits none, and
+/// otherwise 1 more than the greatest level of the classes that it submits. The result is
+/// meaningful only if no class submits itself, directly or through other classes.
 pub(crate) fn steady_levels(alloc: Global, plan: &Plan) -> Result<Vec<u64>, AllocError>
     ensures levels { IfOk result (λ levels. levels.items ≡ spec.steady_levels plan.now) }
     ensures well_formed { IsWellFormed plan.now }

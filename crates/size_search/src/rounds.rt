@@ -14,12 +14,12 @@ use std::alloc::{AllocError, Global};
 pub(crate) struct RankAssignment {
     /// The current core and maximum of each pool.
     pub(crate) threads: Vec<PoolThreads>,
-    /// For each pool, its rank and its blocked vector, or `None` if it has none yet.
+    /// For each pool, its rank and its blocked vector, or `None` if the pool has no rank yet.
     pub(crate) assigned: Vec<Option<(u64, CacheHit)>>,
-    /// Whether a maximum was raised.
+    /// Whether a round raised the maximum of a pool, because its core became larger.
     pub(crate) has_widened: bool,
-    /// The largest number of pools from which a round had to choose one pool to raise. It is 0 if
-    /// each round had a pool with a large enough core.
+    /// The largest number of pools from which a round had to choose the pool whose core it raises.
+    /// It is 0 if each round had a pool with a large enough core.
     pub(crate) choices: usize,
 }
 
@@ -43,8 +43,8 @@ impl RankAssignment {
             .collect(alloc)
     }
 
-    /// Returns, for each pool without a rank, its lightest blocked vector in the round of this
-    /// rank.
+    /// Returns, for each pool without a rank, the lightest blocked vector that it has if all pools
+    /// without a rank get `rank`. If `lending` is `false`, no workers have weight.
     fn lightest_vectors(
         &self,
         alloc: Global,
@@ -76,8 +76,8 @@ impl RankAssignment {
         Ok(hits)
     }
 
-    /// Gives the rank to each pool whose core is large enough. Returns `false` if there is no such
-    /// pool.
+    /// Gives the rank to each pool whose core is large enough for its blocked vector. Returns
+    /// `false` if there is no such pool.
     fn assign_all(&mut self, hits: &[CacheHit], rank: u64) -> bool {
         let mut any = false;
         for hit in hits {
@@ -89,8 +89,8 @@ impl RankAssignment {
         any
     }
 
-    /// Gives the rank to the `choice`-th pool in ascending order of shortfalls, and raises its core
-    /// to what the pool needs.
+    /// Gives the rank to one pool: number `choice`, counted from 0, in ascending order of
+    /// shortfalls. Raises its core, and if necessary its maximum, to what its blocked vector needs.
     fn assign_one(
         &mut self,
         hits: &[CacheHit],
@@ -109,7 +109,7 @@ impl RankAssignment {
         Ok(())
     }
 
-    /// Returns the obstacle of a round in which each pool needs a core above the limit. The
+    /// Returns the obstacle of a round in which each pool needs a core above `MAX_SIZE`. The
     /// obstacle is the pool with the smallest shortfall.
     fn obstacle_of(&self, hits: &[CacheHit]) -> Obstacle {
         match self.choice_of(hits, 0) {
@@ -118,7 +118,8 @@ impl RankAssignment {
         }
     }
 
-    /// Returns the `choice`-th pool in ascending order of shortfalls, counted from 0.
+    /// Returns the cache hit of pool number `choice`, counted from 0, in ascending order of
+    /// shortfalls. Returns `None` if there are not that many hits.
     fn choice_of(&self, hits: &[CacheHit], choice: usize) -> Option<CacheHit> {
         for hit in hits {
             let shortfall = self.shortfall(hit);
@@ -166,11 +167,12 @@ fn within_limit(alloc: Global, hits: &[CacheHit]) -> Result<Vec<CacheHit>, Alloc
         .collect(alloc)
 }
 
-/// Gives each pool a rank and a blocked vector, starting with these cores and maximums. In each
-/// round, all pools whose core is large enough get the rank. If there are none, raises the core of
-/// the pool with the smallest shortfall (the sum by which its core and maximum must grow), and
-/// gives the rank to this pool. The first time that this happens, skips the `passed_over` pools
-/// with the smallest shortfalls, and raises the core of the next pool.
+/// Gives each pool a rank and a blocked vector, starting with these cores and maximums. If
+/// `lending` is `false`, no workers have weight in the vectors. In each round, all pools whose core
+/// is large enough get the rank. If there are none, raises the core of the pool with the smallest
+/// shortfall (the increase of its core plus the increase of its maximum), and gives the rank to
+/// this pool. The first time that this happens, skips the `passed_over` pools with the smallest
+/// shortfalls, and raises the core of the next pool.
 pub(crate) fn assign_ranks(
     alloc: Global,
     cache: &mut VectorCache,

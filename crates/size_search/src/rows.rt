@@ -16,7 +16,7 @@ use job_bodies::Plan;
 use std::alloc::{AllocError, Global};
 use weights::{Vector, are_small};
 
-/// Replaces the row of the class.
+/// Replaces the row of class `number`.
 fn put_row(jobs: &mut Vector, number: usize, row: Vec<u64>)
     requires { number < length jobs.old.classes }
     ensures { jobs.new ≡ record jobs.old { classes = slice_set jobs.old.classes number row.items } }
@@ -25,7 +25,7 @@ fn put_row(jobs: &mut Vector, number: usize, row: Vec<u64>)
 }
 
 /// Sets the row of the class with this number, whose level is `level`. If a weight in the row is
-/// above the limit, changes nothing and returns `false`.
+/// above `MAX_WEIGHT`, changes nothing and returns `false`.
 fn set_class_row(
     alloc: Global,
     plan: &Plan,
@@ -52,7 +52,7 @@ fn set_class_row(
 }
 
 /// Sets the row of the class if the class has this level. Returns `false` if a weight in the row is
-/// above the limit.
+/// above `MAX_WEIGHT`.
 fn set_row_of_level(
     alloc: Global,
     plan: &Plan,
@@ -78,7 +78,7 @@ fn set_row_of_level(
     }
 }
 
-/// Sets the rows of the classes of this level. Returns `false` if a weight is above the limit.
+/// Sets the rows of the classes of this level. Returns `false` if a weight is above `MAX_WEIGHT`.
 fn set_level_rows(
     alloc: Global,
     plan: &Plan,
@@ -119,7 +119,7 @@ fn no_jobs(alloc: Global, plan: &Plan) -> Result<Vector, AllocError>
 }
 
 /// Returns the rows of all classes, computed from the lowest level to the highest, or `None` if a
-/// weight is above the limit.
+/// weight is above `MAX_WEIGHT`.
 pub(crate) fn jobs_of(
     alloc: Global,
     plan: &Plan,
@@ -142,7 +142,7 @@ pub(crate) fn jobs_of(
     Ok(Some(jobs))
 }
 
-/// Returns the rows of all client kinds.
+/// Returns the rows of all client kinds. `jobs` has the rows of all classes.
 pub(crate) fn clients_of(
     alloc: Global,
     plan: &Plan,

@@ -76,7 +76,7 @@ pub fn search_sizes(
     search_without_first(alloc, plan)
 }
 
-/// Searches for sizes if no certificate is given that accepts the plan.
+/// Searches for sizes as [`search_sizes`] does, if `first` does not accept the plan.
 fn search_without_first(alloc: Global, plan: &Plan) -> Result<SizesFound, AllocError>
     ensures found { IfOk result (IsFound plan.now) }
     ensures decided { IfOk result (IsDecided plan.now) }
@@ -101,6 +101,7 @@ fn sizes_without_cause(alloc: Global, plan: &Plan) -> Result<SizesFound, AllocEr
 }
 
 /// Returns the plan with the sizes that the rounds found, and the certificate that accepts it.
+/// Returns an obstacle if the rounds found none.
 fn sizes_by_rounds(alloc: Global, plan: &Plan) -> Result<Result<(Plan, Cert), Obstacle>, AllocError>
     ensures { IfOk result (λ answer. IfOk answer (λ found. IsSized plan.now found.1 found.0)) }
 {
@@ -115,7 +116,7 @@ fn sizes_by_rounds(alloc: Global, plan: &Plan) -> Result<Result<(Plan, Cert), Ob
 }
 
 /// Returns a certificate that is likely to accept the plan with other sizes. The certificate was
-/// not checked.
+/// not checked. Returns an obstacle if the search finds none.
 pub(crate) fn unchecked_certificate(
     alloc: Global,
     plan: &Plan,
@@ -142,7 +143,8 @@ fn cheapest_attempt(
     }
 }
 
-/// Returns the cheapest of the attempts that start with the plan's declared sizes.
+/// Returns the cheapest of the attempts that start with the declared sizes, or the obstacle of the
+/// first attempt if all failed.
 fn best_from_declared(
     alloc: Global,
     cache: &mut VectorCache,
@@ -176,7 +178,8 @@ fn improved_attempt(
     Ok(best)
 }
 
-/// Makes an attempt that starts with these sizes.
+/// Makes an attempt that starts with these sizes. The first round that must raise a core skips the
+/// `passed_over` pools that need the smallest increases.
 fn attempt(
     alloc: Global,
     cache: &mut VectorCache,
@@ -221,8 +224,9 @@ fn outcome(
     }
 }
 
-/// Returns the pools whose core and maximum have grown most. These are all pools that have grown if
-/// the plan has at most [`FEW_POOLS`] pools, and otherwise at most [`FURTHER_ATTEMPTS`] of them.
+/// Returns the pools whose core plus maximum increased most from the declared sizes to those of
+/// `best`. These are all pools with an increase if the plan has at most [`FEW_POOLS`] pools, and
+/// otherwise at most [`FURTHER_ATTEMPTS`] of them.
 fn most_raised_pools(
     alloc: Global,
     best: &Attempt,
@@ -251,8 +255,8 @@ fn most_raised_pools(
     Ok(raised)
 }
 
-/// Returns the cores and maximums that the attempt needs, after this pool is reset to its declared
-/// core and maximum.
+/// Returns the cores and maximums that the attempt `best` needs, with those of this pool reset to
+/// the declared ones.
 fn reset_pool(
     alloc: Global,
     best: &Attempt,

@@ -64,8 +64,8 @@ pub(crate) fn stabilize(
     or_fit_steady(alloc, plan, fit, cert)
 }
 
-/// Searches for a certificate of the fitted plan. Skips the search if no size has grown, since the
-/// plan then keeps its certificate.
+/// Searches for a certificate of `fit`, which is the plan with the sizes that were found. Skips the
+/// search if no size has grown, since the plan then keeps its certificate.
 fn recheck_plan(alloc: Global, plan: &Plan, fit: &Plan) -> Result<Recheck, AllocError> {
     if growth(plan, fit) == 0 {
         return Ok(Recheck::Same);

@@ -16,9 +16,9 @@ use std::alloc::{AllocError, Global};
 /// yet.
 #[derive(Drop)]
 pub(crate) struct SubmittedClasses {
-    /// For each class, whether the set has it.
+    /// For each class, whether it is in the set.
     is_found: Vec<bool>,
-    /// The classes of the set whose bodies have not been scanned yet.
+    /// The classes in the set whose bodies have not been scanned yet.
     pending: Vec<usize>,
 }
 
@@ -34,21 +34,21 @@ impl SubmittedClasses {
         })
     }
 
-    /// Returns whether the set has the class.
+    /// Returns whether the class is in the set.
     pub(crate) fn has(&self, class: usize) -> bool
         ensures { result ≡ slice_index_or self.now.is_found.items class false }
     {
         class < self.is_found.len() && self.is_found[class]
     }
 
-    /// Returns, for each class, whether the set has it.
+    /// Consumes the set and returns, for each class, whether it is in the set.
     pub(crate) fn into_marks(self) -> Vec<bool>
         ensures { result.items ≡ self.is_found.items }
     {
         self.is_found
     }
 
-    /// Adds the class.
+    /// Adds the class to the set, if the set does not have it yet.
     fn add(&mut self, class: usize) -> Result<(), AllocError>
         requires { class < length self.old.is_found.items }
         ensures grows { OnOk result (Grows self.old self.new) }

@@ -11,8 +11,8 @@ use soundness::Note;
 /// The reason why no choice of cores and queues makes the certificate accept the plan.
 #[derive(Clone, Copy, Debug, PartialEq, Eq)]
 pub enum Unfit {
-    /// The certificate does not have the shape of the plan, or one of its numbers is above the
-    /// limit.
+    /// The certificate does not have the shape of the plan, or one of its numbers is above
+    /// [`MAX_WEIGHT`](job_bodies::MAX_WEIGHT).
     Shape,
     /// The first condition that fails and that does not depend on cores and queues.
     Condition(Note),
@@ -24,7 +24,7 @@ pub enum Unfit {
 }
 
 /// Returns the reason why a pool with raised sizes is invalid, or `None` if it is valid. If the
-/// maximum is above the limit, it was raised for the core, so the core is the reason.
+/// maximum is above 1,000,000, it was raised for the core, so the core is the reason.
 fn unfit_pool(number: usize, pool: &Pool) -> Option<Unfit>
     ensures { result ≡ spec.unfit_pool number pool.now }
 {

@@ -6,12 +6,12 @@ use least_vectors::{Kind, Levels, ResizedPlan, VectorSummary};
 use std::alloc::{AllocError, Global};
 use weights::submitted_class;
 
-/// The maximum number of vectors that are computed, which bounds the time of a search. No known
-/// plan needs a quarter of them.
+/// The maximum number of vectors that one search computes. It bounds the time of the search. All
+/// known plans need less than a quarter of it.
 const MAX_VECTORS: usize = 32_768;
 
-/// The kind of a vector and, for a blocked vector, two further properties. Together with the other
-/// fields of [`CacheKey`], this determines a pool's lightest vector.
+/// The kind of a vector and, for a blocked vector, its counted gets and lenders. Together with the
+/// other fields of [`CacheKey`], this determines a pool's lightest vector.
 #[derive(PartialEq, Drop)]
 enum VectorKey {
     Standing,
@@ -131,9 +131,10 @@ impl<'a> VectorCache<'a> {
         })
     }
 
-    /// Returns the pool's lightest vector of this kind for these maximums. Returns an unknown
-    /// obstacle as the error if the vector is not in the cache and the limit of computed vectors
-    /// was reached.
+    /// Returns the cache hit of the pool's lightest vector of this kind for these maximums, and
+    /// computes the vector if the cache does not have it. The search for a vector stops when its
+    /// total is at most `enough`. Returns [`Obstacle::Unknown`] as the error if a vector must be
+    /// computed and [`MAX_VECTORS`] have been computed already.
     pub(crate) fn lightest(
         &mut self,
         alloc: Global,
@@ -213,7 +214,7 @@ impl PoolCache {
     }
 
     /// Returns, for each class, whether a get of a job of that class is counted if a job of this
-    /// pool performs it. `rank` is the rank of this pool.
+    /// pool performs it. `rank` is the rank of this pool, and `reach` has the reach of each class.
     fn counted(&self, alloc: Global, reach: &[u64], rank: u64) -> Result<Vec<bool>, AllocError> {
         self.gets
             .iter()
@@ -222,7 +223,8 @@ impl PoolCache {
             .collect(alloc)
     }
 
-    /// Returns the index of the entry for this key.
+    /// Returns the index of the entry whose vector is the result for this key, or `None` if there
+    /// is none.
     fn index_of(&self, key: &CacheKey) -> Option<usize> {
         self.entries.iter().position(|entry| entry.matches_key(key))
     }

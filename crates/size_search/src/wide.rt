@@ -15,7 +15,7 @@ use job_bodies::{Plan, Pool};
 use std::alloc::{AllocError, Global};
 
 /// Returns the pool with this number, with its maximum raised to the core that the certificate
-/// needs.
+/// needs, if the core is larger.
 fn widened_pool(alloc: Global, plan: &Plan, cert: &Cert, number: usize) -> Result<Pool, AllocError>
     requires fits { IsTrue (cert_fits plan.now cert.now) }
     requires number { number < length plan.now.pools }

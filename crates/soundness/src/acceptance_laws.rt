@@ -1,4 +1,9 @@
 //! Laws of accepted certificates, each as the contract of an empty function.
+//!
+//! A *take* is the event in which a worker takes a job from a queue. The *remaining work* of a job
+//! is the number of job events and takes that are left until it and all jobs that it will submit
+//! are done. A *standing* or *lifetime* vector bounds the queue of a pool, and its *rows* are the
+//! conditions on it.
 
 ghost use Rattle.soundness.specs.Headline.{
   AcceptedPlansAreSafe,
@@ -71,18 +76,18 @@ pub fn bounded_plans_java_refuse_nothing()
     ensures { BoundedPlansJavaRefuseNothing }
 {}
 
-/// Proves that no call of Java's `execute` ever finds the queue of a pool with a standing vector
-/// full, so that no call requests a thread above core from this pool. Each pool of the well-formed
-/// plan must have a standing or a lifetime vector whose rows hold.
+/// Proves that no call of Java's `execute` ever finds a full queue in a pool with a standing
+/// vector. So no call requests a thread above core from this pool. The plan must be well-formed,
+/// and each of its pools must have a standing or a lifetime vector whose rows hold.
 pub fn standing_pools_are_not_asked()
     ensures { StandingPoolsAreNotAsked }
 {}
 
 /// Proves that, if a certificate accepts a well-formed plan, every reachable state is safe under
-/// weaker assumptions. Each submit may take the separate steps of Java's `execute`. Clients and
-/// jobs may skip submits of their bodies together with the gets of these submits, and may get their
-/// jobs of one class in any order. An actor decides anew each time that it reaches the submit or
-/// the get.
+/// weaker assumptions. Each submit may take the separate steps of Java's `execute`. An actor (a
+/// client or a job) may skip a submit of its body together with the get of this submit. It may also
+/// exchange its jobs of one class, and so get them in any order. It decides anew each time that it
+/// reaches the submit or the get.
 pub fn accepted_plans_may_skip()
     ensures { AcceptedPlansMaySkip }
 {}

@@ -2,8 +2,8 @@
 
 use weights::{Place, Rule};
 
-/// A section of a certificate's conditions: the conditions of the ranks, or the conditions of one
-/// vector of the pool with this index.
+/// A section of a certificate's conditions: the conditions of the ranks, or of one vector of a
+/// pool. The field of a variant is the index of the pool.
 #[derive(Clone, Copy, Debug, PartialEq, Eq)]
 pub enum Section {
     Ranks,

@@ -1,4 +1,6 @@
-//! Laws of skipped submits and of exchanged jobs, each as the contract of an empty function.
+//! Laws of skipped submits and of exchanged jobs, each as the contract of an empty function. An
+//! actor (a client or a job) can skip a submit together with its get, and can exchange its jobs of
+//! one class.
 
 ghost use Rattle.soundness.specs.Exchange.{ExchangesSwapTwoGets};
 ghost use Rattle.soundness.specs.Skipping.{DoneWithinQueued};
@@ -11,9 +13,9 @@ pub fn done_within_queued()
     ensures { DoneWithinQueued }
 {}
 
-/// Proves what changes when an actor's jobs at two submits are exchanged. Afterwards, a get of
-/// either submit finds the job that a get of the other submit found before. Every other get finds
-/// the same job as before, and each job keeps its class, its creator and its stage.
+/// Proves what changes when an actor's jobs at two submits are exchanged. Afterwards, the get of
+/// each of the two submits finds the job that the get of the other one found before. Every other
+/// get finds the same job as before, and each job keeps its class, its creator and its stage.
 pub fn exchanges_swap_two_gets()
     ensures { ExchangesSwapTwoGets }
 {}

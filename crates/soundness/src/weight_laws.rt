@@ -1,4 +1,7 @@
-//! Laws of weights, each as the contract of an empty function.
+//! Laws of weights, each as the contract of an empty function. A vector gives a weight to each
+//! point of a plan, and its *rows* are the conditions on these weights. The weight of a state is
+//! the sum of the weights of its clients, of its jobs, and of the workers that are not busy, if
+//! each pool has its maximum of workers.
 
 ghost use Rattle.soundness.specs.WeightLaws.{SumNeverRises, SumStaysWithinTotal, BoundsRefuseNothing, JobsStayWithinTotal};
 

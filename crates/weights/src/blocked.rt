@@ -1,5 +1,6 @@
 //! The conditions of the blocked vector of a pool, which bounds the number of the pool's jobs that
-//! wait at counted gets. [`Rule`] explains the names of the rows.
+//! wait at counted gets. [`Rule`] explains the names of the rows, and [`Counted`] explains counted
+//! gets.
 
 ghost use Rattle.std.specs.Prelude.{◌≡◌, ◌==◌, ◌&&◌, ◌<◌, ◌+◌, ◌∷◌, [], if◌then◌else◌, ℕ, IsTrue, Some, length, map, slice_get};
 ghost use Rattle.std.specs.List.{flat_map};
@@ -133,7 +134,7 @@ pub fn visit_blocked_rows<C: Counted, V: RowVisitor>(
 }
 
 /// Returns the first condition of the pool's blocked vector that fails, in the order V2 to V7, B1,
-/// B2. Allocates no memory.
+/// B2, or `None` if all hold. Allocates no memory.
 pub fn blocked_fault<C: Counted>(
     plan: &Plan,
     pool: usize,

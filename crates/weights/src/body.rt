@@ -42,8 +42,8 @@ pub(crate) struct Body<'a> {
     pub(crate) weights: &'a [u64],
 }
 
-/// Returns the class that the submit at position `submit` of the body names, or 0 if that position
-/// has no submit.
+/// Returns the index of the class whose job the submit at position `submit` creates, or 0 if there
+/// is no submit at that position.
 pub fn submitted_class(actions: &[Action], submit: usize) -> usize
     ensures { result ≡ submitted_class actions.now submit }
 {
@@ -53,7 +53,8 @@ pub fn submitted_class(actions: &[Action], submit: usize) -> usize
     }
 }
 
-/// Returns the weight that an actor receives when it gets a job of the class.
+/// Returns the weight that an actor receives when it gets a job of the class: the weight of the
+/// done job, or 0 if `get_return` is `NoWeight`.
 fn returned_weight(get_return: GetReturn, plan: &Plan, vector: &Vector, class: usize) -> u64
     requires fits { IsTrue (spec.vector_fits plan.now vector.now) }
     requires class { class < length plan.now.classes }

@@ -2,9 +2,9 @@
 
 ghost use Rattle.std.specs.Prelude.{◌≡◌, ℕ, Bool};
 
-/// A rule that decides which gets are counted. In the blocked vector of a pool, the jobs of the
-/// pool have weight at counted gets. A get that is not counted waits for a job that always makes
-/// progress.
+/// A rule that decides which gets are counted, such as [`RanksOf`](crate::RanksOf). In the blocked
+/// vector of a pool, the jobs of the pool have weight at counted gets. A get that is not counted
+/// waits for a job that always makes progress.
 pub trait Counted {
     // Whether the rule has an answer for this position of this class.
     ghost Answers: { Self → ℕ → ℕ → Type 0 };
@@ -12,7 +12,7 @@ pub trait Counted {
     // Whether the action at this position of this class is a counted get.
     ghost is_counted: { Self → ℕ → ℕ → Bool };
 
-    /// Returns whether the get at `position` of the class is counted.
+    /// Returns whether the action at `position` of the class's body is a counted get.
     fn counted(&self, class: usize, position: usize) -> bool
         requires { Answers self.now class position }
         ensures { result ≡ is_counted self.now class position };

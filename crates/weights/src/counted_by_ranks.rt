@@ -27,9 +27,9 @@ fn is_counted_in(plan: &Plan, ranks: &Ranks, number: usize, class: &Class, posit
 }
 
 impl Ranks {
-    /// Returns whether the action at `position` of the class is a counted get. A get is not counted
-    /// if the reach of the class of its job is below the rank of this class's pool. Every other get
-    /// is counted.
+    /// Returns whether the action at `position` of the class's body is a counted get. A get is
+    /// counted exactly when the reach of the class whose job it gets is at least the rank of the
+    /// pool of `class`.
     pub fn is_counted(&self, plan: &Plan, class: usize, position: usize) -> bool
         requires fits { IsTrue (spec.ranks_fit plan.now self.now) }
         requires class { class < length plan.now.classes }
@@ -40,7 +40,7 @@ impl Ranks {
     }
 }
 
-/// A plan with ranks that fit it. The ranks decide which gets of the plan are counted.
+/// A plan with ranks that have its shape. The ranks decide which gets of the plan are counted.
 #[derive(Clone, Copy)]
 pub struct RanksOf<'a> {
     pub plan: &'a Plan,
@@ -49,7 +49,7 @@ pub struct RanksOf<'a> {
 }
 
 impl<'a> RanksOf<'a> {
-    /// Creates the pair of a plan and ranks that fit it.
+    /// Creates the pair of a plan and ranks that have its shape.
     pub fn new(plan: &'a Plan, ranks: &'a Ranks) -> RanksOf<'a>
         requires { IsTrue (spec.ranks_fit plan.now ranks.now) }
         ensures plan { result.plan.now ≡ plan.now }

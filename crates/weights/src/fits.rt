@@ -1,4 +1,5 @@
-//! The test that a vector has the shape of a plan and numbers within the limit.
+//! The test that a vector has the shape of a plan and numbers of at most [`MAX_WEIGHT`]. The
+//! *points* of a class are the points of its jobs: queued, each position of the body, and done.
 
 ghost use Rattle.std.specs.Prelude.{◌≡◌, ◌+◌, ◌==◌, length, map};
 ghost use Rattle.std.specs.List.{list_all, enumerate_from};

@@ -40,7 +40,8 @@ fn visit_worker_rows<V: RowVisitor>(plan: &Plan, vector: &Vector, visitor: &mut 
     }
 }
 
-/// Passes row L2 of each of these weights to the visitor. They are weights of a job of the class.
+/// Passes row L2 of each of `weights` to the visitor. These are the weights of a job of the class
+/// at each of its points.
 fn visit_l2_rows<V: RowVisitor>(class: usize, weights: &[u64], visitor: &mut V)
     ensures { Visits V.HasSeen visitor.old visitor.new
         (map (λ weight. row L2 (place.Class class) 1 weight) weights.now) }
@@ -102,7 +103,8 @@ impl Vector {
         ));
     }
 
-    /// Returns the first condition of the pool's lifetime vector that fails. Allocates no memory.
+    /// Returns the first condition of the pool's lifetime vector that fails, or `None` if all hold.
+    /// Allocates no memory.
     pub fn lifetime_fault(&self, plan: &Plan, pool: usize) -> Option<StandingFault>
         requires fits { IsTrue (spec.vector_fits plan.now self.now) }
         requires pool { pool < length plan.now.pools }

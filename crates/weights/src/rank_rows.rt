@@ -1,4 +1,5 @@
-//! The conditions of ranks: K1, K2 and K3, which [`Rule`] explains.
+//! The conditions of ranks: K1, K2 and K3, which [`Rule`] explains. [`Ranks`] explains the reaches
+//! and levels of classes.
 
 ghost use Rattle.std.specs.Prelude.{◌≡◌, ◌<◌, ◌+◌, IsTrue, Some, length, slice_get};
 ghost use Rattle.std.specs.List.{flat_map, enumerate_from};
@@ -156,7 +157,8 @@ impl Ranks {
         }
     }
 
-    /// Returns the first condition of the ranks that fails. Allocates no memory.
+    /// Returns the first condition of the ranks that fails, or `None` if all hold. Allocates no
+    /// memory.
     pub fn fault(&self, plan: &Plan) -> Option<RankFault>
         requires { IsTrue (spec.ranks_fit plan.now self.now) }
         ensures { result ≡ first_failing (spec.rank_rows plan.now self.now) }

@@ -3,7 +3,8 @@
 ghost use Rattle.std.specs.Prelude.{◌≡◌};
 ghost use Rattle.weights.specs.Row.{fails, row};
 
-/// A rule of a certificate. Each rule applies at several places of the plan.
+/// A rule of a certificate. Most rules apply at several places of the plan. [`Ranks`](crate::Ranks)
+/// explains reaches and levels, and [`Counted`](crate::Counted) explains counted gets.
 #[derive(Clone, Copy, Debug, PartialEq, Eq)]
 pub enum Rule {
     /// The reach of a class is at least the rank of its pool.
@@ -33,12 +34,14 @@ pub enum Rule {
     S2,
     /// In a lifetime vector, each worker weighs 0.
     L1,
-    /// In the lifetime vector of a pool, a job of the pool weighs at least 1 at every point.
+    /// In the lifetime vector of a pool, a job of the pool weighs at least 1 at every point: when
+    /// it is queued, at each position of its body, and when it is done.
     L2,
     /// The total of the lifetime vector of a pool is at most the number of jobs for which the queue
     /// and the threads of the pool have room.
     L3,
-    /// In a lifetime vector, a get does not increase the weight of its actor.
+    /// In a lifetime vector, a get does not increase the weight of its actor. This rule replaces
+    /// V5.
     L5,
     /// In the blocked vector of a pool, a job of the pool weighs at least 1 at each counted get.
     B1,

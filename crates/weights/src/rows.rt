@@ -1,5 +1,5 @@
 //! The rows V2 to V7 of a vector, for all classes and client kinds of a plan. [`Rule`] explains
-//! their names.
+//! their names. In a lifetime vector, L5 replaces V5: its [`GetReturn`] is `NoWeight`.
 
 ghost use Rattle.std.specs.Prelude.{◌≡◌, ◌+◌, IsTrue, Some, length, slice_get};
 ghost use Rattle.std.specs.List.{flat_map, enumerate_from};

@@ -66,7 +66,8 @@ impl Vector {
         visitor.visit(Row::new(Rule::S2, Place::Total, self.total(plan), pool.queue));
     }
 
-    /// Returns the first of the conditions V2 to V7 that fails. Allocates no memory.
+    /// Returns the first of the conditions V2 to V7 of the vector that fails, or `None` if all
+    /// hold. Allocates no memory.
     pub fn first_fault(&self, plan: &Plan) -> Option<RowFault>
         requires { IsTrue (spec.vector_fits plan.now self.now) }
         ensures { result ≡ first_failing (rows DoneWeight plan.now self.now) }
@@ -77,7 +78,7 @@ impl Vector {
     }
 
     /// Returns the first condition of the pool's standing vector that fails, in the order V2 to V7,
-    /// S1, S2. Allocates no memory.
+    /// S1, S2, or `None` if all hold. Allocates no memory.
     pub fn standing_fault(&self, plan: &Plan, pool: usize) -> Option<StandingFault>
         requires fits { IsTrue (spec.vector_fits plan.now self.now) }
         requires pool { pool < length plan.now.pools }

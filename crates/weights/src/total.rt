@@ -9,7 +9,7 @@ ghost use Rattle.weights.specs.Vector as spec;
 use crate::Vector;
 use job_bodies::Plan;
 
-/// Returns the weight of all clients at their start.
+/// Returns the total weight of all clients at the start of their bodies.
 fn clients_total(plan: &Plan, vector: &Vector) -> u64
     requires { IsTrue (spec.vector_fits plan.now vector.now) }
     ensures value { result
@@ -24,7 +24,7 @@ fn clients_total(plan: &Plan, vector: &Vector) -> u64
     total
 }
 
-/// Returns the weight of all workers if each pool has its maximum of them.
+/// Returns the total weight of all workers, if each pool has its maximum of them.
 fn workers_total(plan: &Plan, vector: &Vector) -> u64
     requires { IsTrue (spec.vector_fits plan.now vector.now) }
     ensures value { result

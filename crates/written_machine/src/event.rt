@@ -32,8 +32,7 @@ pub enum Outcome {
     Looped,
     /// The job with this number finished.
     Finished(usize),
-    /// An idle worker took the job with this number from the queue of its pool, and the job begins
-    /// to run.
+    /// An idle worker took the job with this number from the queue, and begins to run it.
     Took(usize),
     /// An idle worker of the pool ended.
     Retired,

@@ -1,4 +1,7 @@
 //! Laws of the machine. Each law is the contract of a function with an empty body.
+//!
+//! A *waiting set* is a non-empty set of jobs that wait only for each other: each of them is queued
+//! or at a get, and waits only for members of the set.
 
 ghost use Rattle.written_machine.specs.FullWaitingSets.{FullWaitingSetsStay, FixedPoolsAreFull};
 ghost use Rattle.written_machine.specs.JobsMade.{ThreadsHaveJobs, RefusalsNeedJobs};
@@ -26,14 +29,13 @@ pub fn queues_only_at_core()
 /// Proves that, in every reachable state of a well-formed plan, an actor at a get has created the
 /// job for which it waits: the latest job that it created at the submit that the get names. That
 /// job has the class that the submit names, and no get has returned its result yet. If the actor is
-/// also a job, it has a smaller number than that job.
+/// itself a job, its number is smaller than the number of that job.
 pub fn gets_have_children()
     ensures { GetsHaveChildren }
 {}
 
-/// Proves that the test for a waiting set accepts exactly the lists of jobs that are waiting sets.
-/// A waiting set has at least one job, each of its jobs is queued or at a get, and each waits only
-/// for members of the set.
+/// Proves that the test for waiting sets accepts a list of jobs exactly when the list is a waiting
+/// set.
 pub fn waiting_sets_are_tested()
     ensures { WaitingSetsAreTested }
 {}
@@ -52,8 +54,9 @@ pub fn full_waiting_sets_stay()
     ensures { FullWaitingSetsStay }
 {}
 
-/// Proves that, in every reachable state of a well-formed plan, the pools with queued members of a
-/// waiting set have their maximums of threads, if core equals the maximum in all these pools.
+/// Proves that, in every reachable state of a well-formed plan, each pool with a queued member of a
+/// waiting set has its maximum of threads. The assumption is that the core of each of these pools
+/// equals its maximum.
 pub fn fixed_pools_are_full()
     ensures { FixedPoolsAreFull }
 {}
