@@ -86,7 +86,7 @@ module _ (kind : ActorKind) (body : List Action) (path : List PathStep) (place :
       pass_here q None e lt may = ap (λ g. can_pass g state.jobs.items) e
       pass_here q (Some get) e lt may = sym (is_state.tables.passes q lt) ∙ may
 
-      -- The walk goes on to each index up to which the body may pass.
+      -- The walk continues to each index up to which the body may pass.
       walk_over : (reached : ℕ) → is_at state reached ≡ true → (m : ℕ) → IsFreeFrom state.passes.items gets reached m → (index : ℕ) → reached ≤ index → index ≤ m → index ≤ length body → Walks kind body path index place state.jobs.items
       walk_over reached at m free zero above within in_body =
           subst (λ n. Walks kind body path n place state.jobs.items) (omega (arith, above)) (is_state.sound reached at)

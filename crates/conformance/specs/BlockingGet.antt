@@ -27,7 +27,7 @@ pub record IsFree (row passes : List Bool) (gets : List (Option BodyGet)) (n m :
   pub from : IsLastReached row n reached
   pub free : IsFreeFrom passes gets reached m
 
--- `stop` is the first get below `m` that the body may not pass. Of the gets of its class from there on, `get` leaves the
+-- `stop` is the first get below `m` that the body may not pass. Of the gets of its class at or after it, `get` leaves the
 -- fewest jobs open.
 pub record IsBlocked (row passes : List Bool) (gets : List (Option BodyGet)) (n m : ℕ) (get : BodyGet) : Type 0 where
   pub reached : ℕ

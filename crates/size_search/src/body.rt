@@ -88,7 +88,7 @@ fn most(plan: &Plan, vector: &Vector, body: &[Action]) -> u64
     most
 }
 
-/// Returns the weight of the actor before the action, given its weight `behind` after the action. A
+/// Returns the weight of the actor before the action, given its weight after the action. A
 /// submit adds the weight of the queued job. A get subtracts the weight that it returns, but the
 /// result is at least `least`.
 fn before(
