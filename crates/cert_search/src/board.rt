@@ -129,7 +129,7 @@ impl PoolStatuses {
     }
 }
 
-/// The board of a round, on which workers claim each pool without a rank once.
+/// The board of a round. Each pool without a rank can be claimed once, by one worker.
 #[derive(Drop)]
 pub(crate) struct Board {
     /// For each pool, whether it has a rank from an earlier round.

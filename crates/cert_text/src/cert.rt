@@ -14,8 +14,8 @@ use weights::{Bound, Ranks, Vector};
 pub struct PoolCert {
     /// The vector that shows that the pool never refuses a job.
     pub bound: Bound,
-    /// The vector that shows that at any time the pool has fewer jobs that wait at counted gets
-    /// than core threads. A counted get can block a thread that other jobs need.
+    /// The vector that shows that the number of the pool's jobs that wait at counted gets is always
+    /// below its core size. A counted get can block a thread that other jobs need.
     pub blocked: Vector,
 }
 

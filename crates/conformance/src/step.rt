@@ -15,9 +15,9 @@ pub enum PathStep {
 /// The kind of an actor. It decides which jobs the actor may get sooner than its body does.
 #[derive(Clone, Copy, PartialEq, Eq)]
 pub enum ActorKind {
-    /// A job gets only jobs of classes that its body still gets.
+    /// A job. It may get only jobs of classes that its body still gets.
     Job,
-    /// A round of a client may get any of its jobs.
+    /// A round of a client. It may get any of its jobs, even one that its body does not get.
     Round,
 }
 

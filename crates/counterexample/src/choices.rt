@@ -5,7 +5,7 @@ use job_bodies::{Action, Plan};
 use std::alloc::{AllocError, Global};
 use written_machine::Parent;
 
-/// The value in place of the index of a choice at positions without a submit.
+/// The entry in the rows of [`Choices`] for an action that is not a submit and so has no choice.
 const NO_CHOICE: usize = usize::MAX;
 
 /// A choice of what happens next in a walk.

@@ -149,8 +149,8 @@ fn push_pools(
     Ok(())
 }
 
-/// Appends the lint that no job is submitted to the pool, if none is. Otherwise appends the lints
-/// of the pool's sizes that are larger than needed.
+/// Appends a lint if no job is ever submitted to the pool. Otherwise appends the lints of its
+/// maximum and its queue capacity.
 fn push_pool(
     found: &mut Vec<Lint>,
     plan: &Plan,
@@ -170,8 +170,8 @@ fn push_pool(
     }
 }
 
-/// Appends the lints of the pool's sizes that are larger than needed. Appends none if the maximum
-/// number of jobs in the queue at once is not known.
+/// Appends a lint if the pool's maximum has no effect, and another if its queue capacity is far
+/// above `most`, the maximum number of jobs in the queue at once. Appends none if `most` is `None`.
 fn push_sizes(
     found: &mut Vec<Lint>,
     number: usize,

@@ -31,7 +31,7 @@ pub struct PlanFault {
 }
 
 impl PlanFault {
-    /// Returns the fault `number` of the text, or of the plan as a whole.
+    /// Creates a fault of the text or of the plan as a whole, with this fault number.
     pub fn at_text(number: u8) -> PlanFault
         ensures { result ≡ at_text number }
     {
@@ -43,7 +43,7 @@ impl PlanFault {
         }
     }
 
-    /// Returns the fault `number` of the entry at `index` in the list for `part`.
+    /// Creates a fault of the entry at `index` in the list for `part`, with this fault number.
     pub fn at_entry(part: Part, index: usize, number: u8) -> PlanFault
         ensures { result ≡ at_entry part index number }
     {
@@ -55,8 +55,8 @@ impl PlanFault {
         }
     }
 
-    /// Returns the fault `number` of the action at position `action` in the body of the entry at
-    /// `index` in the list for `part`.
+    /// Creates a fault of the action at position `action` in the body of the entry at `index` in
+    /// the list for `part`, with this fault number.
     pub fn at_action(part: Part, index: usize, action: usize, number: u8) -> PlanFault
         ensures { result ≡ at_action part index action number }
     {

@@ -92,7 +92,8 @@ fn push_lines(
     Ok(())
 }
 
-/// Appends the line of the note. `head` is the head of the lines of its section.
+/// Appends the line of the note: `head`, and then the condition. All lines of the note's section
+/// begin with `head`.
 fn push_line_with_head(
     text: &mut String,
     head: &str,

@@ -12,7 +12,7 @@ pub enum PlanFinding {
     Safe(Cert),
     /// A witness against the plan, and the result of the search for other sizes.
     NotSafe(Witness, SizesFound),
-    /// The result of the search for other sizes. Neither a certificate nor a witness was found, so
-    /// the declared sizes may be safe.
+    /// Neither a certificate nor a witness was found, so it is not known whether the declared sizes
+    /// are safe. The field is the result of the search for other sizes.
     NotDecided(SizesFound),
 }

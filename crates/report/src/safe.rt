@@ -1,7 +1,8 @@
 //! The text for a plan that a certificate accepts. It lists the bound of each queue and the shares
 //! in the bound. A share is the part of a bound that the clients of one kind, or the threads of one
-//! pool, account for. The text also counts the core threads that wait at counted gets, which are
-//! the gets that can block a thread that other jobs need.
+//! pool, account for. For each pool, the text also has the pools for which its jobs wait, and the
+//! maximum number of its core threads that wait at counted gets at once. A counted get can block a
+//! thread that other jobs need.
 
 ghost use Rattle.std.specs.Prelude.{◌≡◌, ◌++◌, IfOk, IsTrue, OnOk, map, string_bytes};
 ghost use Rattle.support.specs.Pushed.{Pushes};

@@ -21,7 +21,8 @@ const MAX_TURNS: usize = 4;
 /// The result of a search for a certificate of the plan with the sizes that were found.
 #[derive(Drop)]
 enum Recheck {
-    /// The search found a certificate that accepts the plan with these sizes.
+    /// The search found a certificate that accepts the plan with these sizes, or was skipped
+    /// because no size has grown.
     Same,
     /// The search found a certificate that needs larger sizes.
     More(Cert),

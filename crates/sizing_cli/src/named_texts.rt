@@ -1,4 +1,4 @@
-//! The reading of the texts that the arguments name.
+//! The reading of a command's input, from the files that the arguments name or from standard input.
 
 ghost use Rattle.std.specs.Prelude.{◌≡◌, ◌+◌, IfOk, IfErr, IfSome, None, Some, false, option_map, take};
 ghost use Rattle.command_line.specs.Command.{files_of_cli};
