@@ -13,15 +13,15 @@ use Rattle.job_bodies.specs.declared.limits.TheConstants.{MAX_ACTIONS, MAX_SIZE,
 use Rattle.job_bodies.specs.Plan.{Pool, Class, Client}
 use Rattle.job_bodies.specs.WellFormed.{is_valid_name, has_valid_sizes, is_within, is_valid_get}
 
--- the fault `number` of the text, or of the plan as a whole
+-- the fault with this number, of the text or of the plan as a whole
 abbrev pub at_text : ℕ → PlanFault
 at_text number = record { number = number; part = part.Text; index = 0; action = None }
 
--- the fault `number` of the entry at `index` in the list for `part`
+-- the fault with this number, of the entry at `index` in the list for `part`
 abbrev pub at_entry : Part → ℕ → ℕ → PlanFault
 at_entry part index number = record { number = number; part = part; index = index; action = None }
 
--- the fault `number` of the action at position `action` in the body of the entry at `index` in the list for `part`
+-- the fault with this number, of the action at position `action` in the body of the entry at `index` in the list for `part`
 abbrev pub at_action : Part → ℕ → ℕ → ℕ → PlanFault
 at_action part index action number = record { number = number; part = part; index = index; action = Some action }
 

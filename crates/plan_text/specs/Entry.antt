@@ -21,7 +21,7 @@ pub record Entry : Type 0 where
 abbrev pub entry_view : read.Entry → Entry
 entry_view entry = record { table = table_view entry.table.now; part = entry.part; index = entry.index }
 
--- the fault `number` of the entry
+-- the fault with this number, of the entry
 abbrev pub fault_at : Entry → ℕ → PlanFault
 fault_at entry number = at_entry entry.part entry.index number
 
