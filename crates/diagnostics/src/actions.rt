@@ -101,8 +101,9 @@ fn is_length(text: &str) -> bool {
     }
 }
 
-/// Returns the valid range of the length of a `work`, if the text is a `work` whose length is not
-/// valid. Otherwise returns `None`. The text must not be a valid action.
+/// Returns the valid range of the length of a `work`, if the first word of the text is `work` and
+/// there is a second word. Returns `None` for any other text, and for a text with wrong spaces or
+/// with several actions. The text must not be a valid action.
 pub(crate) fn range_of_work(text: &str) -> Option<NumberRange> {
     let words = words_of(text);
     if words.verb == "work"

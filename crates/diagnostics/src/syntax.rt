@@ -98,7 +98,7 @@ fn value_hint_at(text: &str, offset: usize, place: TextPlace, line: &str) -> Opt
     }
 }
 
-/// Returns whether a list is open at this byte of the text.
+/// Returns whether a list is open at byte `offset` of the text, whose place is `place`.
 fn is_in_list(text: &str, offset: usize, place: TextPlace) -> bool {
     match text.as_bytes().get(..offset) {
         Some(before) => match std::str::from_utf8(before) {
@@ -109,7 +109,8 @@ fn is_in_list(text: &str, offset: usize, place: TextPlace) -> bool {
     }
 }
 
-/// Returns a hint for an error in a list, given the rest of the line from the error on.
+/// Returns a hint for an error in a list, if an action without quotes or a semicolon is there.
+/// `rest` is the rest of the line, from the error on.
 fn list_hint(rest: &str) -> Option<&'static str> {
     if begins_with_action(rest) {
         Some("write quotes around each action, as in body = [\"work 5\"]")

@@ -10,8 +10,9 @@ struct OpenList {
 }
 
 /// Returns the line at which the first list without a `]` begins. Such a list ends at the next
-/// header or key, or at the end of the text. Returns `None` if the line `error`, where the parser
-/// found an error, is not between the beginning and the end of this list.
+/// header or key, or at the end of the text. The line of the end is part of the list. Returns
+/// `None` if there is no such list, or if it does not contain the line `error`, at which the parser
+/// found an error.
 pub(crate) fn unclosed_list(text: &str, error: usize) -> Option<usize> {
     let mut open = OpenList { start: 0, depth: 0 };
     let mut number = 0usize;
