@@ -5,11 +5,11 @@
 pub(crate) enum Kind {
     /// A key without quotes, or a value that is not a string, an array or a table.
     Word,
-    /// A string, with its quotes.
+    /// A string, with its quotes. A single-line string without a closing quote ends with its line.
     Quoted,
     /// One of `[ ] { } = , .`
     Mark(u8),
-    /// The end of a line.
+    /// The end of a line or of the text.
     LineEnd,
 }
 
