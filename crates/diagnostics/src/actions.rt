@@ -7,7 +7,8 @@ use crate::suggestions::suggestion;
 use job_bodies::{MAX_WORK, is_valid_name};
 use std::alloc::{AllocError, Global};
 
-/// A parsed action, with the class of a submit and the name under which a job is submitted or got.
+/// A parsed action. Its fields are the class of a submit, and the name under which the action
+/// submits or gets a job.
 #[derive(Clone, Copy)]
 pub(crate) enum ParsedAction<'a> {
     Work,

@@ -125,8 +125,8 @@ fn begins_with_action(rest: &str) -> bool {
     rest.starts_with("work ") || rest.starts_with("submit ") || rest.starts_with("get ")
 }
 
-/// Returns a hint if the rest of a line, which follows a value, is a semicolon, perhaps with a
-/// comment.
+/// Returns a hint if the rest of a line after a value is a semicolon, with or without a comment
+/// after it.
 fn end_hint(rest: &str) -> Option<&'static str> {
     let after = rest.strip_prefix(';')?;
     if after.split('#').next().unwrap_or("").trim().is_empty() {
@@ -148,8 +148,8 @@ pub(crate) fn line_of(text: &str, place: TextPlace) -> &str {
     ""
 }
 
-/// Returns a hint if the line begins with `//`, is the separator `%%`, has curly quotes, or has a
-/// quote that is not closed.
+/// Returns a hint if the line begins with `//`, is the separator `%%`, has curly double quotes, or
+/// has an odd number of plain double quotes.
 fn character_hint(line: &str) -> Option<&'static str> {
     let line = line.trim();
     if line.starts_with("//") {
@@ -171,7 +171,7 @@ fn character_hint(line: &str) -> Option<&'static str> {
 }
 
 /// Returns a hint for the header of an entry, for a semicolon after a value, or for a value that is
-/// not TOML.
+/// not TOML. Returns `None` if the mistake is not a known one.
 fn entry_hint(line: &str) -> Option<&'static str> {
     if let Some(hint) = bracket_hint(line) {
         return Some(hint);
@@ -208,7 +208,8 @@ fn value_hint(line: &str) -> Option<&'static str> {
     }
 }
 
-/// Returns whether the value is a word without quotes, which is not valid TOML.
+/// Returns whether the value looks like a word without quotes: ASCII letters, digits, `_` and `-`,
+/// with at least one letter, but not `true` or `false`. Ignores a comment after the value.
 fn is_word(value: &str) -> bool {
     let word = value.split('#').next().unwrap_or("").trim();
     word.bytes().any(|byte| byte.is_ascii_alphabetic())

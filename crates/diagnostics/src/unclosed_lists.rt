@@ -36,8 +36,8 @@ fn start_of(open: OpenList, error: usize, end: usize) -> Option<usize> {
     }
 }
 
-/// Returns whether the line is a header, or a key with its value. No list of a plan has such a
-/// line, so a list that is open before this line has no `]`.
+/// Returns whether the line begins with `[[`, or with a key without quotes and an equals sign. No
+/// list of a plan has such a line, so a list that is open before this line has no `]`.
 fn begins_entry(line: &str) -> bool {
     let line = line.trim();
     if line.starts_with("[[") {

@@ -12,8 +12,8 @@ use plan_text::TextPlace;
 use std::alloc::{AllocError, Global};
 
 /// Returns the lint's message: what was found in the plan, and what it means for the answer. The
-/// lint must be a lint of this plan. If it names a pool, class or client kind that the plan does
-/// not have, the message can be empty. `place` is the lint's place in the plan's text.
+/// message can be empty if the plan does not have the pool, class or client kind that the lint
+/// names. `place` is the lint's place in the plan's text.
 pub(crate) fn words_of(
     alloc: Global,
     text: &[u8],
