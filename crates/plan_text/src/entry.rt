@@ -34,7 +34,8 @@ fn count_of(number: i64) -> u64
 
 impl<'a> Entry<'a> {
     /// Checks that the value is a table that has only these keys, and returns it as the entry at
-    /// `index` in the list for `part`. Returns a fault of this entry if it is not.
+    /// `index` in the list for `part`. Returns a fault of this entry if the value is not a table,
+    /// or if the table has another key.
     #[tactic(auto, unfolding(crate::specs::Entry::entry_of))]
     pub fn of(
         value: &'a Value,
