@@ -205,8 +205,8 @@ fn report_in_use(
     checked.report(collector, SLOT_OPEN, &words)
 }
 
-/// Checks a get of this name. Records that the action gets the job that was submitted under the name,
-/// or reports the action if there is no such job or an earlier action got it.
+/// Checks a get of this name. Records that the action gets the job that was submitted under the
+/// name. Reports the action instead if there is no such job or an earlier action got it.
 fn check_get<'a>(
     collector: &mut FaultCollector,
     checked: CheckedAction<'a>,

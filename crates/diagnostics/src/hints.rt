@@ -34,8 +34,8 @@ fn names_no_limit(text: &str) -> bool
     matches!(text, "unbounded" | "unlimited" | "infinite" | "none")
 }
 
-/// Returns a hint if the text whose first line is `line` is a recording or JSON, such as a
-/// certificate. Otherwise returns `None`.
+/// Returns a hint if `line`, the first line of a text, shows that the text is a recording or JSON,
+/// such as a certificate. Otherwise returns `None`.
 pub(crate) fn kind_hint(line: &str) -> Option<&'static str>
     ensures { option_map (λ hint. hint.now) result ≡ spec.kind_hint line.now }
 {

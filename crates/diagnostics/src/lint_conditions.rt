@@ -11,7 +11,8 @@ use job_bodies::{Action, Class, Client, Plan, Pool};
 /// with the maximum number of jobs in the queue.
 const FAR_ABOVE: u64 = 10;
 
-/// A lint reports a `work` of at least this many units, if its length is also a size of the plan.
+/// A lint reports a `work` of at least this many units, if its length is also a size of a pool or
+/// the count of a client kind.
 const LIKE_A_SIZE: u32 = 50;
 
 /// Returns whether clients submit the class of this number, directly or through other jobs. `marks`
@@ -145,7 +146,8 @@ fn is_small(count: u64, pool: &Pool) -> bool
     pool.core == 1 && pool.queue < count
 }
 
-/// Returns whether the length of a `work` is at least 50 units and equals a size of the plan.
+/// Returns whether the length of a `work` is at least 50 units, and equals a size of a pool or the
+/// count of a client kind.
 pub(crate) fn looks_like_a_size(plan: &Plan, units: u32) -> bool
     ensures { result ≡ spec.looks_like_a_size plan.now units }
 {

@@ -256,7 +256,7 @@ fn push_client(
     push_work(found, plan, Part::Client, number, &client.body)
 }
 
-/// Appends a lint for each `work` of the body whose length looks like a size.
+/// Appends a lint for each `work` of the body for which [`looks_like_a_size`] returns true.
 fn push_work(
     found: &mut Vec<Lint>,
     plan: &Plan,

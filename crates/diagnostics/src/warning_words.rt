@@ -62,8 +62,8 @@ fn words_of_core(alloc: Global, plan: &Plan) -> Result<String, AllocError> {
     Ok(words)
 }
 
-/// Appends the name and the maximum of each pool whose maximum is above its core size. `count` is the
-/// number of these pools.
+/// Appends the name and the maximum of each pool whose maximum is above its core size. `count` is
+/// the number of these pools.
 fn push_maxes(words: &mut String, plan: &Plan, count: usize) -> Result<(), AllocError> {
     let mut number = 0usize;
     for pool in plan.pools() {
