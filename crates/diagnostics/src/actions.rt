@@ -7,7 +7,8 @@ use crate::suggestions::suggestion;
 use job_bodies::{MAX_WORK, is_valid_name};
 use std::alloc::{AllocError, Global};
 
-/// A parsed action, with the class of a submit and the name under which a job is submitted or got.
+/// A parsed action. Its fields are the class of a submit, and the name under which the action
+/// submits or gets a job.
 #[derive(Clone, Copy)]
 pub(crate) enum ParsedAction<'a> {
     Work,
@@ -101,8 +102,9 @@ fn is_length(text: &str) -> bool {
     }
 }
 
-/// Returns the valid range of the length of a `work`, if the text is a `work` whose length is not
-/// valid. Otherwise returns `None`. The text must not be a valid action.
+/// Returns the valid range of the length of a `work`, if the first word of the text is `work` and
+/// there is a second word. Returns `None` for any other text, and for a text with wrong spaces or
+/// with several actions. The text must not be a valid action.
 pub(crate) fn range_of_work(text: &str) -> Option<NumberRange> {
     let words = words_of(text);
     if words.verb == "work"

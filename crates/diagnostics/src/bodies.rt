@@ -66,7 +66,8 @@ impl CheckedAction<'_> {
     }
 }
 
-/// Reports the faults of the actions in an entry's body.
+/// Reports the faults of the actions in an entry's body. Skips elements that are not strings, and a
+/// body that is missing or is not an array.
 pub(crate) fn body(
     collector: &mut FaultCollector,
     entry: &PlacedEntry<'_>,
@@ -151,7 +152,8 @@ fn unknown_class(alloc: Global, class: &str, classes: &[&str]) -> Result<String,
     format!(in alloc; "unknown class {class}{right}")
 }
 
-/// Returns the end of the message for an unknown class, which lists the plan's classes.
+/// Returns the end of the message for an unknown class: a list of the plan's classes, or what to
+/// add if the plan has none.
 fn known_classes(alloc: Global, classes: &[&str]) -> Result<String, AllocError> {
     if classes.is_empty() {
         let words = "; the plan has no classes: add a [[class]] with this name";
@@ -180,8 +182,8 @@ fn check_slot_is_free<'a>(
     Ok(())
 }
 
-/// Returns the index of the action that submitted a job under this name. Returns `None` if there is
-/// none, or if an action got the job.
+/// Returns the index of the action that submitted a job under this name, if no action got the job
+/// yet. Returns `None` if there is no such action.
 fn submit_in_use(slots: &[Slot<'_>], name: &str) -> Option<usize> {
     for slot in slots {
         if slot.name == name && slot.got.is_none() {
@@ -203,8 +205,8 @@ fn report_in_use(
     checked.report(collector, SLOT_OPEN, &words)
 }
 
-/// Checks a get of this name. Records that the action gets the job that was submitted under the name,
-/// or reports the action if there is no such job or an earlier action got it.
+/// Checks a get of this name. Records that the action gets the job that was submitted under the
+/// name. Reports the action instead if there is no such job or an earlier action got it.
 fn check_get<'a>(
     collector: &mut FaultCollector,
     checked: CheckedAction<'a>,

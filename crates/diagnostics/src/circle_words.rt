@@ -8,8 +8,8 @@ use crate::circles::classes_between;
 use job_bodies::{Action, Plan};
 use std::alloc::{AllocError, Global};
 
-/// Returns the message that a class submits itself. If it does so through other classes, the message
-/// lists the submits, as in `class a submits itself: a submits b, b submits a`.
+/// Returns the message that a class submits itself. If it does so through other classes, the
+/// message lists the submits, as in `class a submits itself: a submits b, b submits a`.
 pub(crate) fn words_of_circle(
     alloc: Global,
     plan: &Plan,
@@ -35,7 +35,8 @@ fn checked_circle<'a>(plan: &Plan, class: usize, between: &'a [usize]) -> &'a [u
     }
 }
 
-/// Returns the message that a class submits itself through these classes.
+/// Returns the message that a class submits itself through these classes. The message lists the
+/// submits, unless `between` is empty.
 fn words_through(
     alloc: Global,
     plan: &Plan,

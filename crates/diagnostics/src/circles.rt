@@ -7,8 +7,7 @@ use std::alloc::{AllocError, Global};
 /// itself.
 #[derive(Drop)]
 struct CircleSearch {
-    /// For each class that was found, the class that submits it, through which it was found. It is
-    /// `None` for every other class.
+    /// For each class, the class whose body led the search to it, or `None` if it was not found.
     submitters: Vec<Option<usize>>,
     /// The classes that were found, in the order in which they were found.
     found: Vec<usize>,
@@ -56,8 +55,8 @@ impl CircleSearch {
         Ok(())
     }
 
-    /// Returns the class that submits this one, through which this one was found. Returns `None` if
-    /// this class was not found.
+    /// Returns the class whose body led the search to this class, or `None` if this class was not
+    /// found.
     fn submitter_of(&self, class: usize) -> Option<usize> {
         self.submitters.get(class).copied().flatten()
     }

@@ -39,8 +39,8 @@ pub struct Faults {
 }
 
 /// Appends a line for each fault, such as `shop.toml:17:21: class page, action 2 "get row": nothing
-/// was submitted as row; did you mean rows? (fault 13)`, with `file` as the file's name. A last line
-/// says how many faults are left out, if there are any, such as `... and 12 more faults`.
+/// was submitted as row; did you mean rows? (fault 13)`, with `file` as the file's name. A last
+/// line says how many faults are left out, if there are any, such as `... and 12 more faults`.
 ///
 /// # Errors
 ///

@@ -54,7 +54,8 @@ impl<'a> PlacedEntry<'a> {
         }
     }
 
-    /// Returns the entry's name in messages, such as `pool db`.
+    /// Returns how messages name the entry, such as `pool db`, or `this pool` if the entry has no
+    /// name.
     pub(crate) fn who(&self, alloc: Global) -> Result<String, AllocError> {
         let list = list_of(self.part);
         match self.text("name") {

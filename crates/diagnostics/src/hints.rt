@@ -15,8 +15,9 @@ pub(crate) fn zero_hint(key: &str) -> &'static str
     }
 }
 
-/// Returns the end of the message for a string in place of a number. If the string asks for a queue
-/// without a bound, such as `unbounded`, the end says what to write instead; otherwise it is empty.
+/// Returns the end of the message for a string in place of a number. If the key is `queue` and the
+/// string asks for a queue without a bound, such as `unbounded`, the end says what to write
+/// instead. Otherwise it is empty.
 pub(crate) fn no_limit_hint(key: &str, text: &str) -> &'static str
     ensures { result.now ≡ spec.no_limit_hint key.now text.now }
 {
@@ -33,8 +34,8 @@ fn names_no_limit(text: &str) -> bool
     matches!(text, "unbounded" | "unlimited" | "infinite" | "none")
 }
 
-/// Returns a hint if `line`, the first line of a text, is that of a recording or of a JSON text,
-/// such as a certificate.
+/// Returns a hint if `line`, the first line of a text, shows that the text is a recording or JSON,
+/// such as a certificate. Otherwise returns `None`.
 pub(crate) fn kind_hint(line: &str) -> Option<&'static str>
     ensures { option_map (λ hint. hint.now) result ≡ spec.kind_hint line.now }
 {

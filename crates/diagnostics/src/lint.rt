@@ -26,8 +26,8 @@ pub enum Lint {
     /// The maximum of this pool is above its core size, but has no effect, because its queue never
     /// fills.
     UselessMax(usize),
-    /// The queue capacity of this pool is far above the second field, which is the maximum number
-    /// of jobs in the queue at once.
+    /// The queue capacity of this pool is more than ten times the second field, which is the
+    /// maximum number of jobs in the queue at once.
     QueueFarAbove(usize, u64),
     /// No client submits this class, directly or through other jobs.
     ClassWithoutJobs(usize),
@@ -36,9 +36,9 @@ pub enum Lint {
     /// Each pool to which this client kind submits has one core thread and a queue capacity below
     /// the number of clients of the kind.
     Crowd(usize),
-    /// The body of a class or client kind has a `work` whose length is also a size of the plan. The
-    /// fields are: whether it is a class or a client kind, its number, the number of the action, and
-    /// the length in units.
+    /// The body of a class or client kind has a `work` of at least 50 units, whose length is also a
+    /// size of a pool or the count of a client kind. The fields are: whether it is a class or a
+    /// client kind, its number, the number of the action, and the length in units.
     WorkLikeASize(Part, usize, usize, u32),
     /// A given certificate does not accept the plan. This is not a lint of the plan itself, and the
     /// caller that reports it provides the message.

@@ -7,15 +7,16 @@ ghost use Rattle.diagnostics.specs.Lints as spec;
 
 use job_bodies::{Action, Class, Client, Plan, Pool};
 
-/// A lint reports a queue whose capacity is more than this many times the maximum number of jobs in
-/// it at once.
+/// The number by which [`is_far_above`] divides a queue's capacity before it compares the capacity
+/// with the maximum number of jobs in the queue.
 const FAR_ABOVE: u64 = 10;
 
-/// A lint reports a `work` of at least this many units, if its length is also a size of the plan.
+/// A lint reports a `work` of at least this many units, if its length is also a size of a pool or
+/// the count of a client kind.
 const LIKE_A_SIZE: u32 = 50;
 
 /// Returns whether clients submit the class of this number, directly or through other jobs. `marks`
-/// has this fact for each class.
+/// has this fact for each class. Returns false if there is no such class.
 pub(crate) fn is_submitted(marks: &[bool], class: usize) -> bool
     ensures { result ≡ slice_index_or marks.now class false }
 {
@@ -29,8 +30,9 @@ pub(crate) fn is_any_submitted(marks: &[bool]) -> bool
     marks.iter().any(|mark| *mark)
 }
 
-/// Returns the maximum number of jobs that are in the queue of the pool of this number at once, or
-/// `None` if it is not known. `needed` has this number for each pool.
+/// Returns the maximum number of jobs that are in the queue of the pool of this number at once.
+/// `needed` has this maximum for each pool. Returns `None` if it is not known, or if there is no
+/// such pool.
 pub(crate) fn most_at(needed: &[Option<u64>], pool: usize) -> Option<u64>
     ensures { result ≡ slice_index_or needed.now pool None }
 {
@@ -144,7 +146,8 @@ fn is_small(count: u64, pool: &Pool) -> bool
     pool.core == 1 && pool.queue < count
 }
 
-/// Returns whether the length of a `work` is at least 50 units and equals a size of the plan.
+/// Returns whether the length of a `work` is at least 50 units, and equals a size of a pool or the
+/// count of a client kind.
 pub(crate) fn looks_like_a_size(plan: &Plan, units: u32) -> bool
     ensures { result ≡ spec.looks_like_a_size plan.now units }
 {

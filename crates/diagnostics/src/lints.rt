@@ -30,8 +30,8 @@ pub(crate) fn lints_of(
 }
 
 /// Returns the lints of the plan. `needed` and `is_safe_at_core` are as in [`lints_of`]. `cause` is
-/// the reason why no certificate accepts the plan with any sizes, if there is such a reason.
-/// `marks` has, for each class, whether clients submit it, directly or through other jobs.
+/// a reason why no certificate accepts the plan, whatever its sizes, or `None` if there is no such
+/// reason. `marks` has, for each class, whether clients submit it, directly or through other jobs.
 fn lints_with(
     alloc: Global,
     plan: &Plan,
@@ -65,8 +65,8 @@ fn push_all(
     push_plan(found, plan, needed, marks)
 }
 
-/// Appends the lint for the reason why no certificate accepts the plan with any sizes. Appends
-/// nothing if `cause` is `None`.
+/// Appends the lint for `cause`, a reason why no certificate accepts the plan, whatever its sizes.
+/// Appends nothing if `cause` is `None`.
 fn push_cause(found: &mut Vec<Lint>, cause: Option<Cause>) -> Result<(), AllocError>
     ensures { OnOk result (found.new.items ≡ found.old.items ++ spec.lints_of_cause cause) }
 {
@@ -256,7 +256,7 @@ fn push_client(
     push_work(found, plan, Part::Client, number, &client.body)
 }
 
-/// Appends a lint for each `work` of the body whose length looks like a size.
+/// Appends a lint for each `work` of the body for which [`looks_like_a_size`] returns true.
 fn push_work(
     found: &mut Vec<Lint>,
     plan: &Plan,

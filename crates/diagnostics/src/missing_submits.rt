@@ -33,9 +33,9 @@ pub(crate) fn missing_submit(
     format!(in alloc; "nothing was submitted as {name}{right}")
 }
 
-/// Returns the end of the message, which states the likely cause. In order of preference, this is a
-/// submit of a class of this name without `as`, a similar name, a submit of another class without
-/// `as`, or that no earlier action submits a job under this name.
+/// Returns the end of the message, which states the likely cause. It names the first of these that
+/// exists: an earlier submit without `as` of a class of this name, a similar name, or the last
+/// earlier submit without `as`. If none exists, it is the end that [`no_submit_before`] returns.
 fn likely_cause(
     alloc: Global,
     body: &[Value],
@@ -59,7 +59,8 @@ fn likely_cause(
 }
 
 /// Returns the end of the message for a body in which each earlier submit has an `as`, and no name
-/// is similar.
+/// is similar. It lists `names`, the names of the earlier submits. If there are none, it says which
+/// submit to write before the get, and names the first later submit without `as`, if there is one.
 fn no_submit_before(
     alloc: Global,
     body: &[Value],

@@ -44,8 +44,8 @@ fn duplicate_name(
     entry.report(collector, DOUBLE_NAME, entry.value_place("name"), &words)
 }
 
-/// Returns the message that states the rule for names. If a similar well-formed name exists, the
-/// message ends with it.
+/// Returns the message that states the rule for names. If [`well_formed_name`] turns `name` into a
+/// valid name, the message ends with the result.
 pub(crate) fn name_rule(alloc: Global, name: &str) -> Result<String, AllocError> {
     let similar = well_formed_name(alloc, name)?;
     let rule =

@@ -17,8 +17,8 @@ use std::alloc::{AllocError, Global};
 use toml::Table;
 
 /// Returns the faults of a plan's text that the parser rejects with `fault`: first `fault`, and
-/// then the other faults that can be found. There are at most 100, `fault` included, and each
-/// message is a single line.
+/// then the other faults that can be found. The result has at most 100 faults, `fault` included,
+/// and the number of further faults. Each message is a single line.
 ///
 /// # Errors
 ///
@@ -41,7 +41,8 @@ pub fn faults_of(alloc: Global, text: &[u8], fault: PlanFault) -> Result<Faults,
 }
 
 /// Returns the diagnostic for the fault that the parser reports. If the checks did not find this
-/// fault, the message is the rule that the plan violates.
+/// fault, the message is the rule that the plan violates, and the place is the beginning of the
+/// text.
 fn first_of(
     alloc: Global,
     fault: PlanFault,
@@ -88,8 +89,8 @@ fn in_single_line(
     })
 }
 
-/// Returns all faults that the checks find: those of the plan, or a single syntax error if the text
-/// is not TOML.
+/// Returns the faults that the checks find: those of the plan, or a single fault if the text is not
+/// valid UTF-8 or not TOML.
 fn all_faults(
     alloc: Global,
     bytes: &[u8],

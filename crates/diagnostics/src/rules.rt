@@ -1,5 +1,5 @@
-//! The rules of plans. If the plan parser reports a fault that the checks of this crate do not find,
-//! the message is the rule that the plan violates.
+//! The rules of plans. If the plan parser reports a fault that the checks of this crate do not
+//! find, the message is the rule that the plan violates.
 
 use support::number::*;
 

@@ -98,7 +98,7 @@ fn value_hint_at(text: &str, offset: usize, place: TextPlace, line: &str) -> Opt
     }
 }
 
-/// Returns whether a list is open at this byte of the text.
+/// Returns whether a list is open at byte `offset` of the text, whose place is `place`.
 fn is_in_list(text: &str, offset: usize, place: TextPlace) -> bool {
     match text.as_bytes().get(..offset) {
         Some(before) => match std::str::from_utf8(before) {
@@ -109,7 +109,8 @@ fn is_in_list(text: &str, offset: usize, place: TextPlace) -> bool {
     }
 }
 
-/// Returns a hint for an error in a list, given the rest of the line from the error on.
+/// Returns a hint for an error in a list, if an action without quotes or a semicolon is there.
+/// `rest` is the rest of the line, from the error on.
 fn list_hint(rest: &str) -> Option<&'static str> {
     if begins_with_action(rest) {
         Some("write quotes around each action, as in body = [\"work 5\"]")
@@ -124,8 +125,8 @@ fn begins_with_action(rest: &str) -> bool {
     rest.starts_with("work ") || rest.starts_with("submit ") || rest.starts_with("get ")
 }
 
-/// Returns a hint if the rest of a line, which follows a value, is a semicolon, perhaps with a
-/// comment.
+/// Returns a hint if the rest of a line after a value is a semicolon, with or without a comment
+/// after it.
 fn end_hint(rest: &str) -> Option<&'static str> {
     let after = rest.strip_prefix(';')?;
     if after.split('#').next().unwrap_or("").trim().is_empty() {
@@ -147,8 +148,8 @@ pub(crate) fn line_of(text: &str, place: TextPlace) -> &str {
     ""
 }
 
-/// Returns a hint if the line begins with `//`, is the separator `%%`, has curly quotes, or has a
-/// quote that is not closed.
+/// Returns a hint if the line begins with `//`, is the separator `%%`, has curly double quotes, or
+/// has an odd number of plain double quotes.
 fn character_hint(line: &str) -> Option<&'static str> {
     let line = line.trim();
     if line.starts_with("//") {
@@ -170,7 +171,7 @@ fn character_hint(line: &str) -> Option<&'static str> {
 }
 
 /// Returns a hint for the header of an entry, for a semicolon after a value, or for a value that is
-/// not TOML.
+/// not TOML. Returns `None` if the mistake is not a known one.
 fn entry_hint(line: &str) -> Option<&'static str> {
     if let Some(hint) = bracket_hint(line) {
         return Some(hint);
@@ -207,7 +208,8 @@ fn value_hint(line: &str) -> Option<&'static str> {
     }
 }
 
-/// Returns whether the value is a word without quotes, which is not valid TOML.
+/// Returns whether the value looks like a word without quotes: ASCII letters, digits, `_` and `-`,
+/// with at least one letter, but not `true` or `false`. Ignores a comment after the value.
 fn is_word(value: &str) -> bool {
     let word = value.split('#').next().unwrap_or("").trim();
     word.bytes().any(|byte| byte.is_ascii_alphabetic())

@@ -49,7 +49,8 @@ fn faults_of_lists(collector: &mut FaultCollector, lists: &Lists<'_>) -> Result<
     all_bodies(collector, lists)
 }
 
-/// Returns the entries of the three lists, and reports the faults of their keys and names.
+/// Returns the entries of the three lists that are tables. Reports lists that are not arrays,
+/// entries that are not tables, and the faults of the entries' keys and names.
 fn lists_of<'a>(
     collector: &mut FaultCollector,
     document: &'a Table,
@@ -118,7 +119,7 @@ fn bodies_of(
     Ok(())
 }
 
-/// Reports the key at the top level if a plan has no such key.
+/// Reports this key at the top level if a plan cannot have it.
 fn unknown_list(
     collector: &mut FaultCollector,
     key: &str,
@@ -151,7 +152,9 @@ fn list_suggestion(alloc: Global, key: &str) -> Result<String, AllocError> {
     }
 }
 
-/// Returns the entries of a list, and reports the faults of their keys and names.
+/// Returns the entries of a list that are tables. Reports a list that is not an array, entries that
+/// are not tables, and the faults of the entries' keys and names. The result is empty if the
+/// document has no such list.
 fn entries<'a>(
     collector: &mut FaultCollector,
     document: &'a Table,
@@ -169,7 +172,8 @@ fn entries<'a>(
     Ok(found)
 }
 
-/// Appends the entries of a list, and reports the faults of their keys and names.
+/// Appends the entries of a list that are tables. Reports the other entries, and the faults of the
+/// keys and names of the tables.
 fn push_entries<'a>(
     collector: &mut FaultCollector,
     found: &mut Vec<PlacedEntry<'a>>,
@@ -216,7 +220,7 @@ fn shape_and_name(
     names::name(collector, entry, before)
 }
 
-/// Returns the entry, or reports that the value is not a table.
+/// Returns the entry. If the value is not a table, reports this and returns `None`.
 fn entry_of<'a>(
     collector: &mut FaultCollector,
     part: Part,
@@ -293,7 +297,8 @@ fn unknown_pool(alloc: Global, pool: &str, pools: &[&str]) -> Result<String, All
     format!(in alloc; "unknown pool {pool}{right}")
 }
 
-/// Returns the end of the message for an unknown pool, which lists the plan's pools.
+/// Returns the end of the message for an unknown pool: a list of the plan's pools, or what to add
+/// if the plan has none.
 fn known_pools(alloc: Global, pools: &[&str]) -> Result<String, AllocError> {
     if pools.is_empty() {
         let words = "; the plan has no pools: add a [[pool]] with this name";

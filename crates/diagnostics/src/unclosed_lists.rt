@@ -10,8 +10,9 @@ struct OpenList {
 }
 
 /// Returns the line at which the first list without a `]` begins. Such a list ends at the next
-/// header or key, or at the end of the text. Returns `None` if the line `error`, where the parser
-/// found an error, is not between the beginning and the end of this list.
+/// header or key, or at the end of the text. The line of the end is part of the list. Returns
+/// `None` if there is no such list, or if it does not contain the line `error`, at which the parser
+/// found an error.
 pub(crate) fn unclosed_list(text: &str, error: usize) -> Option<usize> {
     let mut open = OpenList { start: 0, depth: 0 };
     let mut number = 0usize;
@@ -35,8 +36,8 @@ fn start_of(open: OpenList, error: usize, end: usize) -> Option<usize> {
     }
 }
 
-/// Returns whether the line is a header, or a key with its value. No list of a plan has such a
-/// line, so a list that is open before this line has no `]`.
+/// Returns whether the line begins with `[[`, or with a key without quotes and an equals sign. No
+/// list of a plan has such a line, so a list that is open before this line has no `]`.
 fn begins_entry(line: &str) -> bool {
     let line = line.trim();
     if line.starts_with("[[") {

@@ -7,7 +7,7 @@ use job_bodies::{Part, Plan};
 use plan_text::{Places, TextPlace};
 
 /// Returns the place in the plan's text to which the lint refers. It is the beginning of the text
-/// for a lint of the whole plan.
+/// for a lint of the whole plan, or if no other place is found.
 pub(crate) fn place_of(places: &Places<'_>, plan: &Plan, lint: Lint) -> TextPlace {
     match lint {
         Lint::NothingToAsk | Lint::NoClients | Lint::NothingSubmitted | Lint::StaleCertificate =>

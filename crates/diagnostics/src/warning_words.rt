@@ -12,8 +12,8 @@ use plan_text::TextPlace;
 use std::alloc::{AllocError, Global};
 
 /// Returns the lint's message: what was found in the plan, and what it means for the answer. The
-/// message is empty if the plan does not have the pool, class or client kind that the lint names.
-/// `place` is the lint's place in the plan's text.
+/// message can be empty if the plan does not have the pool, class or client kind that the lint
+/// names. `place` is the lint's place in the plan's text.
 pub(crate) fn words_of(
     alloc: Global,
     text: &[u8],
@@ -62,8 +62,8 @@ fn words_of_core(alloc: Global, plan: &Plan) -> Result<String, AllocError> {
     Ok(words)
 }
 
-/// Appends the name and the maximum of each pool whose maximum is above its core size. `count` is the
-/// number of these pools.
+/// Appends the name and the maximum of each pool whose maximum is above its core size. `count` is
+/// the number of these pools.
 fn push_maxes(words: &mut String, plan: &Plan, count: usize) -> Result<(), AllocError> {
     let mut number = 0usize;
     for pool in plan.pools() {

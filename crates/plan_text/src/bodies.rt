@@ -172,8 +172,10 @@ fn client_of<'a>(
     })
 }
 
-/// Parses the bodies of these entries and returns the classes. Frees each entry when its class is
-/// built.
+/// Parses the bodies of these entries and returns the classes. `pools` and `names` are the names of
+/// the plan's pools and classes. Returns a fault at the first action that is malformed, submits an
+/// unknown class, fills a filled slot, or gets from an empty slot. Frees each entry when its class
+/// is built.
 pub fn classes_of<'p, 'd: 'p>(
     alloc: Global,
     pools: &Names<'p>,
@@ -191,7 +193,8 @@ pub fn classes_of<'p, 'd: 'p>(
     Ok(classes)
 }
 
-/// Parses the bodies of these entries and returns the client kinds.
+/// Parses the bodies of these entries and returns the client kinds. `names` are the names of the
+/// plan's classes. The faults are those of [`classes_of`].
 pub fn clients_of<'a>(
     alloc: Global,
     names: &Names<'a>,

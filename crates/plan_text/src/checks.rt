@@ -14,8 +14,8 @@ use std::alloc::Global;
 use support::ReadError;
 use support::number::{BAD_NAME, BAD_NUMBER, DOUBLE_NAME, NO_SUCH_POOL};
 
-/// Checks that the name of the entry at `index` is valid and not in `names`, the names of the
-/// earlier entries of the list. Then adds the name to `names`.
+/// Adds the name of the entry at `index` to `names`, the names of the earlier entries of the list.
+/// Returns a fault if the name is not valid or is already in `names`.
 fn check_name<'a>(
     names: &mut Names<'a>,
     part: Part,
@@ -79,7 +79,8 @@ fn check_client<'a>(
     Ok(())
 }
 
-/// Checks that all names and sizes of the pools are valid. Returns the names, in order.
+/// Checks that the names of the pools are valid and distinct, and that their sizes are valid.
+/// Returns the names, in order, or the first fault.
 #[tactic(auto, unfolding(crate::specs::Checks::check_pools))]
 pub fn check_pools<'a>(alloc: Global, pools: &'a [Pool]) -> Result<Names<'a>, TextError>
     ensures { Gives (λ names. names) result (spec.check_pools pools.now) }
@@ -91,8 +92,8 @@ pub fn check_pools<'a>(alloc: Global, pools: &'a [Pool]) -> Result<Names<'a>, Te
     Ok(names)
 }
 
-/// Checks that all names of the classes are valid and that each class belongs to a pool with one of
-/// the names in `pools`. Returns the names of the classes, in order.
+/// Checks that the names of the classes are valid and distinct, and that the pool of each class is
+/// one of `pools`. Returns the names of the classes, in order, or the first fault.
 #[tactic(auto, unfolding(crate::specs::Checks::check_classes))]
 pub fn check_classes<'a>(
     alloc: Global,
@@ -108,7 +109,8 @@ pub fn check_classes<'a>(
     Ok(names)
 }
 
-/// Checks that all names and counts of the client kinds are valid.
+/// Checks that the names of the client kinds are valid and distinct, and that their counts are
+/// valid. Returns the first fault otherwise.
 #[tactic(auto, unfolding(crate::specs::Checks::check_clients))]
 pub fn check_clients(alloc: Global, clients: &[ClientEntry]) -> Result<(), TextError>
     ensures { Gives (λ _. tt) result (spec.check_clients clients.now) }

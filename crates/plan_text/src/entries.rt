@@ -1,5 +1,5 @@
-//! The shape of the entries in the text of a plan: each required key must be present, and each
-//! value must have the type of its key.
+//! The shape of the entries in the text of a plan: each required key must be present, no key may be
+//! unknown, each value must have the type of its key, and a body must not be too long.
 
 ghost use Rattle.std.specs.Prelude.{◌≡◌, map};
 ghost use Rattle.toml.specs.View.{view, table_view};
@@ -139,7 +139,7 @@ fn client_entries_of(alloc: Global, values: &[Value]) -> Result<Vec<ClientEntry<
 }
 
 /// Reads the entries of a document. Checks the length of each of the three lists, and then the
-/// shape of each entry.
+/// shape of each entry. Returns the first fault that it finds.
 #[tactic(auto, unfolding(crate::specs::Entries::entries_of))]
 pub fn entries_of(alloc: Global, document: &Table) -> Result<Entries<'_>, TextError>
     ensures { Gives (λ entries. entries) result (spec.entries_of (table_view document.now)) }

@@ -15,7 +15,8 @@ use support::number::{MISSING_KEY, TOO_MANY, UNKNOWN_KEY, WRONG_TYPE};
 use support::{ReadError, read_each};
 use toml::{Table, Value};
 
-/// The table of one entry, the list that contains the entry, and the entry's index in that list.
+/// The table of one entry. `part` is the kind of the list that contains the entry, and `index` is
+/// the entry's index in that list.
 #[derive(Drop)]
 pub struct Entry<'a> {
     table: &'a Table,
@@ -33,7 +34,8 @@ fn count_of(number: i64) -> u64
 
 impl<'a> Entry<'a> {
     /// Checks that the value is a table that has only these keys, and returns it as the entry at
-    /// `index` in the list for `part`. Returns a fault of this entry if it is not.
+    /// `index` in the list for `part`. Returns a fault of this entry if the value is not a table,
+    /// or if the table has another key.
     #[tactic(auto, unfolding(crate::specs::Entry::entry_of))]
     pub fn of(
         value: &'a Value,
@@ -76,8 +78,8 @@ impl<'a> Entry<'a> {
         value.as_str().ok_or(self.refuses(WRONG_TYPE))
     }
 
-    /// Returns the integer at this key, as a count. Returns a fault if the key is absent or the
-    /// value has another type.
+    /// Returns the integer at this key, or 0 if it is negative. Returns a fault if the key is
+    /// absent or the value has another type.
     #[tactic(auto, unfolding(crate::specs::Entry::number_at))]
     pub fn number(&self, key: &str) -> Result<u64, TextError>
         ensures { Gives (λ number. number) result (spec.number_at (entry_view self.now) key.now) }

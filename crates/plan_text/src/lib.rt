@@ -1,8 +1,8 @@
 //! The text of a plan, which is TOML.
 //!
 //! [`read_plan`] parses a plan, or returns the first fault. [`write_plan`] writes a text that
-//! [`read_plan`] parses as the same plan. [`Places`] finds the line and column of each part of a
-//! plan in its text.
+//! [`read_plan`] parses as the same plan, unless the text is longer than a plan's text may be.
+//! [`Places`] finds the line and column of each part of a plan in its text.
 #![tactic(auto)]
 
 mod bodies;

@@ -11,7 +11,8 @@ pub(crate) struct Key {
     pub(crate) end: usize,
     /// The offset of the key's value.
     pub(crate) value: usize,
-    /// The offsets of the elements if the value is an array.
+    /// The offsets of the elements if the value is an array, or of the keys if it is an inline
+    /// table. The offset of the closing bracket follows if the value is empty or ends with a comma.
     pub(crate) elements: Vec<usize>,
 }
 
@@ -19,7 +20,7 @@ pub(crate) struct Key {
 /// keys are those before any header.
 #[derive(Drop)]
 pub(crate) struct Table {
-    /// The offset of the first bracket of the header.
+    /// The offset of the first bracket of the header, or 0 for the first table.
     pub(crate) header: usize,
     /// The range of the table's name in the header.
     pub(crate) name: (usize, usize),

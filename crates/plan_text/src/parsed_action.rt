@@ -14,7 +14,8 @@ pub enum ParsedAction<'a> {
     Get(&'a str),
 }
 
-/// Parses an action, or returns `None` if the text is not one of the four forms.
+/// Parses an action. Returns `None` if the text has none of the four forms, or if a name or the
+/// number in it is not valid.
 #[tactic(auto, unfolding(crate::specs::ParsedActions::parse_action))]
 pub fn parse_action(text: &str) -> Option<ParsedAction<'_>>
     ensures { option_map spec.parsed_action_view result ≡ spec.parse_action text.now }

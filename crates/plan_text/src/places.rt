@@ -30,26 +30,30 @@ impl<'a> Places<'a> {
     }
 
     /// Returns the position of the header of an entry, such as the `[[pool]]` of a pool. The entry
-    /// is at this index, counted from 0, in the list with this name.
+    /// is at this index, counted from 0, in the list with this name. Returns `None` if no such
+    /// header was found.
     pub fn entry(&self, list: &str, index: usize) -> Option<TextPlace> {
         let table = self.table(list, index)?;
         Some(place_at(self.text, table.header))
     }
 
-    /// Returns the position of this key in the entry at this index of the list.
+    /// Returns the position of this key in the entry at this index of the list, or `None` if there
+    /// is no such key.
     pub fn key(&self, list: &str, index: usize, key: &str) -> Option<TextPlace> {
         let key = self.key_of(self.table(list, index)?, key)?;
         Some(place_at(self.text, key.start))
     }
 
-    /// Returns the position of the value at this key in the entry at this index of the list.
+    /// Returns the position of the value at this key in the entry at this index of the list, or
+    /// `None` if there is no such key.
     pub fn value(&self, list: &str, index: usize, key: &str) -> Option<TextPlace> {
         let key = self.key_of(self.table(list, index)?, key)?;
         Some(place_at(self.text, key.value))
     }
 
     /// Returns the position of an element, such as an action of a body. The element is in the array
-    /// at this key, in the entry at this index of the list. Elements are counted from 0.
+    /// at this key, in the entry at this index of the list. Elements are counted from 0. Returns
+    /// `None` if no such element was found.
     pub fn element(
         &self,
         list: &str,
@@ -62,8 +66,9 @@ impl<'a> Places<'a> {
         Some(place_at(self.text, *start))
     }
 
-    /// Returns the position of the first table with this name. If there is none, returns the
-    /// position of the first key with this name before any table, or `None`.
+    /// Returns the position of the header of the first table with this name. If there is no such
+    /// table, returns the position of the first key with this name that comes before any header, or
+    /// `None` if there is no such key either.
     pub fn top(&self, name: &str) -> Option<TextPlace> {
         for table in &self.tables {
             if self.is_named(table.name, name) {

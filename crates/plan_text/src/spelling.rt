@@ -41,7 +41,7 @@ impl<'a> fmt::Display for SlotPart<'a> {
     }
 }
 
-/// Returns the text of the action at `position` in the body.
+/// Returns the text of `action`, which is at `position` in the body.
 #[tactic(auto, unfolding(crate::specs::Spelling::action_text))]
 fn action_text(
     alloc: Global,
@@ -65,7 +65,7 @@ fn action_text(
     }
 }
 
-/// Builds the array of the texts of the actions of a body.
+/// Returns the TOML value of a body: an array of the texts of its actions.
 pub fn body_value(alloc: Global, classes: &[Class], body: &[Action]) -> Result<Value, AllocError>
     ensures { IfOk result (λ value.
         view value

@@ -3,13 +3,14 @@
 /// The kind of a token.
 #[derive(Clone, Copy, PartialEq, Eq)]
 pub(crate) enum Kind {
-    /// A key without quotes, or a value that is not a string, an array or a table.
+    /// Any other text, such as a key without quotes or a number. It ends before white space, a
+    /// quote, a `#` or a mark.
     Word,
-    /// A string, with its quotes.
+    /// A string, with its quotes. A single-line string without a closing quote ends with its line.
     Quoted,
     /// One of `[ ] { } = , .`
     Mark(u8),
-    /// The end of a line.
+    /// The end of a line or of the text.
     LineEnd,
 }
 

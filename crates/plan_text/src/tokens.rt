@@ -23,7 +23,8 @@ struct Text {
     quote: u8,
     /// Whether the last byte was a `\` that escapes the next byte.
     escaped: bool,
-    /// The number of consecutive quotes at the end of the part read so far.
+    /// The number of consecutive quotes that were read last. Opening quotes and escaped quotes do
+    /// not count.
     quotes: u8,
 }
 

@@ -13,7 +13,7 @@ use std::alloc::{AllocError, Global};
 /// An iterator over the lines of a recording. It checks each line against the rules O1 to O7, given
 /// the lines before it.
 ///
-/// It reads each line once and stores no line. Its size is that of [`TraceValidator`].
+/// It reads each line once and stores no line. Its memory use is that of a [`TraceValidator`].
 #[derive(Drop)]
 pub struct CheckedLines<'a> {
     lines: RecordingLines<'a>,

@@ -15,7 +15,7 @@ pub enum FaultReason {
     LineRule(LineRule),
 }
 
-/// Formats the reason as a phrase, such as `not one of the line forms in docs/RECORDING.md`.
+/// Formats the reason: `it is not a valid line`, or the text of the rule that the line breaks.
 impl fmt::Display for FaultReason {
     ghost output = { λ reason. Some (reason_text reason) };
 
@@ -35,7 +35,7 @@ pub struct RecordingFault {
     pub reason: FaultReason,
 }
 
-/// Formats the line number and the reason, such as `line 3: O2: a pool that a line names has ..`.
+/// Formats the line number and the reason, such as `line 3: it is not a valid line`.
 impl fmt::Display for RecordingFault {
     ghost output = { λ fault. Some (fault_text fault) };
 

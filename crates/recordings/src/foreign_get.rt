@@ -1,4 +1,4 @@
-//! Foreign gets: gets of jobs by actors that did not submit them.
+//! Foreign gets: gets of jobs by actors that did not submit them, before the submitters got them.
 
 use crate::RecordedActor;
 

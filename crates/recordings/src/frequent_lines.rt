@@ -1,8 +1,8 @@
 //! A fast parser for the most frequent kinds of lines.
 //!
 //! The parser reads the words of a line from left to right, so it never searches for the newline.
-//! It returns `None` if the line is bad or of another kind, or has a number that is 0 or above
-//! 999,999,999. `line_forms` then parses the line.
+//! It returns `None` if the line is bad or of another kind, has no newline, or has a number that is
+//! 0 or above 999,999,999. The parser in `line_forms` then parses the line.
 
 ghost use Rattle.std.specs.Prelude.{◌≡◌, ◌≤◌, ◌<◌, ◌+◌, ◌++◌, ◌∷◌, true, length, take, codes, decimal, Some, IfSome};
 ghost use Rattle.std.specs.List.{list_all};
@@ -113,8 +113,8 @@ fn split_submit(actor: RecordedActor, words: &[u8]) -> Option<(Line<'_>, &[u8])>
     Some((line, after))
 }
 
-/// Parses a number at the start of the text, up to the first byte `end`. Returns the number with
-/// the text after that byte.
+/// Parses a number at the start of the text and the byte `end` directly after it. Returns the
+/// number with the text after that byte.
 #[inline(always)]
 fn split_number(text: &[u8], end: u8) -> Option<(usize, &[u8])>
     ensures { IfSome result (λ read.
@@ -146,8 +146,8 @@ fn digit_of(byte: u8) -> usize
     usize::from(byte).wrapping_sub(usize::from(b'0'))
 }
 
-/// Parses a name at the start of the text, up to the first byte `end`. Returns the name with the
-/// text after that byte.
+/// Parses a name at the start of the text and the byte `end` directly after it. Returns the name
+/// with the text after that byte.
 #[inline(always)]
 fn split_name(text: &[u8], end: u8) -> Option<(&str, &[u8])>
     ensures { IfSome result

@@ -70,7 +70,7 @@ impl InvalidationList {
         }
     }
 
-    /// Returns the first event of each type, in the order of their lines.
+    /// Returns the first event of each type, in the order of their lines. Pending events count.
     ///
     /// # Errors
     ///

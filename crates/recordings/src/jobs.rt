@@ -1,4 +1,5 @@
-//! The jobs of a recording, as the rule check stores them.
+//! The jobs of a recording, as the rule check stores them. A job is done after its `end` or `threw`
+//! line.
 
 ghost use Rattle.std.specs.Prelude.{◌≡◌, ◌+◌, ◌&&◌, not, ℕ, OnOk, OnErr, None, Some, is_some, if◌then◌else◌, ◌==◌};
 ghost use Rattle.std.specs.Option.{option_map};
@@ -12,8 +13,8 @@ use support::IdMap;
 pub(crate) struct JobState {
     started: bool,
     cancelled: bool,
-    /// The job that this job submitted in its last line. `refused` lines do not count. `None` if
-    /// this line is no submit, or if the job has no line yet.
+    /// The job that this job submitted in its last line, apart from `refused` lines. `None` if this
+    /// line is no submit, or if the job has no such line yet.
     last_submit: Option<usize>,
 }
 
@@ -56,15 +57,16 @@ impl Jobs {
         job < self.submitted && self.get(job).is_some_and(|state| state.started)
     }
 
-    /// Returns whether the job is done or cancelled.
+    /// Returns whether the job is done or cancelled. Returns false if it was not submitted.
     pub(crate) fn is_settled(&self, job: usize) -> bool
         ensures { result ≡ is_settled self.now job }
     {
         job < self.submitted && self.get(job).is_none_or(|state| state.cancelled)
     }
 
-    /// Returns the job that `job` submitted in its last line, or `None` if that line is no submit.
-    /// `refused` lines do not count. Also returns `None` if `job` is done or has no line yet.
+    /// Returns the job that `job` submitted in its last line, apart from `refused` lines. Returns
+    /// `None` if that line is no submit, and if `job` is done, was not submitted, or has no such
+    /// line yet.
     pub(crate) fn last_submit(&self, job: usize) -> Option<usize>
         ensures { result ≡ last_submit_in (job_at self.now job) }
     {

@@ -9,8 +9,8 @@ ghost use Rattle.recordings.specs.InvalidationList as stored;
 use crate::invalidation::InvalidatingEvent;
 use crate::{Line, RecordedActor};
 
-/// Returns the invalidating event that the line reports, if any. A later line may discard the
-/// event.
+/// Returns the invalidating event that the line reports, if any. A later line can discard a get
+/// that timed out or was interrupted.
 pub(crate) fn event_of(line: &Line<'_>) -> Option<InvalidatingEvent>
     ensures { result ≡ spec.event_of (line_view line.now) }
 {
@@ -27,7 +27,8 @@ pub(crate) fn event_of(line: &Line<'_>) -> Option<InvalidatingEvent>
     }
 }
 
-/// Returns the actor whose next line can discard the event, if there is such an actor.
+/// Returns the actor whose next line can discard the event: the actor of a get that timed out or
+/// was interrupted. Returns `None` for any other event.
 pub(crate) fn getter_of(event: InvalidatingEvent) -> Option<RecordedActor>
     ensures { result ≡ stored.getter_of event }
 {

@@ -18,8 +18,8 @@ use std::alloc::{AllocError, Global};
 /// began and have not ended, and the jobs that were submitted and are not done.
 ///
 /// A job that was refused, cancelled or removed and never ran remains live, with an empty path.
-/// Processing a line takes one look-up in a table. For a `got` line, it also takes a binary search
-/// among the submits of the actor. No contract states the size or the time.
+/// Processing a line takes at most two look-ups in tables. For a `got` line, it also takes a binary
+/// search among the submits of the actor. No contract states the size or the time.
 #[derive(Drop)]
 pub struct Paths {
     rounds: PathTable,

@@ -20,7 +20,7 @@ pub enum Line<'a> {
         name: &'a str,
         sizes: PoolSizes,
     },
-    /// A thread outside the pools began this round, which has this client kind.
+    /// A thread outside the pools began this round. `kind` is the client kind of the round.
     RoundBegins {
         round: usize,
         kind: &'a str,

@@ -7,9 +7,9 @@ ghost use Rattle.recordings.specs.StoredState.{round_at, last_submit_of_round};
 use std::alloc::{AllocError, Global};
 use support::IdMap;
 
-/// The rounds in the lines read so far. A round is open if it has begun and has not ended. The
-/// state is the number of rounds that have begun, and for each open round the job that it submitted
-/// in its last line, if any. `refused` lines do not count.
+/// The rounds in the lines read so far. A round is open if it has begun and has not ended. `begun`
+/// is the number of rounds that have begun. For each open round, `open` has the job that the round
+/// submitted in its last line, apart from `refused` lines, or `None` if that line is no submit.
 #[derive(Drop)]
 pub(crate) struct Rounds {
     pub(crate) begun: usize,
@@ -35,8 +35,8 @@ impl Rounds {
         self.open.contains(round)
     }
 
-    /// Returns the job that the round submitted in its last line, or `None` if that line is no
-    /// submit. `refused` lines do not count. Also returns `None` if the round is not open.
+    /// Returns the job that the round submitted in its last line, apart from `refused` lines.
+    /// Returns `None` if that line is no submit, or if the round is not open.
     pub(crate) fn last_submit(&self, round: usize) -> Option<usize>
         ensures { result ≡ last_submit_of_round (round_at self.now round) }
     {

@@ -10,7 +10,7 @@ use std::fmt;
 pub enum LineRule {
     /// O1: the first line is `recording 1`, and no other line is. No line comes after `end`.
     Frame,
-    /// O2: a pool that a line names has a `pool` line before that line.
+    /// O2: a line other than a `pool` line names only pools that have a `pool` line before it.
     Pools,
     /// O3: jobs are numbered from 0 in the order of their `submit` lines, and rounds in the order
     /// of their `begin` lines. Any other line that names a job comes after the job's `submit` line.

@@ -18,6 +18,7 @@ pub(crate) struct SubmitEntry {
 /// The submits of a path, in the path's order.
 ///
 /// If their job numbers ascend, as in every valid recording, a look-up is a binary search.
+/// Otherwise it is a linear search.
 #[derive(Drop)]
 pub(crate) struct SubmitIndex {
     pub(crate) entries: Vec<SubmitEntry>,
@@ -36,7 +37,7 @@ impl SubmitIndex {
         }
     }
 
-    /// Returns the index of the last entry with this job, if there is one.
+    /// Returns the index in `entries` of the last entry with this job, or `None` if there is none.
     pub(crate) fn find(&self, job: usize) -> Option<usize>
         requires { spec.IsOrdered self.now }
         ensures found { IfSome result (spec.IsLastOf self.now.entries.items job) }

@@ -1,5 +1,5 @@
-//! Parsers for the first word of a text and the space after it. Each returns `None` if the text
-//! does not begin as required.
+//! Parsers for the words of a line. Most of them parse the first word of a text and the space after
+//! it. Each returns `None` if the text does not have the required form.
 
 ghost use Rattle.std.specs.Prelude.{◌≡◌, option_map};
 ghost use Rattle.std.specs.Str.{bytes_eq};
@@ -15,7 +15,7 @@ pub(crate) fn is_word(text: &[u8], word: &str) -> bool
     text == word.as_bytes()
 }
 
-/// Returns the text if it is a valid name.
+/// Returns the whole text if it is a valid name, and `None` otherwise.
 #[tactic(auto, unfolding(crate::specs::Words::name_of))]
 pub(crate) fn name_of(text: &[u8]) -> Option<&str>
     ensures { option_map (λ name. name.now) result ≡ spec.name_of text.now }
