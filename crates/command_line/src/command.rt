@@ -54,7 +54,7 @@ pub enum RecordingCommand {
 pub enum Task {
     /// Searches for a certificate.
     Certify {
-        /// The number of threads that search, 1 to 64.
+        /// The number of threads that search, 1 to 64. The default is 4.
         workers: usize,
     },
     /// Searches for sizes that a certificate accepts.
@@ -62,7 +62,8 @@ pub enum Task {
         /// The output format for the sizes.
         sizes_form: SizesForm,
     },
-    /// Runs a certified plan on threads, and counts its jobs and their units of work.
+    /// Runs a plan on threads if a certificate accepts it, and counts the jobs and the units of
+    /// work.
     Run {
         /// The number of times that each repeating client goes through its body, 1 to 1,000,000.
         rounds: u64,
