@@ -90,8 +90,9 @@ impl ResizedPlan<'_> {
         }))
     }
 
-    /// Returns the pool's vector with these worker weights, or `None` if one of its numbers is
-    /// above `MAX_WEIGHT`.
+    /// Returns the pool's vector with these worker weights, one for each pool. Returns `None` if a
+    /// number of the vector is above `MAX_WEIGHT`, or if the number of worker weights is wrong. The
+    /// conditions of a returned vector need not hold, so the caller must check them.
     ///
     /// # Errors
     ///

@@ -14,7 +14,8 @@ use std::alloc::{AllocError, Global};
 use weights::{Bound, Vector};
 
 /// Returns the bound of the pool's queue: a standing vector or, if the search finds none, a
-/// lifetime vector. Returns `None` if the search finds neither.
+/// lifetime vector. Returns `None` if the search finds neither. The plan must have a pool with the
+/// index `pool`.
 ///
 /// # Errors
 ///
@@ -43,7 +44,7 @@ pub fn pool_bound(
 }
 
 /// Returns the pool's blocked vector for this rank of the pool and these reaches of the classes, or
-/// `None` if the search finds none.
+/// `None` if the search finds none. The plan must have a pool with the index `pool`.
 ///
 /// # Errors
 ///
